@@ -1,0 +1,22 @@
+# run      proves, builds and runs the worked rows
+# test     the whole gate: proofs from nothing, edits that must be refused, tests and programs
+# check    proves what an edit changed, over what earlier checks kept
+# fmt      lays out the files
+# diff     compares the queue with the Rust crate, where what that answers is at hand: `make diff ORACLE=FOLDER`, with a
+#          folder as crates/replies/README.md says
+.PHONY: run test check fmt diff
+
+run:
+	@cd crates/vectors && rt run
+
+test:
+	@scripts/gate
+
+check:
+	@rt all check
+
+fmt:
+	@for crate in crates/*/; do (cd "$$crate" && rt fmt) || exit 1; done
+
+diff:
+	@ORACLE="$(ORACLE)" scripts/diff
