@@ -1,0 +1,11 @@
+pub mod OrderLemmas
+pub mod QueueLemmas
+pub mod TellingLemmas
+pub mod LawLemmas
+pub mod NotifyLemmas
+pub mod RunLemmas
+pub mod WokenLemmas
+pub mod ChainPlaces
+pub mod ChainLinks
+pub mod ChainLookups
+pub mod ChainSteps

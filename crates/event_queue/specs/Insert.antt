@@ -1,0 +1,33 @@
+-- The insert step: a newcomer waits at the end of the queue.
+use Rattle.std.specs.Prelude.{◌≡◌, ◌+◌, ◌<◌, ◌^◌, [], ◌∷◌, ◌++◌, None, Result, Ok, Err}
+use Rattle.event_queue.specs.declared.key.Key.{Key}
+use Rattle.event_queue.specs.declared.reply.ListenError.{ListenError}
+use Rattle.event_queue.specs.declared.reply.ListenError.TheVariants.{Memory, SerialsUsedUp}
+use Rattle.event_queue.specs.Queue.{Queue}
+
+module _ {T W : Type 0} where
+  -- the next serial is below the greatest `u64`, which no listener gets
+  abbrev pub HasSerialLeft : Queue T W → Type 0
+  HasSerialLeft q = q.next_serial + 1 < 2 ^ 64
+
+  -- the next serial is the greatest `u64`
+  abbrev pub SerialsAreUsedUp : Queue T W → Type 0
+  SerialsAreUsedUp q = q.next_serial + 1 ≡ 2 ^ 64
+
+  -- a newcomer that has the next serial waits at the end, with no task; a spare place, if there was one, is
+  -- taken
+  pub record Joins (old : Queue T W) (key : Key) (new : Queue T W) : Type 0 where
+    pub serial_left : HasSerialLeft old
+    pub serial : key.serial ≡ old.next_serial
+    pub queue : new ≡ record old {
+      waiting = old.waiting ++ (key, None) ∷ [];
+      next_serial = old.next_serial + 1;
+      spare = new.spare;
+    }
+    pub place : 0 < old.spare → new.spare + 1 ≡ old.spare
+
+  -- what an insertion answers, and the queue that it leaves
+  abbrev pub Inserts : Queue T W → Result Key ListenError → Queue T W → Type 0
+  Inserts old (Ok key) new = Joins old key new
+  Inserts old (Err Memory) new = HasSerialLeft old × (old.spare ≡ 0) × (new ≡ old)
+  Inserts old (Err SerialsUsedUp) new = SerialsAreUsedUp old × (new ≡ old)

@@ -1,0 +1,11 @@
+pub mod Sequence
+pub mod Chain
+pub mod Key
+pub mod Queue
+pub mod Insert
+pub mod Register
+pub mod Remove
+pub mod Notify
+pub mod Run
+pub mod Woken
+pub mod TagList

@@ -1,0 +1,32 @@
+-- The register step: a told listener takes its tag and leaves, a waiting one stores the task.
+use Rattle.std.specs.Prelude.{◌≡◌, Some, IsSome, IsSomeAnd}
+use Rattle.std.specs.Map.{lookup, set_value}
+use Rattle.event_queue.specs.declared.key.Key.{Key}
+use Rattle.event_queue.specs.declared.reply.RegisterResult.{RegisterResult}
+use Rattle.event_queue.specs.declared.reply.RegisterResult.TheVariants.{Notified, Registered, NeverInserted}
+use Rattle.event_queue.specs.Key.{is_key}
+use Rattle.event_queue.specs.Queue.{Queue, IsAbsent, told_leaves}
+
+module _ {T W : Type 0} where
+  -- the queue once the waiting listener of that key has stored the task, in place of an earlier one
+  abbrev pub after_storing : Key → W → Queue T W → Queue T W
+  after_storing key task q = record q { waiting = set_value (is_key key) q.waiting (Some task) }
+
+  -- what a registration answers, and the queue that it leaves
+  abbrev pub Registers : Queue T W → Key → W → RegisterResult T → Queue T W → Type 0
+  Registers old key task (Notified tag) new =
+      IsSomeAnd (lookup (is_key key) old.told) (λ notice. notice.tag ≡ tag) × (new ≡ told_leaves key old)
+  Registers old key task Registered new =
+      IsSome (lookup (is_key key) old.waiting) × (new ≡ after_storing key task old)
+  Registers old key task NeverInserted new = IsAbsent key old × (new ≡ old)
+
+-- what holds where the answer is a tag, and what holds where it is none
+abbrev pub OnNotified : {T : Type 0} → RegisterResult T → Type 0 → Type 0
+OnNotified (Notified tag) P = P
+OnNotified Registered P = Unit {0}
+OnNotified NeverInserted P = Unit {0}
+
+abbrev pub UnlessNotified : {T : Type 0} → RegisterResult T → Type 0 → Type 0
+UnlessNotified (Notified tag) P = Unit {0}
+UnlessNotified Registered P = P
+UnlessNotified NeverInserted P = P

@@ -1,0 +1,43 @@
+-- The remove step: a listener leaves, and where it was told its notification may be passed on.
+use Rattle.std.specs.Prelude.{◌≡◌, Bool, true, false, List, [], ◌∷◌, take, Option, Some, None, IsSomeAnd}
+use Rattle.std.specs.Map.{lookup}
+use Rattle.event_queue.specs.declared.key.Key.{Key}
+use Rattle.event_queue.specs.declared.notice.Notice.{Notice}
+use Rattle.event_queue.specs.declared.reply.State.{State}
+use Rattle.event_queue.specs.declared.reply.State.TheVariants.{Created, Notified, Task, NotifiedTaken}
+use Rattle.event_queue.specs.Key.{is_key}
+use Rattle.event_queue.specs.Queue.{Queue, IsAbsent, how_many, after_telling, tasks_of, told_leaves, waiting_leaves}
+
+module _ {T W : Type 0} where
+  -- the queue once it has been notified of one, of that notice's kind and with its tag
+  abbrev pub after_passing : Notice T → Queue T W → Queue T W
+  after_passing notice q =
+      after_telling notice.additional (take (how_many 1 notice.additional q) (notice.tag ∷ [])) q
+
+  -- the tasks that this wakes
+  abbrev pub woken_by_passing : Notice T → Queue T W → List W
+  woken_by_passing notice q = tasks_of (how_many 1 notice.additional q) q
+
+  -- what a removal answers, and the queue that it leaves
+  abbrev pub Removes : Queue T W → Key → Bool → Option (State T W) → Queue T W → Type 0
+  Removes old key propagate None new = IsAbsent key old × (new ≡ old)
+  Removes old key propagate (Some Created) new =
+      (lookup (is_key key) old.waiting ≡ Some None) × (new ≡ waiting_leaves key old)
+  Removes old key propagate (Some (Task task)) new =
+      (lookup (is_key key) old.waiting ≡ Some (Some task)) × (new ≡ waiting_leaves key old)
+  Removes old key propagate (Some (Notified additional tag)) new =
+      (propagate ≡ false)
+      × (lookup (is_key key) old.told ≡ Some (record { additional = additional; tag = tag }))
+      × (new ≡ told_leaves key old)
+  Removes old key propagate (Some NotifiedTaken) new =
+      (propagate ≡ true)
+      × IsSomeAnd (lookup (is_key key) old.told) (λ notice. new ≡ after_passing notice (told_leaves key old))
+
+  -- the tasks that a removal wakes
+  abbrev pub woken_by_leaving : Option (Notice T) → Bool → Key → Queue T W → List W
+  woken_by_leaving None propagate key q = []
+  woken_by_leaving (Some notice) false key q = []
+  woken_by_leaving (Some notice) true key q = woken_by_passing notice (told_leaves key q)
+
+  abbrev pub woken_by_removal : Key → Bool → Queue T W → List W
+  woken_by_removal key propagate q = woken_by_leaving (lookup (is_key key) q.told) propagate key q

@@ -1,0 +1,33 @@
+//! The queue of an event as a value: listeners in order of listening, a front of them told, the others waiting.
+#![tactic(auto)]
+
+mod call;
+mod key;
+mod laws;
+mod list;
+mod node;
+mod notice;
+mod notification_laws;
+mod notify;
+mod reply;
+mod run;
+mod tag_list;
+mod wake;
+mod woken;
+
+pub use call::{Call, Reply};
+pub use key::Key;
+pub use laws::{equal_keys, woken_keeps_the_first};
+pub use list::List;
+pub use notification_laws::{
+    additional_clone_means_the_same, additional_is_its_notification, additional_twice_means_once,
+    notify_clone_means_the_same, notify_is_its_notification, relaxed_changes_no_meaning,
+    relaxed_clone_means_the_same, relaxed_is_its_notification, tag_clone_has_both_clones,
+    tag_is_its_notification, tag_with_is_its_notification,
+};
+pub use notify::{
+    Additional, IntoNotification, IntoTagged, Notification, Notify, Relaxed, Tag, TagWith,
+};
+pub use reply::{ListenError, NotifyError, RegisterResult, State};
+pub use wake::WakeSink;
+pub use woken::Woken;

@@ -1,0 +1,336 @@
+//! The queue: listeners in order of listening, a front of them told.
+ghost use Rattle.std.specs.Prelude.{◌≡◌, ◌≢◌, ◌+◌, ◌-◌, ◌<◌, ◌≤◌, ◌^◌, ◌↔◌, min, max, true, false, [], ◌∷◌, ◌++◌, length, IsTrue, IsFalse, IsOk, IsSome, OnOk, OnErr, IfOk, IfSome, OnSome};
+ghost use Rattle.std.specs.List.{FoldsTo};
+ghost use Rattle.std.specs.Map.{lookup};
+ghost use Rattle.event_queue.specs.Key.{is_key, without};
+ghost use Rattle.event_queue.specs.Queue.{IsQueue, IsGone, IsToldAs, order_of, listeners_of, how_many, after_telling, tasks_of};
+ghost use Rattle.event_queue.specs.Insert.{Inserts};
+ghost use Rattle.event_queue.specs.Register.{Registers, OnNotified, UnlessNotified};
+ghost use Rattle.event_queue.specs.Remove.{Removes, woken_by_removal, woken_by_passing, after_passing};
+ghost use Rattle.event_queue.specs.Notify.{Notifies, NeverRefuses, told_by};
+
+use crate::key::Key;
+use crate::node::Chain;
+use crate::notice::Notice;
+use crate::notify::Notification;
+use crate::reply::{ListenError, NotifyError, RegisterResult, State};
+use crate::wake::WakeSink;
+use std::alloc::{AllocError, AllocFailed, Global};
+use std::marker::Model;
+
+/// A queue of listeners.
+///
+/// Some front of the queue is told, each listener of it with a tag; the others wait, each with a task if it stored
+/// one. No call takes a lock, waits or panics, and none looks at more of the queue than its documentation says.
+#[derive(Drop)]
+pub struct List<T, W> {
+    chain: Chain<Notice<T>, Option<W>>,
+    next_serial: u64,
+}
+
+impl<T, W> Model for List<T, W> {
+    ghost use Rattle.event_queue.specs.Queue.{Queue, IsQueue};
+
+    ghost Value = { Queue T W };
+
+    ghost view = { λ list. record {
+      told = list.chain.before;
+      waiting = list.chain.after;
+      next_serial = list.next_serial;
+      spare = list.chain.spare;
+    } };
+
+    ghost invariant = { λ list. IsQueue (record {
+      told = list.chain.before;
+      waiting = list.chain.after;
+      next_serial = list.next_serial;
+      spare = list.chain.spare;
+    }) };
+}
+
+impl<T, W> List<T, W> {
+    /// An empty queue, which takes no memory until the first insertion. Its first listener gets the serial 0.
+    pub fn new(alloc: Global) -> Self
+        ensures empty { result ≡ record { told = []; waiting = []; next_serial = 0; spare = 0 } }
+        ensures queue { IsQueue result }
+    {
+        Self::starting_at(alloc, 0)
+    }
+
+    /// An empty queue whose first listener gets the serial `first`. It takes no memory until the first insertion.
+    ///
+    /// Serials rise by one with each insertion, and `u64::MAX` is never given, so a queue that starts late has fewer.
+    pub fn starting_at(alloc: Global, first: u64) -> Self
+        ensures empty { result ≡ record { told = []; waiting = []; next_serial = first; spare = 0 } }
+        ensures queue { IsQueue result }
+    {
+        List {
+            chain: Chain::new(alloc),
+            next_serial: first,
+        }
+    }
+
+    /// Makes room for `n` more listeners, so that as many insertions need no memory. It works also where the serials
+    /// are used up.
+    ///
+    /// A size that no memory can have is refused as any growth is. After a refusal the listeners stand as before, and
+    /// no room is lost.
+    pub fn reserve(&mut self, n: usize) -> Result<(), AllocError>
+        ensures room { OnOk result (n ≤ self.new.spare) }
+        ensures listeners { self.new ≡ record self.old { spare = self.new.spare } }
+        ensures kept { self.old.spare ≤ self.new.spare }
+        ensures succeeds { n ≤ self.old.spare → IsOk result }
+        ensures queue { IsQueue self.new }
+    {
+        self.chain.reserve(n)
+    }
+
+    /// Takes in a listener, which waits at the end of the queue with no task stored.
+    ///
+    /// It asks for memory only where [`spare`](List::spare) is 0. [`ListenError::SerialsUsedUp`] is answered before
+    /// memory is asked for, and every refusal leaves the queue as it was.
+    pub fn insert(&mut self) -> Result<Key, ListenError>
+        ensures step { Inserts self.old result self.new }
+        ensures queue { IsQueue self.new }
+        ensures order { IfOk result (λ key. order_of self.new ≡ order_of self.old ++ key ∷ []) }
+        ensures serial { self.old.next_serial ≤ self.new.next_serial }
+    {
+        if self.next_serial == u64::MAX {
+            return Err(ListenError::SerialsUsedUp);
+        }
+        match self.chain.push_back(self.next_serial, None) {
+            Ok(key) => {
+                self.next_serial += 1;
+                Ok(key)
+            }
+            Err(refused) => {
+                let AllocFailed { value } = refused;
+                match value {
+                    None => Err(ListenError::Memory),
+                    _ => unreachable!(),
+                }
+            }
+        }
+    }
+
+    /// Asks after a listener: one that was told takes its tag and leaves, one that waits stores the task, in place
+    /// of any that it stored before.
+    ///
+    /// A task that is not stored, or that is replaced, is dropped. The call takes no memory.
+    pub fn register(&mut self, key: Key, task: W) -> RegisterResult<T>
+    where
+        W: Drop,
+        ensures step { Registers self.old key task result self.new }
+        ensures queue { IsQueue self.new }
+
+        // A listener that took its tag is gone; else the order of listening is as it was.
+        ensures gone { OnNotified result (IsGone key self.new) }
+        ensures order_without { OnNotified result (order_of self.new ≡ without key (order_of self.old)) }
+        ensures order_kept { UnlessNotified result (order_of self.new ≡ order_of self.old) }
+        ensures serial { self.new.next_serial ≡ self.old.next_serial }
+    {
+        self.ask_after(key, task)
+    }
+
+    fn ask_after(&mut self, key: Key, task: W) -> RegisterResult<T>
+    where
+        W: Drop,
+        ensures step { Registers self.old key task result self.new }
+        ensures was_queue { IsQueue self.old }
+        ensures queue { IsQueue self.new }
+    {
+        if let Some(notice) = self.chain.take_before(key) {
+            let Notice { additional: _, tag } = notice;
+            return RegisterResult::Notified(tag);
+        }
+        match self.chain.replace_after(key, Some(task)) {
+            Ok(_) => RegisterResult::Registered,
+            Err(_) => RegisterResult::NeverInserted,
+        }
+    }
+
+    /// Takes a listener out of the queue, and answers what it was, or `None` where no listener has that key.
+    ///
+    /// With `propagate`, the notification of a told listener is passed on: the queue is notified of one, of the same
+    /// kind and with the same tag. So a default notification is lost while another listener stays told, and an
+    /// additional one is lost only where nobody waits; a lost tag is dropped. The call takes no memory.
+    pub fn remove<S: WakeSink<W>>(
+        &mut self,
+        key: Key,
+        propagate: bool,
+        sink: &mut S,
+    ) -> Option<State<T, W>>
+    where
+        T: Drop,
+        ensures step { Removes self.old key propagate result self.new }
+        ensures wakes { FoldsTo S.woke sink.old (woken_by_removal key propagate self.old) sink.new }
+        ensures queue { IsQueue self.new }
+
+        // The others keep their order, and the listener is gone.
+        ensures order { order_of self.new ≡ without key (order_of self.old) }
+        ensures gone { OnSome result (IsGone key self.new) }
+        ensures serial { self.new.next_serial ≡ self.old.next_serial }
+
+        // How many are told once a told listener's notification was passed on.
+        ensures drop_default { IsTrue propagate → IsToldAs key false self.old → length self.new.told ≡ max (length self.old.told - 1) (min 1 (listeners_of self.old - 1)) }
+        ensures drop_additional { IsTrue propagate → IsToldAs key true self.old → length self.new.told ≡ min (length self.old.told) (listeners_of self.old - 1) }
+    {
+        self.take_out(key, propagate, sink)
+    }
+
+    fn take_out<S: WakeSink<W>>(
+        &mut self,
+        key: Key,
+        propagate: bool,
+        sink: &mut S,
+    ) -> Option<State<T, W>>
+    where
+        T: Drop,
+        ensures step { Removes self.old key propagate result self.new }
+        ensures wakes { FoldsTo S.woke sink.old (woken_by_removal key propagate self.old) sink.new }
+        ensures was_queue { IsQueue self.old }
+        ensures queue { IsQueue self.new }
+    {
+        if let Some(task) = self.chain.take_after(key) {
+            return Some(match task {
+                Some(task) => State::Task(task),
+                None => State::Created,
+            });
+        }
+        let notice = self.chain.take_before(key)?;
+        if propagate {
+            self.pass_on(notice, sink);
+            return Some(State::NotifiedTaken);
+        }
+        let Notice { additional, tag } = notice;
+        Some(State::Notified { additional, tag })
+    }
+
+    // Notifies one, of that notice's kind and with its tag.
+    fn pass_on<S: WakeSink<W>>(&mut self, notice: Notice<T>, sink: &mut S)
+    where
+        T: Drop,
+        ensures passed { self.new ≡ after_passing notice self.old }
+        ensures wakes { FoldsTo S.woke sink.old (woken_by_passing notice self.old) sink.new }
+        ensures queue { IsQueue self.new }
+    {
+        if self.how_many(1, notice.additional) == 1 {
+            self.tell_next(notice, sink);
+        }
+    }
+
+    /// Tells the first of the waiting listeners, as many as the notification is for, in order, each with the next tag
+    /// of the notification, and wakes the task of each that stored one. Answers how many were told.
+    ///
+    /// A default notification counts the listeners that are told already; an additional one does not. The
+    /// notification is asked for a tag once for each listener told; where it refuses one, the listeners told until
+    /// then stay told, nobody is skipped, and the answer is how many they are. One that finds no listener to tell is
+    /// not kept. The call takes no memory, but for what the notification takes.
+    pub fn notify<N: Notification<Tag = T>, S: WakeSink<W>>(
+        &mut self,
+        n: &mut N,
+        sink: &mut S,
+    ) -> Result<usize, NotifyError>
+        requires { N.can_tag n.old }
+        ensures step { Notifies N.tag_gives (N.count n.old) (N.is_additional n.old) self.old n.old result self.new n.new }
+        ensures wakes { FoldsTo S.woke sink.old (tasks_of (told_by result) self.old) sink.new }
+        ensures queue { IsQueue self.new }
+        ensures order { order_of self.new ≡ order_of self.old }
+        ensures serial { self.new.next_serial ≡ self.old.next_serial }
+
+        // How many are told where no tag is refused, and a source that never refuses one is answered `Ok`.
+        ensures default_leaves { IsOk result → IsFalse (N.is_additional n.old) → length self.new.told ≡ max (length self.old.told) (min (N.count n.old) (listeners_of self.old)) }
+        ensures additional_tells { IsOk result → IsTrue (N.is_additional n.old) → length self.new.told ≡ length self.old.told + min (N.count n.old) (length self.old.waiting) }
+        ensures unrefused { NeverRefuses N.tag_gives → IsOk result }
+    {
+        self.tell_waiting(n, sink)
+    }
+
+    fn tell_waiting<N: Notification<Tag = T>, S: WakeSink<W>>(
+        &mut self,
+        n: &mut N,
+        sink: &mut S,
+    ) -> Result<usize, NotifyError>
+        requires { N.can_tag n.old }
+        ensures step { Notifies N.tag_gives (N.count n.old) (N.is_additional n.old) self.old n.old result self.new n.new }
+        ensures wakes { FoldsTo S.woke sink.old (tasks_of (told_by result) self.old) sink.new }
+        ensures was_queue { IsQueue self.old }
+        ensures queue { IsQueue self.new }
+    {
+        let additional = n.is_additional();
+        let count = self.how_many(n.count(), additional);
+        for told in 0..count {
+            let Ok(tag) = n.next_tag() else {
+                return Err(NotifyError { told });
+            };
+            self.tell_next(Notice { additional, tag }, sink);
+        }
+        Ok(count)
+    }
+
+    // How many listeners a notification of that count and kind tells.
+    fn how_many(&self, count: usize, additional: bool) -> usize
+        ensures value { result ≡ how_many count additional self.now }
+        ensures queue { IsQueue self.now }
+    {
+        let wanted = if additional {
+            count
+        } else {
+            count.saturating_sub(self.chain.before_len())
+        };
+        wanted.min(self.chain.after_len())
+    }
+
+    // Tells the first waiting listener, and wakes its task if it has one.
+    fn tell_next<S: WakeSink<W>>(&mut self, notice: Notice<T>, sink: &mut S)
+        requires { 0 < length self.old.waiting }
+        ensures told { self.new ≡ after_telling notice.additional (notice.tag ∷ []) self.old }
+        ensures wakes { FoldsTo S.woke sink.old (tasks_of 1 self.old) sink.new }
+        ensures queue { IsQueue self.new }
+    {
+        let (_, task) = self.chain.advance(notice);
+        if let Some(task) = task {
+            sink.wake(task);
+        }
+    }
+
+    /// How many more listeners fit with no allocation.
+    pub fn spare(&self) -> usize
+        ensures value { result ≡ self.now.spare }
+        ensures queue { IsQueue self.now }
+    {
+        self.chain.spare()
+    }
+
+    /// How many listeners there are, told or waiting.
+    pub fn total_listeners(&self) -> usize
+        ensures value { result ≡ length self.now.told + length self.now.waiting }
+        ensures queue { IsQueue self.now }
+    {
+        self.chain.len()
+    }
+
+    /// Whether some listener is told.
+    pub fn is_notified(&self) -> bool
+        ensures value { IsTrue result ↔ (0 < length self.now.told) }
+        ensures queue { IsQueue self.now }
+    {
+        self.chain.before_len() > 0
+    }
+
+    /// How many listeners are told.
+    pub fn listeners_notified(&self) -> usize
+        ensures value { result ≡ length self.now.told }
+        ensures queue { IsQueue self.now }
+    {
+        self.chain.before_len()
+    }
+
+    /// Whether the listener of that key is told.
+    pub fn is_told(&self, key: Key) -> bool
+        ensures value { IsTrue result ↔ IsSome (lookup (is_key key) self.now.told) }
+        ensures queue { IsQueue self.now }
+    {
+        self.chain.is_before(key)
+    }
+}

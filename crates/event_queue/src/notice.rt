@@ -1,0 +1,8 @@
+/// What a told listener has been told: of which kind the notification was, and the tag that came with it.
+#[derive(Drop)]
+pub struct Notice<T> {
+    /// Whether the notification was an additional one.
+    pub additional: bool,
+    /// The tag that the listener is handed.
+    pub tag: T,
+}

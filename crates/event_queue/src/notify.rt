@@ -1,0 +1,122 @@
+//! Notifications: how many listeners, of which kind, with which tags.
+ghost use Rattle.std.specs.Prelude.{◌≡◌, ◌↔◌, ℕ, Bool, IsTrue, Result};
+ghost use Rattle.std.specs.declared.alloc.AllocError.{AllocError};
+
+mod additional;
+mod integers;
+#[cfg(test)]
+mod no_second_tag;
+mod plain;
+mod relaxed;
+mod tag;
+mod tag_with;
+
+pub use additional::Additional;
+pub use plain::Notify;
+pub use relaxed::Relaxed;
+use std::alloc::AllocError;
+pub use tag::Tag;
+pub use tag_with::TagWith;
+
+/// What a notification asks of the queue: how many listeners, of which kind, with which tags.
+///
+/// The trait is open. Generic callers know an implementation by its ghost members: `count`, `is_additional`,
+/// `can_tag` (where a tag may be asked for) and `tag_gives` (the state before, the answer, the state after).
+pub trait Notification {
+    /// What each told listener is handed.
+    type Tag;
+
+    ghost count: { Self → ℕ };
+
+    ghost is_additional: { Self → Bool };
+
+    ghost can_tag: { Self → Type 0 };
+
+    ghost tag_gives: { Self → Result Self.Tag AllocError → Self → Type 0 };
+
+    /// How many listeners the notification is for.
+    fn count(&self) -> usize
+        ensures { result ≡ count self.now };
+
+    /// Whether the count is one of listeners told anew, whoever was told before.
+    fn is_additional(&self) -> bool
+        ensures { result ≡ is_additional self.now };
+
+    /// The tag of the next listener to be told, or a refusal where there is no memory for it. A tag may be asked for
+    /// again after each answer.
+    ///
+    /// [`Notify`] and [`Tag`] may always be asked, [`TagWith`] where its function may always be called, and
+    /// [`Additional`] and [`Relaxed`] where the notification in them may be.
+    fn next_tag(&mut self) -> Result<Self::Tag, AllocError>
+        requires { can_tag self.old }
+        ensures gives { tag_gives self.old result self.new }
+        ensures again { can_tag self.new };
+}
+
+/// What can be turned into a notification, with a test of whether it fits.
+///
+/// Implemented for the notifications of this crate, which always fit, and for every integer type, where a value fits
+/// that lies in 0 to `usize::MAX`. Each conversion asks for [`fits`](IntoNotification::fits) as a condition, and none
+/// takes memory.
+pub trait IntoNotification: Sized {
+    /// What each told listener is handed.
+    type Tag;
+
+    /// The notification that it becomes.
+    type Notify: Notification<Tag = Self::Tag>;
+
+    ghost fits: { Self → Type 0 };
+
+    ghost meaning: { Self → Self.Notify };
+
+    /// Whether the value can be a notification: a number can if it lies in 0 to `usize::MAX`.
+    fn fits(&self) -> bool
+        ensures { IsTrue result ↔ fits self.now };
+
+    /// The notification.
+    fn into_notification(self) -> Self::Notify
+        requires { fits self }
+        ensures { result ≡ meaning self };
+
+    /// The notification as an additional one: it tells as many listeners as its count anew, whoever was told before.
+    fn additional(self) -> Additional<Self::Notify>
+        requires { fits self }
+        ensures { result ≡ meaning self }
+    {
+        Additional::new(self.into_notification())
+    }
+
+    /// The notification itself: in the Rust crate this leaves out a memory fence, here it changes nothing.
+    fn relaxed(self) -> Relaxed<Self::Notify>
+        requires { fits self }
+        ensures { result ≡ meaning self }
+    {
+        Relaxed::new(self.into_notification())
+    }
+}
+
+/// What can be turned into a notification that has no tags yet, and so may be given some.
+///
+/// It needs no implementation of its own: every [`IntoNotification`] without tags has it.
+pub trait IntoTagged: IntoNotification<Tag = ()> {
+    /// The notification with a tag, of which each told listener is handed a clone. A clone that is refused is a
+    /// refused tag.
+    fn tag<T: Clone>(self, tag: T) -> Tag<Self::Notify, T>
+        requires { Self.fits self }
+        ensures { result ≡ (tag, Self.meaning self) }
+    {
+        Tag::new(tag, self.into_notification())
+    }
+
+    /// The notification with a function that makes the tags: it is called once for each told listener, in order, and
+    /// never refuses. The function must be one that may always be called.
+    fn tag_with<T, F: FnMut() -> T>(self, tag: F) -> TagWith<Self::Notify, F>
+        requires fits { Self.fits self }
+        requires callable { F.IsAlwaysCallable tag }
+        ensures { result ≡ (tag, Self.meaning self) }
+    {
+        TagWith::new(tag, self.into_notification())
+    }
+}
+
+impl<I: IntoNotification<Tag = ()>> IntoTagged for I {}

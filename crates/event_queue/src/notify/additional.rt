@@ -1,0 +1,66 @@
+//! A notification made additional.
+ghost use Rattle.std.specs.Prelude.{◌≡◌, true};
+
+use super::{IntoNotification, Notification};
+use std::alloc::AllocError;
+use std::marker::Model;
+
+/// A notification made additional: it tells as many listeners as its count anew, whoever was told before.
+#[derive(Clone, Debug, Drop)]
+pub struct Additional<N>(N);
+
+impl<N> Model for Additional<N> {
+    ghost Value = { N };
+
+    ghost view = { λ n. n.0 };
+}
+
+impl<N> Additional<N> {
+    pub(super) fn new(inner: N) -> Self
+        ensures { result ≡ inner }
+    {
+        Additional(inner)
+    }
+}
+
+impl<N: Notification> Notification for Additional<N> {
+    type Tag = N::Tag;
+
+    ghost count = { λ n. N.count n };
+
+    ghost is_additional = { λ _. true };
+
+    ghost can_tag = { λ n. N.can_tag n };
+
+    ghost tag_gives = { λ before answer after. N.tag_gives before answer after };
+
+    fn count(&self) -> usize {
+        self.0.count()
+    }
+
+    fn is_additional(&self) -> bool {
+        true
+    }
+
+    fn next_tag(&mut self) -> Result<N::Tag, AllocError> {
+        self.0.next_tag()
+    }
+}
+
+impl<N: Notification> IntoNotification for Additional<N> {
+    type Tag = N::Tag;
+
+    type Notify = Additional<N>;
+
+    ghost fits = { λ _. Unit {0} };
+
+    ghost meaning = { λ n. n };
+
+    fn fits(&self) -> bool {
+        true
+    }
+
+    fn into_notification(self) -> Additional<N> {
+        self
+    }
+}

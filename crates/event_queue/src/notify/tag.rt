@@ -1,0 +1,72 @@
+//! A notification with a tag.
+ghost use Rattle.std.specs.Prelude.{◌≡◌, MatchResult};
+
+use super::{IntoNotification, Notification};
+use std::alloc::AllocError;
+use std::marker::Model;
+
+/// A notification with a tag: each told listener is handed a clone of it, and a refused clone is a refused tag.
+///
+/// It takes memory only where the clone does.
+#[derive(Clone, Debug, Drop)]
+pub struct Tag<N, T> {
+    tag: T,
+    inner: N,
+}
+
+impl<N, T> Model for Tag<N, T> {
+    ghost Value = { T × N };
+
+    ghost view = { λ n. (n.tag, n.inner) };
+}
+
+impl<N, T> Tag<N, T> {
+    pub(super) fn new(tag: T, inner: N) -> Self
+        ensures { result ≡ (tag, inner) }
+    {
+        Tag { tag, inner }
+    }
+}
+
+impl<N: Notification, T: Clone> Notification for Tag<N, T> {
+    type Tag = T;
+
+    ghost count = { λ n. N.count n.1 };
+
+    ghost is_additional = { λ n. N.is_additional n.1 };
+
+    ghost can_tag = { λ _. Unit {0} };
+
+    ghost tag_gives = { λ before answer after.
+        MatchResult answer (T.is_clone before.0) (λ _. ¬ T.is_infallible before.0) × (after ≡ before) };
+
+    fn count(&self) -> usize {
+        self.inner.count()
+    }
+
+    fn is_additional(&self) -> bool {
+        self.inner.is_additional()
+    }
+
+    fn next_tag(&mut self) -> Result<T, AllocError> {
+        self.tag.clone()
+    }
+}
+
+impl<N: Notification, T: Clone> IntoNotification for Tag<N, T> {
+    type Tag = T;
+
+    type Notify = Tag<N, T>;
+
+    ghost fits = { λ _. Unit {0} };
+
+    ghost meaning = { λ n. n };
+
+    fn fits(&self) -> bool {
+        true
+    }
+
+    fn into_notification(self) -> Tag<N, T> {
+        self
+    }
+}

@@ -1,0 +1,49 @@
+use thiserror::Error;
+
+/// What a listener was when it left the queue.
+#[derive(Clone, Copy, Debug, PartialEq, Eq, Drop)]
+pub enum State<T, W> {
+    /// Waiting, and no task was stored.
+    Created,
+    /// Told, and its notification is the answer.
+    Notified {
+        /// Whether the notification was an additional one.
+        additional: bool,
+        /// The tag that came with it.
+        tag: T,
+    },
+    /// Waiting, with the task that was stored last.
+    Task(W),
+    /// Told, and its notification was passed on, or lost where nobody was to be told.
+    NotifiedTaken,
+}
+
+/// What [`List::register`](crate::List::register) found.
+#[derive(Clone, Copy, Debug, PartialEq, Eq, Drop)]
+pub enum RegisterResult<T> {
+    /// The listener was told: it has left the queue, and this is its tag.
+    Notified(T),
+    /// The listener waits, and the task is stored.
+    Registered,
+    /// No listener of that key is in the queue.
+    NeverInserted,
+}
+
+/// Why a listener was not taken into the queue.
+#[derive(Clone, Copy, Debug, PartialEq, Eq, Error)]
+pub enum ListenError {
+    /// A growth was refused. The queue is unchanged.
+    #[error("no memory for a listener")]
+    Memory,
+    /// The queue has given out all serial numbers. The queue is unchanged.
+    #[error("serial numbers are used up")]
+    SerialsUsedUp,
+}
+
+/// A notification refused a tag before it had told all that it was to tell.
+#[derive(Clone, Copy, Debug, PartialEq, Eq, Error)]
+#[error("a tag was refused after {told} listeners")]
+pub struct NotifyError {
+    /// How many listeners were told in full. No other listener is changed.
+    pub told: usize,
+}

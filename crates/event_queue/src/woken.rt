@@ -1,0 +1,66 @@
+ghost use Rattle.std.specs.Prelude.{◌≡◌, [], IfOk};
+ghost use Rattle.event_queue.specs.Woken.{Kept, after_one};
+
+use crate::wake::WakeSink;
+use std::alloc::{AllocError, Global};
+use std::marker::Model;
+
+/// A sink that keeps the first tasks woken, in order, and counts those that come after.
+///
+/// Its memory is asked for when it is made, so no wake is refused.
+#[derive(Drop)]
+pub struct Woken<W> {
+    tasks: Vec<W>,
+    room: usize,
+    missed: usize,
+}
+
+impl<W> Model for Woken<W> {
+    ghost use Rattle.std.specs.Prelude.{◌≤◌, vec_len, vec_capacity};
+    ghost use Rattle.event_queue.specs.Woken.{Kept};
+
+    ghost Value = { Kept W };
+
+    ghost view = { λ woken. record { tasks = woken.tasks.items; room = woken.room; missed = woken.missed } };
+
+    ghost invariant = { λ woken. (vec_len woken.tasks ≤ woken.room) × (woken.room ≤ vec_capacity woken.tasks) };
+}
+
+impl<W> Woken<W> {
+    /// A sink that keeps the first `n` tasks, or the refusal of memory for them.
+    pub fn with_room(alloc: Global, n: usize) -> Result<Self, AllocError>
+        ensures { IfOk result (λ woken. woken ≡ record { tasks = []; room = n; missed = 0 }) }
+    {
+        Ok(Woken {
+            tasks: Vec::with_capacity(alloc, n)?,
+            room: n,
+            missed: 0,
+        })
+    }
+
+    /// The first tasks woken, in order.
+    pub fn tasks(&self) -> &[W]
+        ensures { result.now ≡ self.now.tasks }
+    {
+        self.tasks.as_slice()
+    }
+
+    /// How many tasks came after those kept. It stays at `usize::MAX`.
+    pub fn missed(&self) -> usize
+        ensures { result ≡ self.now.missed }
+    {
+        self.missed
+    }
+}
+
+impl<W: Drop> WakeSink<W> for Woken<W> {
+    ghost woke = { λ before task after. after ≡ after_one task before };
+
+    fn wake(&mut self, task: W) {
+        if self.tasks.len() < self.room {
+            self.tasks.push_reserved(task);
+        } else {
+            self.missed = self.missed.saturating_add(1);
+        }
+    }
+}
