@@ -1,0 +1,183 @@
+//! Events.
+ghost use Rattle.std.specs.Prelude.{◌≡◌, ◌≤◌, false, IfOk};
+ghost use Rattle.event_queue.specs.Notify.{NeverRefuses};
+ghost use Rattle.event_listener.specs.Event.{TellsSome};
+
+mod identity;
+mod shared;
+#[cfg(test)]
+mod tests;
+
+use crate::listener::{EventListener, Seat};
+use crate::task::Waking;
+use event_queue::{IntoNotification, ListenError, NotifyError};
+pub use identity::{EventId, EventIds, IdsUsedUp, given_numbers_are_distinct};
+pub(crate) use shared::Shared;
+use std::alloc::{AllocError, Global};
+use std::marker::Model;
+use std::sync::{Arc, OnceLock, Wait};
+use std::time::Clock;
+
+/// What others listen to, and are notified of.
+///
+/// Its listeners stand in one queue, in order of listening. The queue is made by the first of them. Each call that
+/// asks or changes it is one step under a lock that no other event has, and may wait for that lock. Tags are made and
+/// tasks are woken inside that step; a tag's function or clone that calls the same event waits for itself.
+///
+/// A contract sees an event as the number of its identity. What stands in its queue no contract can name, since other
+/// threads may change it at any time.
+#[derive(Drop)]
+pub struct Event<T> {
+    id: EventId,
+    shared: OnceLock<Arc<Shared<T>>>,
+}
+
+impl<T> Model for Event<T> {
+    ghost use Rattle.std.specs.Prelude.{ℕ};
+
+    ghost Value = { ℕ };
+
+    ghost view = { λ event. event.id };
+}
+
+impl<T> Event<T> {
+    /// An event whose notifications have tags of type `T`. It takes no memory, and nor does any call on it until
+    /// somebody listens.
+    pub fn with_tag(id: EventId) -> Self
+        ensures { result ≡ id }
+    {
+        Event {
+            id,
+            shared: OnceLock::new(),
+        }
+    }
+
+    /// A new listener, which waits at the end of the queue. It starts untold, whoever is told already.
+    ///
+    /// The call takes memory: for the queue, where there is none yet or it has no spare place, and for a share of it
+    /// and a clone of the runtime value, which the listener keeps for its own calls. [`ListenError::Memory`] is the
+    /// answer where any of that is refused, and [`ListenError::SerialsUsedUp`] where the queue has given out all
+    /// serial numbers. Either leaves the queue as it was.
+    pub fn listen<R>(&self, rt: &R, alloc: Global) -> Result<EventListener<T, R>, ListenError>
+    where
+        T: Drop,
+        R: Wait + Clock + Clone,
+        ensures event { IfOk result (λ listener. listener.event_number ≡ self.now) }
+        ensures unfinished { IfOk result (λ listener. listener.is_finished ≡ false) }
+    {
+        let Ok(shared) = self.share(rt, alloc) else {
+            return Err(ListenError::Memory);
+        };
+        let Ok(runtime) = rt.clone() else {
+            return Err(ListenError::Memory);
+        };
+        let key = shared.lock(rt).insert()?;
+        let seat = Seat::new(key, self.id.number(), runtime);
+        Ok(EventListener::new(shared, seat))
+    }
+
+    // A share of the queue, which is made where there is none. Where two threads make it at once, the second drops its
+    // own and takes the first one's.
+    fn share<R: Wait>(&self, rt: &R, alloc: Global) -> Result<Arc<Shared<T>>, AllocError>
+    where
+        T: Drop,
+    {
+        if let Some(shared) = self.shared.get() {
+            return Arc::try_clone(shared);
+        }
+        let made = Arc::new(alloc, Shared::new(alloc))?;
+        let token = match self.shared.try_insert(rt, made) {
+            Ok(token) => token,
+            Err((token, _second)) => token,
+        };
+        Arc::try_clone(self.shared.value(&token))
+    }
+
+    /// Tells the first of the waiting listeners, in order, each with the notification's next tag, and wakes their
+    /// tasks. Answers how many were told.
+    ///
+    /// It tells as many as the notification counts, less those that are told already where it is a default one, and
+    /// no more than wait. One that finds nobody to tell is not kept. Before anybody has listened the answer is 0, and
+    /// no queue is made. The error comes only where the notification refused a tag: the listeners told until then stay
+    /// told, and nobody is skipped. The call takes no memory, but for what the notification takes.
+    pub fn notify<R: Wait, N: IntoNotification<Tag = T>>(
+        &self,
+        rt: &R,
+        n: N,
+    ) -> Result<usize, NotifyError>
+    where
+        N::Notify: Drop,
+        requires fits { N.fits n }
+        requires can_tag { N.Notify.can_tag (N.meaning n) }
+        ensures { TellsSome N.Notify.tag_gives (N.Notify.count (N.meaning n)) (N.meaning n) result }
+    {
+        let mut notification = n.into_notification();
+        match self.shared.get() {
+            Some(shared) => shared.lock(rt).notify(&mut notification, &mut Waking),
+            None => Ok(0),
+        }
+    }
+
+    /// Whether some listener is told. It takes no memory.
+    pub fn is_notified<R: Wait>(&self, rt: &R) -> bool {
+        match self.shared.get() {
+            Some(shared) => shared.lock(rt).is_notified(),
+            None => false,
+        }
+    }
+
+    /// How many listeners there are, told or waiting. It takes no memory.
+    pub fn total_listeners<R: Wait>(&self, rt: &R) -> usize {
+        match self.shared.get() {
+            Some(shared) => shared.lock(rt).total_listeners(),
+            None => 0,
+        }
+    }
+}
+
+impl Event<()> {
+    /// An event whose notifications have no tags. It takes no memory, and nor does any call on it until somebody
+    /// listens.
+    pub fn new(id: EventId) -> Event<()>
+        ensures { result ≡ id }
+    {
+        Event::with_tag(id)
+    }
+
+    /// [`notify`](Event::notify) with `n.relaxed()`: here that is `n` itself. Nothing is refused.
+    pub fn notify_relaxed<R: Wait>(&self, rt: &R, n: usize) -> usize
+        ensures { result ≤ n }
+    {
+        self.notify_unrefused(rt, n.relaxed())
+    }
+
+    /// [`notify`](Event::notify) with `n.additional()`: it tells as many listeners anew, whoever is told already.
+    /// Nothing is refused.
+    pub fn notify_additional<R: Wait>(&self, rt: &R, n: usize) -> usize
+        ensures { result ≤ n }
+    {
+        self.notify_unrefused(rt, n.additional())
+    }
+
+    /// [`notify`](Event::notify) with `n.additional().relaxed()`: here that is `n.additional()`. Nothing is refused.
+    pub fn notify_additional_relaxed<R: Wait>(&self, rt: &R, n: usize) -> usize
+        ensures { result ≤ n }
+    {
+        self.notify_unrefused(rt, n.additional().relaxed())
+    }
+
+    // A notification that refuses no tag gives no error.
+    fn notify_unrefused<R: Wait, N: IntoNotification<Tag = ()>>(&self, rt: &R, n: N) -> usize
+    where
+        N::Notify: Drop,
+        requires fits { N.fits n }
+        requires can_tag { N.Notify.can_tag (N.meaning n) }
+        requires unrefused { NeverRefuses N.Notify.tag_gives }
+        ensures { result ≤ N.Notify.count (N.meaning n) }
+    {
+        match self.notify(rt, n) {
+            Ok(told) => told,
+            Err(_) => unreachable!(),
+        }
+    }
+}

@@ -1,0 +1,55 @@
+//! Listeners.
+ghost use Rattle.std.specs.Prelude.{◌≡◌, ℕ, Bool, true, false, IsErr, IfOk, OnErr};
+ghost use Rattle.futures.specs.Poll.{IfReady, OnPending};
+
+mod event_listener;
+mod seat;
+
+pub use event_listener::EventListener;
+use futures::task::{Poll, Waker};
+pub(crate) use seat::Seat;
+use thiserror::Error;
+
+/// The listener is not in the queue: it has given its tag.
+#[derive(Clone, Copy, Debug, PartialEq, Eq, Error)]
+#[error("listener is not in the queue")]
+pub struct NeverInserted;
+
+/// What waits in the queue of an event until it is told.
+///
+/// Dropping a listener passes its notification on, if it was told: its event is notified of one, of the same kind and
+/// with the same tag. So a default notification is lost while another listener stays told, and an additional one only
+/// where nobody waits.
+///
+/// The trait is open. Generic callers know an implementation by its ghost members: `event_number`, the number of the
+/// event that it listens to, and `is_finished`, whether it has given its tag.
+pub trait Listener<T>: Sized {
+    ghost event_number: { Self → ℕ };
+
+    ghost is_finished: { Self → Bool };
+
+    /// Takes the tag if the listener was told, which finishes it; else leaves the waker, in place of any earlier one.
+    ///
+    /// A finished listener answers [`NeverInserted`] and stays finished. The call takes no memory, and may wait for
+    /// the lock of the event.
+    ///
+    /// The waker that is handed in always takes the place of the one before. A waker wakes when it is let go, so the
+    /// task of the one before is woken, even if that is the task that polls. The same happens to a waker that is
+    /// handed in and not stored.
+    fn poll(&mut self, waker: Waker) -> Result<Poll<T>, NeverInserted>
+        ensures finished { is_finished self.old ≡ true → IsErr result }
+        ensures event { event_number self.new ≡ event_number self.old }
+
+        // A poll that gives the tag finishes the listener, one that is pending does not, and one that finds it gone
+        // leaves it finished.
+        ensures ready { IfOk result (λ polled. IfReady polled (λ _. is_finished self.new ≡ true)) }
+        ensures pending { IfOk result (λ polled. OnPending polled (is_finished self.new ≡ false)) }
+        ensures err { OnErr result (is_finished self.new ≡ true) };
+
+    /// Leaves the queue without passing a notification on, and answers whether the listener was told. A finished one
+    /// answers `false`.
+    ///
+    /// The call takes no memory, and may wait for the lock of the event.
+    fn discard(self) -> bool
+        ensures finished { is_finished self ≡ true → result ≡ false };
+}

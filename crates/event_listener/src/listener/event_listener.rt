@@ -1,0 +1,61 @@
+//! The listener that shares the queue of its event.
+ghost use Rattle.std.specs.Prelude.{◌≡◌};
+
+use super::seat::Seat;
+use super::{Listener, NeverInserted};
+use crate::event::Shared;
+use futures::task::{Poll, Waker};
+use std::marker::Model;
+use std::sync::{Arc, Wait};
+use std::time::Clock;
+
+/// A listener that shares the queue of its event, and so can outlive the event.
+///
+/// It keeps a clone of the runtime value that it was made with, for its own calls and its drop, which may wait for the
+/// lock of the event.
+pub struct EventListener<T, R: Wait + Clock + Clone> {
+    shared: Arc<Shared<T>>,
+    seat: Seat<R>,
+}
+
+impl<T, R: Wait + Clock + Clone> Model for EventListener<T, R> {
+    ghost use Rattle.event_listener.specs.Listening.{Listening};
+
+    ghost Value = { Listening };
+
+    ghost view = { λ listener. record {
+      event_number = listener.seat.event_number;
+      is_finished = listener.seat.is_finished;
+    } };
+}
+
+impl<T, R: Wait + Clock + Clone> EventListener<T, R> {
+    pub(crate) fn new(shared: Arc<Shared<T>>, seat: Seat<R>) -> Self
+        ensures event { result.event_number ≡ seat.event_number }
+        ensures finished { result.is_finished ≡ seat.is_finished }
+    {
+        EventListener { shared, seat }
+    }
+}
+
+impl<T: Drop, R: Wait + Clock + Clone> Listener<T> for EventListener<T, R> {
+    ghost event_number = { λ listener. listener.event_number };
+
+    ghost is_finished = { λ listener. listener.is_finished };
+
+    fn poll(&mut self, waker: Waker) -> Result<Poll<T>, NeverInserted> {
+        self.seat.poll(&self.shared, waker)
+    }
+
+    fn discard(self) -> bool {
+        let Self { shared, seat } = self;
+        seat.leave(&shared, false)
+    }
+}
+
+impl<T: Drop, R: Wait + Clock + Clone> Drop for EventListener<T, R> {
+    fn drop(self) {
+        let Self { shared, seat } = self;
+        let _ = seat.leave(&shared, true);
+    }
+}
