@@ -1,0 +1,59 @@
+//! A sink and a notification of the tests' own.
+ghost use Rattle.std.specs.Prelude.{◌≡◌, Ok};
+
+use event_queue::{Notification, WakeSink};
+use std::alloc::{AllocError, Global};
+
+/// Keeps the woken tasks, in order, as far as there is memory for them.
+#[derive(Drop)]
+pub struct Noted {
+    pub tasks: Vec<u32>,
+}
+
+impl Noted {
+    pub fn new(alloc: Global) -> Self {
+        Noted {
+            tasks: Vec::new(alloc),
+        }
+    }
+}
+
+impl WakeSink<u32> for Noted {
+    ghost woke = { λ _ _ _. Unit {0} };
+
+    fn wake(&mut self, task: u32) {
+        let _ = self.tasks.push(task);
+    }
+}
+
+/// A notification of either kind that gives each listener the same tag.
+#[derive(Drop)]
+pub struct Tagged {
+    pub count: usize,
+    pub additional: bool,
+    pub tag: u32,
+}
+
+impl Notification for Tagged {
+    type Tag = u32;
+
+    ghost count = { λ n. n.count };
+
+    ghost is_additional = { λ n. n.additional };
+
+    ghost can_tag = { λ _. Unit {0} };
+
+    ghost tag_gives = { λ before answer after. (answer ≡ Ok before.tag) × (after ≡ before) };
+
+    fn count(&self) -> usize {
+        self.count
+    }
+
+    fn is_additional(&self) -> bool {
+        self.additional
+    }
+
+    fn next_tag(&mut self) -> Result<u32, AllocError> {
+        Ok(self.tag)
+    }
+}

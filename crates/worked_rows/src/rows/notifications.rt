@@ -1,0 +1,18 @@
+//! Rows over numbers as notifications.
+use crate::difference::{Difference, same};
+use crate::hook::Hook;
+use event_queue::IntoNotification;
+
+pub fn integers_that_fit<H: Hook>(hook: &mut H) -> Result<(), Difference> {
+    same(fits(hook, -1i32), false)?;
+    same(fits(hook, 0u8), true)?;
+    same(fits(hook, u128::MAX), false)
+}
+
+/// Whether that can be a notification.
+pub fn fits<N: IntoNotification + Drop, H: Hook>(hook: &mut H, n: N) -> bool {
+    hook.before(false);
+    let answer = n.fits();
+    hook.after();
+    answer
+}
