@@ -72,7 +72,7 @@ impl<T> Event<T> {
             return Err(ListenError::Memory);
         };
         let key = shared.lock(rt).insert()?;
-        let seat = Seat::new(key, self.id.number(), runtime);
+        let seat = Seat::new(key, self.id.number(), runtime, alloc);
         Ok(EventListener::new(shared, seat))
     }
 
@@ -113,7 +113,9 @@ impl<T> Event<T> {
     {
         let mut notification = n.into_notification();
         match self.shared.get() {
-            Some(shared) => shared.lock(rt).notify(&mut notification, &mut Waking),
+            Some(shared) => shared
+                .lock(rt)
+                .notify(&mut notification, &mut Waking::new(rt)),
             None => Ok(0),
         }
     }

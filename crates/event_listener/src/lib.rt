@@ -22,5 +22,5 @@ pub use event_queue::{
     tag_clone_has_both_clones, tag_is_its_notification, tag_with_is_its_notification,
     woken_keeps_the_first,
 };
-pub use listener::{EventListener, Listener, NeverInserted};
+pub use listener::{EventListener, Listener, NeverInserted, WaitError};
 pub use task::Task;

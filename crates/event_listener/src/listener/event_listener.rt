@@ -1,18 +1,22 @@
 //! The listener that shares the queue of its event.
-ghost use Rattle.std.specs.Prelude.{◌≡◌};
+ghost use Rattle.std.specs.Prelude.{◌≡◌, ◌≢◌, true, IsErr, IfOk, IfErr, IsSome};
+ghost use Rattle.event_listener.specs.declared.listener.wait.Limit.TheVariants.{Never};
+ghost use Rattle.event_listener.specs.declared.listener.wait.Ended.TheVariants.{TimedOut, Refused};
+ghost use Rattle.event_listener.specs.Waiting.{HandsBack, IsFault};
 
 use super::seat::Seat;
-use super::{Listener, NeverInserted};
+use super::wait::{Ended, Limit};
+use super::{Listener, NeverInserted, WaitError};
 use crate::event::Shared;
 use futures::task::{Poll, Waker};
 use std::marker::Model;
 use std::sync::{Arc, Wait};
-use std::time::Clock;
+use std::time::{Clock, Duration, Instant};
 
 /// A listener that shares the queue of its event, and so can outlive the event.
 ///
-/// It keeps a clone of the runtime value that it was made with, for its own calls and its drop, which may wait for the
-/// lock of the event.
+/// It keeps a clone of the runtime value that it was made with and the allocator, for its own calls and its drop, which
+/// may wait for the lock of the event.
 pub struct EventListener<T, R: Wait + Clock + Clone> {
     shared: Arc<Shared<T>>,
     seat: Seat<R>,
@@ -25,6 +29,7 @@ impl<T, R: Wait + Clock + Clone> Model for EventListener<T, R> {
 
     ghost view = { λ listener. record {
       event_number = listener.seat.event_number;
+      key = listener.seat.key;
       is_finished = listener.seat.is_finished;
     } };
 }
@@ -38,6 +43,26 @@ impl<T, R: Wait + Clock + Clone> EventListener<T, R> {
     }
 }
 
+impl<T: Drop, R: Wait + Clock + Clone> EventListener<T, R> {
+    fn wait_within(self, limit: Limit) -> Result<Option<T>, WaitError<Self>>
+        ensures finished { self.is_finished ≡ true → IsErr result }
+        ensures memory { IfErr result (HandsBack self) }
+        ensures unlimited { limit ≡ Never → IfOk result (λ tag. IsSome tag) }
+    {
+        let mut listener = self;
+        let ended = listener.wait_in_place(limit);
+        ended.answer(listener)
+    }
+
+    fn wait_in_place(&mut self, limit: Limit) -> Ended<T>
+        ensures finished { self.old.is_finished ≡ true → IsFault result }
+        ensures refused { result ≡ Refused → self.new ≡ self.old }
+        ensures unlimited { limit ≡ Never → result ≢ TimedOut }
+    {
+        self.seat.wait(&self.shared, limit)
+    }
+}
+
 impl<T: Drop, R: Wait + Clock + Clone> Listener<T> for EventListener<T, R> {
     ghost event_number = { λ listener. listener.event_number };
 
@@ -45,6 +70,22 @@ impl<T: Drop, R: Wait + Clock + Clone> Listener<T> for EventListener<T, R> {
 
     fn poll(&mut self, waker: Waker) -> Result<Poll<T>, NeverInserted> {
         self.seat.poll(&self.shared, waker)
+    }
+
+    fn wait(self) -> Result<T, WaitError<Self>> {
+        match self.wait_within(Limit::Never)? {
+            Some(tag) => Ok(tag),
+            None => unreachable!(),
+        }
+    }
+
+    fn wait_timeout(self, timeout: Duration) -> Result<Option<T>, WaitError<Self>> {
+        let limit = self.seat.limit_after(timeout);
+        self.wait_within(limit)
+    }
+
+    fn wait_deadline(self, deadline: Instant) -> Result<Option<T>, WaitError<Self>> {
+        self.wait_within(Limit::At(deadline))
     }
 
     fn discard(self) -> bool {
