@@ -5,6 +5,8 @@ ghost use Rattle.event_listener.specs.Waiting.{HandsBack};
 
 mod event_listener;
 mod seat;
+#[cfg(test)]
+mod tests;
 mod wait;
 mod wait_error;
 

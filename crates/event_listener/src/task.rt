@@ -2,6 +2,8 @@
 ghost use Rattle.std.specs.Prelude.{◌≡◌};
 
 mod parker;
+#[cfg(test)]
+mod tests;
 
 use event_queue::WakeSink;
 use futures::task::Waker;
