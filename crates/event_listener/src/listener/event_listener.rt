@@ -1,11 +1,8 @@
 //! The listener that shares the queue of its event.
-ghost use Rattle.std.specs.Prelude.{◌≡◌, ◌≢◌, true, IsErr, IfOk, IfErr, IsSome};
-ghost use Rattle.event_listener.specs.declared.listener.wait.Limit.TheVariants.{Never};
-ghost use Rattle.event_listener.specs.declared.listener.wait.Ended.TheVariants.{TimedOut, Refused};
-ghost use Rattle.event_listener.specs.Waiting.{HandsBack, IsFault};
+ghost use Rattle.std.specs.Prelude.{◌≡◌};
 
 use super::seat::Seat;
-use super::wait::{Ended, Limit};
+use super::wait::{Ended, Limit, Seated, wait_until_told, wait_within};
 use super::{Listener, NeverInserted, WaitError};
 use crate::event::Shared;
 use futures::task::{Poll, Waker};
@@ -43,22 +40,10 @@ impl<T, R: Wait + Clock + Clone> EventListener<T, R> {
     }
 }
 
-impl<T: Drop, R: Wait + Clock + Clone> EventListener<T, R> {
-    fn wait_within(self, limit: Limit) -> Result<Option<T>, WaitError<Self>>
-        ensures finished { self.is_finished ≡ true → IsErr result }
-        ensures memory { IfErr result (HandsBack self) }
-        ensures unlimited { limit ≡ Never → IfOk result (λ tag. IsSome tag) }
-    {
-        let mut listener = self;
-        let ended = listener.wait_in_place(limit);
-        ended.answer(listener)
-    }
+impl<T: Drop, R: Wait + Clock + Clone> Seated<T> for EventListener<T, R> {
+    ghost finished = { λ listener. listener.is_finished };
 
-    fn wait_in_place(&mut self, limit: Limit) -> Ended<T>
-        ensures finished { self.old.is_finished ≡ true → IsFault result }
-        ensures refused { result ≡ Refused → self.new ≡ self.old }
-        ensures unlimited { limit ≡ Never → result ≢ TimedOut }
-    {
+    fn wait_in_place(&mut self, limit: Limit) -> Ended<T> {
         self.seat.wait(&self.shared, limit)
     }
 }
@@ -73,19 +58,16 @@ impl<T: Drop, R: Wait + Clock + Clone> Listener<T> for EventListener<T, R> {
     }
 
     fn wait(self) -> Result<T, WaitError<Self>> {
-        match self.wait_within(Limit::Never)? {
-            Some(tag) => Ok(tag),
-            None => unreachable!(),
-        }
+        wait_until_told(self)
     }
 
     fn wait_timeout(self, timeout: Duration) -> Result<Option<T>, WaitError<Self>> {
         let limit = self.seat.limit_after(timeout);
-        self.wait_within(limit)
+        wait_within(self, limit)
     }
 
     fn wait_deadline(self, deadline: Instant) -> Result<Option<T>, WaitError<Self>> {
-        self.wait_within(Limit::At(deadline))
+        wait_within(self, Limit::At(deadline))
     }
 
     fn discard(self) -> bool {

@@ -1,8 +1,9 @@
 //! How long a wait goes on, and how it ended.
-ghost use Rattle.std.specs.Prelude.{◌≡◌, ◌≢◌, Some, None, IsNone};
+ghost use Rattle.std.specs.Prelude.{◌≡◌, ◌≢◌, Bool, true, Some, None, IsSome, IsErr, IfOk, IfErr};
 ghost use Rattle.event_queue.specs.declared.reply.State.TheVariants.{NotifiedTaken};
 ghost use Rattle.event_listener.specs.declared.listener.wait.Limit.TheVariants.{Never};
-ghost use Rattle.event_listener.specs.Waiting.{ended_at_deadline, answer_of};
+ghost use Rattle.event_listener.specs.declared.listener.wait.Ended.TheVariants.{TimedOut, Refused};
+ghost use Rattle.event_listener.specs.Waiting.{HandsBack, IsFault, ended_at_deadline, answer_of};
 
 use super::WaitError;
 use event_queue::State;
@@ -82,5 +83,42 @@ impl<T> Ended<T> {
             Ended::Absent => Err(WaitError::NeverInserted),
             Ended::Refused => Err(WaitError::Memory(listener)),
         }
+    }
+}
+
+/// A listener that can wait where it is: one of any kind that has a seat.
+pub(super) trait Seated<T>: Drop + Sized {
+    ghost finished: { Self → Bool };
+
+    /// Waits until the listener is told or the limit has passed. The listener is out of the queue then, unless memory
+    /// was refused.
+    fn wait_in_place(&mut self, limit: Limit) -> Ended<T>
+        ensures finished { finished self.old ≡ true → IsFault result }
+        ensures refused { result ≡ Refused → self.new ≡ self.old }
+        ensures unlimited { limit ≡ Never → result ≢ TimedOut };
+}
+
+/// Waits until the listener is told or the limit has passed.
+pub(super) fn wait_within<T, L: Seated<T>>(
+    listener: L,
+    limit: Limit,
+) -> Result<Option<T>, WaitError<L>>
+    ensures finished { L.finished listener ≡ true → IsErr result }
+    ensures memory { IfErr result (HandsBack listener) }
+    ensures unlimited { limit ≡ Never → IfOk result (λ tag. IsSome tag) }
+{
+    let mut listener = listener;
+    let ended = listener.wait_in_place(limit);
+    ended.answer(listener)
+}
+
+/// Waits until the listener is told.
+pub(super) fn wait_until_told<T, L: Seated<T>>(listener: L) -> Result<T, WaitError<L>>
+    ensures finished { L.finished listener ≡ true → IsErr result }
+    ensures memory { IfErr result (HandsBack listener) }
+{
+    match wait_within(listener, Limit::Never)? {
+        Some(tag) => Ok(tag),
+        None => unreachable!(),
     }
 }
