@@ -17,6 +17,7 @@ use std::time::Clock;
 /// has changed nothing.
 ///
 /// A contract sees a slot as the number of its event.
+#[derive(Drop)]
 pub struct StackSlot<'ev, T> {
     shared: &'ev Shared<T>,
     event_number: u64,
@@ -72,16 +73,6 @@ impl<'ev, T> StackSlot<'ev, T> {
         let key = self.shared.lock(rt).insert()?;
         let seat = Seat::new(key, self.event_number, runtime);
         Ok(StackListener::new(self.shared, seat))
-    }
-}
-
-impl<T> Drop for StackSlot<'_, T> {
-    fn drop(self) {
-        let Self {
-            shared: _,
-            event_number: _,
-            alloc: _,
-        } = self;
     }
 }
 
