@@ -1,18 +1,24 @@
 //! Listeners.
-ghost use Rattle.std.specs.Prelude.{◌≡◌, ℕ, Bool, true, false, IsErr, IfOk, IfErr, OnErr};
+ghost use Rattle.std.specs.Prelude.{◌≡◌, ◌↔◌, ℕ, Bool, true, false, IsTrue, IsErr, IfOk, IfErr, OnErr};
 ghost use Rattle.futures.specs.Poll.{IfReady, OnPending};
 ghost use Rattle.event_listener.specs.Waiting.{HandsBack};
 
 mod event_listener;
+mod macros;
 mod seat;
+mod stack_listener;
+mod stack_slot;
 #[cfg(test)]
 mod tests;
 mod wait;
 mod wait_error;
 
+use crate::event::Event;
 pub use event_listener::EventListener;
 use futures::task::{Poll, Waker};
 pub(crate) use seat::Seat;
+pub use stack_listener::StackListener;
+pub use stack_slot::StackSlot;
 use std::time::{Duration, Instant};
 use thiserror::Error;
 pub use wait_error::WaitError;
@@ -96,4 +102,16 @@ pub trait Listener<T>: Sized {
     /// The call takes no memory, and may wait for the lock of the event.
     fn discard(self) -> bool
         ensures finished { is_finished self ≡ true → result ≡ false };
+
+    /// Whether the listener listens to this event: whether their numbers are the same.
+    ///
+    /// Events of two sources may have one number. The call takes no memory and no lock.
+    fn listens_to(&self, event: &Event<T>) -> bool
+        ensures { IsTrue result ↔ (event_number self.now ≡ event.now) };
+
+    /// Whether both listen to one event: whether the numbers of their events are the same.
+    ///
+    /// Events of two sources may have one number. The call takes no memory and no lock.
+    fn same_event(&self, other: &Self) -> bool
+        ensures { IsTrue result ↔ (event_number self.now ≡ event_number other.now) };
 }

@@ -6,6 +6,8 @@
 #[cfg(test)]
 mod comparison;
 #[cfg(test)]
+mod debug_texts;
+#[cfg(test)]
 mod doubles;
 #[cfg(test)]
 mod events;
@@ -14,6 +16,8 @@ mod notifications;
 mod plain_queue;
 #[cfg(test)]
 mod queue;
+#[cfg(test)]
+mod stack;
 #[cfg(test)]
 mod tagged_queue;
 #[cfg(test)]

@@ -4,8 +4,9 @@ ghost use Rattle.std.specs.Prelude.{◌≡◌};
 use super::seat::Seat;
 use super::wait::{Ended, Limit, Seated, wait_until_told, wait_within};
 use super::{Listener, NeverInserted, WaitError};
-use crate::event::Shared;
+use crate::event::{Event, Shared};
 use futures::task::{Poll, Waker};
+use std::fmt;
 use std::marker::Model;
 use std::sync::{Arc, Wait};
 use std::time::{Clock, Duration, Instant};
@@ -74,11 +75,25 @@ impl<T: Drop, R: Wait + Clock + Clone> Listener<T> for EventListener<T, R> {
         let Self { shared, seat } = self;
         seat.leave(&shared, false)
     }
+
+    fn listens_to(&self, event: &Event<T>) -> bool {
+        self.seat.event_number == event.number()
+    }
+
+    fn same_event(&self, other: &Self) -> bool {
+        self.seat.event_number == other.seat.event_number
+    }
 }
 
 impl<T: Drop, R: Wait + Clock + Clone> Drop for EventListener<T, R> {
     fn drop(self) {
         let Self { shared, seat } = self;
         let _ = seat.leave(&shared, true);
+    }
+}
+
+impl<T, R: Wait + Clock + Clone> fmt::Debug for EventListener<T, R> {
+    fn fmt<W: fmt::Write>(&self, f: &mut fmt::Formatter<W>) -> fmt::Result {
+        f.debug_struct("EventListener").finish_non_exhaustive()
     }
 }
