@@ -3,7 +3,7 @@ use crate::hook::Hook;
 use crate::wakers::Wakers;
 use event_listener::{
     Event, EventId, EventIds, EventListener, IdsUsedUp, IntoNotification, ListenError, Listener,
-    NotifyError, WaitError,
+    NotifyError, StackListener, StackSlot, WaitError,
 };
 use futures::task::Poll;
 use std::alloc::Global;
@@ -32,6 +32,22 @@ impl<'ev, T: Drop, R: Wait + Clock + Clone> Kind<'ev, T, R> for Sharing {
         event: &'ev Event<T>,
     ) -> Result<EventListener<T, R>, ListenError> {
         event.listen(rt, alloc)
+    }
+}
+
+/// Listeners that borrow their event.
+#[derive(Drop)]
+pub struct Borrowing;
+
+impl<'ev, T: Drop + 'ev, R: Wait + Clock + Clone> Kind<'ev, T, R> for Borrowing {
+    type Listener = StackListener<'ev, T, R>;
+
+    fn listen(
+        rt: &R,
+        alloc: Global,
+        event: &'ev Event<T>,
+    ) -> Result<StackListener<'ev, T, R>, ListenError> {
+        StackSlot::new(rt, alloc, event)?.listen(rt)
     }
 }
 
@@ -93,7 +109,12 @@ impl<'a, R: Wait, H: Hook> Bench<'a, R, H> {
     /// A new event, the only one of its source.
     pub fn event<T>(&mut self) -> Result<Event<T>, Difference> {
         let mut ids = self.identities(0);
-        let id = self.identity(&mut ids)?;
+        self.event_of(&mut ids)
+    }
+
+    /// A new event of this source.
+    pub fn event_of<T>(&mut self, ids: &mut EventIds) -> Result<Event<T>, Difference> {
+        let id = self.identity(ids)?;
         self.hook.before(false);
         let event = Event::with_tag(id);
         self.hook.after();
@@ -261,6 +282,22 @@ impl<'a, R: Wait, H: Hook> Bench<'a, R, H> {
             }
             reply => Ok(reply?),
         }
+    }
+
+    /// Whether a listener listens to this event.
+    pub fn listens_to<T, L: Listener<T>>(&mut self, listener: &L, event: &Event<T>) -> bool {
+        self.hook.before(false);
+        let reply = listener.listens_to(event);
+        self.hook.after();
+        reply
+    }
+
+    /// Whether two listeners listen to one event.
+    pub fn same_event<T, L: Listener<T>>(&mut self, listener: &L, other: &L) -> bool {
+        self.hook.before(false);
+        let reply = listener.same_event(other);
+        self.hook.after();
+        reply
     }
 
     /// Discards a listener.

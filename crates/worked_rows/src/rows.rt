@@ -1,4 +1,4 @@
-use crate::bench::{Bench, Sharing};
+use crate::bench::{Bench, Borrowing, Sharing};
 use crate::difference::Difference;
 use crate::hook::Hook;
 use std::sync::Wait;
@@ -40,6 +40,8 @@ pub enum Row {
     StaleKey,
     /// The total falls by one with each removal.
     Totals,
+    /// Listeners know which event they listen to, and whether it is the same.
+    EventsAreToldApart,
     /// Which integers are the number of a notification.
     IntegersThatFit,
     /// The task that was stored last is woken, and no earlier one.
@@ -56,7 +58,7 @@ pub enum Row {
 
 impl Row {
     /// All rows, in order of number.
-    pub const ALL: [Row; 34] = [
+    pub const ALL: [Row; 35] = [
         Row::Event(EventRow::DefaultCountsTheTold),
         Row::Event(EventRow::KindsMixed),
         Row::Event(EventRow::DefaultIsLost),
@@ -80,6 +82,7 @@ impl Row {
         Row::Event(EventRow::PassedToANewcomer),
         Row::IdentitiesEnd,
         Row::IntegersThatFit,
+        Row::EventsAreToldApart,
         Row::Event(EventRow::TotalOfListeners),
         Row::Tagged(TaggedRow::TagsByAFunction),
         Row::LastTask,
@@ -107,6 +110,7 @@ impl Row {
             Row::Totals => 25,
             Row::IdentitiesEnd => 28,
             Row::IntegersThatFit => 29,
+            Row::EventsAreToldApart => 30,
             Row::LastTask => 33,
             Row::MissedTasks => 38,
             Row::TagsRunOut => 50,
@@ -115,7 +119,8 @@ impl Row {
         }
     }
 
-    /// Makes the calls of the row, with the hook round each, and compares their answers with those of the row.
+    /// Makes the calls of the row, with the hook round each, and compares their answers with those of the row. A row
+    /// over an event is made with each kind of listener in turn.
     pub fn run<R, H>(self, bench: &mut Bench<'_, R, H>) -> Result<(), Difference>
     where
         R: Wait + Clock + Clone,
@@ -123,20 +128,30 @@ impl Row {
     {
         match self {
             Row::Event(row) => {
-                let event = bench.event()?;
-                row.run::<Sharing, R, H>(bench, &event)
+                let (one, other) = (bench.event()?, bench.event()?);
+                row.run::<Sharing, R, H>(bench, &one)?;
+                row.run::<Borrowing, R, H>(bench, &other)
             }
             Row::Tagged(row) => {
-                let event = bench.event()?;
-                row.run::<Sharing, R, H>(bench, &event)
+                let (one, other) = (bench.event()?, bench.event()?);
+                row.run::<Sharing, R, H>(bench, &one)?;
+                row.run::<Borrowing, R, H>(bench, &other)
             }
             Row::Wait(row) => {
-                let event = bench.event()?;
-                row.run::<Sharing, R, H>(bench, &event)
+                let (one, other) = (bench.event()?, bench.event()?);
+                row.run::<Sharing, R, H>(bench, &one)?;
+                row.run::<Borrowing, R, H>(bench, &other)
             }
             Row::WaitsGiveTheirTags => {
-                let event = bench.event()?;
-                waits::give_their_tags::<Sharing, R, H>(bench, &event)
+                let (one, other) = (bench.event()?, bench.event()?);
+                waits::give_their_tags::<Sharing, R, H>(bench, &one)?;
+                waits::give_their_tags::<Borrowing, R, H>(bench, &other)
+            }
+            Row::EventsAreToldApart => {
+                let mut ids = bench.identities(0);
+                let (one, other) = (bench.event_of(&mut ids)?, bench.event_of(&mut ids)?);
+                identities::told_apart::<Sharing, R, H>(bench, &one, &other)?;
+                identities::told_apart::<Borrowing, R, H>(bench, &one, &other)
             }
             Row::IdentitiesEnd => identities::end(bench),
             Row::WakesInOrder => wakes::in_order(bench.alloc(), bench.hook()),

@@ -5,7 +5,7 @@ use futures::task::{Context, Poll, Source, Waker};
 /// Wakers of one task: more than any row polls. They take no memory.
 #[derive(Drop)]
 pub struct Wakers {
-    left: [Option<Waker>; 8],
+    left: [Option<Waker>; 16],
 }
 
 impl Wakers {
@@ -14,6 +14,14 @@ impl Wakers {
         ensures { Keeps cx.old cx.new }
     {
         let left = [
+            waker(cx),
+            waker(cx),
+            waker(cx),
+            waker(cx),
+            waker(cx),
+            waker(cx),
+            waker(cx),
+            waker(cx),
             waker(cx),
             waker(cx),
             waker(cx),

@@ -1,13 +1,32 @@
-//! The row over identities alone.
-use crate::bench::Bench;
+//! The rows over identities.
+use crate::bench::{Bench, Kind};
 use crate::difference::{Difference, same};
 use crate::hook::Hook;
-use event_listener::IdsUsedUp;
+use event_listener::{Event, IdsUsedUp};
 use std::sync::Wait;
 
+/// The last identity of a source is given, and none after it.
 pub fn end<R: Wait, H: Hook>(bench: &mut Bench<'_, R, H>) -> Result<(), Difference> {
     let mut ids = bench.identities(u64::MAX - 1);
     let last = bench.identity(&mut ids)?;
     same(last.number(), 18446744073709551614)?;
     same(bench.identity(&mut ids).err(), Some(IdsUsedUp))
+}
+
+/// Listeners of one event, asked of that event and of another of the same source.
+pub fn told_apart<'ev, K, R, H>(
+    bench: &mut Bench<'_, R, H>,
+    event: &'ev Event<()>,
+    other: &'ev Event<()>,
+) -> Result<(), Difference>
+where
+    K: Kind<'ev, (), R>,
+    R: Wait,
+    H: Hook,
+{
+    let first = bench.listen::<K, ()>(event)?;
+    let second = bench.listen::<K, ()>(event)?;
+    same(bench.listens_to(&first, event), true)?;
+    same(bench.listens_to(&first, other), false)?;
+    same(bench.same_event(&first, &second), true)
 }
