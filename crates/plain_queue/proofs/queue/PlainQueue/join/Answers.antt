@@ -1,5 +1,4 @@
 use Rattle.std.proofs.Common.{◌≡◌, ◌+◌, ◌-◌, ◌<◌, ◌^◌, arith, ap, refl}
-use Rattle.event_queue.proofs.QueueLemmas.{IsQueue-push}
 use Rattle.plain_queue.proofs.RoomLemmas.{HasRoom-joins}
 use Rattle.plain_queue.proofs.queue.PlainQueue.join.Goals as goal
 

@@ -1,4 +1,4 @@
-use Rattle.std.proofs.Common.{◌≡◌, ◌+◌, ◌<◌, ◌≤◌, ◌^◌, length, vec_capacity, arith, ap}
+use Rattle.std.proofs.Common.{◌+◌, ◌<◌, ◌^◌, arith, ap}
 use Rattle.plain_queue.proofs.RoomLemmas.{HasRoom-place}
 use Rattle.plain_queue.proofs.queue.PlainQueue.make_place.Goals as goal
 

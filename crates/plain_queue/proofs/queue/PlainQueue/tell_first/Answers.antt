@@ -1,4 +1,4 @@
-use Rattle.std.proofs.Common.{◌≡◌, ◌∷◌, ◌<◌, length, sym, ap, refl, arith}
+use Rattle.std.proofs.Common.{◌<◌, length, ap, refl, arith}
 use Rattle.event_queue.proofs.TellingLemmas.{IsQueue-told_first}
 use Rattle.plain_queue.proofs.EntryLemmas.{first_and_rest}
 use Rattle.plain_queue.proofs.RoomLemmas.{HasRoom-told_first}
