@@ -1,3 +1,4 @@
 pub mod Identity
 pub mod Event
 pub mod Listening
+pub mod Waiting

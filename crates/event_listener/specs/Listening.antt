@@ -1,7 +1,9 @@
 -- What a contract sees of a listener.
 use Rattle.std.specs.Prelude.{ℕ, Bool}
+use Rattle.event_queue.specs.declared.key.Key.{Key}
 
--- the number of its event, and whether it has given its tag
+-- the number of its event, by which key it stands in the queue there, and whether it has given its tag
 pub record Listening : Type 0 where
   pub event_number : ℕ
+  pub key : Key
   pub is_finished : Bool

@@ -3,6 +3,7 @@ ghost use Rattle.std.specs.Prelude.{◌≡◌, ◌≤◌, false, IfOk};
 ghost use Rattle.event_queue.specs.Notify.{NeverRefuses};
 ghost use Rattle.event_listener.specs.Event.{TellsSome};
 
+mod debug;
 mod identity;
 mod shared;
 #[cfg(test)]
@@ -20,9 +21,10 @@ use std::time::Clock;
 
 /// What others listen to, and are notified of.
 ///
-/// Its listeners stand in one queue, in order of listening. The queue is made by the first of them. Each call that
-/// asks or changes it is one step under a lock that no other event has, and may wait for that lock. Tags are made and
-/// tasks are woken inside that step; a tag's function or clone that calls the same event waits for itself.
+/// Its listeners stand in one queue, in order of listening. The queue is made by the first of them, or by the first
+/// [`StackSlot`](crate::StackSlot). Each call that asks or changes it is one step under a lock that no other event has,
+/// and may wait for that lock. Tags are made and tasks are woken inside that step; a tag's function or clone that calls
+/// the same event waits for itself.
 ///
 /// A contract sees an event as the number of its identity. What stands in its queue no contract can name, since other
 /// threads may change it at any time.
@@ -72,25 +74,44 @@ impl<T> Event<T> {
             return Err(ListenError::Memory);
         };
         let key = shared.lock(rt).insert()?;
-        let seat = Seat::new(key, self.id.number(), runtime);
+        let seat = Seat::new(key, self.id.number(), runtime, alloc);
         Ok(EventListener::new(shared, seat))
     }
 
-    // A share of the queue, which is made where there is none. Where two threads make it at once, the second drops its
-    // own and takes the first one's.
+    // A share of the queue, which is made where there is none.
     fn share<R: Wait>(&self, rt: &R, alloc: Global) -> Result<Arc<Shared<T>>, AllocError>
     where
         T: Drop,
     {
+        Arc::try_clone(self.queue(rt, alloc)?)
+    }
+
+    /// The queue, which is made where there is none. Where two threads make it at once, the second drops its own and
+    /// takes the first one's.
+    pub(crate) fn queue<R: Wait>(
+        &self,
+        rt: &R,
+        alloc: Global,
+    ) -> Result<&Arc<Shared<T>>, AllocError>
+    where
+        T: Drop,
+    {
         if let Some(shared) = self.shared.get() {
-            return Arc::try_clone(shared);
+            return Ok(shared);
         }
         let made = Arc::new(alloc, Shared::new(alloc))?;
         let token = match self.shared.try_insert(rt, made) {
             Ok(token) => token,
             Err((token, _second)) => token,
         };
-        Arc::try_clone(self.shared.value(&token))
+        Ok(self.shared.value(&token))
+    }
+
+    /// The number of the event's identity.
+    pub(crate) fn number(&self) -> u64
+        ensures { result ≡ self.now }
+    {
+        self.id.number()
     }
 
     /// Tells the first of the waiting listeners, in order, each with the notification's next tag, and wakes their
@@ -113,7 +134,9 @@ impl<T> Event<T> {
     {
         let mut notification = n.into_notification();
         match self.shared.get() {
-            Some(shared) => shared.lock(rt).notify(&mut notification, &mut Waking),
+            Some(shared) => shared
+                .lock(rt)
+                .notify(&mut notification, &mut Waking::new(rt)),
             None => Ok(0),
         }
     }

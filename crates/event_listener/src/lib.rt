@@ -2,8 +2,9 @@
 //! woken.
 //!
 //! An [`Event`] has one queue of listeners, under a lock of its own. [`Event::listen`] gives an [`EventListener`],
-//! which is polled until it is told, by what [`Listener`] says. What may wait for the lock takes the runtime value;
-//! a listener keeps a clone of it.
+//! which is polled until it is told, by what [`Listener`] says. [`StackSlot`], or the macro [`listener!`], gives a
+//! [`StackListener`], which borrows the event. What may wait for the lock takes the runtime value; a listener keeps a
+//! clone of it.
 //!
 //! The queue itself is the crate `event_queue`, whose public names are handed on.
 #![tactic(auto)]
@@ -22,5 +23,5 @@ pub use event_queue::{
     tag_clone_has_both_clones, tag_is_its_notification, tag_with_is_its_notification,
     woken_keeps_the_first,
 };
-pub use listener::{EventListener, Listener, NeverInserted};
+pub use listener::{EventListener, Listener, NeverInserted, StackListener, StackSlot, WaitError};
 pub use task::Task;

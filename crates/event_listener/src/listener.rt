@@ -1,14 +1,27 @@
 //! Listeners.
-ghost use Rattle.std.specs.Prelude.{◌≡◌, ℕ, Bool, true, false, IsErr, IfOk, OnErr};
+ghost use Rattle.std.specs.Prelude.{◌≡◌, ◌↔◌, ℕ, Bool, true, false, IsTrue, IsErr, IfOk, IfErr, OnErr};
 ghost use Rattle.futures.specs.Poll.{IfReady, OnPending};
+ghost use Rattle.event_listener.specs.Waiting.{HandsBack};
 
 mod event_listener;
+mod macros;
 mod seat;
+mod stack_listener;
+mod stack_slot;
+#[cfg(test)]
+mod tests;
+mod wait;
+mod wait_error;
 
+use crate::event::Event;
 pub use event_listener::EventListener;
 use futures::task::{Poll, Waker};
 pub(crate) use seat::Seat;
+pub use stack_listener::StackListener;
+pub use stack_slot::StackSlot;
+use std::time::{Duration, Instant};
 use thiserror::Error;
+pub use wait_error::WaitError;
 
 /// The listener is not in the queue: it has given its tag.
 #[derive(Clone, Copy, Debug, PartialEq, Eq, Error)]
@@ -23,6 +36,17 @@ pub struct NeverInserted;
 ///
 /// The trait is open. Generic callers know an implementation by its ghost members: `event_number`, the number of the
 /// event that it listens to, and `is_finished`, whether it has given its tag.
+///
+/// # Waiting
+///
+/// [`wait`](Listener::wait), [`wait_timeout`](Listener::wait_timeout) and [`wait_deadline`](Listener::wait_deadline)
+/// use the calling thread. Each makes what the thread parks on, then takes the tag if the listener was told, and only
+/// then looks at the time; so a listener that was told already gets its tag, however late it is. Then the thread parks
+/// until it is woken or the time is up, and looks again. No contract says that it is woken, or that the call returns.
+///
+/// A wait takes memory for what it parks on, and a share of it each time it parks. Where that is refused, the answer is
+/// [`WaitError::Memory`] with the same listener, which is in the queue as before, but that a task which the wait left
+/// there stays. A finished listener answers [`WaitError::NeverInserted`].
 pub trait Listener<T>: Sized {
     ghost event_number: { Self → ℕ };
 
@@ -46,10 +70,48 @@ pub trait Listener<T>: Sized {
         ensures pending { IfOk result (λ polled. OnPending polled (is_finished self.new ≡ false)) }
         ensures err { OnErr result (is_finished self.new ≡ true) };
 
+    /// Waits until the listener is told, and gives the tag.
+    ///
+    /// See [Waiting](Listener#waiting) for what a wait takes and what its refusals leave.
+    fn wait(self) -> Result<T, WaitError<Self>>
+        ensures finished { is_finished self ≡ true → IsErr result }
+        ensures memory { IfErr result (HandsBack self) };
+
+    /// Waits until the listener is told or so much time has passed, and gives the tag or `None`. The listener is out
+    /// of the queue then; what it was told after its time is not passed on, but given.
+    ///
+    /// Where the present moment and the timeout add up to one that can't be represented, it waits without a limit. A
+    /// clock that can't be read counts as one whose time has passed. See [Waiting](Listener#waiting) for what a wait
+    /// takes and what its refusals leave.
+    fn wait_timeout(self, timeout: Duration) -> Result<Option<T>, WaitError<Self>>
+        ensures finished { is_finished self ≡ true → IsErr result }
+        ensures memory { IfErr result (HandsBack self) };
+
+    /// Waits until the listener is told or that moment has come, and gives the tag or `None`. The listener is out of
+    /// the queue then; what it was told after that moment is not passed on, but given.
+    ///
+    /// A clock that can't be read counts as one whose time has passed. See [Waiting](Listener#waiting) for what a wait
+    /// takes and what its refusals leave.
+    fn wait_deadline(self, deadline: Instant) -> Result<Option<T>, WaitError<Self>>
+        ensures finished { is_finished self ≡ true → IsErr result }
+        ensures memory { IfErr result (HandsBack self) };
+
     /// Leaves the queue without passing a notification on, and answers whether the listener was told. A finished one
     /// answers `false`.
     ///
     /// The call takes no memory, and may wait for the lock of the event.
     fn discard(self) -> bool
         ensures finished { is_finished self ≡ true → result ≡ false };
+
+    /// Whether the listener listens to this event: whether their numbers are the same.
+    ///
+    /// Events of two sources may have one number. The call takes no memory and no lock.
+    fn listens_to(&self, event: &Event<T>) -> bool
+        ensures { IsTrue result ↔ (event_number self.now ≡ event.now) };
+
+    /// Whether both listen to one event: whether the numbers of their events are the same.
+    ///
+    /// Events of two sources may have one number. The call takes no memory and no lock.
+    fn same_event(&self, other: &Self) -> bool
+        ensures { IsTrue result ↔ (event_number self.now ≡ event_number other.now) };
 }

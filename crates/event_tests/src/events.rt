@@ -93,9 +93,9 @@ impl Parker {
     }
 }
 
-// Has a thread park until a task of `order` is woken, calls `wake` meanwhile, and says whether the thread was woken in
-// time.
-fn wakes_a_parked_thread<R, W>(rt: &R, order: &WakeOrder, wake: W) -> bool
+/// Has a thread park until a task of `order` is woken, calls `wake` meanwhile, and says whether the thread was woken in
+/// time.
+pub fn wakes_a_parked_thread<R, W>(rt: &R, order: &WakeOrder, wake: W) -> bool
 where
     R: Threads + Wait + Clock + Sync,
     W: FnOnce(),

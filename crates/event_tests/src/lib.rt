@@ -2,8 +2,12 @@
 #![tactic(auto)]
 
 #[cfg(test)]
+mod debug_texts;
+#[cfg(test)]
 mod events;
 #[cfg(test)]
 mod hog;
+#[cfg(test)]
+mod stack;
 #[cfg(test)]
 mod wakers;

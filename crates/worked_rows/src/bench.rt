@@ -3,12 +3,12 @@ use crate::hook::Hook;
 use crate::wakers::Wakers;
 use event_listener::{
     Event, EventId, EventIds, EventListener, IdsUsedUp, IntoNotification, ListenError, Listener,
-    NeverInserted, NotifyError,
+    NotifyError, WaitError,
 };
 use futures::task::Poll;
 use std::alloc::Global;
 use std::sync::Wait;
-use std::time::Clock;
+use std::time::{Clock, Duration, Instant};
 
 /// Of which kind a row's listeners are. The rows are written once, for every kind.
 pub trait Kind<'ev, T, R> {
@@ -54,6 +54,14 @@ impl<'a, R: Wait, H: Hook> Bench<'a, R, H> {
             hook,
             wakers,
         }
+    }
+
+    /// The present moment.
+    pub fn now(&self) -> Result<Instant, Difference>
+    where
+        R: Clock,
+    {
+        Instant::now(self.rt).map_err(|_| Difference::Refused(Refusal::Clock))
     }
 
     /// What a row that has no event makes its queue with.
@@ -189,6 +197,70 @@ impl<'a, R: Wait, H: Hook> Bench<'a, R, H> {
         let reply = listener.poll(waker);
         self.hook.after();
         Ok(reply?)
+    }
+
+    /// Waits until a listener is told.
+    pub fn wait<T, L: Listener<T> + Drop>(
+        &mut self,
+        event: &Event<T>,
+        listener: L,
+    ) -> Result<T, Difference> {
+        self.wait_by(event, listener, |listener: L| listener.wait())
+    }
+
+    /// Waits until a listener is told or so much time has passed.
+    pub fn wait_timeout<T, L: Listener<T> + Drop>(
+        &mut self,
+        event: &Event<T>,
+        listener: L,
+        timeout: Duration,
+    ) -> Result<Option<T>, Difference> {
+        self.wait_by(event, listener, |listener: L| {
+            listener.wait_timeout(timeout)
+        })
+    }
+
+    /// Waits until a listener is told or that moment has come.
+    pub fn wait_deadline<T, L: Listener<T> + Drop>(
+        &mut self,
+        event: &Event<T>,
+        listener: L,
+        deadline: Instant,
+    ) -> Result<Option<T>, Difference> {
+        self.wait_by(event, listener, |listener: L| {
+            listener.wait_deadline(deadline)
+        })
+    }
+
+    // Where memory is refused, the hook is told whether the listener still stands, and may have the call made again.
+    fn wait_by<T, L, A, F>(
+        &mut self,
+        event: &Event<T>,
+        listener: L,
+        wait: F,
+    ) -> Result<A, Difference>
+    where
+        L: Drop,
+        F: Fn(L) -> Result<A, WaitError<L>> + Drop,
+        requires { F.IsAlwaysCallable wait }
+    {
+        let before = event.total_listeners(self.rt);
+        self.hook.before(true);
+        let reply = wait(listener);
+        self.hook.after();
+        match reply {
+            Err(WaitError::Memory(listener)) => {
+                let stands = event.total_listeners(self.rt) == before;
+                if !self.hook.refused(stands) {
+                    return Err(Difference::Refused(Refusal::Parker));
+                }
+                self.hook.before(true);
+                let reply = wait(listener);
+                self.hook.after();
+                Ok(reply?)
+            }
+            reply => Ok(reply?),
+        }
     }
 
     /// Discards a listener.

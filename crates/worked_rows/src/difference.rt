@@ -1,4 +1,4 @@
-use event_listener::{IdsUsedUp, ListenError, NeverInserted, NotifyError};
+use event_listener::{IdsUsedUp, ListenError, NeverInserted, NotifyError, WaitError};
 use std::alloc::AllocError;
 use thiserror::Error;
 
@@ -29,9 +29,15 @@ pub enum Refusal {
     /// A source had no identity left.
     #[error(transparent)]
     Identity(IdsUsedUp),
-    /// A listener was polled that had given its tag.
+    /// A listener was polled or waited on that had given its tag.
     #[error(transparent)]
     Poll(NeverInserted),
+    /// There was no memory for what a waiting thread parks on.
+    #[error("no memory for a parker")]
+    Parker,
+    /// The clock could not be read.
+    #[error("no memory for the program")]
+    Clock,
 }
 
 impl From<ListenError> for Difference {
@@ -61,6 +67,15 @@ impl From<IdsUsedUp> for Difference {
 impl From<NeverInserted> for Difference {
     fn from(refused: NeverInserted) -> Difference {
         Difference::Refused(Refusal::Poll(refused))
+    }
+}
+
+impl<L: Drop> From<WaitError<L>> for Difference {
+    fn from(refused: WaitError<L>) -> Difference {
+        Difference::Refused(match refused {
+            WaitError::NeverInserted => Refusal::Poll(NeverInserted),
+            WaitError::Memory(_) => Refusal::Parker,
+        })
     }
 }
 

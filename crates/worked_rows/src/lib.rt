@@ -21,4 +21,4 @@ mod wakers;
 pub use difference::{Difference, Refusal};
 pub use hook::{Hook, Undisturbed};
 pub use report::print_rows;
-pub use rows::{EventRow, Row, TaggedRow};
+pub use rows::{EventRow, Row, TaggedRow, WaitRow};

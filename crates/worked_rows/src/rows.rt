@@ -10,10 +10,12 @@ mod notifications;
 mod queue;
 mod runs;
 mod tagged;
+mod waits;
 mod wakes;
 
 pub use events::EventRow;
 pub use tagged::TaggedRow;
+pub use waits::WaitRow;
 
 /// The worked rows, each with its number.
 #[derive(Clone, Copy, Debug, PartialEq, Eq)]
@@ -22,6 +24,10 @@ pub enum Row {
     Event(EventRow),
     /// A row over an event with tags.
     Tagged(TaggedRow),
+    /// A row whose listeners wait with a limit.
+    Wait(WaitRow),
+    /// Each of the listeners that were told waits for its own tag.
+    WaitsGiveTheirTags,
     /// The last identity of a source has the number below the greatest.
     IdentitiesEnd,
     /// A notification of all wakes their tasks in order of listening.
@@ -50,7 +56,7 @@ pub enum Row {
 
 impl Row {
     /// All rows, in order of number.
-    pub const ALL: [Row; 31] = [
+    pub const ALL: [Row; 34] = [
         Row::Event(EventRow::DefaultCountsTheTold),
         Row::Event(EventRow::KindsMixed),
         Row::Event(EventRow::DefaultIsLost),
@@ -61,12 +67,14 @@ impl Row {
         Row::Tagged(TaggedRow::TagMovesOn),
         Row::Event(EventRow::NotNotifiedWithoutListeners),
         Row::RefusedTag,
+        Row::Wait(WaitRow::PastDeadline),
         Row::Event(EventRow::FinishedListener),
         Row::LastSerial,
         Row::StaleKey,
         Row::Event(EventRow::GreatestCount),
         Row::Event(EventRow::OneAfterAnother),
         Row::Event(EventRow::WaitingListenerLeaves),
+        Row::WaitsGiveTheirTags,
         Row::Totals,
         Row::Event(EventRow::DiscardPassesNothingOn),
         Row::Event(EventRow::PassedToANewcomer),
@@ -77,6 +85,7 @@ impl Row {
         Row::LastTask,
         Row::MissedTasks,
         Row::Event(EventRow::NotifiedOnceTold),
+        Row::Wait(WaitRow::LeastAndGreatestTimeout),
         Row::TagsRunOut,
         Row::CountsAtTheirEnds,
         Row::Event(EventRow::RelaxedIsTheSame),
@@ -89,6 +98,8 @@ impl Row {
         match self {
             Row::Event(row) => row.number(),
             Row::Tagged(row) => row.number(),
+            Row::Wait(row) => row.number(),
+            Row::WaitsGiveTheirTags => 24,
             Row::WakesInOrder => 5,
             Row::RefusedTag => 10,
             Row::LastSerial => 13,
@@ -118,6 +129,14 @@ impl Row {
             Row::Tagged(row) => {
                 let event = bench.event()?;
                 row.run::<Sharing, R, H>(bench, &event)
+            }
+            Row::Wait(row) => {
+                let event = bench.event()?;
+                row.run::<Sharing, R, H>(bench, &event)
+            }
+            Row::WaitsGiveTheirTags => {
+                let event = bench.event()?;
+                waits::give_their_tags::<Sharing, R, H>(bench, &event)
             }
             Row::IdentitiesEnd => identities::end(bench),
             Row::WakesInOrder => wakes::in_order(bench.alloc(), bench.hook()),

@@ -21,4 +21,9 @@ impl<T> Shared<T> {
     pub(crate) fn lock<R: Wait>(&self, rt: &R) -> MutexGuard<'_, List<T, Task>> {
         self.queue.lock(rt)
     }
+
+    /// The queue, if the lock can be taken at once.
+    pub(super) fn try_lock(&self) -> Option<MutexGuard<'_, List<T, Task>>> {
+        self.queue.try_lock()
+    }
 }

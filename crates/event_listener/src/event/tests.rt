@@ -1,5 +1,5 @@
 use super::*;
-use crate::listener::Listener;
+use crate::listener::{Listener, StackSlot};
 use futures::task::{Poll, Source, Waker};
 use futures::test::MockTask;
 use std::test::Fail;
@@ -33,6 +33,43 @@ fn one_event_works_while_the_lock_of_another_is_held(rt: HostRuntime) -> Result<
     assert!(rt; polled.is_ready());
     assert_eq!(rt; other.total_listeners(&rt), 0);
 
+    drop(held);
+    Ok(())
+}
+
+// Were the lock taken, the calls would wait for it without end.
+#[test]
+fn identity_is_asked_while_the_lock_is_held(rt: HostRuntime) -> Result<(), Fail> {
+    let mut ids = EventIds::new();
+    let (busy, other) = (Event::new(ids.next()?), Event::new(ids.next()?));
+    let (first, second) = (busy.listen(&rt, rt.alloc())?, busy.listen(&rt, rt.alloc())?);
+    let elsewhere = other.listen(&rt, rt.alloc())?;
+    let stacked = StackSlot::new(&rt, rt.alloc(), &busy)?.listen(&rt)?;
+    let stacked_too = StackSlot::new(&rt, rt.alloc(), &busy)?.listen(&rt)?;
+    let stacked_elsewhere = StackSlot::new(&rt, rt.alloc(), &other)?.listen(&rt)?;
+    let shared = busy.shared.get().ok_or("no queue")?;
+    let held = shared.lock(&rt);
+
+    assert!(rt; first.listens_to(&busy) && !first.listens_to(&other));
+    assert!(rt; first.same_event(&second) && !first.same_event(&elsewhere));
+    assert!(rt; stacked.listens_to(&busy) && !stacked.listens_to(&other));
+    assert!(rt; stacked.same_event(&stacked_too) && !stacked.same_event(&stacked_elsewhere));
+
+    // The drops need the lock.
+    drop(held);
+    Ok(())
+}
+
+#[test]
+fn an_event_is_shown_as_locked_while_its_lock_is_held(rt: HostRuntime) -> Result<(), Fail> {
+    let event = Event::new(EventIds::new().next()?);
+    let _kept = event.listen(&rt, rt.alloc())?;
+    let shared = event.shared.get().ok_or("no queue")?;
+    let held = shared.lock(&rt);
+    assert_eq!(rt;
+        format!(in rt.alloc(); "{event:?}")?.as_str(),
+        "Event(<locked>)"
+    );
     drop(held);
     Ok(())
 }

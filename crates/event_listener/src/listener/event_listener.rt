@@ -2,17 +2,19 @@
 ghost use Rattle.std.specs.Prelude.{◌≡◌};
 
 use super::seat::Seat;
-use super::{Listener, NeverInserted};
-use crate::event::Shared;
+use super::wait::{Ended, Limit, Seated, wait_until_told, wait_within};
+use super::{Listener, NeverInserted, WaitError};
+use crate::event::{Event, Shared};
 use futures::task::{Poll, Waker};
+use std::fmt;
 use std::marker::Model;
 use std::sync::{Arc, Wait};
-use std::time::Clock;
+use std::time::{Clock, Duration, Instant};
 
 /// A listener that shares the queue of its event, and so can outlive the event.
 ///
-/// It keeps a clone of the runtime value that it was made with, for its own calls and its drop, which may wait for the
-/// lock of the event.
+/// It keeps a clone of the runtime value that it was made with and the allocator, for its own calls and its drop, which
+/// may wait for the lock of the event.
 pub struct EventListener<T, R: Wait + Clock + Clone> {
     shared: Arc<Shared<T>>,
     seat: Seat<R>,
@@ -25,6 +27,7 @@ impl<T, R: Wait + Clock + Clone> Model for EventListener<T, R> {
 
     ghost view = { λ listener. record {
       event_number = listener.seat.event_number;
+      key = listener.seat.key;
       is_finished = listener.seat.is_finished;
     } };
 }
@@ -38,6 +41,14 @@ impl<T, R: Wait + Clock + Clone> EventListener<T, R> {
     }
 }
 
+impl<T: Drop, R: Wait + Clock + Clone> Seated<T> for EventListener<T, R> {
+    ghost finished = { λ listener. listener.is_finished };
+
+    fn wait_in_place(&mut self, limit: Limit) -> Ended<T> {
+        self.seat.wait(&self.shared, limit)
+    }
+}
+
 impl<T: Drop, R: Wait + Clock + Clone> Listener<T> for EventListener<T, R> {
     ghost event_number = { λ listener. listener.event_number };
 
@@ -47,9 +58,30 @@ impl<T: Drop, R: Wait + Clock + Clone> Listener<T> for EventListener<T, R> {
         self.seat.poll(&self.shared, waker)
     }
 
+    fn wait(self) -> Result<T, WaitError<Self>> {
+        wait_until_told(self)
+    }
+
+    fn wait_timeout(self, timeout: Duration) -> Result<Option<T>, WaitError<Self>> {
+        let limit = self.seat.limit_after(timeout);
+        wait_within(self, limit)
+    }
+
+    fn wait_deadline(self, deadline: Instant) -> Result<Option<T>, WaitError<Self>> {
+        wait_within(self, Limit::At(deadline))
+    }
+
     fn discard(self) -> bool {
         let Self { shared, seat } = self;
         seat.leave(&shared, false)
+    }
+
+    fn listens_to(&self, event: &Event<T>) -> bool {
+        self.seat.event_number == event.number()
+    }
+
+    fn same_event(&self, other: &Self) -> bool {
+        self.seat.event_number == other.seat.event_number
     }
 }
 
@@ -57,5 +89,11 @@ impl<T: Drop, R: Wait + Clock + Clone> Drop for EventListener<T, R> {
     fn drop(self) {
         let Self { shared, seat } = self;
         let _ = seat.leave(&shared, true);
+    }
+}
+
+impl<T, R: Wait + Clock + Clone> fmt::Debug for EventListener<T, R> {
+    fn fmt<W: fmt::Write>(&self, f: &mut fmt::Formatter<W>) -> fmt::Result {
+        f.debug_struct("EventListener").finish_non_exhaustive()
     }
 }

@@ -1,0 +1,93 @@
+//! Where a listener is made that borrows its event.
+ghost use Rattle.std.specs.Prelude.{◌≡◌, false, IfOk};
+
+use super::StackListener;
+use super::seat::Seat;
+use crate::event::{Event, Shared};
+use event_queue::ListenError;
+use std::alloc::Global;
+use std::fmt;
+use std::marker::Model;
+use std::sync::Wait;
+use std::time::Clock;
+
+/// What a [`StackListener`] is made of: the queue of an event that lives as long as the borrow.
+///
+/// [`listen`](StackSlot::listen) takes the slot, which cannot be cloned. So a slot listens once. One that is let go
+/// has changed nothing.
+///
+/// A contract sees a slot as the number of its event.
+#[derive(Drop)]
+pub struct StackSlot<'ev, T> {
+    shared: &'ev Shared<T>,
+    event_number: u64,
+    // What the calls of the listener take their memory from.
+    alloc: Global,
+}
+
+impl<'ev, T> Model for StackSlot<'ev, T> {
+    ghost use Rattle.std.specs.Prelude.{ℕ};
+
+    ghost Value = { ℕ };
+
+    ghost view = { λ slot. slot.event_number };
+}
+
+impl<'ev, T> StackSlot<'ev, T> {
+    /// A slot of this event. Nobody listens by it yet.
+    ///
+    /// The call takes memory for the queue, where there is none yet, and may wait for a thread that is making it.
+    /// [`ListenError::Memory`] is the answer where that memory is refused, and the only refusal. It leaves the event
+    /// as it was.
+    pub fn new<R: Wait>(rt: &R, alloc: Global, event: &'ev Event<T>) -> Result<Self, ListenError>
+    where
+        T: Drop,
+        ensures event { IfOk result (λ slot. slot ≡ event.now) }
+    {
+        let Ok(shared) = event.queue(rt, alloc) else {
+            return Err(ListenError::Memory);
+        };
+        Ok(StackSlot {
+            shared: &**shared,
+            event_number: event.number(),
+            alloc,
+        })
+    }
+
+    /// A new listener, which waits at the end of the queue. It starts untold, whoever is told already.
+    ///
+    /// The call takes memory: for the queue, where it has no spare place, and for a clone of the runtime value, which
+    /// the listener keeps for its own calls. It may wait for the lock of the event. [`ListenError::Memory`] is the
+    /// answer where memory is refused, and [`ListenError::SerialsUsedUp`] where the queue has given out all serial
+    /// numbers. Either leaves the queue as it was, and the slot is gone.
+    pub fn listen<R>(self, rt: &R) -> Result<StackListener<'ev, T, R>, ListenError>
+    where
+        T: Drop,
+        R: Wait + Clock + Clone,
+        ensures event { IfOk result (λ listener. listener.event_number ≡ self.entry) }
+        ensures unfinished { IfOk result (λ listener. listener.is_finished ≡ false) }
+    {
+        let Ok(runtime) = rt.clone() else {
+            return Err(ListenError::Memory);
+        };
+        let key = self.shared.lock(rt).insert()?;
+        let seat = Seat::new(key, self.event_number, runtime, self.alloc);
+        Ok(StackListener::new(self.shared, seat))
+    }
+}
+
+impl<T> fmt::Debug for StackSlot<'_, T> {
+    fn fmt<W: fmt::Write>(&self, f: &mut fmt::Formatter<W>) -> fmt::Result {
+        f.debug_struct("StackSlot").finish_non_exhaustive()
+    }
+}
+
+// Two impls may not both fit one type, so these stand only as long as a slot cannot be cloned.
+#[cfg(test)]
+trait NotCloned {}
+
+#[cfg(test)]
+impl<T: Clone> NotCloned for T {}
+
+#[cfg(test)]
+impl<T> NotCloned for StackSlot<'_, T> {}

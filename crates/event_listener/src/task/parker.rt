@@ -1,0 +1,71 @@
+//! What a waiting thread parks on.
+use std::alloc::{AllocError, Global};
+use std::sync::{Arc, Condvar, CondvarTimeouts, Mutex, Wait};
+use std::time::{Clock, Duration};
+
+// One token: an unpark sets it, and several are one; a park waits for it and takes it.
+#[derive(Drop)]
+struct Token {
+    is_set: Mutex<bool>,
+    changed: Condvar,
+}
+
+/// What one thread parks on for the length of one wait.
+#[derive(Drop)]
+pub(crate) struct Parker {
+    token: Arc<Token>,
+}
+
+impl Parker {
+    /// A parker whose token is not set. It takes memory.
+    pub(crate) fn new(alloc: Global) -> Result<Self, AllocError> {
+        let token = Token {
+            is_set: Mutex::new(false),
+            changed: Condvar::new(),
+        };
+        let token = Arc::new(alloc, token)?;
+        Ok(Parker { token })
+    }
+
+    /// A further hand that sets the token.
+    pub(crate) fn unparker(&self) -> Result<Unparker, AllocError> {
+        let token = Arc::try_clone(&self.token)?;
+        Ok(Unparker { token })
+    }
+
+    /// Waits until the token is set, and takes it.
+    pub(crate) fn park<R: Wait>(&self, rt: &R) {
+        let token = &self.token;
+        let unset = token.is_set.lock(rt);
+        let mut set = token.changed.wait_while(rt, unset, |is_set| !*is_set);
+        *set = false;
+    }
+
+    /// Waits until the token is set or the time is up, and takes the token if it is set. A clock that can't be read
+    /// ends it too.
+    pub(crate) fn park_timeout<R: Wait + Clock>(&self, rt: &R, timeout: Duration) {
+        let token = &self.token;
+        let unset = token.is_set.lock(rt);
+        let (mut ended, _) = token
+            .changed
+            .wait_timeout_while(rt, unset, timeout, |is_set| !*is_set);
+        *ended = false;
+    }
+}
+
+/// What sets the token of a parker once.
+#[derive(Drop)]
+pub(crate) struct Unparker {
+    token: Arc<Token>,
+}
+
+impl Unparker {
+    /// Sets the token, and wakes the thread that is parked on it.
+    pub(crate) fn unpark<R: Wait>(self, rt: &R) {
+        let token = &self.token;
+        let mut is_set = token.is_set.lock(rt);
+        *is_set = true;
+        drop(is_set);
+        token.changed.notify_one();
+    }
+}

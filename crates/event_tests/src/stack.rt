@@ -1,0 +1,242 @@
+//! Listeners that borrow their event, and the identity of events.
+use crate::events::wakes_a_parked_thread;
+use crate::wakers::{WakeOrder, any_waker};
+use event_listener::{
+    Event, EventIds, EventListener, IntoTagged, ListenError, Listener, StackListener, StackSlot,
+    listener,
+};
+use futures::task::Poll;
+use std::alloc::{AllocError, Global};
+use std::cell::Cell;
+use std::io;
+use std::sync::Wait;
+use std::test::Fail;
+use std::time::{Clock, Duration};
+
+// An error of the tests' own, that a refused listening turns into.
+#[derive(Debug, Drop, PartialEq, Eq)]
+enum Stopped {
+    Listening(ListenError),
+}
+
+impl From<ListenError> for Stopped {
+    fn from(refusal: ListenError) -> Self {
+        Stopped::Listening(refusal)
+    }
+}
+
+// How many of two listeners are there, and whether the first and the second of them were told by a notification of
+// one.
+fn told_of_two<R: Wait + Clock + Clone>(
+    rt: &R,
+    alloc: Global,
+    event: &Event<()>,
+) -> Result<(usize, bool, bool), Stopped> {
+    listener!(rt, alloc; event => first);
+    listener!(rt, alloc; event => second);
+    let total = event.total_listeners(rt);
+    event.notify_relaxed(rt, 1);
+    Ok((total, first.discard(), second.discard()))
+}
+
+#[test]
+fn two_listeners_in_one_body(rt: HostRuntime) -> Result<(), Fail> {
+    let event = Event::new(EventIds::new().next()?);
+    let told = told_of_two(&rt, rt.alloc(), &event);
+    assert_eq!(rt; told, Ok((2, true, false)));
+    assert_eq!(rt; event.total_listeners(&rt), 0);
+    Ok(())
+}
+
+#[test]
+fn the_macro_takes_an_event_and_a_name_that_is_polled(rt: HostRuntime) -> Result<(), Fail> {
+    let event: Event<u8> = Event::with_tag(EventIds::new().next()?);
+    listener!(&rt, rt.alloc(); event => first);
+    listener!(&rt, rt.alloc(); event => mut second);
+    assert_eq!(rt; event.notify(&rt, 1.tag(7))?, 1);
+    assert!(rt; matches!(first.poll(any_waker(&rt)?)?, Poll::Ready(7)));
+    assert!(rt; second.poll(any_waker(&rt)?)?.is_pending());
+    assert!(rt; first.poll(any_waker(&rt)?).is_err());
+    Ok(())
+}
+
+#[test]
+fn a_slot_changes_nothing_until_it_listens(rt: HostRuntime) -> Result<(), Fail> {
+    let event = Event::new(EventIds::new().next()?);
+    let (slot, unused) = (
+        StackSlot::new(&rt, rt.alloc(), &event)?,
+        StackSlot::new(&rt, rt.alloc(), &event)?,
+    );
+    assert_eq!(rt; event.total_listeners(&rt), 0);
+    assert_eq!(rt; event.notify(&rt, 1)?, 0);
+    let mut listener = slot.listen(&rt)?;
+    drop(unused);
+    assert_eq!(rt; event.total_listeners(&rt), 1);
+    assert!(rt; listener.poll(any_waker(&rt)?)?.is_pending());
+    Ok(())
+}
+
+#[test]
+fn the_drop_of_a_told_stack_listener_passes_on(rt: HostRuntime) -> Result<(), Fail> {
+    let event: Event<u8> = Event::with_tag(EventIds::new().next()?);
+    listener!(&rt, rt.alloc(); event => told);
+    listener!(&rt, rt.alloc(); event => waiting);
+    assert_eq!(rt; event.notify(&rt, 1.tag(7))?, 1);
+    drop(told);
+    assert_eq!(rt; event.total_listeners(&rt), 1);
+    assert!(rt; matches!(waiting.poll(any_waker(&rt)?)?, Poll::Ready(7)));
+    Ok(())
+}
+
+#[test]
+fn a_told_stack_listener_that_is_discarded_passes_nothing_on(rt: HostRuntime) -> Result<(), Fail> {
+    let event = Event::new(EventIds::new().next()?);
+    listener!(&rt, rt.alloc(); event => told);
+    listener!(&rt, rt.alloc(); event => waiting);
+    assert_eq!(rt; event.notify(&rt, 1)?, 1);
+    assert!(rt; told.discard());
+    assert_eq!(rt; event.total_listeners(&rt), 1);
+    assert!(rt; waiting.poll(any_waker(&rt)?)?.is_pending());
+    Ok(())
+}
+
+#[test]
+fn the_drop_of_a_told_stack_listener_wakes_a_parked_thread(rt: HostRuntime) -> Result<(), Fail> {
+    let event = Event::new(EventIds::new().next()?);
+    listener!(&rt, rt.alloc(); event => told);
+    assert_eq!(rt; event.notify(&rt, 1)?, 1);
+    let order = WakeOrder::new(&rt)?;
+    let (_, waker) = order.task(&rt)?;
+    listener!(&rt, rt.alloc(); event => waiting);
+    assert!(rt; waiting.poll(waker)?.is_pending());
+    let woken = wakes_a_parked_thread(&rt, &order, || drop(told));
+    assert!(rt; woken);
+    assert!(rt; waiting.poll(any_waker(&rt)?)?.is_ready());
+    Ok(())
+}
+
+// The slot ends here, and the listener goes on.
+fn listen<'ev, R: Wait + Clock + Clone>(
+    rt: &R,
+    alloc: Global,
+    event: &'ev Event<()>,
+) -> Result<StackListener<'ev, (), R>, ListenError> {
+    listener!(rt, alloc; event => made);
+    Ok(made)
+}
+
+fn discarded<R: Wait + Clock + Clone>(listener: StackListener<'_, (), R>) -> bool {
+    listener.discard()
+}
+
+#[test]
+fn a_stack_listener_may_move_while_its_event_lives(rt: HostRuntime) -> Result<(), Fail> {
+    let event = Event::new(EventIds::new().next()?);
+    let mut moved = Vec::new(rt.alloc());
+    moved.push(listen(&rt, rt.alloc(), &event)?)?;
+    moved.push(listen(&rt, rt.alloc(), &event)?)?;
+    assert_eq!(rt; event.total_listeners(&rt), 2);
+    assert_eq!(rt; event.notify(&rt, 1)?, 1);
+    let waiting = moved.pop().ok_or("no second listener")?;
+    let told = moved.pop().ok_or("no first listener")?;
+    assert!(rt; !discarded(waiting));
+    assert!(rt; discarded(told));
+    assert_eq!(rt; event.total_listeners(&rt), 0);
+    Ok(())
+}
+
+#[test]
+fn both_kinds_of_listeners_stand_in_one_queue(rt: HostRuntime) -> Result<(), Fail> {
+    let event = Event::new(EventIds::new().next()?);
+    listener!(&rt, rt.alloc(); event => first);
+    let mut second = event.listen(&rt, rt.alloc())?;
+    listener!(&rt, rt.alloc(); event => third);
+    assert_eq!(rt; event.notify(&rt, 2)?, 2);
+    assert!(rt; first.poll(any_waker(&rt)?)?.is_ready());
+    assert!(rt; second.poll(any_waker(&rt)?)?.is_ready());
+    assert!(rt; third.poll(any_waker(&rt)?)?.is_pending());
+    Ok(())
+}
+
+#[test]
+fn a_shared_listener_passes_on_after_its_event_is_gone(rt: HostRuntime) -> Result<(), Fail> {
+    let event: Event<u8> = Event::with_tag(EventIds::new().next()?);
+    let told = event.listen(&rt, rt.alloc())?;
+    let mut waiting = event.listen(&rt, rt.alloc())?;
+    assert_eq!(rt; event.notify(&rt, 1.tag(7))?, 1);
+    drop(event);
+    drop(told);
+    assert!(rt; matches!(waiting.poll(any_waker(&rt)?)?, Poll::Ready(7)));
+    Ok(())
+}
+
+// Events are told apart by their numbers, so those of two sources may be taken for one.
+#[test]
+fn identity_is_the_number(rt: HostRuntime) -> Result<(), Fail> {
+    let mut ids = EventIds::new();
+    let (event, other) = (Event::new(ids.next()?), Event::new(ids.next()?));
+    let of_another_source = Event::new(EventIds::new().next()?);
+    let listener = event.listen(&rt, rt.alloc())?;
+    assert!(rt; listener.listens_to(&event) && !listener.listens_to(&other));
+    assert!(rt; listener.listens_to(&of_another_source));
+    listener!(&rt, rt.alloc(); event => stacked);
+    listener!(&rt, rt.alloc(); of_another_source => namesake);
+    assert!(rt; stacked.listens_to(&event) && !stacked.listens_to(&other));
+    assert!(rt; stacked.same_event(&namesake));
+    Ok(())
+}
+
+// A runtime value that cannot be cloned.
+#[derive(Drop)]
+struct Unshared<R> {
+    rt: R,
+}
+
+impl<R: Wait> Wait for Unshared<R> {}
+
+impl<R: Clock> Clock for Unshared<R> {
+    fn monotonic(&self) -> io::Result<Duration> {
+        self.rt.monotonic()
+    }
+
+    fn since_1970(&self) -> io::Result<Duration> {
+        self.rt.since_1970()
+    }
+}
+
+impl<R: Drop> Clone for Unshared<R> {
+    fn clone(&self) -> Result<Self, AllocError> {
+        Err(AllocError)
+    }
+}
+
+#[test]
+fn nobody_listens_where_the_runtime_is_not_cloned(rt: HostRuntime) -> Result<(), Fail> {
+    let event = Event::new(EventIds::new().next()?);
+    let unshared = Unshared { rt: &rt };
+    let refused = StackSlot::new(&rt, rt.alloc(), &event)?.listen(&unshared);
+    assert!(rt; matches!(refused, Err(ListenError::Memory)));
+    assert_eq!(rt; event.total_listeners(&rt), 0);
+    let refused = event.listen(&unshared, rt.alloc());
+    assert!(rt; matches!(refused, Err(ListenError::Memory)));
+    assert_eq!(rt; event.total_listeners(&rt), 0);
+    Ok(())
+}
+
+fn is_shared_by_threads<T: Send + Sync>(_: &T) {}
+
+// A cell may be sent and not shared, and tags need no more.
+#[test]
+fn tags_that_may_be_sent_are_enough(rt: HostRuntime) -> Result<(), Fail> {
+    let event: Event<Cell<u8>> = Event::with_tag(EventIds::new().next()?);
+    let slot: StackSlot<'_, Cell<u8>> = StackSlot::new(&rt, rt.alloc(), &event)?;
+    is_shared_by_threads(&event);
+    is_shared_by_threads(&slot);
+    let stacked: StackListener<'_, Cell<u8>, HostRuntime> = slot.listen(&rt)?;
+    let shared: EventListener<Cell<u8>, HostRuntime> = event.listen(&rt, rt.alloc())?;
+    is_shared_by_threads(&stacked);
+    is_shared_by_threads(&shared);
+    let untagged = Event::new(EventIds::new().next()?);
+    is_shared_by_threads(&untagged);
+    Ok(())
+}
