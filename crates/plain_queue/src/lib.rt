@@ -1,0 +1,14 @@
+//! The queue of an event as a plain program, with the contracts of the real one.
+//!
+//! [`PlainQueue`] is two lists, searched from the front. What it answers can be read off its code, so it is what
+//! another body of the queue is compared with.
+#![tactic(auto)]
+
+#[cfg(test)]
+mod comparison;
+mod notice;
+mod queue;
+mod run;
+mod tag_list;
+
+pub use queue::PlainQueue;

@@ -1,0 +1,11 @@
+//! Tests of the queue and of its notifications by their public calls: what no clause says.
+#![tactic(auto)]
+
+#[cfg(test)]
+mod doubles;
+#[cfg(test)]
+mod notifications;
+#[cfg(test)]
+mod queue;
+#[cfg(test)]
+mod tagged_queue;
