@@ -1,5 +1,4 @@
 //! Events and their listeners: what happens behind the lock.
-use crate::wakers::{WakeOrder, any_waker, waker_of};
 use event_listener::{
     Event, EventIds, EventListener, IdsUsedUp, IntoNotification, IntoTagged, ListenError, Listener,
     NeverInserted, NotifyError,
@@ -8,10 +7,11 @@ use futures::task::Poll;
 use futures::test::MockTask;
 use std::alloc::{AllocError, Global};
 use std::cell::Cell;
-use std::sync::{Condvar, Mutex, Wait};
+use std::sync::Wait;
 use std::test::Fail;
 use std::thread::{self, Threads};
-use std::time::{Clock, Duration};
+use std::time::Clock;
+use test_wakers::{WakeOrder, any_waker, waker_of, wakes_a_parked_thread};
 
 type Listened<R> = Result<EventListener<(), R>, ListenError>;
 
@@ -61,62 +61,6 @@ fn a_told_listener_that_is_dropped_wakes_the_next(rt: HostRuntime) -> Result<(),
     assert_eq!(rt; order.next(&rt), Some(task));
     assert!(rt; waiting.poll(any_waker(&rt)?)?.is_ready());
     Ok(())
-}
-
-// A token that one thread waits for and another sets.
-#[derive(Drop)]
-struct Parker {
-    is_set: Mutex<bool>,
-    set: Condvar,
-}
-
-impl Parker {
-    fn new() -> Self {
-        Parker {
-            is_set: Mutex::new(false),
-            set: Condvar::new(),
-        }
-    }
-
-    fn unpark<R: Wait>(&self, rt: &R) {
-        *self.is_set.lock(rt) = true;
-        self.set.notify_all();
-    }
-
-    // Whether the token was set within ten seconds.
-    fn park<R: Wait + Clock>(&self, rt: &R) -> bool {
-        let guard = self.is_set.lock(rt);
-        let (_, waited) = self
-            .set
-            .wait_timeout_while(rt, guard, Duration::from_secs(10), |is_set| !*is_set);
-        !waited.timed_out()
-    }
-}
-
-/// Has a thread park until a task of `order` is woken, calls `wake` meanwhile, and says whether the thread was woken in
-/// time.
-pub fn wakes_a_parked_thread<R, W>(rt: &R, order: &WakeOrder, wake: W) -> bool
-where
-    R: Threads + Wait + Clock + Sync,
-    W: FnOnce(),
-    requires { W.pre wake }
-{
-    let parker = Parker::new();
-    let (_, in_time) = thread::join(
-        rt,
-        || {
-            if order.next(rt).is_some() {
-                parker.unpark(rt);
-            }
-        },
-        || {
-            wake();
-            let in_time = parker.park(rt);
-            order.close();
-            in_time
-        },
-    );
-    in_time
 }
 
 #[test]

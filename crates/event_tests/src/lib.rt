@@ -2,12 +2,6 @@
 #![tactic(auto)]
 
 #[cfg(test)]
-mod debug_texts;
-#[cfg(test)]
 mod events;
 #[cfg(test)]
 mod hog;
-#[cfg(test)]
-mod stack;
-#[cfg(test)]
-mod wakers;
