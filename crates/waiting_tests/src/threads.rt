@@ -1,7 +1,7 @@
 //! Waits of several threads.
 use crate::support::{answered, new_event};
 use event_listener::{
-    Event, EventListener, IntoNotification, IntoTagged, ListenError, Listener, WaitError,
+    Event, EventListener, IntoNotification, IntoTagged, ListenError, Listener, WaitError, listener,
 };
 use std::alloc::Global;
 use std::sync::Wait;
@@ -80,6 +80,32 @@ fn the_drop_of_a_told_listener_wakes_a_waiting_thread(rt: HostRuntime) -> Result
     let waiting = event.listen(&rt, rt.alloc())?;
     let woken = is_woken_by(&rt, waiting, || drop(told))?;
     assert!(rt; woken);
+    Ok(())
+}
+
+#[test]
+fn a_notification_wakes_a_thread_that_waits_on_a_stack_listener(
+    rt: HostRuntime,
+) -> Result<(), Fail> {
+    let event: Event<()> = new_event()?;
+    listener!(&rt, rt.alloc(); event => waiting);
+    let woken = is_woken_by(&rt, waiting, || {
+        event.notify_relaxed(&rt, 1);
+    })?;
+    assert!(rt; woken);
+    assert_eq!(rt; event.total_listeners(&rt), 0);
+    Ok(())
+}
+
+#[test]
+fn the_drop_of_a_told_stack_listener_wakes_a_waiting_thread(rt: HostRuntime) -> Result<(), Fail> {
+    let event: Event<()> = new_event()?;
+    listener!(&rt, rt.alloc(); event => told);
+    assert_eq!(rt; event.notify(&rt, 1)?, 1);
+    let waiting = event.listen(&rt, rt.alloc())?;
+    let woken = is_woken_by(&rt, waiting, || drop(told))?;
+    assert!(rt; woken);
+    assert_eq!(rt; event.total_listeners(&rt), 0);
     Ok(())
 }
 
