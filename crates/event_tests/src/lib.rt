@@ -5,3 +5,5 @@
 mod events;
 #[cfg(test)]
 mod hog;
+#[cfg(test)]
+mod refused_waits;
