@@ -4,6 +4,7 @@ use event_listener::{
     Event, EventIds, IdsUsedUp, IntoNotification, IntoTagged, Listener, StackSlot, WaitError,
 };
 use std::alloc::Global;
+use std::sync::Wait;
 use std::test::Fail;
 use std::time::{Duration, Instant};
 use test_wakers::any_waker;
@@ -45,23 +46,41 @@ fn new_event() -> Result<Event<u32>, IdsUsedUp> {
     Ok(Event::with_tag(EventIds::new().next()?))
 }
 
-#[test]
-fn a_refused_wait_hands_the_listener_back(rt: HostRuntime) -> Result<(), Fail> {
-    let event = new_event()?;
-    let past = Instant::now(&rt)?;
-    let calls = [
+// Whether the listener that comes back from a refused call still stands in the queue, alone, so that a notification
+// reaches it and the same call gives the tag.
+fn stands_after_refusal<R, L>(
+    rt: &R,
+    alloc: Global,
+    event: &Event<u32>,
+    call: Call,
+    listener: L,
+) -> Result<bool, Fail>
+where
+    R: Wait,
+    L: Listener<u32> + Drop,
+{
+    let listener = refused(alloc, call, listener)?;
+    let stands = event.total_listeners(rt) == 1 && listener.listens_to(event);
+    let told = event.notify(rt, 1.tag(7u32))?;
+    let given = matches!(call.on(listener), Ok(Some(7)));
+    Ok(stands && told == 1 && given && event.total_listeners(rt) == 0)
+}
+
+fn all_calls(past: Instant) -> [Call; 4] {
+    [
         Call::Wait,
         Call::Timeout(Duration::MAX),
         Call::Timeout(Duration::ZERO),
         Call::Deadline(past),
-    ];
-    for call in calls {
-        let listener = refused(rt.alloc(), call, event.listen(&rt, rt.alloc())?)?;
-        assert_eq!(rt; event.total_listeners(&rt), 1);
-        assert!(rt; listener.listens_to(&event));
-        assert_eq!(rt; event.notify(&rt, 1.tag(7u32))?, 1);
-        assert!(rt; matches!(call.on(listener), Ok(Some(7))));
-        assert_eq!(rt; event.total_listeners(&rt), 0);
+    ]
+}
+
+#[test]
+fn a_refused_wait_hands_the_listener_back(rt: HostRuntime) -> Result<(), Fail> {
+    let event = new_event()?;
+    for call in all_calls(Instant::now(&rt)?) {
+        let listener = event.listen(&rt, rt.alloc())?;
+        assert!(rt; stands_after_refusal(&rt, rt.alloc(), &event, call, listener)?);
     }
     Ok(())
 }
@@ -69,21 +88,9 @@ fn a_refused_wait_hands_the_listener_back(rt: HostRuntime) -> Result<(), Fail> {
 #[test]
 fn a_refused_wait_hands_a_stack_listener_back(rt: HostRuntime) -> Result<(), Fail> {
     let event = new_event()?;
-    let past = Instant::now(&rt)?;
-    let calls = [
-        Call::Wait,
-        Call::Timeout(Duration::MAX),
-        Call::Timeout(Duration::ZERO),
-        Call::Deadline(past),
-    ];
-    for call in calls {
-        let slot = StackSlot::new(&rt, rt.alloc(), &event)?;
-        let listener = refused(rt.alloc(), call, slot.listen(&rt)?)?;
-        assert_eq!(rt; event.total_listeners(&rt), 1);
-        assert!(rt; listener.listens_to(&event));
-        assert_eq!(rt; event.notify(&rt, 1.tag(7u32))?, 1);
-        assert!(rt; matches!(call.on(listener), Ok(Some(7))));
-        assert_eq!(rt; event.total_listeners(&rt), 0);
+    for call in all_calls(Instant::now(&rt)?) {
+        let listener = StackSlot::new(&rt, rt.alloc(), &event)?.listen(&rt)?;
+        assert!(rt; stands_after_refusal(&rt, rt.alloc(), &event, call, listener)?);
     }
     Ok(())
 }
