@@ -44,6 +44,11 @@ fn two_listeners_in_one_body(rt: HostRuntime) -> Result<(), Fail> {
     let told = told_of_two(&rt, rt.alloc(), &event);
     assert_eq!(rt; told, Ok((2, true, false)));
     assert_eq!(rt; event.total_listeners(&rt), 0);
+
+    // The refusal of the macro's calls is the function's own error.
+    let unshared = Unshared { rt: &rt };
+    let refused = told_of_two(&unshared, rt.alloc(), &event);
+    assert_eq!(rt; refused, Err(Stopped::Listening(ListenError::Memory)));
     Ok(())
 }
 

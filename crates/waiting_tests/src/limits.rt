@@ -80,7 +80,7 @@ fn a_clock_that_cannot_be_read_ends_a_wait_with_a_limit(rt: HostRuntime) -> Resu
 }
 
 #[test]
-fn a_listener_that_times_out_passes_nothing_on(rt: HostRuntime) -> Result<(), Fail> {
+fn a_told_listener_with_no_time_left_gives_its_tag(rt: HostRuntime) -> Result<(), Fail> {
     let event: Event<u32> = new_event()?;
     let told = event.listen(&rt, rt.alloc())?;
     let waiting = event.listen(&rt, rt.alloc())?;
