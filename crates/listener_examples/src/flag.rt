@@ -19,23 +19,6 @@ pub struct Flag {
     set: Event<()>,
 }
 
-impl Model for Flag {
-    ghost use Rattle.std.specs.Prelude.{ℕ};
-
-    ghost Value = { ℕ };
-
-    ghost view = { λ flag. flag.set };
-}
-
-/// Why a wait ended before the flag was set.
-#[derive(Clone, Copy, Debug, PartialEq, Eq, Error)]
-pub enum FlagError {
-    #[error("{0}")]
-    Listen(#[from] ListenError),
-    #[error("no memory for a parker")]
-    Memory,
-}
-
 impl Flag {
     /// A flag that is not set.
     pub fn new(id: EventId) -> Self
@@ -79,6 +62,23 @@ impl Flag {
         }
         unreachable!()
     }
+}
+
+/// Why a wait ended before the flag was set.
+#[derive(Clone, Copy, Debug, PartialEq, Eq, Error)]
+pub enum FlagError {
+    #[error("{0}")]
+    Listen(#[from] ListenError),
+    #[error("no memory for a parker")]
+    Memory,
+}
+
+impl Model for Flag {
+    ghost use Rattle.std.specs.Prelude.{ℕ};
+
+    ghost Value = { ℕ };
+
+    ghost view = { λ flag. flag.set };
 }
 
 /// Two flags of one source. Their clause says that their events are not the same.
