@@ -8,6 +8,8 @@ mod events;
 #[cfg(test)]
 mod hog;
 #[cfg(test)]
+mod refused_waits;
+#[cfg(test)]
 mod stack;
 #[cfg(test)]
 mod wakers;

@@ -132,13 +132,12 @@ fn discarded<R: Wait + Clock + Clone>(listener: StackListener<'_, (), R>) -> boo
 #[test]
 fn a_stack_listener_may_move_while_its_event_lives(rt: HostRuntime) -> Result<(), Fail> {
     let event = Event::new(EventIds::new().next()?);
-    let mut moved = Vec::new(rt.alloc());
-    moved.push(listen(&rt, rt.alloc(), &event)?)?;
-    moved.push(listen(&rt, rt.alloc(), &event)?)?;
+    let first = listen(&rt, rt.alloc(), &event)?;
+    let second = listen(&rt, rt.alloc(), &event)?;
+    let moved = (second, first);
     assert_eq!(rt; event.total_listeners(&rt), 2);
     assert_eq!(rt; event.notify(&rt, 1)?, 1);
-    let waiting = moved.pop().ok_or("no second listener")?;
-    let told = moved.pop().ok_or("no first listener")?;
+    let (waiting, told) = moved;
     assert!(rt; !discarded(waiting));
     assert!(rt; discarded(told));
     assert_eq!(rt; event.total_listeners(&rt), 0);
