@@ -76,17 +76,18 @@
 //!
 //! ```rust
 //! /// Has one listener told: the first that waits gets this tag, unless one is told already. Answers how many it told.
-//! pub fn tell_one<R: Wait>(rt: &R, event: &Event<u32>, tag: u32) -> Result<usize, NotifyError>
-//!     ensures { IfOk result (λ told. told ≤ 1) }
+//! /// A number as a tag is never refused.
+//! pub fn tell_one<R: Wait>(rt: &R, event: &Event<u32>, tag: u32) -> usize
+//!     ensures { result ≤ 1 }
 //! {
-//!     event.notify(rt, 1.tag(tag))
+//!     event.notify(rt, 1.tag(tag)).unwrap()
 //! }
 //!
 //! /// Tells one listener more: the first that waits gets this tag, whoever is told already. Answers how many it told.
-//! pub fn tell_one_more<R: Wait>(rt: &R, event: &Event<u32>, tag: u32) -> Result<usize, NotifyError>
-//!     ensures { IfOk result (λ told. told ≤ 1) }
+//! pub fn tell_one_more<R: Wait>(rt: &R, event: &Event<u32>, tag: u32) -> usize
+//!     ensures { result ≤ 1 }
 //! {
-//!     event.notify(rt, 1.additional().tag(tag))
+//!     event.notify(rt, 1.additional().tag(tag)).unwrap()
 //! }
 //!
 //! /// Two listeners and three notifications: gives the tags that the listeners got, 7 and 9.
@@ -97,10 +98,10 @@
 //!     let event = Event::with_tag(id);
 //!     let first = event.listen(rt, alloc)?;
 //!     let second = event.listen(rt, alloc)?;
-//!     tell_one(rt, &event, 7)?;
+//!     tell_one(rt, &event, 7);
 //!     // One is told already, so nobody gets this tag.
-//!     tell_one(rt, &event, 8)?;
-//!     tell_one_more(rt, &event, 9)?;
+//!     tell_one(rt, &event, 8);
+//!     tell_one_more(rt, &event, 9);
 //!     Ok((first.wait()?, second.wait()?))
 //! }
 //! ```

@@ -1,5 +1,5 @@
 //! A flag that is set once, and that threads wait for.
-ghost use Rattle.std.specs.Prelude.{◌≡◌, ◌≢◌, IfOk};
+ghost use Rattle.std.specs.Prelude.{◌≡◌, ◌≢◌, ◌+◌, ◌≤◌, ◌^◌, IfOk, OnErr};
 
 #[cfg(test)]
 mod tests;
@@ -83,7 +83,8 @@ impl Model for Flag {
 
 /// Two flags of one source. Their clause says that their events are not the same.
 pub fn pair(ids: &mut EventIds) -> Result<(Flag, Flag), IdsUsedUp>
-    ensures { IfOk result (λ flags. flags.0 ≢ flags.1) }
+    ensures differ { IfOk result (λ flags. flags.0 ≢ flags.1) }
+    ensures refused { OnErr result (2 ^ 64 ≤ ids.old + 2) }
 {
     let first = Flag::new(ids.next()?);
     let second = Flag::new(ids.next()?);

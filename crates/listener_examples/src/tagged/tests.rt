@@ -12,10 +12,10 @@ fn a_default_notification_counts_who_is_told_and_an_additional_one_does_not(
     let event = Event::with_tag(EventIds::new().next()?);
     let first = event.listen(&rt, rt.alloc())?;
     let second = event.listen(&rt, rt.alloc())?;
-    assert_eq!(rt; tell_one(&rt, &event, 7)?, 1);
-    assert_eq!(rt; tell_one(&rt, &event, 8)?, 0);
-    assert_eq!(rt; tell_one_more(&rt, &event, 9)?, 1);
-    assert_eq!(rt; tell_one_more(&rt, &event, 10)?, 0);
+    assert_eq!(rt; tell_one(&rt, &event, 7), 1);
+    assert_eq!(rt; tell_one(&rt, &event, 8), 0);
+    assert_eq!(rt; tell_one_more(&rt, &event, 9), 1);
+    assert_eq!(rt; tell_one_more(&rt, &event, 10), 0);
     assert!(rt; first.discard() && second.discard());
     Ok(())
 }
