@@ -13,12 +13,12 @@ HandsBack listener NeverInserted = ⊤
 HandsBack listener (Memory back) = back ≡ listener
 
 module _ {T : Type 0} where
-  -- the wait ended without looking at the time: the listener was not in the queue, or memory was refused
+  -- the wait found no listener in the queue, or was refused memory
   abbrev pub IsFault : Ended T → Type 0
   IsFault ended = (ended ≡ Absent) ⊎ (ended ≡ Refused)
 
   -- what the listener was when it left the queue at its deadline says how its wait ended; a tag that came in time is
-  -- given
+  -- given; a removal at a deadline passes nothing on, so it never answers the last of these
   abbrev pub ended_at_deadline : {W : Type 0} → Option (State T W) → Ended T
   ended_at_deadline None = Absent
   ended_at_deadline (Some Created) = TimedOut

@@ -43,8 +43,8 @@ impl<T> Model for Event<T> {
 }
 
 impl<T> Event<T> {
-    /// An event whose notifications have tags of type `T`. It takes no memory, and nor does any call on it until
-    /// somebody listens.
+    /// An event whose notifications have tags of type `T`. It takes no memory, and nor does a notification or a question
+    /// until somebody listens or makes a slot.
     pub fn with_tag(id: EventId) -> Self
         ensures { result ≡ id }
     {
@@ -159,8 +159,8 @@ impl<T> Event<T> {
 }
 
 impl Event<()> {
-    /// An event whose notifications have no tags. It takes no memory, and nor does any call on it until somebody
-    /// listens.
+    /// An event whose notifications have no tags. It takes no memory, and nor does a notification or a question until
+    /// somebody listens or makes a slot.
     pub fn new(id: EventId) -> Event<()>
         ensures { result ≡ id }
     {

@@ -44,9 +44,11 @@ pub struct NeverInserted;
 /// then looks at the time; so a listener that was told already gets its tag, however late it is. Then the thread parks
 /// until it is woken or the time is up, and looks again. No contract says that it is woken, or that the call returns.
 ///
-/// A wait takes memory for what it parks on, and a share of it each time it parks. Where that is refused, the answer is
-/// [`WaitError::Memory`] with the same listener, which is in the queue as before, but that a task which the wait left
-/// there stays. A finished listener answers [`WaitError::NeverInserted`].
+/// A wait takes memory for what it parks on, and before each look a share of that. Where either is refused, the answer
+/// is [`WaitError::Memory`] with the same listener, which is where it was, but that a task which the wait left in the
+/// queue stays there. Else a finished listener answers [`WaitError::NeverInserted`].
+///
+/// The time is that of the runtime value which the listener keeps. No lock is held while it is read.
 pub trait Listener<T>: Sized {
     ghost event_number: { Self → ℕ };
 
@@ -87,7 +89,7 @@ pub trait Listener<T>: Sized {
         ensures finished { is_finished self ≡ true → IsErr result }
         ensures memory { IfErr result (HandsBack self) };
 
-    /// Waits until the listener is told or that moment has come, and gives the tag or `None`. The listener is out of
+    /// Waits until the listener is told or that moment of its own clock has come, and gives the tag or `None`. The listener is out of
     /// the queue then; what it was told after that moment is not passed on, but given.
     ///
     /// A clock that can't be read counts as one whose time has passed. See [Waiting](Listener#waiting) for what a wait

@@ -14,8 +14,8 @@ use std::sync::Wait;
 
 /// What is woken when a listener is told: the waker that a poll was handed, or a thread that waits.
 ///
-/// A waker wakes when it is let go, too, and so does its task: one that another task replaces, and one that a listener
-/// leaves behind when it goes, is woken as well.
+/// A waker wakes its task also when it is let go. So one that another takes the place of, and one that a listener leaves
+/// behind when it goes, wake theirs as well. A thread is woken only where its listener is told.
 #[derive(Drop)]
 pub struct Task(Sleeper);
 

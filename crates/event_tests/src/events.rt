@@ -1,17 +1,18 @@
 //! Events and their listeners: what happens behind the lock.
-use crate::wakers::{WakeOrder, any_waker, waker_of};
 use event_listener::{
     Event, EventIds, EventListener, IdsUsedUp, IntoNotification, IntoTagged, ListenError, Listener,
-    NeverInserted, NotifyError,
+    NeverInserted, NotifyError, StackSlot,
 };
 use futures::task::Poll;
 use futures::test::MockTask;
-use std::alloc::{AllocError, Global};
+use std::alloc::{AllocError, AllocGlobal, Global};
 use std::cell::Cell;
-use std::sync::{Condvar, Mutex, Wait};
+use std::random::RandomSource;
+use std::sync::Wait;
 use std::test::Fail;
 use std::thread::{self, Threads};
-use std::time::{Clock, Duration};
+use std::time::Clock;
+use test_wakers::{WakeOrder, any_waker, waker_of, wakes_a_parked_thread};
 
 type Listened<R> = Result<EventListener<(), R>, ListenError>;
 
@@ -23,28 +24,60 @@ fn tagged_event<T>() -> Result<Event<T>, IdsUsedUp> {
     Ok(Event::with_tag(EventIds::new().next()?))
 }
 
+// Polls three listeners, in order of listening, and tells all. Whether their tasks woke in that order, and each is ready.
+fn wake_in_order<R, L>(rt: &R, event: &Event<()>, listeners: (L, L, L)) -> Result<bool, Fail>
+where
+    R: Wait + RandomSource + AllocGlobal,
+    L: Listener<()> + Drop,
+{
+    let (mut first, mut second, mut third) = listeners;
+    let order = WakeOrder::new(rt)?;
+    let (one, waker) = order.task(rt)?;
+    let mut pending = first.poll(waker)?.is_pending();
+    let (two, waker) = order.task(rt)?;
+    pending &= second.poll(waker)?.is_pending();
+    let (three, waker) = order.task(rt)?;
+    pending &= third.poll(waker)?.is_pending();
+
+    let told = event.notify(rt, usize::MAX)?;
+    let woken = (order.next(rt), order.next(rt), order.next(rt));
+    let mut ready = first.poll(any_waker(rt)?)?.is_ready();
+    ready &= second.poll(any_waker(rt)?)?.is_ready();
+    ready &= third.poll(any_waker(rt)?)?.is_ready();
+    Ok(pending && told == 3 && woken == (Some(one), Some(two), Some(three)) && ready)
+}
+
 #[test]
 fn tasks_wake_in_order_of_listening(rt: HostRuntime) -> Result<(), Fail> {
     let event = new_event()?;
-    let order = WakeOrder::new(&rt)?;
-    let mut first = event.listen(&rt, rt.alloc())?;
-    let mut second = event.listen(&rt, rt.alloc())?;
-    let mut third = event.listen(&rt, rt.alloc())?;
-    let (one, waker) = order.task(&rt)?;
-    assert!(rt; first.poll(waker)?.is_pending());
-    let (two, waker) = order.task(&rt)?;
-    assert!(rt; second.poll(waker)?.is_pending());
-    let (three, waker) = order.task(&rt)?;
-    assert!(rt; third.poll(waker)?.is_pending());
-
-    assert_eq!(rt; event.notify(&rt, usize::MAX)?, 3);
-    assert_eq!(rt; order.next(&rt), Some(one));
-    assert_eq!(rt; order.next(&rt), Some(two));
-    assert_eq!(rt; order.next(&rt), Some(three));
-    assert!(rt; first.poll(any_waker(&rt)?)?.is_ready());
-    assert!(rt; second.poll(any_waker(&rt)?)?.is_ready());
-    assert!(rt; third.poll(any_waker(&rt)?)?.is_ready());
+    let listeners = (
+        event.listen(&rt, rt.alloc())?,
+        event.listen(&rt, rt.alloc())?,
+        event.listen(&rt, rt.alloc())?,
+    );
+    assert!(rt; wake_in_order(&rt, &event, listeners)?);
+    let listeners = (
+        StackSlot::new(&rt, rt.alloc(), &event)?.listen(&rt)?,
+        StackSlot::new(&rt, rt.alloc(), &event)?.listen(&rt)?,
+        StackSlot::new(&rt, rt.alloc(), &event)?.listen(&rt)?,
+    );
+    assert!(rt; wake_in_order(&rt, &event, listeners)?);
     Ok(())
+}
+
+// Drops a told listener while another one waits, which was polled. Whether the task of that one woke, and it is ready.
+fn drop_wakes_the_next<R, L>(rt: &R, told: L, waiting: L) -> Result<bool, Fail>
+where
+    R: Wait + RandomSource + AllocGlobal,
+    L: Listener<()> + Drop,
+{
+    let mut waiting = waiting;
+    let order = WakeOrder::new(rt)?;
+    let (task, waker) = order.task(rt)?;
+    let pending = waiting.poll(waker)?.is_pending();
+    drop(told);
+    let woken = order.next(rt) == Some(task);
+    Ok(pending && woken && waiting.poll(any_waker(rt)?)?.is_ready())
 }
 
 #[test]
@@ -52,71 +85,14 @@ fn a_told_listener_that_is_dropped_wakes_the_next(rt: HostRuntime) -> Result<(),
     let event = new_event()?;
     let told = event.listen(&rt, rt.alloc())?;
     assert_eq!(rt; event.notify_additional(&rt, 1), 1);
-    let order = WakeOrder::new(&rt)?;
-    let (task, waker) = order.task(&rt)?;
-    let mut waiting = event.listen(&rt, rt.alloc())?;
-    assert!(rt; waiting.poll(waker)?.is_pending());
+    let waiting = event.listen(&rt, rt.alloc())?;
+    assert!(rt; drop_wakes_the_next(&rt, told, waiting)?);
 
-    drop(told);
-    assert_eq!(rt; order.next(&rt), Some(task));
-    assert!(rt; waiting.poll(any_waker(&rt)?)?.is_ready());
+    let told = StackSlot::new(&rt, rt.alloc(), &event)?.listen(&rt)?;
+    assert_eq!(rt; event.notify_additional(&rt, 1), 1);
+    let waiting = StackSlot::new(&rt, rt.alloc(), &event)?.listen(&rt)?;
+    assert!(rt; drop_wakes_the_next(&rt, told, waiting)?);
     Ok(())
-}
-
-// A token that one thread waits for and another sets.
-#[derive(Drop)]
-struct Parker {
-    is_set: Mutex<bool>,
-    set: Condvar,
-}
-
-impl Parker {
-    fn new() -> Self {
-        Parker {
-            is_set: Mutex::new(false),
-            set: Condvar::new(),
-        }
-    }
-
-    fn unpark<R: Wait>(&self, rt: &R) {
-        *self.is_set.lock(rt) = true;
-        self.set.notify_all();
-    }
-
-    // Whether the token was set within ten seconds.
-    fn park<R: Wait + Clock>(&self, rt: &R) -> bool {
-        let guard = self.is_set.lock(rt);
-        let (_, waited) = self
-            .set
-            .wait_timeout_while(rt, guard, Duration::from_secs(10), |is_set| !*is_set);
-        !waited.timed_out()
-    }
-}
-
-/// Has a thread park until a task of `order` is woken, calls `wake` meanwhile, and says whether the thread was woken in
-/// time.
-pub fn wakes_a_parked_thread<R, W>(rt: &R, order: &WakeOrder, wake: W) -> bool
-where
-    R: Threads + Wait + Clock + Sync,
-    W: FnOnce(),
-    requires { W.pre wake }
-{
-    let parker = Parker::new();
-    let (_, in_time) = thread::join(
-        rt,
-        || {
-            if order.next(rt).is_some() {
-                parker.unpark(rt);
-            }
-        },
-        || {
-            wake();
-            let in_time = parker.park(rt);
-            order.close();
-            in_time
-        },
-    );
-    in_time
 }
 
 #[test]

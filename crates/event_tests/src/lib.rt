@@ -2,14 +2,8 @@
 #![tactic(auto)]
 
 #[cfg(test)]
-mod debug_texts;
-#[cfg(test)]
 mod events;
 #[cfg(test)]
 mod hog;
 #[cfg(test)]
 mod refused_waits;
-#[cfg(test)]
-mod stack;
-#[cfg(test)]
-mod wakers;

@@ -2,14 +2,14 @@
 use crate::clocks::{CountedClock, NoClock};
 use crate::support::{answered, new_event};
 use event_listener::{Event, EventListener, IntoNotification, IntoTagged, Listener, WaitError};
-use futures::task::{Poll, Source, Waker};
-use futures::test::MockTask;
+use futures::task::Poll;
 use std::alloc::{AllocGlobal, Global};
 use std::cell::Cell;
 use std::random::RandomSource;
 use std::sync::Wait;
 use std::test::Fail;
 use std::time::{Clock, Duration, Instant};
+use test_wakers::any_waker;
 
 fn short() -> Duration {
     Duration::from_millis(50)
@@ -80,7 +80,7 @@ fn a_clock_that_cannot_be_read_ends_a_wait_with_a_limit(rt: HostRuntime) -> Resu
 }
 
 #[test]
-fn a_listener_that_times_out_passes_nothing_on(rt: HostRuntime) -> Result<(), Fail> {
+fn a_told_listener_with_no_time_left_gives_its_tag(rt: HostRuntime) -> Result<(), Fail> {
     let event: Event<u32> = new_event()?;
     let told = event.listen(&rt, rt.alloc())?;
     let waiting = event.listen(&rt, rt.alloc())?;
@@ -91,15 +91,6 @@ fn a_listener_that_times_out_passes_nothing_on(rt: HostRuntime) -> Result<(), Fa
     assert_eq!(rt; answered(waiting.wait_timeout(Duration::ZERO))?, None);
     assert_eq!(rt; event.total_listeners(&rt), 0);
     Ok(())
-}
-
-fn any_waker<R: RandomSource + AllocGlobal>(rt: &R) -> Result<Waker, Fail> {
-    let task = MockTask::new(rt)?;
-    let mut slot = None;
-    task.enter(|cx| {
-        let _: Poll<()> = cx.register(&Source::new(), &mut slot);
-    });
-    Ok(slot.ok_or("no waker")?)
 }
 
 // A listener that gave its tag to a poll.

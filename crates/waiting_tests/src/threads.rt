@@ -1,7 +1,7 @@
 //! Waits of several threads.
 use crate::support::{answered, new_event};
 use event_listener::{
-    Event, EventListener, IntoNotification, IntoTagged, ListenError, Listener, WaitError,
+    Event, EventListener, IntoNotification, IntoTagged, ListenError, Listener, WaitError, listener,
 };
 use std::alloc::Global;
 use std::sync::Wait;
@@ -32,11 +32,32 @@ fn one_thread_waits_and_another_notifies(rt: HostRuntime) -> Result<(), Fail> {
     let (waited, told) = thread::join(
         &rt,
         || answered(listener.wait()),
-        || event.notify(&rt, 1.tag(7u32)),
+        || {
+            rt.sleep(a_while());
+            event.notify(&rt, 1.tag(7u32))
+        },
     );
     assert_eq!(rt; told?, 1);
     assert_eq!(rt; waited?, 7);
     assert_eq!(rt; event.total_listeners(&rt), 0);
+    Ok(())
+}
+
+// A moment so far ahead can't be represented.
+#[test]
+fn the_greatest_timeout_is_no_limit(rt: HostRuntime) -> Result<(), Fail> {
+    let event: Event<u32> = new_event()?;
+    let listener = event.listen(&rt, rt.alloc())?;
+    let (waited, told) = thread::join(
+        &rt,
+        || answered(listener.wait_timeout(Duration::MAX)),
+        || {
+            rt.sleep(a_while());
+            event.notify(&rt, 1.tag(7u32))
+        },
+    );
+    assert_eq!(rt; told?, 1);
+    assert_eq!(rt; waited?, Some(7));
     Ok(())
 }
 
@@ -80,6 +101,32 @@ fn the_drop_of_a_told_listener_wakes_a_waiting_thread(rt: HostRuntime) -> Result
     let waiting = event.listen(&rt, rt.alloc())?;
     let woken = is_woken_by(&rt, waiting, || drop(told))?;
     assert!(rt; woken);
+    Ok(())
+}
+
+#[test]
+fn a_notification_wakes_a_thread_that_waits_on_a_stack_listener(
+    rt: HostRuntime,
+) -> Result<(), Fail> {
+    let event: Event<()> = new_event()?;
+    listener!(&rt, rt.alloc(); event => waiting);
+    let woken = is_woken_by(&rt, waiting, || {
+        event.notify_relaxed(&rt, 1);
+    })?;
+    assert!(rt; woken);
+    assert_eq!(rt; event.total_listeners(&rt), 0);
+    Ok(())
+}
+
+#[test]
+fn the_drop_of_a_told_stack_listener_wakes_a_waiting_thread(rt: HostRuntime) -> Result<(), Fail> {
+    let event: Event<()> = new_event()?;
+    listener!(&rt, rt.alloc(); event => told);
+    assert_eq!(rt; event.notify(&rt, 1)?, 1);
+    let waiting = event.listen(&rt, rt.alloc())?;
+    let woken = is_woken_by(&rt, waiting, || drop(told))?;
+    assert!(rt; woken);
+    assert_eq!(rt; event.total_listeners(&rt), 0);
     Ok(())
 }
 
@@ -145,7 +192,7 @@ where
 fn two_threads_tell_each_other_in_turn(rt: HostRuntime) -> Result<(), Fail> {
     let (ping, pong): (Event<()>, Event<()>) = (new_event()?, new_event()?);
     let deadline = Instant::now(&rt)?
-        .checked_add(Duration::from_secs(30))
+        .checked_add(Duration::from_secs(50))
         .ok_or("the clock is at its end")?;
     let first = Player {
         rt: &rt,

@@ -3,7 +3,7 @@ use super::Event;
 use std::fmt;
 
 /// How many listeners are told and how many there are, or why that cannot be said: nobody has listened yet, or
-/// somebody else has the lock. It waits for nobody, and takes no memory.
+/// the lock can't be taken at once. It waits for nobody, and takes no memory.
 impl<T> fmt::Debug for Event<T> {
     fn fmt<W: fmt::Write>(&self, f: &mut fmt::Formatter<W>) -> fmt::Result {
         let Some(shared) = self.shared.get() else {

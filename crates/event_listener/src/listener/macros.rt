@@ -2,8 +2,8 @@
 
 /// Makes a [`StackListener`](crate::StackListener) of an event, under a name that the rest of the block has.
 ///
-/// `listener!(rt, alloc; event => l)` stands in a function's body. It writes what [`StackSlot::new`] and
-/// [`StackSlot::listen`] take: `rt` is a reference to the runtime value, `alloc` is the allocator, and `event` is the
+/// `listener!(rt, alloc; event => l)` stands in a function's body. It makes the calls [`StackSlot::new`] and
+/// [`StackSlot::listen`]: `rt` is a reference to the runtime value, `alloc` is the allocator, and `event` is the
 /// event or a reference to it. Its two calls end in `?`, so it works wherever a `ListenError` can be turned into the
 /// function's error. What it takes and refuses is what they do.
 ///

@@ -100,7 +100,8 @@ impl<R: Wait + Clock + Clone> Seat<R> {
             let Ok(task) = Task::from_parker(parker) else {
                 return Ended::Refused;
             };
-            match shared.lock(rt).register(self.key, task) {
+            let found = shared.lock(rt).register(self.key, task);
+            match found {
                 RegisterResult::Notified(tag) => return Ended::Told(tag),
                 RegisterResult::NeverInserted => return Ended::Absent,
                 RegisterResult::Registered => {}

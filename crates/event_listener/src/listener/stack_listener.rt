@@ -16,8 +16,8 @@ use std::time::{Clock, Duration, Instant};
 /// It may be moved and given away as long as the event lives. It is removed from the queue when it is dropped, and not
 /// when the scope ends in which its slot was made.
 ///
-/// It keeps a clone of the runtime value that it was made with, for its own calls and its drop, which may wait for the
-/// lock of the event.
+/// It keeps a clone of the runtime value that it was made with and the allocator of its slot, for its own calls and its
+/// drop, which may wait for the lock of the event.
 pub struct StackListener<'ev, T, R: Wait + Clock + Clone> {
     shared: &'ev Shared<T>,
     seat: Seat<R>,

@@ -14,7 +14,7 @@ use std::time::Clock;
 /// What a [`StackListener`] is made of: the queue of an event that lives as long as the borrow.
 ///
 /// [`listen`](StackSlot::listen) takes the slot, which cannot be cloned. So a slot listens once. One that is let go
-/// has changed nothing.
+/// leaves nobody in the queue.
 ///
 /// A contract sees a slot as the number of its event.
 #[derive(Drop)]

@@ -8,7 +8,7 @@ use std::fmt::{Debug, Display, Formatter};
 pub enum WaitError<L> {
     /// The listener is not in the queue: it has given its tag.
     NeverInserted,
-    /// There was no memory for what the thread parks on. This is the same listener, still in the queue.
+    /// There was no memory for what the thread parks on. This is the same listener, where it was.
     Memory(L),
 }
 

@@ -42,14 +42,15 @@ impl Parker {
     }
 
     /// Waits until the token is set or the time is up, and takes the token if it is set. A clock that can't be read
-    /// ends it too.
+    /// ends it too. It may end without either, so whoever parks looks again.
     pub(crate) fn park_timeout<R: Wait + Clock>(&self, rt: &R, timeout: Duration) {
         let token = &self.token;
-        let unset = token.is_set.lock(rt);
-        let (mut ended, _) = token
-            .changed
-            .wait_timeout_while(rt, unset, timeout, |is_set| !*is_set);
-        *ended = false;
+        let mut is_set = token.is_set.lock(rt);
+        if !*is_set {
+            // This gives the lock back before it reads the clock, which may be the caller's own code, and may notify.
+            is_set = token.changed.wait_timeout(rt, is_set, timeout).0;
+        }
+        *is_set = false;
     }
 }
 

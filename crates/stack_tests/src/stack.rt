@@ -1,6 +1,4 @@
-//! Listeners that borrow their event, and the identity of events.
-use crate::events::wakes_a_parked_thread;
-use crate::wakers::{WakeOrder, any_waker};
+//! Listeners that borrow their event, and the macro that makes them.
 use event_listener::{
     Event, EventIds, EventListener, IntoTagged, ListenError, Listener, StackListener, StackSlot,
     listener,
@@ -12,6 +10,7 @@ use std::io;
 use std::sync::Wait;
 use std::test::Fail;
 use std::time::{Clock, Duration};
+use test_wakers::{WakeOrder, any_waker, wakes_a_parked_thread};
 
 // An error of the tests' own, that a refused listening turns into.
 #[derive(Debug, Drop, PartialEq, Eq)]
@@ -45,6 +44,11 @@ fn two_listeners_in_one_body(rt: HostRuntime) -> Result<(), Fail> {
     let told = told_of_two(&rt, rt.alloc(), &event);
     assert_eq!(rt; told, Ok((2, true, false)));
     assert_eq!(rt; event.total_listeners(&rt), 0);
+
+    // The refusal of the macro's calls is the function's own error.
+    let unshared = Unshared { rt: &rt };
+    let refused = told_of_two(&unshared, rt.alloc(), &event);
+    assert_eq!(rt; refused, Err(Stopped::Listening(ListenError::Memory)));
     Ok(())
 }
 
@@ -57,6 +61,26 @@ fn the_macro_takes_an_event_and_a_name_that_is_polled(rt: HostRuntime) -> Result
     assert!(rt; matches!(first.poll(any_waker(&rt)?)?, Poll::Ready(7)));
     assert!(rt; second.poll(any_waker(&rt)?)?.is_pending());
     assert!(rt; first.poll(any_waker(&rt)?).is_err());
+    Ok(())
+}
+
+// Its variables have the names of those in the macro's own body, and the macro is handed one of them.
+fn beside_its_own_names<R: Wait + Clock + Clone>(
+    runtime: &R,
+    alloc: Global,
+    rt: &Event<()>,
+) -> Result<(usize, usize, bool), ListenError> {
+    let slot = 7;
+    listener!(runtime, alloc; rt => told);
+    rt.notify_relaxed(runtime, 1);
+    Ok((slot, rt.total_listeners(runtime), told.discard()))
+}
+
+#[test]
+fn the_macro_leaves_the_variables_of_its_function(rt: HostRuntime) -> Result<(), Fail> {
+    let event = Event::new(EventIds::new().next()?);
+    let left = beside_its_own_names(&rt, rt.alloc(), &event)?;
+    assert_eq!(rt; left, (7, 1, true));
     Ok(())
 }
 
@@ -166,22 +190,6 @@ fn a_shared_listener_passes_on_after_its_event_is_gone(rt: HostRuntime) -> Resul
     drop(event);
     drop(told);
     assert!(rt; matches!(waiting.poll(any_waker(&rt)?)?, Poll::Ready(7)));
-    Ok(())
-}
-
-// Events are told apart by their numbers, so those of two sources may be taken for one.
-#[test]
-fn identity_is_the_number(rt: HostRuntime) -> Result<(), Fail> {
-    let mut ids = EventIds::new();
-    let (event, other) = (Event::new(ids.next()?), Event::new(ids.next()?));
-    let of_another_source = Event::new(EventIds::new().next()?);
-    let listener = event.listen(&rt, rt.alloc())?;
-    assert!(rt; listener.listens_to(&event) && !listener.listens_to(&other));
-    assert!(rt; listener.listens_to(&of_another_source));
-    listener!(&rt, rt.alloc(); event => stacked);
-    listener!(&rt, rt.alloc(); of_another_source => namesake);
-    assert!(rt; stacked.listens_to(&event) && !stacked.listens_to(&other));
-    assert!(rt; stacked.same_event(&namesake));
     Ok(())
 }
 
