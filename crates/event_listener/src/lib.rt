@@ -113,8 +113,8 @@
 //! ```rust
 //! /// The tag, if the listener is told before so much time has passed, and else `None`.
 //! ///
-//! /// A wait that is refused memory is tried once more, with the listener that comes back. It stood in the queue all
-//! /// the while, so no notification is missed. If that wait is refused too, the caller gets the listener.
+//! /// A wait that is refused memory is tried once more, with the listener that comes back. It is where it was, so no
+//! /// notification is missed. If that wait is refused too, the caller gets the listener.
 //! pub fn tag_within<T, L: Listener<T>>(
 //!     listener: L,
 //!     limit: Duration,
