@@ -89,8 +89,8 @@ pub trait Listener<T>: Sized {
         ensures finished { is_finished self ≡ true → IsErr result }
         ensures memory { IfErr result (HandsBack self) };
 
-    /// Waits until the listener is told or that moment of its own clock has come, and gives the tag or `None`. The listener is out of
-    /// the queue then; what it was told after that moment is not passed on, but given.
+    /// Waits until the listener is told or that moment of its own clock has come, and gives the tag or `None`. The
+    /// listener is out of the queue then; what it was told after that moment is not passed on, but given.
     ///
     /// A clock that can't be read counts as one whose time has passed. See [Waiting](Listener#waiting) for what a wait
     /// takes and what its refusals leave.

@@ -24,7 +24,8 @@ fn tagged_event<T>() -> Result<Event<T>, IdsUsedUp> {
     Ok(Event::with_tag(EventIds::new().next()?))
 }
 
-// Polls three listeners, in order of listening, and tells all. Whether their tasks woke in that order, and each is ready.
+// Polls three listeners, in order of listening, and tells all. Whether their tasks woke in that order, and each is
+// ready.
 fn wake_in_order<R, L>(rt: &R, event: &Event<()>, listeners: (L, L, L)) -> Result<bool, Fail>
 where
     R: Wait + RandomSource + AllocGlobal,
