@@ -1,4 +1,4 @@
-use crate::bench::{Bench, Borrowing, Sharing};
+use crate::bench::Bench;
 use crate::difference::Difference;
 use crate::hook::Hook;
 use std::sync::Wait;
@@ -127,32 +127,11 @@ impl Row {
         H: Hook,
     {
         match self {
-            Row::Event(row) => {
-                let (one, other) = (bench.event()?, bench.event()?);
-                row.run::<Sharing, R, H>(bench, &one)?;
-                row.run::<Borrowing, R, H>(bench, &other)
-            }
-            Row::Tagged(row) => {
-                let (one, other) = (bench.event()?, bench.event()?);
-                row.run::<Sharing, R, H>(bench, &one)?;
-                row.run::<Borrowing, R, H>(bench, &other)
-            }
-            Row::Wait(row) => {
-                let (one, other) = (bench.event()?, bench.event()?);
-                row.run::<Sharing, R, H>(bench, &one)?;
-                row.run::<Borrowing, R, H>(bench, &other)
-            }
-            Row::WaitsGiveTheirTags => {
-                let (one, other) = (bench.event()?, bench.event()?);
-                waits::give_their_tags::<Sharing, R, H>(bench, &one)?;
-                waits::give_their_tags::<Borrowing, R, H>(bench, &other)
-            }
-            Row::EventsAreToldApart => {
-                let mut ids = bench.identities(0);
-                let (one, other) = (bench.event_of(&mut ids)?, bench.event_of(&mut ids)?);
-                identities::told_apart::<Sharing, R, H>(bench, &one, &other)?;
-                identities::told_apart::<Borrowing, R, H>(bench, &one, &other)
-            }
+            Row::Event(row) => row.run_with_each_kind(bench),
+            Row::Tagged(row) => row.run_with_each_kind(bench),
+            Row::Wait(row) => row.run_with_each_kind(bench),
+            Row::WaitsGiveTheirTags => waits::each_gives_its_tag(bench),
+            Row::EventsAreToldApart => identities::events_are_told_apart(bench),
             Row::IdentitiesEnd => identities::end(bench),
             Row::WakesInOrder => wakes::in_order(bench.alloc(), bench.hook()),
             Row::RefusedTag => runs::refused_tag(bench.alloc(), bench.hook()),

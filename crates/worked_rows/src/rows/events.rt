@@ -1,10 +1,11 @@
 //! The rows over an event without tags.
-use crate::bench::{Bench, Kind};
+use crate::bench::{Bench, Borrowing, Kind, Sharing};
 use crate::difference::{Difference, Refusal, same};
 use crate::hook::Hook;
 use event_listener::{Event, IntoNotification, NeverInserted};
 use futures::task::Poll::{Pending, Ready};
 use std::sync::Wait;
+use std::time::Clock;
 
 const FINISHED: Difference = Difference::Refused(Refusal::Poll(NeverInserted));
 
@@ -53,8 +54,19 @@ impl EventRow {
         self as u8
     }
 
+    /// Makes the row with each kind of listener in turn, on a new event each.
+    pub fn run_with_each_kind<R, H>(self, bench: &mut Bench<'_, R, H>) -> Reply
+    where
+        R: Wait + Clock + Clone,
+        H: Hook,
+    {
+        let (one, other) = (bench.event()?, bench.event()?);
+        self.run::<Sharing, R, H>(bench, &one)?;
+        self.run::<Borrowing, R, H>(bench, &other)
+    }
+
     /// Makes the calls of the row on a new event, with listeners of this kind.
-    pub fn run<'ev, K, R, H>(self, bench: &mut Bench<'_, R, H>, event: &'ev Event<()>) -> Reply
+    fn run<'ev, K, R, H>(self, bench: &mut Bench<'_, R, H>, event: &'ev Event<()>) -> Reply
     where
         K: Kind<'ev, (), R>,
         R: Wait,

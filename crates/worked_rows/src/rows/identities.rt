@@ -1,9 +1,10 @@
 //! The rows over identities.
-use crate::bench::{Bench, Kind};
+use crate::bench::{Bench, Borrowing, Kind, Sharing};
 use crate::difference::{Difference, same};
 use crate::hook::Hook;
 use event_listener::{Event, IdsUsedUp};
 use std::sync::Wait;
+use std::time::Clock;
 
 /// The last identity of a source is given, and none after it.
 pub fn end<R: Wait, H: Hook>(bench: &mut Bench<'_, R, H>) -> Result<(), Difference> {
@@ -13,8 +14,20 @@ pub fn end<R: Wait, H: Hook>(bench: &mut Bench<'_, R, H>) -> Result<(), Differen
     same(bench.identity(&mut ids).err(), Some(IdsUsedUp))
 }
 
-/// Listeners of one event, asked of that event and of another of the same source.
-pub fn told_apart<'ev, K, R, H>(
+/// Two events of one source are told apart by listeners of each kind in turn.
+pub fn events_are_told_apart<R, H>(bench: &mut Bench<'_, R, H>) -> Result<(), Difference>
+where
+    R: Wait + Clock + Clone,
+    H: Hook,
+{
+    let mut ids = bench.identities(0);
+    let (event, other) = (bench.event_of(&mut ids)?, bench.event_of(&mut ids)?);
+    told_apart::<Sharing, R, H>(bench, &event, &other)?;
+    told_apart::<Borrowing, R, H>(bench, &event, &other)
+}
+
+// Listeners of one event, asked of that event and of another of the same source.
+fn told_apart<'ev, K, R, H>(
     bench: &mut Bench<'_, R, H>,
     event: &'ev Event<()>,
     other: &'ev Event<()>,

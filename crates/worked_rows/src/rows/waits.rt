@@ -1,5 +1,5 @@
 //! The rows whose listeners wait. Each listener was told before, or its limit has passed, so no thread parks.
-use crate::bench::{Bench, Kind};
+use crate::bench::{Bench, Borrowing, Kind, Sharing};
 use crate::difference::{Difference, same};
 use crate::hook::Hook;
 use event_listener::{Event, IntoNotification, IntoTagged};
@@ -23,8 +23,19 @@ impl WaitRow {
         self as u8
     }
 
+    /// Makes the row with each kind of listener in turn, on a new event each.
+    pub fn run_with_each_kind<R, H>(self, bench: &mut Bench<'_, R, H>) -> Reply
+    where
+        R: Wait + Clock + Clone,
+        H: Hook,
+    {
+        let (one, other) = (bench.event()?, bench.event()?);
+        self.run::<Sharing, R, H>(bench, &one)?;
+        self.run::<Borrowing, R, H>(bench, &other)
+    }
+
     /// Makes the calls of the row on a new event, with listeners of this kind.
-    pub fn run<'ev, K, R, H>(self, bench: &mut Bench<'_, R, H>, event: &'ev Event<u32>) -> Reply
+    fn run<'ev, K, R, H>(self, bench: &mut Bench<'_, R, H>, event: &'ev Event<u32>) -> Reply
     where
         K: Kind<'ev, u32, R>,
         R: Wait + Clock,
@@ -71,8 +82,19 @@ where
     same(bench.total_listeners(event), 0)
 }
 
-/// Two listeners are told, each with a tag of its own, and each waits for its own.
-pub fn give_their_tags<'ev, K, R, H>(bench: &mut Bench<'_, R, H>, event: &'ev Event<bool>) -> Reply
+/// Two listeners are told, each with a tag of its own, and each waits for its own: with each kind of listener in turn, on
+/// a new event each.
+pub fn each_gives_its_tag<R, H>(bench: &mut Bench<'_, R, H>) -> Reply
+where
+    R: Wait + Clock + Clone,
+    H: Hook,
+{
+    let (one, other) = (bench.event()?, bench.event()?);
+    give_their_tags::<Sharing, R, H>(bench, &one)?;
+    give_their_tags::<Borrowing, R, H>(bench, &other)
+}
+
+fn give_their_tags<'ev, K, R, H>(bench: &mut Bench<'_, R, H>, event: &'ev Event<bool>) -> Reply
 where
     K: Kind<'ev, bool, R>,
     R: Wait,
