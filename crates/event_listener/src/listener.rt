@@ -70,6 +70,7 @@ pub trait Listener<T>: Sized {
         // leaves it finished.
         ensures ready { IfOk result (λ polled. IfReady polled (λ _. is_finished self.new ≡ true)) }
         ensures pending { IfOk result (λ polled. OnPending polled (is_finished self.new ≡ false)) }
+        ensures same { IfOk result (λ polled. OnPending polled (self.new ≡ self.old)) }
         ensures err { OnErr result (is_finished self.new ≡ true) };
 
     /// Waits until the listener is told, and gives the tag.

@@ -51,6 +51,7 @@ impl<R: Wait + Clock + Clone> Seat<R> {
         ensures event { self.new.event_number ≡ self.old.event_number }
         ensures ready { IfOk result (λ polled. IfReady polled (λ _. self.new.is_finished ≡ true)) }
         ensures pending { IfOk result (λ polled. OnPending polled (self.new.is_finished ≡ false)) }
+        ensures same { IfOk result (λ polled. OnPending polled (self.new ≡ self.old)) }
         ensures err { OnErr result (self.new.is_finished ≡ true) }
     {
         if self.is_finished {
