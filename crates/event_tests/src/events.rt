@@ -12,7 +12,7 @@ use std::sync::Wait;
 use std::test::Fail;
 use std::thread::{self, Threads};
 use std::time::Clock;
-use test_wakers::{WakeOrder, any_waker, waker_of, wakes_a_parked_thread};
+use test_support::{WakeOrder, any_waker, waker_of, wakes_a_parked_thread};
 
 type Listened<R> = Result<EventListener<(), R>, ListenError>;
 

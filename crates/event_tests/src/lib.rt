@@ -4,6 +4,4 @@
 #[cfg(test)]
 mod events;
 #[cfg(test)]
-mod hog;
-#[cfg(test)]
 mod refused_waits;

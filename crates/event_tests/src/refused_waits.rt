@@ -1,5 +1,4 @@
 //! Waits that are refused memory for what the thread parks on.
-use crate::hog::Hog;
 use event_listener::{
     Event, EventIds, IdsUsedUp, IntoNotification, IntoTagged, Listener, StackSlot, WaitError,
 };
@@ -7,7 +6,7 @@ use std::alloc::Global;
 use std::sync::Wait;
 use std::test::Fail;
 use std::time::{Duration, Instant};
-use test_wakers::any_waker;
+use test_support::{Hog, any_waker};
 
 // The three calls that wait.
 #[derive(Clone, Copy)]

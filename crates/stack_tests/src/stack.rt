@@ -4,13 +4,12 @@ use event_listener::{
     listener,
 };
 use futures::task::Poll;
-use std::alloc::{AllocError, Global};
+use std::alloc::Global;
 use std::cell::Cell;
-use std::io;
 use std::sync::Wait;
 use std::test::Fail;
-use std::time::{Clock, Duration};
-use test_wakers::{WakeOrder, any_waker, wakes_a_parked_thread};
+use std::time::Clock;
+use test_support::{Unshared, WakeOrder, any_waker, wakes_a_parked_thread};
 
 // An error of the tests' own, that a refused listening turns into.
 #[derive(Debug, Drop, PartialEq, Eq)]
@@ -191,30 +190,6 @@ fn a_shared_listener_passes_on_after_its_event_is_gone(rt: HostRuntime) -> Resul
     drop(told);
     assert!(rt; matches!(waiting.poll(any_waker(&rt)?)?, Poll::Ready(7)));
     Ok(())
-}
-
-// A runtime value that cannot be cloned.
-#[derive(Drop)]
-struct Unshared<R> {
-    rt: R,
-}
-
-impl<R: Wait> Wait for Unshared<R> {}
-
-impl<R: Clock> Clock for Unshared<R> {
-    fn monotonic(&self) -> io::Result<Duration> {
-        self.rt.monotonic()
-    }
-
-    fn since_1970(&self) -> io::Result<Duration> {
-        self.rt.since_1970()
-    }
-}
-
-impl<R: Drop> Clone for Unshared<R> {
-    fn clone(&self) -> Result<Self, AllocError> {
-        Err(AllocError)
-    }
 }
 
 #[test]

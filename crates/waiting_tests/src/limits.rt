@@ -1,5 +1,4 @@
 //! Waits of one thread, each with a limit or of a listener that was told before.
-use crate::clocks::{CountedClock, NoClock};
 use crate::support::{answered, new_event};
 use event_listener::{Event, EventListener, IntoNotification, IntoTagged, Listener, WaitError};
 use futures::task::Poll;
@@ -9,7 +8,7 @@ use std::random::RandomSource;
 use std::sync::Wait;
 use std::test::Fail;
 use std::time::{Clock, Duration, Instant};
-use test_wakers::any_waker;
+use test_support::{CountedClock, NoClock, any_waker};
 
 fn short() -> Duration {
     Duration::from_millis(50)

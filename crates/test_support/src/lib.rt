@@ -1,0 +1,17 @@
+//! What tests of events share: kinds of listeners, wakers and parked threads, clocks of the tests' own, and all memory
+//! of the process, taken for real.
+#![tactic(auto)]
+
+mod clocks;
+mod hog;
+mod kinds;
+mod parked;
+mod runtimes;
+mod wakers;
+
+pub use clocks::{CountedClock, NoClock};
+pub use hog::Hog;
+pub use kinds::{Borrowing, ListenerKind, Sharing};
+pub use parked::wakes_a_parked_thread;
+pub use runtimes::Unshared;
+pub use wakers::{WakeOrder, any_waker, waker_of};
