@@ -15,7 +15,7 @@ use Rattle.event_queue.specs.declared.reply.RegisterResult.TheVariants.{Notified
 use Rattle.event_queue.specs.declared.reply.State.{State}
 use Rattle.event_queue.specs.declared.reply.State.TheVariants.{Created, Notified as WasNotified, Task, NotifiedTaken}
 use Rattle.event_queue.specs.Key.{is_key}
-use Rattle.event_queue.specs.Queue.{Queue, IsGone, order_of, after_telling, told_leaves, waiting_leaves}
+use Rattle.event_queue.specs.Queue.{Queue, IsQueue, IsGone, order_of, after_telling, told_leaves, waiting_leaves}
 use Rattle.event_queue.specs.Insert.{Inserts}
 use Rattle.event_queue.specs.Register.{Registers, after_storing}
 use Rattle.event_queue.specs.Remove.{Removes, after_passing}
@@ -125,43 +125,46 @@ module _ {T W : Type 0} where
 
   -- a run with one more step
 
-  pub Runs-push : (old : Queue T W) (calls : List (Call T W)) (replies : List (Reply T W)) (woken : List W) (mid : Queue T W) (call : Call T W) (reply : Reply T W) (new : Queue T W) → Runs old calls replies woken mid → Step mid call reply new → Runs old (calls ++ call ∷ []) (replies ++ reply ∷ []) (woken ++ woken_by call reply mid) new
-  Runs-push old [] [] woken mid call reply new runs step =
+  pub Runs-push : (old : Queue T W) (calls : List (Call T W)) (replies : List (Reply T W)) (woken : List W) (mid : Queue T W) (call : Call T W) (reply : Reply T W) (new : Queue T W) → Runs old calls replies woken mid → Step mid call reply new → IsQueue new → Runs old (calls ++ call ∷ []) (replies ++ reply ∷ []) (woken ++ woken_by call reply mid) new
+  Runs-push old [] [] woken mid call reply new runs step queue =
       let mid_is = runs.1 in
-      (new, [], subst (λ q. Step q call reply new) mid_is step, rw (runs.0, mid_is) (sym (append-nil (woken_by call reply old))), (refl, refl))
-  Runs-push old [] (r ∷ replies) woken mid call reply new runs step = absurd runs
-  Runs-push old (c ∷ calls) [] woken mid call reply new runs step = absurd runs
-  Runs-push old (c ∷ calls) (r ∷ replies) woken mid call reply new runs step =
-      (runs.0, runs.1 ++ woken_by call reply mid, runs.2, ap (λ ws. ws ++ woken_by call reply mid) runs.3 ∙ append_assoc _ runs.1 _, Runs-push runs.0 calls replies runs.1 mid call reply new runs.4 step)
+      (new, [], subst (λ q. Step q call reply new) mid_is step, queue, rw (runs.0, mid_is) (sym (append-nil (woken_by call reply old))), (refl, refl))
+  Runs-push old [] (r ∷ replies) woken mid call reply new runs step queue = absurd runs
+  Runs-push old (c ∷ calls) [] woken mid call reply new runs step queue = absurd runs
+  Runs-push old (c ∷ calls) (r ∷ replies) woken mid call reply new runs step queue =
+      (runs.0, runs.1 ++ woken_by call reply mid, runs.2, runs.3, ap (λ ws. ws ++ woken_by call reply mid) runs.4 ∙ append_assoc _ runs.1 _, Runs-push runs.0 calls replies runs.1 mid call reply new runs.5 step queue)
 
   module _ {S : Type 0} (woke : S → W → S → Type 0) where
     -- so many of the calls were made
     pub record RunsSoFar (calls : List (Call T W)) (old : Queue T W) (replies : List (Reply T W)) (sink : S) (yielded rest : List (Call T W)) (new : Queue T W) (replies' : List (Reply T W)) (sink' : S) : Type 0 where
       pub runs : RunsAll woke yielded old replies sink new replies' sink'
       pub whole : calls ≡ yielded ++ rest
+      pub queue : IsQueue new
       pub gone : (key : Key) → IsGone key old → IsGone key new
       pub serial : old.next_serial ≤ new.next_serial
 
-    pub none_made : (calls : List (Call T W)) (old : Queue T W) (replies : List (Reply T W)) (sink : S) → RunsSoFar calls old replies sink [] calls old replies sink
-    none_made calls old replies sink = record {
+    pub none_made : (calls : List (Call T W)) (old : Queue T W) (replies : List (Reply T W)) (sink : S) → IsQueue old → RunsSoFar calls old replies sink [] calls old replies sink
+    none_made calls old replies sink queue = record {
       runs = record { made = []; woken = []; appended = sym (append-nil replies); runs = (refl, refl); wakes = refl };
       whole = refl;
+      queue = queue;
       gone = λ key gone. gone;
       serial = omega arith;
     }
 
-    pub one_more_made : (calls : List (Call T W)) (old : Queue T W) (replies : List (Reply T W)) (sink : S) (yielded rest : List (Call T W)) (mid : Queue T W) (replies' : List (Reply T W)) (sink' : S) (call : Call T W) (rest' : List (Call T W)) (reply : Reply T W) (new : Queue T W) (replies'' : List (Reply T W)) (sink'' : S) → RunsSoFar calls old replies sink yielded rest mid replies' sink' → rest ≡ call ∷ rest' → Step mid call reply new → FoldsTo woke sink' (woken_by call reply mid) sink'' → ((key : Key) → IsGone key mid → IsGone key new) → mid.next_serial ≤ new.next_serial → replies'' ≡ replies' ++ reply ∷ [] → RunsSoFar calls old replies sink (yielded ++ call ∷ []) rest' new replies'' sink''
-    one_more_made calls old replies sink yielded rest mid replies' sink' call rest' reply new replies'' sink'' so_far split step wakes gone serial pushed =
+    pub one_more_made : (calls : List (Call T W)) (old : Queue T W) (replies : List (Reply T W)) (sink : S) (yielded rest : List (Call T W)) (mid : Queue T W) (replies' : List (Reply T W)) (sink' : S) (call : Call T W) (rest' : List (Call T W)) (reply : Reply T W) (new : Queue T W) (replies'' : List (Reply T W)) (sink'' : S) → RunsSoFar calls old replies sink yielded rest mid replies' sink' → rest ≡ call ∷ rest' → Step mid call reply new → IsQueue new → FoldsTo woke sink' (woken_by call reply mid) sink'' → ((key : Key) → IsGone key mid → IsGone key new) → mid.next_serial ≤ new.next_serial → replies'' ≡ replies' ++ reply ∷ [] → RunsSoFar calls old replies sink (yielded ++ call ∷ []) rest' new replies'' sink''
+    one_more_made calls old replies sink yielded rest mid replies' sink' call rest' reply new replies'' sink'' so_far split step queue wakes gone serial pushed =
         let runs = so_far.runs in
         record {
           runs = record {
             made = runs.made ++ reply ∷ [];
             woken = runs.woken ++ woken_by call reply mid;
             appended = pushed ∙ ap (λ rs. rs ++ reply ∷ []) runs.appended ∙ append_assoc replies runs.made (reply ∷ []);
-            runs = Runs-push old yielded runs.made runs.woken mid call reply new runs.runs step;
+            runs = Runs-push old yielded runs.made runs.woken mid call reply new runs.runs step queue;
             wakes = FoldsTo-append woke sink runs.woken sink' (woken_by call reply mid) sink'' runs.wakes wakes;
           };
           whole = so_far.whole ∙ ap (λ cs. yielded ++ cs) split ∙ sym (append_assoc yielded (call ∷ []) rest');
+          queue = queue;
           gone = λ key was. gone key (so_far.gone key was);
           serial = omega (arith, so_far.serial);
         }

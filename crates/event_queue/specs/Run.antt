@@ -6,7 +6,7 @@ use Rattle.event_queue.specs.declared.call.Call.TheVariants as call
 use Rattle.event_queue.specs.declared.call.Reply.{Reply}
 use Rattle.event_queue.specs.declared.call.Reply.TheVariants as reply
 use Rattle.event_queue.specs.declared.reply.NotifyError.{NotifyError}
-use Rattle.event_queue.specs.Queue.{Queue, listeners_of, how_many, after_telling, tasks_of}
+use Rattle.event_queue.specs.Queue.{Queue, IsQueue, listeners_of, how_many, after_telling, tasks_of}
 use Rattle.event_queue.specs.Insert.{Inserts}
 use Rattle.event_queue.specs.Register.{Registers}
 use Rattle.event_queue.specs.Remove.{Removes, woken_by_removal}
@@ -41,13 +41,14 @@ module _ {T W : Type 0} where
   woken_by (call.Notify count additional tags) (reply.Notified answer) old = tasks_of (told_by answer) old
   woken_by _ _ old = []
 
-  -- these calls, each with its reply, lead from one queue to the other, and wake these tasks in order
+  -- these calls, each with its reply, lead from one queue to the other and wake these tasks in order; each call
+  -- leaves an `IsQueue`
   abbrev pub Runs : Queue T W → List (Call T W) → List (Reply T W) → List W → Queue T W → Type 0
   Runs old [] [] woken new = (woken ≡ []) × (new ≡ old)
   Runs old [] (_ ∷ _) woken new = ⊥
   Runs old (_ ∷ _) [] woken new = ⊥
   Runs old (call ∷ calls) (reply ∷ replies) woken new =
-      (between : Queue T W) × (later : List W) × Step old call reply between
+      (between : Queue T W) × (later : List W) × Step old call reply between × IsQueue between
       × (woken ≡ woken_by call reply old ++ later) × Runs between calls replies later new
 
   -- every call was made: a reply for each was appended, calls and those replies are a run, and the sink was

@@ -294,6 +294,13 @@ impl<T, W> List<T, W> {
         }
     }
 
+    // What the type keeps of its fields, for code that reads none of them.
+    pub(crate) fn invariant_holds(&self)
+        ensures { IsQueue self.now }
+    {
+        let _chain = &self.chain;
+    }
+
     /// How many more listeners fit with no allocation.
     pub fn spare(&self) -> usize
         ensures value { result ≡ self.now.spare }

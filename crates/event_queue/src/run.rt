@@ -26,6 +26,7 @@ impl<T: Drop, W: Drop> List<T, W> {
         // The answers, the tags, the woken tasks and the listeners left are those of the two lists.
         ensures ok { OnOk result (RunsAll S.woke calls.items self.old replies.old.items sink.old self.new replies.new.items sink.new) }
         ensures one_each { OnOk result (vec_len replies.new ≡ vec_len replies.old + vec_len calls) }
+        ensures queue { IsQueue self.new }
 
         // A refusal changes nothing, and does not come where there is room for the replies.
         ensures queue_unchanged { OnErr result (self.new ≡ self.old) }
@@ -37,6 +38,7 @@ impl<T: Drop, W: Drop> List<T, W> {
         ensures gone { (key : Key) → IsGone key self.old → IsGone key self.new }
         ensures serial { self.old.next_serial ≤ self.new.next_serial }
     {
+        self.invariant_holds();
         replies.reserve(calls.len())?;
         for call in calls {
             replies.push_reserved(self.make(call, sink));
@@ -47,6 +49,7 @@ impl<T: Drop, W: Drop> List<T, W> {
     fn make<S: WakeSink<W>>(&mut self, call: Call<T, W>, sink: &mut S) -> Reply<T, W>
         ensures step { Step self.old call result self.new }
         ensures wakes { FoldsTo S.woke sink.old (woken_by call result self.old) sink.new }
+        ensures queue { IsQueue self.new }
         ensures gone { (key : Key) → IsGone key self.old → IsGone key self.new }
         ensures serial { self.old.next_serial ≤ self.new.next_serial }
     {
