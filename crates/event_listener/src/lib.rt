@@ -150,11 +150,9 @@ pub use event::{Event, EventId, EventIds, IdsUsedUp, given_numbers_are_distinct}
 pub use event_queue::{
     Additional, Call, IntoNotification, IntoTagged, Key, List, ListenError, Notification, Notify,
     NotifyError, RegisterResult, Relaxed, Reply, State, Tag, TagWith, WakeSink, Woken,
-    additional_clone_means_the_same, additional_is_its_notification, additional_twice_means_once,
-    equal_keys, notify_clone_means_the_same, notify_is_its_notification,
-    relaxed_changes_no_meaning, relaxed_clone_means_the_same, relaxed_is_its_notification,
-    tag_clone_has_both_clones, tag_is_its_notification, tag_with_is_its_notification,
-    woken_keeps_the_first,
+    additional_clone_means_the_same, additional_twice_means_once, equal_keys,
+    notification_is_its_own_conversion, notify_clone_means_the_same, relaxed_changes_no_meaning,
+    relaxed_clone_means_the_same, tag_clone_has_both_clones, woken_keeps_the_first,
 };
 pub use listener::{EventListener, Listener, NeverInserted, StackListener, StackSlot, WaitError};
 pub use task::Task;

@@ -20,10 +20,9 @@ pub use key::Key;
 pub use laws::{equal_keys, woken_keeps_the_first};
 pub use list::List;
 pub use notification_laws::{
-    additional_clone_means_the_same, additional_is_its_notification, additional_twice_means_once,
-    notify_clone_means_the_same, notify_is_its_notification, relaxed_changes_no_meaning,
-    relaxed_clone_means_the_same, relaxed_is_its_notification, tag_clone_has_both_clones,
-    tag_is_its_notification, tag_with_is_its_notification,
+    additional_clone_means_the_same, additional_twice_means_once,
+    notification_is_its_own_conversion, notify_clone_means_the_same, relaxed_changes_no_meaning,
+    relaxed_clone_means_the_same, tag_clone_has_both_clones,
 };
 pub use notify::{
     Additional, IntoNotification, IntoTagged, Notification, Notify, Relaxed, Tag, TagWith,

@@ -4,7 +4,7 @@
 //! may be asked for a tag, and what its next tag is.
 ghost use Rattle.std.specs.Prelude.{◌≡◌, ◌↔◌};
 
-use crate::notify::{Additional, IntoNotification, Notification, Notify, Relaxed, Tag, TagWith};
+use crate::notify::{Additional, IntoNotification, Notification, Notify, Relaxed, Tag};
 
 /// Made additional twice, a notification means what it means made additional once.
 pub fn additional_twice_means_once<N: Notification>(n: &N)
@@ -28,34 +28,10 @@ pub fn relaxed_changes_no_meaning<N: Notification>(n: &N)
         ⟦<Relaxed<N> as Notification>⟧.tag_gives n.now answer after ↔ N.tag_gives n.now answer after }
 {}
 
-/// A [`Notify`] always fits, and is the notification that it becomes.
-pub fn notify_is_its_notification(n: &Notify)
-    ensures fits { ⟦<Notify as IntoNotification>⟧.fits n.now }
-    ensures meaning { ⟦<Notify as IntoNotification>⟧.meaning n.now ≡ n.now }
-{}
-
-/// An [`Additional`] always fits, and is the notification that it becomes.
-pub fn additional_is_its_notification<N: Notification>(n: &Additional<N>)
-    ensures fits { ⟦<Additional<N> as IntoNotification>⟧.fits n.now }
-    ensures meaning { ⟦<Additional<N> as IntoNotification>⟧.meaning n.now ≡ n.now }
-{}
-
-/// A [`Relaxed`] always fits, and is the notification that it becomes.
-pub fn relaxed_is_its_notification<N: Notification>(n: &Relaxed<N>)
-    ensures fits { ⟦<Relaxed<N> as IntoNotification>⟧.fits n.now }
-    ensures meaning { ⟦<Relaxed<N> as IntoNotification>⟧.meaning n.now ≡ n.now }
-{}
-
-/// A [`Tag`] always fits, and is the notification that it becomes.
-pub fn tag_is_its_notification<N: Notification, T: Clone>(n: &Tag<N, T>)
-    ensures fits { ⟦<Tag<N, T> as IntoNotification>⟧.fits n.now }
-    ensures meaning { ⟦<Tag<N, T> as IntoNotification>⟧.meaning n.now ≡ n.now }
-{}
-
-/// A [`TagWith`] always fits, and is the notification that it becomes.
-pub fn tag_with_is_its_notification<N: Notification, T, F: FnMut() -> T>(n: &TagWith<N, F>)
-    ensures fits { ⟦<TagWith<N, F> as IntoNotification>⟧.fits n.now }
-    ensures meaning { ⟦<TagWith<N, F> as IntoNotification>⟧.meaning n.now ≡ n.now }
+/// A notification always fits, and is the notification that it becomes.
+pub fn notification_is_its_own_conversion<N: Notification>(n: &N)
+    ensures fits { ⟦<N as IntoNotification>⟧.fits n.now }
+    ensures meaning { ⟦<N as IntoNotification>⟧.meaning n.now ≡ n.now }
 {}
 
 /// A clone of a [`Notify`] is never refused, and means the same.

@@ -4,8 +4,6 @@ ghost use Rattle.std.specs.declared.alloc.AllocError.{AllocError};
 
 mod additional;
 mod integers;
-#[cfg(test)]
-mod no_second_tag;
 mod plain;
 mod relaxed;
 mod tag;
@@ -55,9 +53,9 @@ pub trait Notification {
 
 /// What can be turned into a notification, with a test of whether it fits.
 ///
-/// Implemented for the notifications of this crate, which always fit, and for every integer type, where a value fits
-/// that lies in 0 to `usize::MAX`. Each conversion asks for [`fits`](IntoNotification::fits) as a condition, and none
-/// takes memory.
+/// Implemented for every notification, which always fits and is its own conversion, and for every integer type, where
+/// a value fits that lies in 0 to `usize::MAX`. Each conversion asks for [`fits`](IntoNotification::fits) as a
+/// condition. None allocates.
 pub trait IntoNotification: Sized {
     /// What each told listener is handed.
     type Tag;
@@ -92,6 +90,24 @@ pub trait IntoNotification: Sized {
         ensures { result ≡ meaning self }
     {
         Relaxed::new(self.into_notification())
+    }
+}
+
+impl<N: Notification> IntoNotification for N {
+    type Tag = N::Tag;
+
+    type Notify = N;
+
+    ghost fits = { λ _. Unit {0} };
+
+    ghost meaning = { λ n. n };
+
+    fn fits(&self) -> bool {
+        true
+    }
+
+    fn into_notification(self) -> N {
+        self
     }
 }
 

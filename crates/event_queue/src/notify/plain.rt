@@ -1,7 +1,7 @@
 //! A number of listeners.
 ghost use Rattle.std.specs.Prelude.{◌≡◌, ℕ, false, Ok};
 
-use super::{IntoNotification, Notification};
+use super::Notification;
 use std::alloc::AllocError;
 use std::marker::Model;
 
@@ -44,23 +44,5 @@ impl Notification for Notify {
 
     fn next_tag(&mut self) -> Result<(), AllocError> {
         Ok(())
-    }
-}
-
-impl IntoNotification for Notify {
-    type Tag = ();
-
-    type Notify = Notify;
-
-    ghost fits = { λ _. Unit {0} };
-
-    ghost meaning = { λ n. n };
-
-    fn fits(&self) -> bool {
-        true
-    }
-
-    fn into_notification(self) -> Notify {
-        self
     }
 }

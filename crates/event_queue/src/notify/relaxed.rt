@@ -1,7 +1,7 @@
 //! A notification made relaxed.
 ghost use Rattle.std.specs.Prelude.{◌≡◌};
 
-use super::{IntoNotification, Notification};
+use super::Notification;
 use std::alloc::AllocError;
 use std::marker::Model;
 
@@ -44,23 +44,5 @@ impl<N: Notification> Notification for Relaxed<N> {
 
     fn next_tag(&mut self) -> Result<N::Tag, AllocError> {
         self.0.next_tag()
-    }
-}
-
-impl<N: Notification> IntoNotification for Relaxed<N> {
-    type Tag = N::Tag;
-
-    type Notify = Relaxed<N>;
-
-    ghost fits = { λ _. Unit {0} };
-
-    ghost meaning = { λ n. n };
-
-    fn fits(&self) -> bool {
-        true
-    }
-
-    fn into_notification(self) -> Relaxed<N> {
-        self
     }
 }

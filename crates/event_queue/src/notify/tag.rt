@@ -1,7 +1,7 @@
 //! A notification with a tag.
 ghost use Rattle.std.specs.Prelude.{◌≡◌, MatchResult};
 
-use super::{IntoNotification, Notification};
+use super::Notification;
 use std::alloc::AllocError;
 use std::marker::Model;
 
@@ -50,23 +50,5 @@ impl<N: Notification, T: Clone> Notification for Tag<N, T> {
 
     fn next_tag(&mut self) -> Result<T, AllocError> {
         self.tag.clone()
-    }
-}
-
-impl<N: Notification, T: Clone> IntoNotification for Tag<N, T> {
-    type Tag = T;
-
-    type Notify = Tag<N, T>;
-
-    ghost fits = { λ _. Unit {0} };
-
-    ghost meaning = { λ n. n };
-
-    fn fits(&self) -> bool {
-        true
-    }
-
-    fn into_notification(self) -> Tag<N, T> {
-        self
     }
 }

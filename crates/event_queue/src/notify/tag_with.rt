@@ -1,7 +1,7 @@
 //! A notification with a function that makes its tags.
 ghost use Rattle.std.specs.Prelude.{◌≡◌, IsOkAnd};
 
-use super::{IntoNotification, Notification};
+use super::Notification;
 use std::alloc::AllocError;
 use std::fmt::{self, Debug, Formatter, Write};
 use std::marker::Model;
@@ -70,23 +70,5 @@ impl<N: Notification, T, F: FnMut() -> T> Notification for TagWith<N, F> {
 
     fn next_tag(&mut self) -> Result<T, AllocError> {
         Ok((self.tag)())
-    }
-}
-
-impl<N: Notification, T, F: FnMut() -> T> IntoNotification for TagWith<N, F> {
-    type Tag = T;
-
-    type Notify = TagWith<N, F>;
-
-    ghost fits = { λ _. Unit {0} };
-
-    ghost meaning = { λ n. n };
-
-    fn fits(&self) -> bool {
-        true
-    }
-
-    fn into_notification(self) -> TagWith<N, F> {
-        self
     }
 }
