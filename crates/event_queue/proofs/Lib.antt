@@ -5,7 +5,7 @@ pub mod LawLemmas
 pub mod NotifyLemmas
 pub mod RunLemmas
 pub mod WokenLemmas
-pub mod ChainPlaces
+pub mod ChainSlots
 pub mod ChainLinks
 pub mod ChainLookups
 pub mod ChainSteps

@@ -16,10 +16,10 @@ module _ {T W : Type 0} where
   rises_along q queue = Rises-from_increasing (order_of q) q.next_serial queue.rising
 
   pub IsQueue-from_Rises : (q : Queue T W) → Rises (order_of q) q.next_serial → q.next_serial < 2 ^ 64 → listeners_of q + q.spare < 2 ^ 64 → IsQueue q
-  IsQueue-from_Rises q rises serial_fits places_fit = record {
+  IsQueue-from_Rises q rises serial_fits slots_fit = record {
     rising = increasing_from_Rises (order_of q) q.next_serial rises;
     serial_fits = serial_fits;
-    places_fit = places_fit;
+    slots_fit = slots_fit;
   }
 
   -- the order with one more waiting at the end
@@ -55,11 +55,11 @@ module _ {T W : Type 0} where
 
   pub IsQueue-told_leaves : (key : Key) (q : Queue T W) (notice : Notice T) → IsQueue q → lookup (is_key key) q.told ≡ Some notice → IsQueue (told_leaves key q)
   IsQueue-told_leaves key q notice queue found =
-      IsQueue-without key q (told_leaves key q) queue (order_of-told_leaves key q notice queue found) refl (omega (arith, queue.places_fit, length-remove_entry key q.told notice found))
+      IsQueue-without key q (told_leaves key q) queue (order_of-told_leaves key q notice queue found) refl (omega (arith, queue.slots_fit, length-remove_entry key q.told notice found))
 
   pub IsQueue-waiting_leaves : (key : Key) (q : Queue T W) (task : Option W) → IsQueue q → lookup (is_key key) q.waiting ≡ Some task → IsQueue (waiting_leaves key q)
   IsQueue-waiting_leaves key q task queue found =
-      IsQueue-without key q (waiting_leaves key q) queue (order_of-waiting_leaves key q task queue found) refl (omega (arith, queue.places_fit, length-remove_entry key q.waiting task found))
+      IsQueue-without key q (waiting_leaves key q) queue (order_of-waiting_leaves key q task queue found) refl (omega (arith, queue.slots_fit, length-remove_entry key q.waiting task found))
 
   -- storing a task changes no key
   pub order_of-after_storing : (key : Key) (task : W) (q : Queue T W) → order_of (after_storing key task q) ≡ order_of q
@@ -69,7 +69,7 @@ module _ {T W : Type 0} where
   pub IsQueue-after_storing : (key : Key) (task : W) (q : Queue T W) → IsQueue q → IsQueue (after_storing key task q)
   IsQueue-after_storing key task q queue =
       let order = order_of-after_storing key task q in
-      IsQueue-from_Rises _ (rw order (rises_along q queue)) queue.serial_fits (omega (arith, queue.places_fit, length-set_value (is_key key) q.waiting (Some task)))
+      IsQueue-from_Rises _ (rw order (rises_along q queue)) queue.serial_fits (omega (arith, queue.slots_fit, length-set_value (is_key key) q.waiting (Some task)))
 
   -- a listener whose key is in the order no longer, and was, is gone
   pub IsGone-without : (key : Key) (q : Queue T W) (keys : List Key) → order_of q ≡ without key keys → key.serial < q.next_serial → IsGone key q

@@ -83,7 +83,7 @@ module _ {T W : Type 0} where
   pub IsQueue-after_telling : (additional : Bool) (tags : List T) (q : Queue T W) → IsQueue q → IsQueue (after_telling additional tags q)
   IsQueue-after_telling additional tags q queue =
       let order = order_of-after_telling additional tags q in
-      IsQueue-from_Rises _ (rw order (rises_along q queue)) queue.serial_fits (omega (arith, queue.places_fit, listeners_of-after_telling additional tags q))
+      IsQueue-from_Rises _ (rw order (rises_along q queue)) queue.serial_fits (omega (arith, queue.slots_fit, listeners_of-after_telling additional tags q))
 
   -- the queue once its first waiting listener has the notice
   pub after_telling-first : (q : Queue T W) (notice : Notice T) (first : Key × Option W) (rest : List (Key × Option W)) (told : List (Key × Notice T)) (spare : ℕ) → q.waiting ≡ first ∷ rest → told ≡ q.told ++ (first.0, notice) ∷ [] → spare ≡ q.spare → record { told = told; waiting = rest; next_serial = q.next_serial; spare = spare } ≡ after_telling notice.additional (notice.tag ∷ []) q

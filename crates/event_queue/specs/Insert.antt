@@ -14,7 +14,7 @@ module _ {T W : Type 0} where
   abbrev pub SerialsAreUsedUp : Queue T W → Type 0
   SerialsAreUsedUp q = q.next_serial + 1 ≡ 2 ^ 64
 
-  -- a newcomer that has the next serial waits at the end, with no task; a spare place, if there was one, is
+  -- a newcomer that has the next serial waits at the end, with no task; a spare slot, if there was one, is
   -- taken
   pub record Joins (old : Queue T W) (key : Key) (new : Queue T W) : Type 0 where
     pub serial_left : HasSerialLeft old
@@ -24,7 +24,7 @@ module _ {T W : Type 0} where
       next_serial = old.next_serial + 1;
       spare = new.spare;
     }
-    pub place : 0 < old.spare → new.spare + 1 ≡ old.spare
+    pub slot : 0 < old.spare → new.spare + 1 ≡ old.spare
 
   -- what an insertion answers, and the queue that it leaves
   abbrev pub Inserts : Queue T W → Result Key ListenError → Queue T W → Type 0

@@ -24,11 +24,11 @@ module _ {T W : Type 0} where
   listeners_of q = length q.told + length q.waiting
 
   -- the serials rise strictly in order of listening, all below the next one, which a `u64` holds; a `usize`
-  -- holds the number of listeners and spare places together
+  -- holds the number of listeners and spare slots together
   pub record IsQueue (q : Queue T W) : Type 0 where
     pub rising : IsStrictlyIncreasing (serials (order_of q) ++ q.next_serial ∷ [])
     pub serial_fits : q.next_serial < 2 ^ 64
-    pub places_fit : listeners_of q + q.spare < 2 ^ 64
+    pub slots_fit : listeners_of q + q.spare < 2 ^ 64
 
   -- a listener of that key is in neither list
   pub record IsAbsent (key : Key) (q : Queue T W) : Type 0 where
@@ -70,10 +70,10 @@ module _ {T W : Type 0} where
   abbrev pub tasks_of : ℕ → Queue T W → List W
   tasks_of count q = filter_map (λ entry. entry.1) (take count q.waiting)
 
-  -- the queue once the told listener of that key has left, and its place is spare
+  -- the queue once the told listener of that key has left, and its slot is spare
   abbrev pub told_leaves : Key → Queue T W → Queue T W
   told_leaves key q = record q { told = remove_entry (is_key key) q.told; spare = q.spare + 1 }
 
-  -- the queue once the waiting listener of that key has left, and its place is spare
+  -- the queue once the waiting listener of that key has left, and its slot is spare
   abbrev pub waiting_leaves : Key → Queue T W → Queue T W
   waiting_leaves key q = record q { waiting = remove_entry (is_key key) q.waiting; spare = q.spare + 1 }

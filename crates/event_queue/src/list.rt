@@ -129,10 +129,10 @@ impl<T, W> List<T, W> {
         ensures order_kept { UnlessNotified result (order_of self.new ≡ order_of self.old) }
         ensures serial { self.new.next_serial ≡ self.old.next_serial }
     {
-        self.ask_after(key, task)
+        self.register_step(key, task)
     }
 
-    fn ask_after(&mut self, key: Key, task: W) -> RegisterResult<T>
+    fn register_step(&mut self, key: Key, task: W) -> RegisterResult<T>
     where
         W: Drop,
         ensures step { Registers self.old key task result self.new }
@@ -175,10 +175,10 @@ impl<T, W> List<T, W> {
         ensures drop_default { IsTrue propagate → IsToldAs key false self.old → length self.new.told ≡ max (length self.old.told - 1) (min 1 (listeners_of self.old - 1)) }
         ensures drop_additional { IsTrue propagate → IsToldAs key true self.old → length self.new.told ≡ min (length self.old.told) (listeners_of self.old - 1) }
     {
-        self.take_out(key, propagate, sink)
+        self.remove_step(key, propagate, sink)
     }
 
-    fn take_out<S: WakeSink<W>>(
+    fn remove_step<S: WakeSink<W>>(
         &mut self,
         key: Key,
         propagate: bool,
@@ -243,10 +243,10 @@ impl<T, W> List<T, W> {
         ensures additional_tells { IsOk result → IsTrue (N.is_additional n.old) → length self.new.told ≡ length self.old.told + min (N.count n.old) (length self.old.waiting) }
         ensures unrefused { NeverRefuses N.tag_gives → IsOk result }
     {
-        self.tell_waiting(n, sink)
+        self.notify_step(n, sink)
     }
 
-    fn tell_waiting<N: Notification<Tag = T>, S: WakeSink<W>>(
+    fn notify_step<N: Notification<Tag = T>, S: WakeSink<W>>(
         &mut self,
         n: &mut N,
         sink: &mut S,

@@ -3,7 +3,7 @@ ghost use Rattle.std.specs.Prelude.{◌≡◌, ◌≢◌, ◌+◌, ◌-◌, ◌<
 ghost use Rattle.std.specs.Option.{option_or};
 ghost use Rattle.std.specs.Map.{lookup, remove_entry, set_value};
 ghost use Rattle.event_queue.specs.Key.{is_key};
-ghost use Rattle.event_queue.specs.Chain.{IsLinkBelow, with_next, with_previous, with_held, without_place, with_last, relinked, skipping, before_at, after_at, GetsPlace, value_after};
+ghost use Rattle.event_queue.specs.Chain.{IsLinkBelow, with_next, with_previous, with_held, without_slot, with_last, relinked, skipping, before_at, after_at, GetsSlot, value_after};
 
 use crate::key::Key;
 use std::alloc::{AllocError, AllocFailed, Global};
@@ -13,10 +13,10 @@ use std::mem;
 /// Entries in the order in which they were pushed, each under a key that the chain gives it, and a cursor between
 /// two of them: those before it carry an `A`, those after it a `B`.
 ///
-/// An entry that leaves makes its place spare, and a spare place is used before memory is asked for.
+/// An entry that leaves makes its slot spare, and a push takes a spare slot before it allocates.
 #[derive(Drop)]
 pub struct Chain<A, B> {
-    places: Vec<Place<A, B>>,
+    slots: Vec<Slot<A, B>>,
     ends: Ends,
 }
 
@@ -26,7 +26,7 @@ struct Ends {
     first: Option<usize>,
     last: Option<usize>,
     cursor: Option<usize>,
-    // The first of the free places, each of which names the next.
+    // The first of the free slots, each of which names the next.
     free: Option<usize>,
     // How many entries are before the cursor, and how many after it.
     before_len: usize,
@@ -34,7 +34,7 @@ struct Ends {
 }
 
 #[derive(Drop)]
-struct Place<A, B> {
+struct Slot<A, B> {
     serial: u64,
     previous: Option<usize>,
     next: Option<usize>,
@@ -57,61 +57,61 @@ impl<A, B> Model for Chain<A, B> {
     ghost use Rattle.event_queue.specs.Chain.{walk, value_before, value_after, IsSound};
 
     ghost view = { λ chain. record {
-      before = walk value_before chain.places.items chain.ends.before_len chain.ends.first;
-      after = walk value_after chain.places.items chain.ends.after_len chain.ends.cursor;
-      spare = vec_capacity chain.places - (chain.ends.before_len + chain.ends.after_len);
+      before = walk value_before chain.slots.items chain.ends.before_len chain.ends.first;
+      after = walk value_after chain.slots.items chain.ends.after_len chain.ends.cursor;
+      spare = vec_capacity chain.slots - (chain.ends.before_len + chain.ends.after_len);
     } };
 
-    ghost invariant = { λ chain. IsSound chain.places.items chain.ends };
+    ghost invariant = { λ chain. IsSound chain.slots.items chain.ends };
 }
 
-// Whether the place that the key names holds its entry, before the cursor.
-fn holds_before<A, B>(places: &[Place<A, B>], key: Key) -> bool
-    ensures { IsTrue result ↔ IsSome (before_at places.now key) }
+// Whether the slot that the key names holds the key's entry, before the cursor.
+fn holds_before<A, B>(slots: &[Slot<A, B>], key: Key) -> bool
+    ensures { IsTrue result ↔ IsSome (before_at slots.now key) }
 {
-    match places.get(key.slot) {
-        Some(place) => place.serial == key.serial && matches!(place.held, Held::Before(_)),
+    match slots.get(key.slot) {
+        Some(slot) => slot.serial == key.serial && matches!(slot.held, Held::Before(_)),
         None => false,
     }
 }
 
-// Whether the place that the key names holds its entry, after the cursor.
-fn holds_after<A, B>(places: &[Place<A, B>], key: Key) -> bool
-    ensures { IsTrue result ↔ IsSome (after_at places.now key) }
+// Whether the slot that the key names holds the key's entry, after the cursor.
+fn holds_after<A, B>(slots: &[Slot<A, B>], key: Key) -> bool
+    ensures { IsTrue result ↔ IsSome (after_at slots.now key) }
 {
-    match places.get(key.slot) {
-        Some(place) => place.serial == key.serial && matches!(place.held, Held::After(_)),
+    match slots.get(key.slot) {
+        Some(slot) => slot.serial == key.serial && matches!(slot.held, Held::After(_)),
         None => false,
     }
 }
 
-// Links the place that `slot` names, if it names one, to the next.
-fn set_next<A, B>(places: &mut [Place<A, B>], slot: Option<usize>, next: Option<usize>)
-    requires { IsLinkBelow (length places.old) slot }
-    ensures { places.new ≡ with_next places.old slot next }
+// Links the slot at that index, if there is one, to the next.
+fn set_next<A, B>(slots: &mut [Slot<A, B>], index: Option<usize>, next: Option<usize>)
+    requires { IsLinkBelow (length slots.old) index }
+    ensures { slots.new ≡ with_next slots.old index next }
 {
-    if let Some(slot) = slot {
-        places[slot].next = next;
+    if let Some(index) = index {
+        slots[index].next = next;
     }
 }
 
-// Links the place that `slot` names, if it names one, to the one before it.
-fn set_previous<A, B>(places: &mut [Place<A, B>], slot: Option<usize>, previous: Option<usize>)
-    requires { IsLinkBelow (length places.old) slot }
-    ensures { places.new ≡ with_previous places.old slot previous }
+// Links the slot at that index, if there is one, to the one before it.
+fn set_previous<A, B>(slots: &mut [Slot<A, B>], index: Option<usize>, previous: Option<usize>)
+    requires { IsLinkBelow (length slots.old) index }
+    ensures { slots.new ≡ with_previous slots.old index previous }
 {
-    if let Some(slot) = slot {
-        places[slot].previous = previous;
+    if let Some(index) = index {
+        slots[index].previous = previous;
     }
 }
 
-// Puts another payload into a place, and returns the one that it had.
-fn replace_held<A, B>(places: &mut [Place<A, B>], slot: usize, held: Held<A, B>) -> Held<A, B>
-    requires { slot < length places.old }
-    ensures former { IfSome (slice_get places.old slot) (λ place. result ≡ place.held) }
-    ensures replaced { places.new ≡ with_held places.old slot held }
+// Puts another payload into a slot, and returns the one that it had.
+fn replace_held<A, B>(slots: &mut [Slot<A, B>], index: usize, held: Held<A, B>) -> Held<A, B>
+    requires { index < length slots.old }
+    ensures former { IfSome (slice_get slots.old index) (λ slot. result ≡ slot.held) }
+    ensures replaced { slots.new ≡ with_held slots.old index held }
 {
-    mem::replace(&mut places[slot].held, held)
+    mem::replace(&mut slots[index].held, held)
 }
 
 // What an end of the chain becomes when an entry leaves that has this neighbour on that side.
@@ -124,146 +124,150 @@ fn relink(neighbour: Option<usize>, next: Option<usize>, end: Option<usize>) -> 
     }
 }
 
-// What the cursor becomes when the entry at that slot leaves.
-fn skip<A, B>(places: &[Place<A, B>], cursor: Option<usize>, slot: usize) -> Option<usize>
-    requires { slot < length places.now }
-    ensures { IfSome (slice_get places.now slot) (λ place. result ≡ skipping cursor slot place.next) }
+// What the cursor becomes when the entry at that index leaves.
+fn skip<A, B>(slots: &[Slot<A, B>], cursor: Option<usize>, index: usize) -> Option<usize>
+    requires { index < length slots.now }
+    ensures { IfSome (slice_get slots.now index) (λ slot. result ≡ skipping cursor index slot.next) }
 {
     match cursor {
-        Some(at) if at == slot => places[slot].next,
+        Some(at) if at == index => slots[index].next,
         _ => cursor,
     }
 }
 
-// Takes the entry at that slot out of the chain, and leaves its place free. Its neighbours are linked to one another.
-fn unlink<A, B>(places: &mut [Place<A, B>], ends: &mut Ends, slot: usize) -> Held<A, B>
-    requires slot { slot < length places.old }
-    requires previous { IfSome (slice_get places.old slot) (λ place. IsLinkBelow (length places.old) place.previous) }
-    requires next { IfSome (slice_get places.old slot) (λ place. IsLinkBelow (length places.old) place.next) }
-    ensures held { IfSome (slice_get places.old slot) (λ place. result ≡ place.held) }
-    ensures places { IfSome (slice_get places.old slot) (λ place. places.new ≡ without_place places.old slot place.previous place.next ends.old.free) }
-    ensures ends { IfSome (slice_get places.old slot) (λ place. ends.new ≡ record ends.old {
-      first = relinked place.previous place.next ends.old.first;
-      last = relinked place.next place.previous ends.old.last;
-      free = Some slot;
+// Takes the entry at that index out of the chain, and leaves its slot free. Its neighbours are linked to one another.
+fn unlink<A, B>(slots: &mut [Slot<A, B>], ends: &mut Ends, index: usize) -> Held<A, B>
+    requires index { index < length slots.old }
+    requires previous { IfSome (slice_get slots.old index) (λ slot. IsLinkBelow (length slots.old) slot.previous) }
+    requires next { IfSome (slice_get slots.old index) (λ slot. IsLinkBelow (length slots.old) slot.next) }
+    ensures held { IfSome (slice_get slots.old index) (λ slot. result ≡ slot.held) }
+    ensures slots { IfSome (slice_get slots.old index) (λ slot. slots.new ≡ without_slot slots.old index slot.previous slot.next ends.old.free) }
+    ensures ends { IfSome (slice_get slots.old index) (λ slot. ends.new ≡ record ends.old {
+      first = relinked slot.previous slot.next ends.old.first;
+      last = relinked slot.next slot.previous ends.old.last;
+      free = Some index;
     }) }
 {
-    let freed = Place {
+    let freed = Slot {
         serial: 0,
         previous: None,
         next: ends.free,
         held: Held::Nothing,
     };
-    let Place {
+    let Slot {
         serial: _,
         previous,
         next,
         held,
-    } = mem::replace(&mut places[slot], freed);
-    set_next(places, previous, next);
-    set_previous(places, next, previous);
+    } = mem::replace(&mut slots[index], freed);
+    set_next(slots, previous, next);
+    set_previous(slots, next, previous);
     ends.first = relink(previous, next, ends.first);
     ends.last = relink(next, previous, ends.last);
-    ends.free = Some(slot);
+    ends.free = Some(index);
     held
 }
 
-// The place for a newcomer: the first free one, or else a new one, for which memory is asked only where none is
+// The index of the slot for a newcomer: the first free one, or else a new one, which allocates only where no room is
 // reserved.
-fn get_place<A, B>(places: &mut Vec<Place<A, B>>, free: Option<usize>) -> Result<usize, AllocError>
-    ensures ok { IfOk result (λ slot. GetsPlace places.old.items free slot places.new.items) }
-    ensures err { OnErr result (places.new.items ≡ places.old.items) }
-    ensures capacity { OnErr result (vec_capacity places.new ≡ vec_capacity places.old) }
-    ensures succeeds { vec_len places.old < vec_capacity places.old → IsOk result }
-    ensures in_place { vec_len places.old < vec_capacity places.old → vec_capacity places.new ≡ vec_capacity places.old }
+fn get_slot<A, B>(slots: &mut Vec<Slot<A, B>>, free: Option<usize>) -> Result<usize, AllocError>
+    ensures ok { IfOk result (λ index. GetsSlot slots.old.items free index slots.new.items) }
+    ensures err { OnErr result (slots.new.items ≡ slots.old.items) }
+    ensures capacity { OnErr result (vec_capacity slots.new ≡ vec_capacity slots.old) }
+    ensures succeeds { vec_len slots.old < vec_capacity slots.old → IsOk result }
+    ensures in_place { vec_len slots.old < vec_capacity slots.old → vec_capacity slots.new ≡ vec_capacity slots.old }
     ensures free { IsSome free → IsOk result }
-    ensures free_in_place { IsSome free → vec_capacity places.new ≡ vec_capacity places.old }
+    ensures free_in_place { IsSome free → vec_capacity slots.new ≡ vec_capacity slots.old }
 {
-    if let Some(slot) = free {
-        return Ok(slot);
+    if let Some(index) = free {
+        return Ok(index);
     }
-    let slot = places.len();
-    if slot == places.capacity() {
-        places.reserve(1)?;
+    let index = slots.len();
+    if index == slots.capacity() {
+        slots.reserve(1)?;
     }
-    places.push_reserved(Place {
+    slots.push_reserved(Slot {
         serial: 0,
         previous: None,
         next: None,
         held: Held::Nothing,
     });
-    Ok(slot)
+    Ok(index)
 }
 
-// Links the free place at that slot to the end of the chain, with this entry.
-fn link_last<A, B>(places: &mut [Place<A, B>], ends: &mut Ends, slot: usize, serial: u64, value: B)
-    requires free { IfSome (slice_get places.old slot) (λ place. place.held ≡ Held.Nothing) }
-    requires slot { slot < length places.old }
-    requires last { IsLinkBelow (length places.old) ends.old.last }
+// Links the free slot at that index to the end of the chain, with this entry.
+fn link_last<A, B>(slots: &mut [Slot<A, B>], ends: &mut Ends, index: usize, serial: u64, value: B)
+    requires free { IfSome (slice_get slots.old index) (λ slot. slot.held ≡ Held.Nothing) }
+    requires index { index < length slots.old }
+    requires last { IsLinkBelow (length slots.old) ends.old.last }
     requires fits { ends.old.after_len + 1 < 2 ^ 64 }
-    ensures places { places.new ≡ with_last places.old slot ends.old.last serial value }
-    ensures ends { IfSome (slice_get places.old slot) (λ place. ends.new ≡ record ends.old {
-      first = option_or ends.old.first (Some slot);
-      last = Some slot;
-      cursor = option_or ends.old.cursor (Some slot);
-      free = place.next;
+    ensures slots { slots.new ≡ with_last slots.old index ends.old.last serial value }
+    ensures ends { IfSome (slice_get slots.old index) (λ slot. ends.new ≡ record ends.old {
+      first = option_or ends.old.first (Some index);
+      last = Some index;
+      cursor = option_or ends.old.cursor (Some index);
+      free = slot.next;
       after_len = ends.old.after_len + 1;
     }) }
 {
-    let place = Place {
+    let slot = Slot {
         serial,
         previous: ends.last,
         next: None,
         held: Held::After(value),
     };
-    let Place {
+    let Slot {
         serial: _,
         previous: _,
         next: free,
         held,
-    } = mem::replace(&mut places[slot], place);
+    } = mem::replace(&mut slots[index], slot);
     match held {
         Held::Nothing => {}
         _ => unreachable!(),
     }
-    set_next(places, ends.last, Some(slot));
-    ends.first = ends.first.or(Some(slot));
-    ends.last = Some(slot);
-    ends.cursor = ends.cursor.or(Some(slot));
+    set_next(slots, ends.last, Some(index));
+    ends.first = ends.first.or(Some(index));
+    ends.last = Some(index);
+    ends.cursor = ends.cursor.or(Some(index));
     ends.free = free;
     ends.after_len += 1;
 }
 
-// Gives the entry at that slot, which is after the cursor, the value of one before it. Its key, the value that it
-// had and the slot of the next entry are the answer.
-fn pass<A, B>(places: &mut [Place<A, B>], slot: usize, value: A) -> (Key, B, Option<usize>)
-    requires slot { slot < length places.old }
-    requires after { IfSome (slice_get places.old slot) (λ place. IsSome (value_after place.held)) }
-    ensures slot { result.0.slot ≡ slot }
-    ensures serial { IfSome (slice_get places.old slot) (λ place. result.0.serial ≡ place.serial) }
-    ensures former { IfSome (slice_get places.old slot) (λ place. place.held ≡ Held.After result.1) }
-    ensures next { IfSome (slice_get places.old slot) (λ place. result.2 ≡ place.next) }
-    ensures places { places.new ≡ with_held places.old slot (Held.Before value) }
+// Gives the entry at that index, which is after the cursor, the value of one before it. Its key, the value that it
+// had and the index of the next entry are the answer.
+fn move_before_cursor<A, B>(
+    slots: &mut [Slot<A, B>],
+    index: usize,
+    value: A,
+) -> (Key, B, Option<usize>)
+    requires index { index < length slots.old }
+    requires after { IfSome (slice_get slots.old index) (λ slot. IsSome (value_after slot.held)) }
+    ensures slot { result.0.slot ≡ index }
+    ensures serial { IfSome (slice_get slots.old index) (λ slot. result.0.serial ≡ slot.serial) }
+    ensures former { IfSome (slice_get slots.old index) (λ slot. slot.held ≡ Held.After result.1) }
+    ensures next { IfSome (slice_get slots.old index) (λ slot. result.2 ≡ slot.next) }
+    ensures slots { slots.new ≡ with_held slots.old index (Held.Before value) }
 {
-    let place = &mut places[slot];
+    let slot = &mut slots[index];
     let key = Key {
-        slot,
-        serial: place.serial,
+        slot: index,
+        serial: slot.serial,
     };
-    let next = place.next;
-    match mem::replace(&mut place.held, Held::Before(value)) {
+    let next = slot.next;
+    match mem::replace(&mut slot.held, Held::Before(value)) {
         Held::After(former) => (key, former, next),
         _ => unreachable!(),
     }
 }
 
 impl<A, B> Chain<A, B> {
-    /// A chain with no entry, which takes no memory until the first push.
+    /// A chain with no entry, which allocates with the first push.
     pub fn new(alloc: Global) -> Self
         ensures { result ≡ record { before = []; after = []; spare = 0 } }
     {
         Chain {
-            places: Vec::new(alloc),
+            slots: Vec::new(alloc),
             ends: Ends {
                 first: None,
                 last: None,
@@ -278,24 +282,24 @@ impl<A, B> Chain<A, B> {
     /// How many more entries fit with no allocation.
     pub fn spare(&self) -> usize
         ensures value { result ≡ self.now.spare }
-        ensures places_fit { length self.now.before + length self.now.after + self.now.spare < 2 ^ 64 }
+        ensures slots_fit { length self.now.before + length self.now.after + self.now.spare < 2 ^ 64 }
     {
-        self.places.capacity() - (self.ends.before_len + self.ends.after_len)
+        self.slots.capacity() - (self.ends.before_len + self.ends.after_len)
     }
 
-    /// Makes room for `n` more entries. After a refusal no room is lost.
+    /// Makes room for `n` more entries, which allocates where fewer are spare. After a refusal no room is lost.
     pub fn reserve(&mut self, n: usize) -> Result<(), AllocError>
         ensures room { OnOk result (n ≤ self.new.spare) }
         ensures entries { self.new ≡ record self.old { spare = self.new.spare } }
         ensures kept { self.old.spare ≤ self.new.spare }
         ensures succeeds { n ≤ self.old.spare → IsOk result }
-        ensures places_fit { length self.new.before + length self.new.after + self.new.spare < 2 ^ 64 }
+        ensures slots_fit { length self.new.before + length self.new.after + self.new.spare < 2 ^ 64 }
     {
-        let free = self.places.len() - (self.ends.before_len + self.ends.after_len);
+        let free = self.slots.len() - (self.ends.before_len + self.ends.after_len);
         if n <= free {
             return Ok(());
         }
-        self.places.reserve(n - free)
+        self.slots.reserve(n - free)
     }
 
     /// How many entries there are.
@@ -323,10 +327,10 @@ impl<A, B> Chain<A, B> {
     pub fn is_before(&self, key: Key) -> bool
         ensures { IsTrue result ↔ IsSome (lookup (is_key key) self.now.before) }
     {
-        holds_before(self.places.as_slice(), key)
+        holds_before(self.slots.as_slice(), key)
     }
 
-    /// Appends an entry, or hands its value back where there is no memory.
+    /// Appends an entry. It allocates only where no slot is spare; where that is refused, the value comes back.
     pub fn push_back(&mut self, serial: u64, value: B) -> Result<Key, AllocFailed<B>>
         ensures serial { IfOk result (λ key. key.serial ≡ serial) }
         ensures before { OnOk result (self.new.before ≡ self.old.before) }
@@ -336,25 +340,28 @@ impl<A, B> Chain<A, B> {
         ensures slot_before { IfOk result (λ key. All (λ entry. entry.0.slot ≢ key.slot) self.old.before) }
         ensures slot_after { IfOk result (λ key. All (λ entry. entry.0.slot ≢ key.slot) self.old.after) }
 
-        // A spare place is taken where there is one, and then the push does not fail.
+        // A spare slot is taken where there is one, and then the push does not fail.
         ensures succeeds { 0 < self.old.spare → IsOk result }
         ensures spare { OnOk result (0 < self.old.spare → self.new.spare + 1 ≡ self.old.spare) }
-        ensures places_fit { length self.new.before + length self.new.after + self.new.spare < 2 ^ 64 }
+        ensures slots_fit { length self.new.before + length self.new.after + self.new.spare < 2 ^ 64 }
 
         ensures err { OnErr result (self.new ≡ self.old) }
         ensures value_returned { IfErr result (λ failed. failed.value ≡ value) }
     {
-        let Ok(slot) = get_place(&mut self.places, self.ends.free) else {
+        let Ok(index) = get_slot(&mut self.slots, self.ends.free) else {
             return Err(AllocFailed { value });
         };
         link_last(
-            self.places.as_mut_slice(),
+            self.slots.as_mut_slice(),
             &mut self.ends,
-            slot,
+            index,
             serial,
             value,
         );
-        Ok(Key { slot, serial })
+        Ok(Key {
+            slot: index,
+            serial,
+        })
     }
 
     /// Takes the entry of that key out, if it is before the cursor.
@@ -363,10 +370,10 @@ impl<A, B> Chain<A, B> {
         ensures taken { OnSome result (self.new ≡ record self.old { before = remove_entry (is_key key) self.old.before; spare = self.old.spare + 1 }) }
         ensures absent { IfNone result (self.new ≡ self.old) }
     {
-        if !holds_before(self.places.as_slice(), key) {
+        if !holds_before(self.slots.as_slice(), key) {
             return None;
         }
-        match unlink(self.places.as_mut_slice(), &mut self.ends, key.slot) {
+        match unlink(self.slots.as_mut_slice(), &mut self.ends, key.slot) {
             Held::Before(value) => {
                 self.ends.before_len -= 1;
                 Some(value)
@@ -381,11 +388,11 @@ impl<A, B> Chain<A, B> {
         ensures taken { OnSome result (self.new ≡ record self.old { after = remove_entry (is_key key) self.old.after; spare = self.old.spare + 1 }) }
         ensures absent { IfNone result (self.new ≡ self.old) }
     {
-        if !holds_after(self.places.as_slice(), key) {
+        if !holds_after(self.slots.as_slice(), key) {
             return None;
         }
-        self.ends.cursor = skip(self.places.as_slice(), self.ends.cursor, key.slot);
-        match unlink(self.places.as_mut_slice(), &mut self.ends, key.slot) {
+        self.ends.cursor = skip(self.slots.as_slice(), self.ends.cursor, key.slot);
+        match unlink(self.slots.as_mut_slice(), &mut self.ends, key.slot) {
             Held::After(value) => {
                 self.ends.after_len -= 1;
                 Some(value)
@@ -403,10 +410,10 @@ impl<A, B> Chain<A, B> {
         ensures unchanged { OnErr result (self.new ≡ self.old) }
         ensures value_returned { IfErr result (λ refused. refused ≡ value) }
     {
-        if !holds_after(self.places.as_slice(), key) {
+        if !holds_after(self.slots.as_slice(), key) {
             return Err(value);
         }
-        match replace_held(self.places.as_mut_slice(), key.slot, Held::After(value)) {
+        match replace_held(self.slots.as_mut_slice(), key.slot, Held::After(value)) {
             Held::After(former) => Ok(former),
             _ => unreachable!(),
         }
@@ -420,10 +427,10 @@ impl<A, B> Chain<A, B> {
         ensures told { self.new.before ≡ self.old.before ++ (result.0, value) ∷ [] }
         ensures spare { self.new.spare ≡ self.old.spare }
     {
-        let Some(slot) = self.ends.cursor else {
+        let Some(index) = self.ends.cursor else {
             unreachable!()
         };
-        let (key, former, next) = pass(self.places.as_mut_slice(), slot, value);
+        let (key, former, next) = move_before_cursor(self.slots.as_mut_slice(), index, value);
         self.ends.cursor = next;
         self.ends.before_len += 1;
         self.ends.after_len -= 1;

@@ -4,10 +4,10 @@ use Rattle.event_queue.proofs.list.List.insert.Goals as goal
 
 pub invariant_of-self : goal.invariant_of-self
 invariant_of-self g c =
-    let fits = rw (c.in-Ok.ensures.before, c.in-Ok.ensures.after) at c.in-Ok.ensures.places_fit in
+    let fits = rw (c.in-Ok.ensures.before, c.in-Ok.ensures.after) at c.in-Ok.ensures.slots_fit in
     rw (c.in-Ok.ensures.before, c.in-Ok.ensures.after) (IsQueue-push _ c.in-Ok.key _ c.self.invariant c.in-Ok.ensures.serial (omega arith) fits)
 
 pub returns-in-Ok-clause-queue : goal.returns-in-Ok-clause-queue
 returns-in-Ok-clause-queue g c =
-    let fits = rw (c.in-Ok.ensures.before, c.in-Ok.ensures.after) at c.in-Ok.ensures.places_fit in
+    let fits = rw (c.in-Ok.ensures.before, c.in-Ok.ensures.after) at c.in-Ok.ensures.slots_fit in
     rw (c.in-Ok.ensures.before, c.in-Ok.ensures.after) (IsQueue-push _ c.in-Ok.key _ c.self.invariant c.in-Ok.ensures.serial (omega arith) fits)

@@ -4,4 +4,4 @@ use Rattle.event_queue.proofs.node.Chain.after_len.Goals as goal
 
 pub returns : goal.returns
 returns g c =
-    rw (← c.self.view_is) (sym (length-after_of c.self.inside.places.items c.self.inside.ends c.self.invariant))
+    rw (← c.self.view_is) (sym (length-after_of c.self.inside.slots.items c.self.inside.ends c.self.invariant))

@@ -4,11 +4,11 @@ use Rattle.event_queue.proofs.node.Chain.len.Goals as goal
 
 pub overflow_add-result : goal.overflow_add-result
 overflow_add-result g c =
-    let places = c.self.inside.places in
-    omega (arith, entries_fit places.items c.self.inside.ends c.self.invariant, places.ok.0, places.ok.1, places.small)
+    let slots = c.self.inside.slots in
+    omega (arith, entries_fit slots.items c.self.inside.ends c.self.invariant, slots.ok.0, slots.ok.1, slots.small)
 
 pub returns : goal.returns
 returns g c =
-    let places = c.self.inside.places.items in
+    let slots = c.self.inside.slots.items in
     rw (← c.self.view_is)
-    (omega (arith, length-before_of places c.self.inside.ends c.self.invariant, length-after_of places c.self.inside.ends c.self.invariant))
+    (omega (arith, length-before_of slots c.self.inside.ends c.self.invariant, length-after_of slots c.self.inside.ends c.self.invariant))

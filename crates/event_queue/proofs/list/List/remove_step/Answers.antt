@@ -1,7 +1,7 @@
 use Rattle.std.proofs.Common.{sym, refl}
 use Rattle.event_queue.proofs.QueueLemmas.{IsQueue-told_leaves, IsQueue-waiting_leaves}
 use Rattle.event_queue.proofs.LawLemmas.{untold-waiting}
-use Rattle.event_queue.proofs.list.List.take_out.Goals as goal
+use Rattle.event_queue.proofs.list.List.remove_step.Goals as goal
 
 pub invariant_of-self : goal.invariant_of-self
 invariant_of-self g c =

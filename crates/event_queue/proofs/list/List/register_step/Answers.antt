@@ -1,6 +1,6 @@
 use Rattle.std.proofs.Common.{sym}
 use Rattle.event_queue.proofs.QueueLemmas.{IsQueue-told_leaves, IsQueue-after_storing}
-use Rattle.event_queue.proofs.list.List.ask_after.Goals as goal
+use Rattle.event_queue.proofs.list.List.register_step.Goals as goal
 
 pub invariant_of-self : goal.invariant_of-self
 invariant_of-self g c =

@@ -1,5 +1,5 @@
 use Rattle.event_queue.proofs.NotifyLemmas.{ToldSoFar}
-use Rattle.event_queue.proofs.list.List.tell_waiting.Given as goal
+use Rattle.event_queue.proofs.list.List.notify_step.Given as goal
 
 abbrev pub invariant-loop-told : goal.invariant-loop-told
 invariant-loop-told g l =
