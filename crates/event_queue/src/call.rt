@@ -4,38 +4,38 @@ use crate::reply::{ListenError, NotifyError, RegisterResult, State};
 /// One call of a queue, as a value that [`List::run`](crate::List::run) makes.
 #[derive(Clone, Debug, PartialEq, Eq, Drop)]
 pub enum Call<T, W> {
-    /// [`List::insert`](crate::List::insert).
+    /// A call of [`List::insert`](crate::List::insert).
     Insert,
-    /// [`List::register`](crate::List::register).
+    /// A call of [`List::register`](crate::List::register).
     Register {
         /// The listener.
         key: Key,
         /// The task to store.
         task: W,
     },
-    /// [`List::remove`](crate::List::remove).
+    /// A call of [`List::remove`](crate::List::remove).
     Remove {
         /// The listener.
         key: Key,
-        /// Whether the notification of a told listener is passed on.
+        /// Whether the notification of a told listener is propagated.
         propagate: bool,
     },
-    /// [`List::notify`](crate::List::notify).
+    /// A call of [`List::notify`](crate::List::notify).
     Notify {
         /// How many listeners the notification is for.
         count: usize,
         /// Whether it is an additional one.
         additional: bool,
-        /// Its tags, in order. Where they run out, the next tag is refused.
+        /// Its tags, in order. The tag after the last is refused.
         tags: Vec<T>,
     },
-    /// [`List::total_listeners`](crate::List::total_listeners).
+    /// A call of [`List::total_listeners`](crate::List::total_listeners).
     TotalListeners,
-    /// [`List::is_notified`](crate::List::is_notified).
+    /// A call of [`List::is_notified`](crate::List::is_notified).
     IsNotified,
 }
 
-/// What a queue answered to a [`Call`] of the same name.
+/// What a queue answered to a [`Call`].
 #[derive(Clone, Copy, Debug, PartialEq, Eq, Drop)]
 pub enum Reply<T, W> {
     /// The answer of an insertion.

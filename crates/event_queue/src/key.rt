@@ -1,14 +1,14 @@
 ghost use Rattle.std.specs.Prelude.{◌≡◌};
 
-/// What a listener is named by: the place that the queue gave it, and its serial number.
+/// The name of a listener: the slot that the queue gave it, and its serial number.
 ///
-/// A place is used again once its listener has left; a serial never is. So two keys that one queue gave are
-/// equal only if they name the same listener.
+/// A slot is used again once its listener has left; a serial never is. So two keys that one queue gave are equal only
+/// if they name the same listener.
 #[derive(Clone, Copy, Debug, PartialEq, Eq)]
 pub struct Key {
-    /// The place of the listener. Which one a listener gets is the queue's choice.
+    /// The slot of the listener. Which one a listener gets is the queue's choice.
     pub slot: usize,
-    /// How many listeners the queue had taken in before this one, counted from its first serial.
+    /// The serial number of the listener: the first serial of the queue, and one more for each earlier insertion.
     pub serial: u64,
 }
 

@@ -1,4 +1,4 @@
-//! Laws that users rely on, each as the contract of a function that takes nothing for granted.
+//! Laws that users rely on, each as the contract of a function without a `requires`.
 ghost use Rattle.std.specs.Prelude.{◌≡◌, ◌↔◌, ℕ, List, [], IsTrue};
 ghost use Rattle.std.specs.List.{FoldsTo};
 ghost use Rattle.event_queue.specs.Woken.{Kept, first_of};
@@ -7,7 +7,7 @@ use crate::key::Key;
 use crate::wake::WakeSink;
 use crate::woken::Woken;
 
-/// Keys are equal exactly if their places and their serials are.
+/// Keys are equal exactly if their slots and their serials are.
 pub fn equal_keys(left: Key, right: Key) -> bool
     ensures { IsTrue result ↔ ((left.slot ≡ right.slot) × (left.serial ≡ right.serial)) }
 {

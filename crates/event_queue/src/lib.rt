@@ -1,4 +1,7 @@
 //! The queue of an event as a value: listeners in order of listening, a front of them told, the others waiting.
+//!
+//! [`List`] is the queue, and a [`Notification`] what it is notified with. The other names are what their calls take
+//! and return, and laws of them.
 #![tactic(auto)]
 
 mod call;
@@ -19,6 +22,8 @@ pub use call::{Call, Reply};
 pub use key::Key;
 pub use laws::{equal_keys, woken_keeps_the_first};
 pub use list::List;
+#[doc(hidden)]
+pub use notice::Notice;
 pub use notification_laws::{
     additional_clone_means_the_same, additional_twice_means_once,
     notification_is_its_own_conversion, notify_clone_means_the_same, relaxed_changes_no_meaning,
@@ -28,5 +33,7 @@ pub use notify::{
     Additional, IntoNotification, IntoTagged, Notification, Notify, Relaxed, Tag, TagWith,
 };
 pub use reply::{ListenError, NotifyError, RegisterResult, State};
+#[doc(hidden)]
+pub use tag_list::TagList;
 pub use wake::WakeSink;
 pub use woken::Woken;

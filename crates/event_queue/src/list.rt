@@ -20,8 +20,8 @@ use std::marker::Model;
 
 /// A queue of listeners.
 ///
-/// Some front of the queue is told, each listener of it with a tag; the others wait, each with a task if it stored
-/// one. No call takes a lock, waits or panics, and none looks at more of the queue than its documentation says.
+/// A front of the queue is told, each listener of it with a tag; the others wait, each with a task if it stored one.
+/// No call takes a lock, waits or panics.
 #[derive(Drop)]
 pub struct List<T, W> {
     chain: Chain<Notice<T>, Option<W>>,
@@ -49,7 +49,7 @@ impl<T, W> Model for List<T, W> {
 }
 
 impl<T, W> List<T, W> {
-    /// An empty queue, which takes no memory until the first insertion. Its first listener gets the serial 0.
+    /// An empty queue, whose first listener gets the serial 0. The call allocates nothing.
     pub fn new(alloc: Global) -> Self
         ensures empty { result ≡ record { told = []; waiting = []; next_serial = 0; spare = 0 } }
         ensures queue { IsQueue result }
@@ -57,9 +57,9 @@ impl<T, W> List<T, W> {
         Self::starting_at(alloc, 0)
     }
 
-    /// An empty queue whose first listener gets the serial `first`. It takes no memory until the first insertion.
+    /// An empty queue, whose first listener gets the serial `first`. The call allocates nothing.
     ///
-    /// Serials rise by one with each insertion, and `u64::MAX` is never given, so a queue that starts late has fewer.
+    /// Serials rise by one with each insertion, and no listener gets `u64::MAX`, so a queue that starts late has fewer.
     pub fn starting_at(alloc: Global, first: u64) -> Self
         ensures empty { result ≡ record { told = []; waiting = []; next_serial = first; spare = 0 } }
         ensures queue { IsQueue result }
@@ -70,11 +70,11 @@ impl<T, W> List<T, W> {
         }
     }
 
-    /// Makes room for `n` more listeners, so that as many insertions need no memory. It works also where the serials
+    /// Makes room for `n` more listeners, so that as many insertions allocate nothing. It works also where the serials
     /// are used up.
     ///
-    /// A size that no memory can have is refused as any growth is. After a refusal the listeners stand as before, and
-    /// no room is lost.
+    /// It allocates only where fewer than `n` slots are spare. A refusal leaves the listeners and the next serial as
+    /// they were, and no fewer slots spare; a number that no memory has room for is refused too.
     pub fn reserve(&mut self, n: usize) -> Result<(), AllocError>
         ensures room { OnOk result (n ≤ self.new.spare) }
         ensures listeners { self.new ≡ record self.old { spare = self.new.spare } }
@@ -85,10 +85,11 @@ impl<T, W> List<T, W> {
         self.chain.reserve(n)
     }
 
-    /// Takes in a listener, which waits at the end of the queue with no task stored.
+    /// Inserts a listener, which waits at the end of the queue with no task stored, and returns its key.
     ///
-    /// It asks for memory only where [`spare`](List::spare) is 0. [`ListenError::SerialsUsedUp`] is answered before
-    /// memory is asked for, and every refusal leaves the queue as it was.
+    /// It allocates only where [`spare`](List::spare) is 0, and returns [`ListenError::Memory`] where that is refused.
+    /// Where the serials are used up it returns [`ListenError::SerialsUsedUp`] and allocates nothing. Both leave the
+    /// queue as it was.
     pub fn insert(&mut self) -> Result<Key, ListenError>
         ensures step { Inserts self.old result self.new }
         ensures queue { IsQueue self.new }
@@ -113,10 +114,10 @@ impl<T, W> List<T, W> {
         }
     }
 
-    /// Asks after a listener: one that was told takes its tag and leaves, one that waits stores the task, in place
-    /// of any that it stored before.
+    /// Registers the task of a listener: one that was told takes its tag and leaves the queue, one that waits stores
+    /// the task, in place of any that it stored before.
     ///
-    /// A task that is not stored, or that is replaced, is dropped. The call takes no memory.
+    /// The call drops a task that it doesn't store, and one that it replaces. It allocates nothing.
     pub fn register(&mut self, key: Key, task: W) -> RegisterResult<T>
     where
         W: Drop,
@@ -149,11 +150,11 @@ impl<T, W> List<T, W> {
         }
     }
 
-    /// Takes a listener out of the queue, and answers what it was, or `None` where no listener has that key.
+    /// Removes a listener from the queue, and returns what it was, or `None` where no listener has that key.
     ///
-    /// With `propagate`, the notification of a told listener is passed on: the queue is notified of one, of the same
+    /// With `propagate`, the notification of a told listener is propagated: the queue is notified of one, of the same
     /// kind and with the same tag. So a default notification is lost while another listener stays told, and an
-    /// additional one is lost only where nobody waits; a lost tag is dropped. The call takes no memory.
+    /// additional one only where nobody waits. The call drops a lost tag. It allocates nothing.
     pub fn remove<S: WakeSink<W>>(
         &mut self,
         key: Key,
@@ -206,7 +207,7 @@ impl<T, W> List<T, W> {
         Some(State::Notified { additional, tag })
     }
 
-    // Notifies one, of that notice's kind and with its tag.
+    // Propagates a notification: notifies one, of that notice's kind and with its tag.
     fn pass_on<S: WakeSink<W>>(&mut self, notice: Notice<T>, sink: &mut S)
     where
         T: Drop,
@@ -220,12 +221,12 @@ impl<T, W> List<T, W> {
     }
 
     /// Tells the first of the waiting listeners, as many as the notification is for, in order, each with the next tag
-    /// of the notification, and wakes the task of each that stored one. Answers how many were told.
+    /// of the notification, and wakes the task of each that stored one. Returns how many it told.
     ///
     /// A default notification counts the listeners that are told already; an additional one does not. The
-    /// notification is asked for a tag once for each listener told; where it refuses one, the listeners told until
-    /// then stay told, nobody is skipped, and the answer is how many they are. One that finds no listener to tell is
-    /// not kept. The call takes no memory, but for what the notification takes.
+    /// notification is asked for a tag once for each listener told. Where it refuses one, the call returns a
+    /// [`NotifyError`]: the listeners told until then stay told, and nobody is skipped. A notification that finds no
+    /// listener to tell is not kept. The call allocates nothing, but the notification may where it makes a tag.
     pub fn notify<N: Notification<Tag = T>, S: WakeSink<W>>(
         &mut self,
         n: &mut N,
@@ -294,14 +295,14 @@ impl<T, W> List<T, W> {
         }
     }
 
-    // What the type keeps of its fields, for code that reads none of them.
+    // What the type keeps, for code that reads none of its fields.
     pub(crate) fn invariant_holds(&self)
         ensures { IsQueue self.now }
     {
         let _chain = &self.chain;
     }
 
-    /// How many more listeners fit with no allocation.
+    /// How many slots are spare: as many more insertions allocate nothing. The call allocates nothing.
     pub fn spare(&self) -> usize
         ensures value { result ≡ self.now.spare }
         ensures queue { IsQueue self.now }
@@ -309,7 +310,7 @@ impl<T, W> List<T, W> {
         self.chain.spare()
     }
 
-    /// How many listeners there are, told or waiting.
+    /// How many listeners there are, told or waiting. The call allocates nothing.
     pub fn total_listeners(&self) -> usize
         ensures value { result ≡ length self.now.told + length self.now.waiting }
         ensures queue { IsQueue self.now }
@@ -317,7 +318,7 @@ impl<T, W> List<T, W> {
         self.chain.len()
     }
 
-    /// Whether some listener is told.
+    /// Whether some listener is told. The call allocates nothing.
     pub fn is_notified(&self) -> bool
         ensures value { IsTrue result ↔ (0 < length self.now.told) }
         ensures queue { IsQueue self.now }
@@ -325,7 +326,7 @@ impl<T, W> List<T, W> {
         self.chain.before_len() > 0
     }
 
-    /// How many listeners are told.
+    /// How many listeners are told. The call allocates nothing.
     pub fn listeners_notified(&self) -> usize
         ensures value { result ≡ length self.now.told }
         ensures queue { IsQueue self.now }
@@ -333,7 +334,7 @@ impl<T, W> List<T, W> {
         self.chain.before_len()
     }
 
-    /// Whether the listener of that key is told.
+    /// Whether the listener of that key is told. The call allocates nothing.
     pub fn is_told(&self, key: Key) -> bool
         ensures value { IsTrue result ↔ IsSome (lookup (is_key key) self.now.told) }
         ensures queue { IsQueue self.now }

@@ -1,4 +1,4 @@
-/// What a told listener has been told: of which kind the notification was, and the tag that came with it.
+/// What a told listener was told: of which kind the notification was, and the tag that came with it.
 #[derive(Drop)]
 pub struct Notice<T> {
     /// Whether the notification was an additional one.

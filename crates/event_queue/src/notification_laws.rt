@@ -1,7 +1,7 @@
 //! Laws of notifications: what the combinators and the clones of this crate leave as it was.
 //!
-//! Each is the contract of a function that takes nothing for granted. A notification means a count, a kind, where it
-//! may be asked for a tag, and what its next tag is.
+//! Each is the contract of a function without a `requires`. A notification means a count, a kind, where it may be asked
+//! for a tag, and what its next tag is.
 ghost use Rattle.std.specs.Prelude.{◌≡◌, ◌↔◌};
 
 use crate::notify::{Additional, IntoNotification, Notification, Notify, Relaxed, Tag};

@@ -1,4 +1,4 @@
-//! Notifications: how many listeners, of which kind, with which tags.
+//! Notifications: how many listeners they are for, of which kind they are, and which tags come with them.
 ghost use Rattle.std.specs.Prelude.{◌≡◌, ◌↔◌, ℕ, Bool, IsTrue, Result};
 ghost use Rattle.std.specs.declared.alloc.AllocError.{AllocError};
 
@@ -16,7 +16,7 @@ use std::alloc::AllocError;
 pub use tag::Tag;
 pub use tag_with::TagWith;
 
-/// What a notification asks of the queue: how many listeners, of which kind, with which tags.
+/// A notification: how many listeners it is for, of which kind it is, and which tags come with it.
 ///
 /// The trait is open. Generic callers know an implementation by its ghost members: `count`, `is_additional`,
 /// `can_tag` (where a tag may be asked for) and `tag_gives` (the state before, the answer, the state after).
@@ -36,12 +36,12 @@ pub trait Notification {
     fn count(&self) -> usize
         ensures { result ≡ count self.now };
 
-    /// Whether the count is one of listeners told anew, whoever was told before.
+    /// Whether it is an additional notification: its count is of listeners told anew, whoever was told before.
     fn is_additional(&self) -> bool
         ensures { result ≡ is_additional self.now };
 
-    /// The tag of the next listener to be told, or a refusal where there is no memory for it. A tag may be asked for
-    /// again after each answer.
+    /// The tag of the next listener to be told, or a refusal. It may allocate, where making a tag does. The
+    /// notification may be asked for another tag after each answer.
     ///
     /// [`Notify`] and [`Tag`] may always be asked, [`TagWith`] where its function may always be called, and
     /// [`Additional`] and [`Relaxed`] where the notification in them may be.
@@ -51,7 +51,7 @@ pub trait Notification {
         ensures again { can_tag self.new };
 }
 
-/// What can be turned into a notification, with a test of whether it fits.
+/// A value that converts to a notification if it fits.
 ///
 /// Implemented for every notification, which always fits and is its own conversion, and for every integer type, where
 /// a value fits that lies in 0 to `usize::MAX`. Each conversion asks for [`fits`](IntoNotification::fits) as a
@@ -60,14 +60,14 @@ pub trait IntoNotification: Sized {
     /// What each told listener is handed.
     type Tag;
 
-    /// The notification that it becomes.
+    /// The notification that it converts to.
     type Notify: Notification<Tag = Self::Tag>;
 
     ghost fits: { Self → Type 0 };
 
     ghost meaning: { Self → Self.Notify };
 
-    /// Whether the value can be a notification: a number can if it lies in 0 to `usize::MAX`.
+    /// Whether the value converts to a notification: a number does if it lies in 0 to `usize::MAX`.
     fn fits(&self) -> bool
         ensures { IsTrue result ↔ fits self.now };
 
@@ -111,12 +111,12 @@ impl<N: Notification> IntoNotification for N {
     }
 }
 
-/// What can be turned into a notification that has no tags yet, and so may be given some.
+/// A value that converts to a notification without tags, which may be given some.
 ///
-/// It needs no implementation of its own: every [`IntoNotification`] without tags has it.
+/// Every [`IntoNotification`] whose tag is `()` has it. So a notification that has tags takes no others.
 pub trait IntoTagged: IntoNotification<Tag = ()> {
-    /// The notification with a tag, of which each told listener is handed a clone. A clone that is refused is a
-    /// refused tag.
+    /// The notification with a tag, of which each told listener is handed a clone. A refused clone is a refused tag.
+    /// The call allocates nothing; the clones may.
     fn tag<T: Clone>(self, tag: T) -> Tag<Self::Notify, T>
         requires { Self.fits self }
         ensures { result ≡ (tag, Self.meaning self) }
@@ -125,7 +125,8 @@ pub trait IntoTagged: IntoNotification<Tag = ()> {
     }
 
     /// The notification with a function that makes the tags: it is called once for each told listener, in order, and
-    /// never refuses. The function must be one that may always be called.
+    /// no tag is refused. The function must be one that may always be called. The call allocates nothing; the function
+    /// may.
     fn tag_with<T, F: FnMut() -> T>(self, tag: F) -> TagWith<Self::Notify, F>
         requires fits { Self.fits self }
         requires callable { F.IsAlwaysCallable tag }

@@ -14,7 +14,7 @@ pub enum State<T, W> {
     },
     /// Waiting, with the task that was stored last.
     Task(W),
-    /// Told, and its notification was passed on, or lost where nobody was to be told.
+    /// Told, and its notification was propagated, or lost where it told nobody.
     NotifiedTaken,
 }
 
@@ -29,10 +29,10 @@ pub enum RegisterResult<T> {
     NeverInserted,
 }
 
-/// Why a listener was not taken into the queue.
+/// Why a listener was not inserted.
 #[derive(Clone, Copy, Debug, PartialEq, Eq, Error)]
 pub enum ListenError {
-    /// A growth was refused. The queue is unchanged.
+    /// Memory for the listener was refused. The queue is unchanged.
     #[error("no memory for a listener")]
     Memory,
     /// The queue has given out all serial numbers. The queue is unchanged.
@@ -40,7 +40,7 @@ pub enum ListenError {
     SerialsUsedUp,
 }
 
-/// A notification refused a tag before it had told all that it was to tell.
+/// A notification refused a tag before all its listeners were told.
 #[derive(Clone, Copy, Debug, PartialEq, Eq, Error)]
 #[error("a tag was refused after {told} listeners")]
 pub struct NotifyError {

@@ -12,11 +12,13 @@ use crate::wake::WakeSink;
 use std::alloc::AllocError;
 
 impl<T: Drop, W: Drop> List<T, W> {
-    /// Makes the calls one after another, and appends the reply of each. What a call is refused is its reply, and
-    /// the run goes on.
+    /// Makes the calls one after another, and appends the reply of each. Where a call is refused, the refusal is its
+    /// reply, and the run goes on.
     ///
-    /// Room for all replies is made first; where memory for it is refused, no call is made, and the calls are
-    /// dropped. A notification of the run has its tags in a list, and is refused the tag after the last.
+    /// It makes room for all replies first, which allocates where `replies` has too little. Where that is refused, it
+    /// makes no call, drops the calls, and leaves the queue, the replies and the sink as they were. From then on it
+    /// allocates where an insertion does. A notification of the run has its tags in a list, and the tag after the last
+    /// is refused.
     pub fn run<S: WakeSink<W>>(
         &mut self,
         calls: Vec<Call<T, W>>,

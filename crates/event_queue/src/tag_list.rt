@@ -2,11 +2,14 @@ use crate::notify::Notification;
 use std::alloc::AllocError;
 use std::vec::IntoIter;
 
-/// A notification that has its tags in a list, and refuses the next one where they run out.
+/// A notification that has its tags in a list, and refuses the tag after the last.
 #[derive(Drop)]
 pub struct TagList<T> {
+    /// How many listeners it is for.
     pub count: usize,
+    /// Whether it is an additional one.
     pub additional: bool,
+    /// The tags that are left, in order.
     pub tags: IntoIter<T>,
 }
 

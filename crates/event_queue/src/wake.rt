@@ -1,7 +1,7 @@
-/// What takes the tasks that a call wakes.
+/// A sink for the tasks that a call wakes.
 ///
-/// The calls that wake are contracts over `woke`, the implementer's own relation of what one wake does: after
-/// such a call the sink's state is one that a chain of `woke` over the woken tasks, in queue order, reaches.
+/// Generic callers know an implementation by its relation `woke`: the state before, the task, the state after. A call
+/// that wakes leaves the sink in a state that a chain of `woke` over the woken tasks, in queue order, reaches.
 pub trait WakeSink<W> {
     ghost woke: { Self → W → Self → Type 0 };
 

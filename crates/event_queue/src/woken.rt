@@ -7,7 +7,7 @@ use std::marker::Model;
 
 /// A sink that keeps the first tasks woken, in order, and counts those that come after.
 ///
-/// Its memory is asked for when it is made, so no wake is refused.
+/// It allocates when it is made, and a wake allocates nothing.
 #[derive(Drop)]
 pub struct Woken<W> {
     tasks: Vec<W>,
@@ -27,7 +27,7 @@ impl<W> Model for Woken<W> {
 }
 
 impl<W> Woken<W> {
-    /// A sink that keeps the first `n` tasks, or the refusal of memory for them.
+    /// A sink that keeps the first `n` tasks. It allocates room for them, and returns an error where that is refused.
     pub fn with_room(alloc: Global, n: usize) -> Result<Self, AllocError>
         ensures { IfOk result (λ woken. woken ≡ record { tasks = []; room = n; missed = 0 }) }
     {
@@ -38,14 +38,14 @@ impl<W> Woken<W> {
         })
     }
 
-    /// The first tasks woken, in order.
+    /// The first tasks woken, in order. The call allocates nothing.
     pub fn tasks(&self) -> &[W]
         ensures { result.now ≡ self.now.tasks }
     {
         self.tasks.as_slice()
     }
 
-    /// How many tasks came after those kept. It stays at `usize::MAX`.
+    /// How many tasks came after those kept. The count stays at `usize::MAX`. The call allocates nothing.
     pub fn missed(&self) -> usize
         ensures { result ≡ self.now.missed }
     {

@@ -1,4 +1,4 @@
-//! A notification made additional.
+//! An additional notification.
 ghost use Rattle.std.specs.Prelude.{◌≡◌, true};
 
 use super::Notification;

@@ -1,4 +1,4 @@
-//! A number of listeners.
+//! A notification of a number of listeners.
 ghost use Rattle.std.specs.Prelude.{◌≡◌, ℕ, false, Ok};
 
 use super::Notification;

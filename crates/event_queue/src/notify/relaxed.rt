@@ -1,11 +1,12 @@
-//! A notification made relaxed.
+//! A relaxed notification.
 ghost use Rattle.std.specs.Prelude.{◌≡◌};
 
 use super::Notification;
 use std::alloc::AllocError;
 use std::marker::Model;
 
-/// A notification without a memory fence in the Rust crate; here it means what the notification in it means.
+/// A relaxed notification. In the Rust crate it leaves out a memory fence; here it means what the notification in it
+/// means.
 #[derive(Clone, Debug, Drop)]
 pub struct Relaxed<N>(N);
 

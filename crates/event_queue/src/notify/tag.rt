@@ -7,7 +7,7 @@ use std::marker::Model;
 
 /// A notification with a tag: each told listener is handed a clone of it, and a refused clone is a refused tag.
 ///
-/// It takes memory only where the clone does.
+/// It allocates only where the clone does.
 #[derive(Clone, Debug, Drop)]
 pub struct Tag<N, T> {
     tag: T,

@@ -9,7 +9,7 @@ use std::marker::Model;
 /// A notification with a function that makes its tags: it is called once for each told listener, in order, and no tag
 /// is refused.
 ///
-/// It takes memory only where the function does. A tag may be asked for where the function may always be called.
+/// It allocates only where the function does. A tag may be asked for where the function may always be called.
 #[derive(Drop)]
 pub struct TagWith<N, F> {
     tag: F,
