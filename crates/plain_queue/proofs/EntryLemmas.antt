@@ -1,4 +1,4 @@
--- The entry of a key in a list, by the place where a search from the front finds it.
+-- The entry of a key in a list, by the position at which a search from the front finds it.
 use Rattle.std.proofs.Common.{nat_lt, ◌≡◌, ℕ, zero, suc, ◌<◌, Bool, true, false, List, [], ◌∷◌, length, get_or, drop, refl, ap, sym, ◌∙◌, arith, Option, Some, None}
 use Rattle.std.specs.List.{position, position_or_len, remove, slice_set}
 use Rattle.std.proofs.lemmas.Bool.{lt-ltb}
@@ -8,7 +8,7 @@ use Rattle.event_queue.specs.declared.key.Key.{Key}
 use Rattle.event_queue.specs.Key.{is_key}
 
 module _ {X : Type 0} where
-  -- the entry at a place has the key, and none before it has
+  -- the entry at a position has the key, and none before it has
   pub record IsFirst (key : Key) (at : ℕ) (entries : List (Key × X)) (e : Key × X) : Type 0 where
     pub within : at < length entries
     pub here : is_key key (get_or entries at e).0 ≡ true
@@ -47,24 +47,24 @@ module _ {X : Type 0} where
       let apart : is_key key first.0 ≡ false = is.before zero (omega arith) in
       rw apart (ap (λ es. first ∷ es) (set_value-first key rest at e value (rest_of key at first rest e is)))
 
-  -- where no place is found, neither is a value
-  place_within : (key : Key) (entries : List (Key × X)) (value : X) → lookup (is_key key) entries ≡ Some value → position_or_len (λ e. is_key key e.0) entries < length entries
-  place_within key [] value found = absurd (cc)
-  place_within key (first ∷ rest) value found = by_test (is_key key first.0) refl (place_within key rest value)
+  -- where no position is found, neither is a value
+  position_within : (key : Key) (entries : List (Key × X)) (value : X) → lookup (is_key key) entries ≡ Some value → position_or_len (λ e. is_key key e.0) entries < length entries
+  position_within key [] value found = absurd (cc)
+  position_within key (first ∷ rest) value found = by_test (is_key key first.0) refl (position_within key rest value)
     where
       by_test : (b : Bool) → is_key key first.0 ≡ b → (lookup (is_key key) rest ≡ Some value → position_or_len (λ e. is_key key e.0) rest < length rest) → position_or_len (λ e. is_key key e.0) (first ∷ rest) < length (first ∷ rest)
       by_test true here later = rw here (omega arith)
       by_test false apart later = rw apart (omega (arith, later (rw apart at found)))
 
-  none_without_place : (key : Key) (entries : List (Key × X)) (o : Option X) → position (λ e. is_key key e.0) entries ≡ None → lookup (is_key key) entries ≡ o → o ≡ None
-  none_without_place key entries None nowhere same = refl
-  none_without_place key entries (Some value) nowhere same =
-      let within : nat_lt (position_or_len (λ (e : Key × X). is_key key e.0) entries) (length entries) ≡ true = lt-ltb _ _ (place_within key entries value same) in
+  none_without_position : (key : Key) (entries : List (Key × X)) (o : Option X) → position (λ e. is_key key e.0) entries ≡ None → lookup (is_key key) entries ≡ o → o ≡ None
+  none_without_position key entries None nowhere same = refl
+  none_without_position key entries (Some value) nowhere same =
+      let within : nat_lt (position_or_len (λ (e : Key × X). is_key key e.0) entries) (length entries) ≡ true = lt-ltb _ _ (position_within key entries value same) in
       absurd (let some : Some (position_or_len (λ (e : Key × X). is_key key e.0) entries) ≡ None = rw within at nowhere in cc)
 
   pub lookup-nowhere : (key : Key) (searched entries : List (Key × X)) → searched ≡ entries → None ≡ position (λ e. is_key key e.0) searched → lookup (is_key key) entries ≡ None
   lookup-nowhere key searched entries same nowhere =
-      none_without_place key entries (lookup (is_key key) entries) (ap (position (λ e. is_key key e.0)) (sym same) ∙ sym nowhere) refl
+      none_without_position key entries (lookup (is_key key) entries) (ap (position (λ e. is_key key e.0)) (sym same) ∙ sym nowhere) refl
 
   pub set_value-absent : (key : Key) (entries : List (Key × X)) (value : X) → lookup (is_key key) entries ≡ None → set_value (is_key key) entries value ≡ entries
   set_value-absent key [] value absent = refl

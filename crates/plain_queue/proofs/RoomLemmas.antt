@@ -36,15 +36,15 @@ module _ {T W : Type 0} where
   HasRoom-joins q key spare m n has one_less same left =
       let more = length-append q.waiting ((key, None) ∷ []) in
       record {
-        queue = IsQueue-push q key spare has.queue same left (omega (arith, has.queue.places_fit, more));
+        queue = IsQueue-push q key spare has.queue same left (omega (arith, has.queue.slots_fit, more));
         told = omega (arith, has.told, more);
         waiting = omega (arith, has.waiting, more);
       }
 
-  -- one place is spare once both lists have room for one more listener
-  pub HasRoom-place : (q : Queue T W) (m n : ℕ) → IsQueue q → q.next_serial + 1 < 2 ^ 64 → listeners_of q + 1 ≤ m → listeners_of q + 1 ≤ n → HasRoom (record q { spare = 1 }) m n
-  HasRoom-place q m n queue left told waiting = record {
-    queue = record { rising = queue.rising; serial_fits = queue.serial_fits; places_fit = omega (arith, listeners_below q queue) };
+  -- one slot is spare once both lists have room for one more listener
+  pub HasRoom-slot : (q : Queue T W) (m n : ℕ) → IsQueue q → q.next_serial + 1 < 2 ^ 64 → listeners_of q + 1 ≤ m → listeners_of q + 1 ≤ n → HasRoom (record q { spare = 1 }) m n
+  HasRoom-slot q m n queue left told waiting = record {
+    queue = record { rising = queue.rising; serial_fits = queue.serial_fits; slots_fit = omega (arith, listeners_below q queue) };
     told = told;
     waiting = waiting;
   }

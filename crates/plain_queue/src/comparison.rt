@@ -2,7 +2,7 @@
 ghost use Rattle.std.specs.Prelude.{◌<◌};
 
 use crate::PlainQueue;
-use event_queue::{Call, Key, List, RegisterResult, Reply, State, Woken};
+use event_queue::{Call, Key, List, RegisterResult, Reply, State, TagList, Woken};
 use std::alloc::{AllocError, Global};
 use std::mem;
 use std::test::Fail;
@@ -40,7 +40,7 @@ impl Draws {
     }
 }
 
-// A call that names listeners by number: the first that is taken in is 0, the next is 1. So it is a call of either
+// A call that names listeners by number: the first that is inserted is 0, the next is 1. So it is a call of either
 // queue, whatever keys that queue gives.
 #[derive(Clone, Copy)]
 enum Drawn {
@@ -63,8 +63,8 @@ enum Drawn {
     IsNotified,
 }
 
-// One call where so many listeners were taken in. It may name any of them, also one that has left, or the next one,
-// which was not taken in yet.
+// One call where so many listeners were inserted. It may name any of them, also one that has left, or the next one,
+// which was not inserted yet.
 fn draw(draws: &mut Draws, listeners: u32, number: u32) -> Drawn {
     let listener = draws.below(u64::from(listeners) + 1) as usize;
     let base = number.saturating_mul(10);
@@ -103,7 +103,7 @@ fn draw_list(alloc: Global, seed: u64) -> Result<Vec<Drawn>, AllocError> {
     Ok(list)
 }
 
-// The call with the keys that a queue gave. A listener that it did not take in has a key that no queue gives.
+// The call with the keys that a queue gave. A listener that it did not insert has a key that no queue gives.
 fn with_keys(alloc: Global, drawn: Drawn, keys: &[Key]) -> Result<Call<u32, u32>, AllocError> {
     let key_of = |listener: usize| {
         keys.get(listener).copied().unwrap_or(Key {
@@ -139,7 +139,7 @@ fn with_keys(alloc: Global, drawn: Drawn, keys: &[Key]) -> Result<Call<u32, u32>
     })
 }
 
-// A queue that runs calls, for the comparison.
+// A queue that makes calls one after another, for the comparison.
 trait Runs {
     fn run_calls(
         &mut self,
@@ -167,7 +167,37 @@ impl Runs for PlainQueue<u32, u32> {
         replies: &mut Vec<Reply<u32, u32>>,
         woken: &mut Woken<u32>,
     ) -> Result<(), AllocError> {
-        self.run(calls, replies, woken)
+        for call in calls {
+            replies.push(make(self, call, woken))?;
+        }
+        Ok(())
+    }
+}
+
+// Makes one call. The plain program has no runs of its own.
+fn make(
+    plain: &mut PlainQueue<u32, u32>,
+    call: Call<u32, u32>,
+    woken: &mut Woken<u32>,
+) -> Reply<u32, u32> {
+    match call {
+        Call::Insert => Reply::Inserted(plain.insert()),
+        Call::Register { key, task } => Reply::Registered(plain.register(key, task)),
+        Call::Remove { key, propagate } => Reply::Removed(plain.remove(key, propagate, woken)),
+        Call::Notify {
+            count,
+            additional,
+            tags,
+        } => {
+            let mut source = TagList {
+                count,
+                additional,
+                tags: tags.into_iter(),
+            };
+            Reply::Notified(plain.notify(&mut source, woken))
+        }
+        Call::TotalListeners => Reply::TotalListeners(plain.total_listeners()),
+        Call::IsNotified => Reply::IsNotified(plain.is_notified()),
     }
 }
 
@@ -178,7 +208,7 @@ struct Outcome {
 }
 
 // Runs the calls, up to each insertion at once, since only its reply has the key that later calls name. At the end
-// each listener is taken out, so that the replies say who was left, and in which state.
+// each listener is removed, so that the replies say who was left, and in which state.
 fn run_drawn<Q: Runs>(alloc: Global, queue: &mut Q, list: &[Drawn]) -> Result<Outcome, AllocError> {
     let mut replies = Vec::new(alloc);
     let mut woken = Woken::with_room(alloc, ROOM)?;

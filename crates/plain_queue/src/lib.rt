@@ -6,9 +6,6 @@
 
 #[cfg(test)]
 mod comparison;
-mod notice;
 mod queue;
-mod run;
-mod tag_list;
 
 pub use queue::PlainQueue;

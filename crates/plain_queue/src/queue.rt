@@ -9,8 +9,9 @@ ghost use Rattle.event_queue.specs.Register.{Registers, OnNotified, UnlessNotifi
 ghost use Rattle.event_queue.specs.Remove.{Removes, woken_by_removal, woken_by_passing, after_passing};
 ghost use Rattle.event_queue.specs.Notify.{Notifies, NeverRefuses, told_by};
 
-use crate::notice::Notice;
-use event_queue::{Key, ListenError, Notification, NotifyError, RegisterResult, State, WakeSink};
+use event_queue::{
+    Key, ListenError, Notice, Notification, NotifyError, RegisterResult, State, WakeSink,
+};
 use std::alloc::{AllocError, Global};
 use std::marker::Model;
 
@@ -84,7 +85,7 @@ fn set_entry<X: Drop>(entries: &mut Vec<(Key, X)>, key: Key, value: X) -> bool
 }
 
 impl<T, W> PlainQueue<T, W> {
-    /// An empty queue, whose first listener gets the serial 0.
+    /// An empty queue, whose first listener gets the serial 0. The call allocates nothing.
     pub fn new(alloc: Global) -> Self
         ensures empty { result ≡ record { told = []; waiting = []; next_serial = 0; spare = 0 } }
         ensures queue { IsQueue result }
@@ -92,7 +93,7 @@ impl<T, W> PlainQueue<T, W> {
         Self::starting_at(alloc, 0)
     }
 
-    /// An empty queue whose first listener gets the serial `first`.
+    /// An empty queue, whose first listener gets the serial `first`. The call allocates nothing.
     pub fn starting_at(alloc: Global, first: u64) -> Self
         ensures empty { result ≡ record { told = []; waiting = []; next_serial = first; spare = 0 } }
         ensures queue { IsQueue result }
@@ -105,10 +106,11 @@ impl<T, W> PlainQueue<T, W> {
         }
     }
 
-    /// Takes in a listener, which waits at the end of the queue with no task stored.
+    /// Inserts a listener, which waits at the end of the queue with no task stored, and returns its key.
     ///
-    /// It asks for memory only where [`spare`](PlainQueue::spare) is 0. [`ListenError::SerialsUsedUp`] is answered
-    /// before memory is asked for, and every refusal leaves the queue as it was.
+    /// It allocates only where [`spare`](PlainQueue::spare) is 0, and returns [`ListenError::Memory`] where that is
+    /// refused. Where the serials are used up it returns [`ListenError::SerialsUsedUp`] and allocates nothing. Both
+    /// leave the queue as it was.
     pub fn insert(&mut self) -> Result<Key, ListenError>
         ensures step { Inserts self.old result self.new }
         ensures queue { IsQueue self.new }
@@ -118,21 +120,21 @@ impl<T, W> PlainQueue<T, W> {
         if self.next_serial == u64::MAX {
             return Err(ListenError::SerialsUsedUp);
         }
-        match self.make_place() {
+        match self.make_slot() {
             Ok(()) => Ok(self.join()),
             Err(_) => Err(ListenError::Memory),
         }
     }
 
-    // Makes a spare place, if there is none.
-    fn make_place(&mut self) -> Result<(), AllocError>
+    // Makes a spare slot, if there is none.
+    fn make_slot(&mut self) -> Result<(), AllocError>
         requires { self.old.next_serial + 1 < 2 ^ 64 }
         ensures made { OnOk result (self.new ≡ record self.old { spare = max self.old.spare 1 }) }
         ensures refused { OnErr result ((self.old.spare ≡ 0) × (self.new ≡ self.old)) }
         ensures queue { IsQueue self.new }
     {
         if self.spare == 0 {
-            // Each list gets room for all listeners and one more, so that telling one takes no memory.
+            // Each list gets room for all listeners and one more, so that telling one allocates nothing.
             self.told.reserve(self.waiting.len() + 1)?;
             self.waiting.reserve(self.told.len() + 1)?;
             self.spare = 1;
@@ -140,10 +142,10 @@ impl<T, W> PlainQueue<T, W> {
         Ok(())
     }
 
-    // Lets a newcomer wait in a spare place at the end.
+    // Appends a listener, which takes a spare slot and waits.
     fn join(&mut self) -> Key
         requires left { self.old.next_serial + 1 < 2 ^ 64 }
-        requires place { 0 < self.old.spare }
+        requires slot { 0 < self.old.spare }
         ensures joins { Joins self.old result self.new }
         ensures queue { IsQueue self.new }
     {
@@ -158,8 +160,8 @@ impl<T, W> PlainQueue<T, W> {
         key
     }
 
-    /// Asks after a listener: one that was told takes its tag and leaves, one that waits stores the task, in place
-    /// of any that it stored before. The call takes no memory.
+    /// Registers the task of a listener: one that was told takes its tag and leaves the queue, one that waits stores
+    /// the task, in place of any that it stored before. The call allocates nothing.
     pub fn register(&mut self, key: Key, task: W) -> RegisterResult<T>
     where
         W: Drop,
@@ -172,10 +174,10 @@ impl<T, W> PlainQueue<T, W> {
         ensures order_kept { UnlessNotified result (order_of self.new ≡ order_of self.old) }
         ensures serial { self.new.next_serial ≡ self.old.next_serial }
     {
-        self.ask_after(key, task)
+        self.register_step(key, task)
     }
 
-    fn ask_after(&mut self, key: Key, task: W) -> RegisterResult<T>
+    fn register_step(&mut self, key: Key, task: W) -> RegisterResult<T>
     where
         W: Drop,
         ensures step { Registers self.old key task result self.new }
@@ -193,10 +195,10 @@ impl<T, W> PlainQueue<T, W> {
         RegisterResult::NeverInserted
     }
 
-    /// Takes a listener out of the queue, and answers what it was, or `None` where no listener has that key.
+    /// Removes a listener from the queue, and returns what it was, or `None` where no listener has that key.
     ///
-    /// With `propagate`, the notification of a told listener is passed on: the queue is notified of one, of the same
-    /// kind and with the same tag. A lost tag is dropped. The call takes no memory.
+    /// With `propagate`, the notification of a told listener is propagated: the queue is notified of one, of the same
+    /// kind and with the same tag. The call drops a lost tag. It allocates nothing.
     pub fn remove<S: WakeSink<W>>(
         &mut self,
         key: Key,
@@ -218,10 +220,10 @@ impl<T, W> PlainQueue<T, W> {
         ensures drop_default { IsTrue propagate → IsToldAs key false self.old → length self.new.told ≡ max (length self.old.told - 1) (min 1 (listeners_of self.old - 1)) }
         ensures drop_additional { IsTrue propagate → IsToldAs key true self.old → length self.new.told ≡ min (length self.old.told) (listeners_of self.old - 1) }
     {
-        self.take_out(key, propagate, sink)
+        self.remove_step(key, propagate, sink)
     }
 
-    fn take_out<S: WakeSink<W>>(
+    fn remove_step<S: WakeSink<W>>(
         &mut self,
         key: Key,
         propagate: bool,
@@ -251,7 +253,7 @@ impl<T, W> PlainQueue<T, W> {
         Some(State::Notified { additional, tag })
     }
 
-    // Notifies one, of that notice's kind and with its tag.
+    // Propagates a notification: notifies one, of that notice's kind and with its tag.
     fn pass_on<S: WakeSink<W>>(&mut self, notice: Notice<T>, sink: &mut S)
     where
         T: Drop,
@@ -265,10 +267,10 @@ impl<T, W> PlainQueue<T, W> {
     }
 
     /// Tells the first of the waiting listeners, as many as the notification is for, in order, each with the next tag
-    /// of the notification, and wakes the task of each that stored one. Answers how many were told.
+    /// of the notification, and wakes the task of each that stored one. Returns how many it told.
     ///
-    /// Where the notification refuses a tag, the listeners told until then stay told, and the answer is how many they
-    /// are. The call takes no memory, but for what the notification takes.
+    /// Where the notification refuses a tag, the call returns a [`NotifyError`], and the listeners told until then stay
+    /// told. The call allocates nothing, but the notification may where it makes a tag.
     pub fn notify<N: Notification<Tag = T>, S: WakeSink<W>>(
         &mut self,
         n: &mut N,
@@ -286,10 +288,10 @@ impl<T, W> PlainQueue<T, W> {
         ensures additional_tells { IsOk result → IsTrue (N.is_additional n.old) → length self.new.told ≡ length self.old.told + min (N.count n.old) (length self.old.waiting) }
         ensures unrefused { NeverRefuses N.tag_gives → IsOk result }
     {
-        self.tell_waiting(n, sink)
+        self.notify_step(n, sink)
     }
 
-    fn tell_waiting<N: Notification<Tag = T>, S: WakeSink<W>>(
+    fn notify_step<N: Notification<Tag = T>, S: WakeSink<W>>(
         &mut self,
         n: &mut N,
         sink: &mut S,
@@ -338,7 +340,7 @@ impl<T, W> PlainQueue<T, W> {
         }
     }
 
-    /// How many more listeners fit with no allocation.
+    /// How many slots are spare: as many more insertions allocate nothing. The call allocates nothing.
     pub fn spare(&self) -> usize
         ensures value { result ≡ self.now.spare }
         ensures queue { IsQueue self.now }
@@ -346,7 +348,7 @@ impl<T, W> PlainQueue<T, W> {
         self.spare
     }
 
-    /// How many listeners there are, told or waiting.
+    /// How many listeners there are, told or waiting. The call allocates nothing.
     pub fn total_listeners(&self) -> usize
         ensures value { result ≡ length self.now.told + length self.now.waiting }
         ensures queue { IsQueue self.now }
@@ -354,7 +356,7 @@ impl<T, W> PlainQueue<T, W> {
         self.told.len() + self.waiting.len()
     }
 
-    /// Whether some listener is told.
+    /// Whether some listener is told. The call allocates nothing.
     pub fn is_notified(&self) -> bool
         ensures value { IsTrue result ↔ (0 < length self.now.told) }
         ensures queue { IsQueue self.now }

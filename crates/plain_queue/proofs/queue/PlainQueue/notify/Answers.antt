@@ -3,18 +3,18 @@ use Rattle.event_queue.proofs.NotifyLemmas.{Notifies-order, Notifies-told}
 use Rattle.plain_queue.proofs.queue.PlainQueue.notify.Goals as goal
 
 pub returns-clause-order : goal.returns-clause-order
-returns-clause-order g c = Notifies-order g.N.Notification.tag_gives (g.N.Notification.count c.args.n.now) (g.N.Notification.is_additional c.args.n.now) c.args.self.now c.args.n.now c.tell_waiting.result c.tell_waiting.new.self c.tell_waiting.new.n c.tell_waiting.ensures.step
+returns-clause-order g c = Notifies-order g.N.Notification.tag_gives (g.N.Notification.count c.args.n.now) (g.N.Notification.is_additional c.args.n.now) c.args.self.now c.args.n.now c.notify_step.result c.notify_step.new.self c.notify_step.new.n c.notify_step.ensures.step
 
 pub returns-clause-default_leaves : goal.returns-clause-default_leaves
 returns-clause-default_leaves g c =
     λ ok kind.
-    let counts = Notifies-told g.N.Notification.tag_gives (g.N.Notification.count c.args.n.now) (g.N.Notification.is_additional c.args.n.now) c.args.self.now c.args.n.now c.tell_waiting.result c.tell_waiting.new.self c.tell_waiting.new.n c.tell_waiting.ensures.step ok in
+    let counts = Notifies-told g.N.Notification.tag_gives (g.N.Notification.count c.args.n.now) (g.N.Notification.is_additional c.args.n.now) c.args.self.now c.args.n.now c.notify_step.result c.notify_step.new.self c.notify_step.new.n c.notify_step.ensures.step ok in
     let told = rw kind at counts in
     omega (arith, told)
 
 pub returns-clause-additional_tells : goal.returns-clause-additional_tells
 returns-clause-additional_tells g c =
     λ ok kind.
-    let counts = Notifies-told g.N.Notification.tag_gives (g.N.Notification.count c.args.n.now) (g.N.Notification.is_additional c.args.n.now) c.args.self.now c.args.n.now c.tell_waiting.result c.tell_waiting.new.self c.tell_waiting.new.n c.tell_waiting.ensures.step ok in
+    let counts = Notifies-told g.N.Notification.tag_gives (g.N.Notification.count c.args.n.now) (g.N.Notification.is_additional c.args.n.now) c.args.self.now c.args.n.now c.notify_step.result c.notify_step.new.self c.notify_step.new.n c.notify_step.ensures.step ok in
     let told = rw kind at counts in
     omega (arith, told)

@@ -1,5 +1,5 @@
 use Rattle.event_queue.proofs.NotifyLemmas.{one_more_told}
-use Rattle.plain_queue.proofs.queue.PlainQueue.tell_waiting.Goals as goal
+use Rattle.plain_queue.proofs.queue.PlainQueue.notify_step.Goals as goal
 
 pub loop-told-preserved : goal.loop-told-preserved
 loop-told-preserved g c =

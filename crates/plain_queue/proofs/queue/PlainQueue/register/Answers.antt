@@ -2,11 +2,11 @@ use Rattle.event_queue.proofs.LawLemmas.{Registers-gone, Registers-order_without
 use Rattle.plain_queue.proofs.queue.PlainQueue.register.Goals as goal
 
 pub returns-clause-gone : goal.returns-clause-gone
-returns-clause-gone g c = Registers-gone _ _ _ _ _ c.ask_after.ensures.was_queue c.ask_after.ensures.step
+returns-clause-gone g c = Registers-gone _ _ _ _ _ c.register_step.ensures.was_queue c.register_step.ensures.step
 
 pub returns-clause-order_without : goal.returns-clause-order_without
 returns-clause-order_without g c =
-    Registers-order_without _ _ _ _ _ c.ask_after.ensures.was_queue c.ask_after.ensures.step
+    Registers-order_without _ _ _ _ _ c.register_step.ensures.was_queue c.register_step.ensures.step
 
 pub returns-clause-order_kept : goal.returns-clause-order_kept
-returns-clause-order_kept g c = Registers-order_kept _ _ _ _ _ c.ask_after.ensures.step
+returns-clause-order_kept g c = Registers-order_kept _ _ _ _ _ c.register_step.ensures.step

@@ -1,7 +1,7 @@
 use Rattle.std.proofs.Common.{sym}
 use Rattle.event_queue.proofs.QueueLemmas.{IsQueue-told_leaves, IsQueue-after_storing}
 use Rattle.plain_queue.proofs.RoomLemmas.{HasRoom-told_leaves, HasRoom-after_storing}
-use Rattle.plain_queue.proofs.queue.PlainQueue.ask_after.Goals as goal
+use Rattle.plain_queue.proofs.queue.PlainQueue.register_step.Goals as goal
 
 pub invariant_of-self : goal.invariant_of-self
 invariant_of-self g c =

@@ -2,15 +2,15 @@ use Rattle.event_queue.proofs.LawLemmas.{Removes-order, Removes-gone, Removes-dr
 use Rattle.plain_queue.proofs.queue.PlainQueue.remove.Goals as goal
 
 pub returns-clause-order : goal.returns-clause-order
-returns-clause-order g c = Removes-order _ _ _ _ _ c.take_out.ensures.was_queue c.take_out.ensures.step
+returns-clause-order g c = Removes-order _ _ _ _ _ c.remove_step.ensures.was_queue c.remove_step.ensures.step
 
 pub returns-clause-gone : goal.returns-clause-gone
-returns-clause-gone g c = Removes-gone _ _ _ _ _ c.take_out.ensures.was_queue c.take_out.ensures.step
+returns-clause-gone g c = Removes-gone _ _ _ _ _ c.remove_step.ensures.was_queue c.remove_step.ensures.step
 
 pub returns-clause-drop_default : goal.returns-clause-drop_default
 returns-clause-drop_default g c =
-    λ passes told. Removes-drop_default _ _ _ _ c.take_out.ensures.was_queue (rw passes at c.take_out.ensures.step) told
+    λ passes told. Removes-drop_default _ _ _ _ c.remove_step.ensures.was_queue (rw passes at c.remove_step.ensures.step) told
 
 pub returns-clause-drop_additional : goal.returns-clause-drop_additional
 returns-clause-drop_additional g c =
-    λ passes told. Removes-drop_additional _ _ _ _ c.take_out.ensures.was_queue (rw passes at c.take_out.ensures.step) told
+    λ passes told. Removes-drop_additional _ _ _ _ c.remove_step.ensures.was_queue (rw passes at c.remove_step.ensures.step) told

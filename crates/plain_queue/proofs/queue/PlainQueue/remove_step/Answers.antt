@@ -2,7 +2,7 @@ use Rattle.std.proofs.Common.{sym, refl}
 use Rattle.event_queue.proofs.QueueLemmas.{IsQueue-told_leaves, IsQueue-waiting_leaves}
 use Rattle.event_queue.proofs.LawLemmas.{untold-waiting}
 use Rattle.plain_queue.proofs.RoomLemmas.{HasRoom-told_leaves, HasRoom-waiting_leaves}
-use Rattle.plain_queue.proofs.queue.PlainQueue.take_out.Goals as goal
+use Rattle.plain_queue.proofs.queue.PlainQueue.remove_step.Goals as goal
 
 pub invariant_of-self : goal.invariant_of-self
 invariant_of-self g c =
