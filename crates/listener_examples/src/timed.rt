@@ -10,8 +10,8 @@ use std::time::{Clock, Duration, Instant};
 
 /// The tag, if the listener is told before the deadline, and else `None`.
 ///
-/// A wait that is refused memory is tried once more, against the same deadline. The listener that comes back is still
-/// in the queue, so it misses no notification. If the second wait is refused too, the caller gets the listener.
+/// A wait that is refused memory is tried once more, with the listener that it returns and against the same deadline.
+/// If the second wait is refused too, the caller gets the listener.
 pub fn tag_by<T, L: Listener<T>>(listener: L, deadline: Instant) -> Result<Option<T>, WaitError<L>>
     ensures finished { L.is_finished listener ≡ true → IsErr result }
     ensures memory { IfErr result (HandsBack listener) }

@@ -1,20 +1,20 @@
--- What a visitor's joining, an admission and a visitor's leaving make of the line.
-use Rattle.std.proofs.Common.{◌≡◌, ℕ, zero, suc, ◌+◌, ◌≤◌, min, Bool, true, false, List, [], ◌∷◌, ◌++◌, take, length, refl, sym, ap, ◌∙◌, subst, arith, Option, Some, None, slice_get}
+-- What a visitor that joins and an admission make of the line.
+use Rattle.std.proofs.Common.{◌≡◌, ℕ, zero, suc, ◌+◌, ◌≤◌, min, true, false, List, [], ◌∷◌, ◌++◌, take, length, refl, sym, ap, ◌∙◌, subst, arith, Option, Some, None, IsSome, IsSomeAnd, Result, Ok, Err, IfOk}
 use Rattle.std.specs.Cmp.{nat_eq_equiv}
-use Rattle.std.specs.List.{FoldsTo, filter_map}
+use Rattle.std.specs.List.{filter_map}
 use Rattle.std.specs.Map.{keys_of, lookup, set_value}
 use Rattle.std.proofs.lemmas.List.{take_all, take_min}
+use Rattle.std.proofs.lemmas.Map.{keys-set_value}
 use Rattle.event_queue.specs.declared.key.Key.{Key}
 use Rattle.event_queue.specs.declared.notice.Notice.{Notice}
 use Rattle.event_queue.specs.declared.reply.RegisterResult.{RegisterResult}
 use Rattle.event_queue.specs.declared.reply.RegisterResult.TheVariants.{Notified, Registered, NeverInserted}
 use Rattle.event_queue.specs.Key.{is_key}
-use Rattle.event_queue.specs.Queue.{Queue, IsQueue, order_of, how_many, tasks_of, told_leaves}
+use Rattle.event_queue.specs.Queue.{Queue, IsQueue, order_of, tasks_of, told_leaves}
 use Rattle.event_queue.specs.Insert.{Joins}
 use Rattle.event_queue.specs.Register.{Registers}
-use Rattle.event_queue.specs.Remove.{woken_by_leaving, woken_by_removal}
-use Rattle.event_queue.specs.Woken.{first_of}
-use Rattle.event_queue.proofs.OrderLemmas.{Rises, NoneIs, All-front, All-back, none_before, lookup-none_is}
+use Rattle.event_queue.specs.Woken.{Kept, first_of}
+use Rattle.event_queue.proofs.OrderLemmas.{Rises, NoneIs, All-front, All-back, none_after, none_before, lookup-none_is}
 use Rattle.event_queue.proofs.QueueLemmas.{rises_along, order_of-push}
 
 is_key-same : (key : Key) → is_key key key ≡ true
@@ -38,12 +38,6 @@ module _ {W : Type 0} where
   length-tasks (suc n) ((key, None) ∷ waiting) = omega (arith, length-tasks n waiting)
   length-tasks (suc n) ((key, Some task) ∷ waiting) = omega (arith, length-tasks n waiting)
 
-  -- a sink that keeps the last task has the first of one at most
-  pub last_is_first : {S : Type 0} (task_of : S → Option W) (sink sink' : S) (tasks : List W) → length tasks ≤ 1 → task_of sink ≡ None → FoldsTo (λ before task after. task_of after ≡ Some task) sink tasks sink' → task_of sink' ≡ slice_get tasks 0
-  last_is_first task_of sink sink' [] short none chain = sym (ap task_of chain) ∙ none
-  last_is_first task_of sink sink' (task ∷ []) short none chain = sym (ap task_of chain.2) ∙ chain.1
-  last_is_first task_of sink sink' (task ∷ next ∷ tasks) short none chain = absurd (omega arith)
-
 module _ {T W : Type 0} where
   -- a newcomer that stores its task waits with it at the end
   pub joined : (old between new : Queue T W) (key : Key) (task : W) (reply : RegisterResult T) → Joins old key between → IsQueue between → Registers between key task reply new → (new.waiting ≡ old.waiting ++ (key, Some task) ∷ []) × (new.told ≡ old.told)
@@ -56,12 +50,13 @@ module _ {T W : Type 0} where
       waiting_is = ap (λ (q : Queue T W). q.waiting) joins.queue
 
       order_is : order_of between ≡ order_of old ++ key ∷ []
-      order_is = (λ i. keys_of (told_is i) ++ keys_of (waiting_is i)) ∙ order_of-push old key None
+      order_is = ap order_of joins.queue ∙ order_of-push old key None
 
       alone : NoneIs key (order_of old)
       alone =
-          let found : lookup (is_key key) ((key, None {A = W}) ∷ []) ≡ Some None = rw (is_key-same key) refl in
-          none_before key (order_of old) ((key, None {A = W}) ∷ []) None between.next_serial (subst (λ keys. Rises keys between.next_serial) order_is (rises_along between queue)) found
+          let last_entry : List (Key × Option W) = (key, None) ∷ [] in
+          let found : lookup (is_key key) last_entry ≡ Some None = rw (is_key-same key) refl in
+          none_before key (order_of old) last_entry None between.next_serial (subst (λ keys. Rises keys between.next_serial) order_is (rises_along between queue)) found
 
       untold : lookup (is_key key) between.told ≡ None
       untold = rw told_is (lookup-none_is key old.told (All-front _ (keys_of old.told) (keys_of old.waiting) alone))
@@ -82,6 +77,28 @@ module _ {T W : Type 0} where
       )
       by_reply NeverInserted h = absurd (let gone : Some None ≡ None = sym waits ∙ h.0.unwaiting in cc)
 
+  -- a told listener that is registered has left, and any other leaves the order as it was
+  pub registered : (old new : Queue T W) (key : Key) (task : W) (reply : RegisterResult T) → IsQueue old → Registers old key task reply new → (IsSome (lookup (is_key key) old.told) → new ≡ told_leaves key old) × ((IsSome (lookup (is_key key) old.told) → ⊥) → order_of new ≡ order_of old)
+  registered old new key task (Notified tag) queue h = (λ _. h.1, λ untold. absurd (untold (IsSome-and (lookup (is_key key) old.told) h.0)))
+    where
+      IsSome-and : (found : Option (Notice T)) → IsSomeAnd found (λ notice. notice.tag ≡ tag) → IsSome found
+      IsSome-and None h = absurd h
+      IsSome-and (Some notice) h = refl
+  registered old new key task Registered queue h = (
+    λ told. absurd (by_notice (lookup (is_key key) old.told) refl told),
+    λ _. ap order_of h.1 ∙ ap (λ keys. keys_of old.told ++ keys) (keys-set_value (is_key key) old.waiting (Some task)),
+  )
+    where
+      by_notice : (found : Option (Notice T)) → lookup (is_key key) old.told ≡ found → IsSome found → ⊥
+      by_notice None is told = let no : false ≡ true = told in cc
+      by_notice (Some notice) is told =
+          let alone = none_after key old.told notice (keys_of old.waiting) old.next_serial (rises_along old queue) is in
+          let unwaiting : lookup (is_key key) old.waiting ≡ None = lookup-none_is key old.waiting alone in
+          let no : false ≡ true = rw unwaiting at h.0 in
+          cc
+  registered old new key task NeverInserted queue h =
+      (λ told. absurd (let no : false ≡ true = rw h.0.untold at told in cc), λ _. ap order_of h.1)
+
   pub length-tasks_of : (n : ℕ) (q : Queue T W) → length (tasks_of n q) ≤ n
   length-tasks_of n q = length-tasks n q.waiting
 
@@ -92,16 +109,7 @@ module _ {T W : Type 0} where
       ∙ ap (λ k. tasks_of k q) as_many
       ∙ ap (filter_map (λ entry. entry.1)) (take_min n q.waiting)
 
-  one_at_most : (additional : Bool) (q : Queue T W) → how_many 1 additional q ≤ 1
-  one_at_most true q = omega arith
-  one_at_most false q = omega arith
-
-  by_notice : (notice : Option (Notice T)) (key : Key) (q : Queue T W) → length (woken_by_leaving notice true key q) ≤ 1
-  by_notice None key q = omega arith
-  by_notice (Some notice) key q =
-      let left = told_leaves key q in
-      omega (arith, length-tasks_of (how_many 1 notice.additional left) left, one_at_most notice.additional left)
-
-  -- a removal wakes one task at most
-  pub length-woken_by_removal : (key : Key) (q : Queue T W) → length (woken_by_removal key true q) ≤ 1
-  length-woken_by_removal key q = by_notice (lookup (is_key key) q.told) key q
+  -- an answer with the tasks of the first n has n at most
+  pub at_most : {E : Type 0} (answer : Result (Kept W) E) (n : ℕ) (q : Queue T W) → IfOk answer (λ kept. kept.tasks ≡ tasks_of n q) → IfOk answer (λ kept. length kept.tasks ≤ n)
+  at_most (Ok kept) n q numbers = rw numbers (length-tasks_of n q)
+  at_most (Err error) n q numbers = tt

@@ -1,5 +1,5 @@
 //! A line of visitors that are admitted in order, so many at a time.
-ghost use Rattle.std.specs.Prelude.{◌≡◌, ◌+◌, ◌≤◌, min, true, ◌∷◌, ◌++◌, [], Some, length, slice_get, IsTrue, IsFalse, IsSome, IfOk, OnOk, OnErr};
+ghost use Rattle.std.specs.Prelude.{◌≡◌, ◌+◌, ◌≤◌, ◌↔◌, min, true, ◌∷◌, ◌++◌, [], Some, length, slice_get, IsTrue, IsFalse, IsSome, IfOk, OnOk, OnErr};
 ghost use Rattle.std.specs.Map.{lookup};
 ghost use Rattle.event_queue.specs.Key.{is_key, without};
 ghost use Rattle.event_queue.specs.Queue.{listeners_of, order_of, tasks_of, told_leaves};
@@ -8,7 +8,7 @@ ghost use Rattle.event_queue.specs.Remove.{woken_by_removal};
 #[cfg(test)]
 mod tests;
 
-use event_queue::{IntoNotification, Key, List, ListenError, RegisterResult, WakeSink, Woken};
+use event_queue::{IntoNotification, Key, List, ListenError, WakeSink, Woken};
 use std::alloc::{AllocError, Global};
 use std::marker::Model;
 
@@ -68,20 +68,20 @@ impl Turnstile {
         Ok(admitted)
     }
 
-    /// Lets a visitor in that is admitted, and answers whether it was. Any other waits on, under this number.
+    /// Lets a visitor in that is admitted, which leaves the line, and returns whether it was. Any other that is in the
+    /// line waits on, under this number.
     pub fn enter(&mut self, ticket: Key, visitor: u64) -> bool
-        ensures admitted { IsTrue result → IsSome (lookup (is_key ticket) self.old.told) }
+        ensures admitted { IsTrue result ↔ IsSome (lookup (is_key ticket) self.old.told) }
         ensures entered { IsTrue result → self.new ≡ told_leaves ticket self.old }
         ensures waits { IsFalse result → order_of self.new ≡ order_of self.old }
     {
-        match self.line.register(ticket, visitor) {
-            RegisterResult::Notified(()) => true,
-            RegisterResult::Registered | RegisterResult::NeverInserted => false,
-        }
+        let is_admitted = self.line.is_told(ticket);
+        self.line.register(ticket, visitor);
+        is_admitted
     }
 
-    /// Takes a visitor out of the line. If it was admitted, the first who waits is admitted in its place, and the
-    /// answer is that one's number.
+    /// Takes a visitor out of the line. If it was admitted, the first who waits is admitted in its place: the result is
+    /// that one's number.
     pub fn leave(&mut self, ticket: Key) -> Option<u64>
         ensures instead { result ≡ slice_get (woken_by_removal ticket true self.old) 0 }
         ensures others { order_of self.new ≡ without ticket (order_of self.old) }
