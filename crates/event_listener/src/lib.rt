@@ -1,19 +1,20 @@
-//! Events that others listen to: a notification tells some of the listeners, and the task of each that is told is
-//! woken.
+//! Events that others listen to. A notification tells some of the listeners, and wakes the task of each.
 //!
-//! An [`Event`] has one queue of listeners, under a lock of its own. [`Event::listen`] gives an [`EventListener`],
-//! which is polled or waited on until it is told, by what [`Listener`] says. [`StackSlot`], or the macro [`listener!`],
-//! gives a [`StackListener`], which borrows the event. What may wait for the lock takes the runtime value; a listener
-//! keeps a clone of it.
+//! An [`Event`] has one queue of listeners, under a lock of its own. [`Event::listen`] returns an [`EventListener`],
+//! which shares that queue. [`StackSlot`], or the macro [`listener!`], returns a [`StackListener`], which borrows the
+//! event. Both are polled or waited on until they are told, that is, notified: see [`Listener`].
 //!
-//! The queue itself is the crate `event_queue`, whose public names are handed on.
+//! A call that may wait for the lock takes the runtime value, and a call that may allocate takes the allocator. A
+//! listener keeps a clone of the runtime value for its own calls.
 //!
-//! The three examples below stand in the crate `listener_examples`, with what they import and their errors.
+//! The queue itself is the crate `event_queue`. Its public names are exported here too.
+//!
+//! The examples below are in the crate `listener_examples`, with their imports and error types.
 //!
 //! # A flag that threads wait for
 //!
-//! Who waits looks, listens, looks again, and only then waits: what happens before a listener stands in the queue tells
-//! it nothing. Who makes it happen does so first, and tells everyone afterwards.
+//! The waiting thread looks at the flag, listens, looks again, and only then waits: a notification tells only the
+//! listeners that are in the queue by then. The other thread sets the flag first and notifies afterwards.
 //!
 //! ```rust
 //! /// A flag that is set once, and that threads wait for. A contract sees it as the number of its event.
@@ -39,7 +40,7 @@
 //!         self.is_set.load(Ordering::SeqCst)
 //!     }
 //!
-//!     /// Sets the flag first, and then tells everyone who waits.
+//!     /// Sets the flag, and then notifies every listener.
 //!     pub fn set<R: Wait>(&self, rt: &R) {
 //!         self.is_set.store(true, Ordering::SeqCst);
 //!         self.set.notify_relaxed(rt, usize::MAX);
@@ -55,7 +56,7 @@
 //!                 return Ok(());
 //!             }
 //!             let listener = self.set.listen(rt, alloc)?;
-//!             // It may have been set before the listener stood in the queue, and then nobody tells the listener.
+//!             // A notification that came before the listener was in the queue does not tell it, so look again.
 //!             if self.is_set() {
 //!                 return Ok(());
 //!             }
@@ -71,26 +72,27 @@
 //!
 //! # An event with tags
 //!
-//! Each listener that is told gets a tag. A default notification of one sees to it that one listener is told; an
+//! Each listener that is told gets a tag. A default notification of one does nothing if a listener is told already; an
 //! additional one tells one more.
 //!
 //! ```rust
-//! /// Has one listener told: the first that waits gets this tag, unless one is told already. Answers how many it told.
-//! /// A number as a tag is never refused.
+//! /// Tells the first listener that waits, with this tag, unless one is told already. Returns how many it told.
+//! ///
+//! /// A clone of a number is never refused, so no tag is.
 //! pub fn tell_one<R: Wait>(rt: &R, event: &Event<u32>, tag: u32) -> usize
 //!     ensures { result ≤ 1 }
 //! {
 //!     event.notify(rt, 1.tag(tag)).unwrap()
 //! }
 //!
-//! /// Tells one listener more: the first that waits gets this tag, whoever is told already. Answers how many it told.
+//! /// Tells the first listener that waits, with this tag, even if others are told already. Returns how many it told.
 //! pub fn tell_one_more<R: Wait>(rt: &R, event: &Event<u32>, tag: u32) -> usize
 //!     ensures { result ≤ 1 }
 //! {
 //!     event.notify(rt, 1.additional().tag(tag)).unwrap()
 //! }
 //!
-//! /// Two listeners and three notifications: gives the tags that the listeners got, 7 and 9.
+//! /// Notifies two listeners three times, and returns the tags that they got: 7 and 9.
 //! pub fn tags_of_two<R>(rt: &R, alloc: Global, id: EventId) -> Result<(u32, u32), TagsError>
 //! where
 //!     R: Wait + Clock + Clone,
@@ -106,40 +108,41 @@
 //! }
 //! ```
 //!
-//! # A wait with a limit
+//! # A wait against a deadline
 //!
-//! At its limit the listener leaves the queue, and the answer is `None`. [`WaitError::Memory`] hands the listener back.
+//! At the deadline the listener leaves the queue, and the answer is `None`. [`WaitError::Memory`] returns the listener,
+//! which may wait again.
 //!
 //! ```rust
-//! /// The tag, if the listener is told before so much time has passed, and else `None`.
+//! /// The tag, if the listener is told before the deadline, and else `None`.
 //! ///
-//! /// A wait that is refused memory is tried once more, with the listener that comes back. It is where it was, so no
-//! /// notification is missed. If that wait is refused too, the caller gets the listener.
-//! pub fn tag_within<T, L: Listener<T>>(
-//!     listener: L,
-//!     limit: Duration,
-//! ) -> Result<Option<T>, WaitError<L>>
+//! /// A wait that is refused memory is tried once more, with the listener that it returns and against the same deadline.
+//! /// If the second wait is refused too, the caller gets the listener.
+//! pub fn tag_by<T, L: Listener<T>>(listener: L, deadline: Instant) -> Result<Option<T>, WaitError<L>>
 //!     ensures finished { L.is_finished listener ≡ true → IsErr result }
 //!     ensures memory { IfErr result (HandsBack listener) }
 //! {
-//!     match listener.wait_timeout(limit) {
-//!         Err(WaitError::Memory(listener)) => listener.wait_timeout(limit),
+//!     match listener.wait_deadline(deadline) {
+//!         Err(WaitError::Memory(listener)) => listener.wait_deadline(deadline),
 //!         answer => answer,
 //!     }
 //! }
 //! ```
 //!
-//! # What the contracts tell
+//! # What the contracts say
 //!
-//! A contract sees an event as the number of its identity, and a listener by the number of its event and by whether it
-//! has given its tag. [`EventIds::next`] and [`given_numbers_are_distinct`] say that events of one source differ,
-//! [`Event::listen`] of which event a listener is, and [`Event::notify`] that no more are told than were asked for.
-//! [`Listener`] says when a listener is finished, that a finished one is refused, and that the listener which a refused
-//! wait hands back is the same one.
+//! A contract sees an event as the number of its identity, and a listener as the number of its event, its key in the
+//! queue, and whether it has given its tag.
 //!
-//! The proofs end where other threads begin. No clause says who stands in a queue or who is told, since that may change
-//! at any time. A call that takes the lock, as every wait does, promises its clauses if it returns: nothing says that
-//! it does, and nothing says that a thread which is told wakes.
+//! - [`EventIds::next`] and [`given_numbers_are_distinct`]: events of one source differ.
+//! - [`Event::listen`]: which event a listener listens to.
+//! - [`Event::notify`]: no more listeners are told than were asked for.
+//! - [`Listener`]: when a listener is finished, that a finished one is refused, and that a wait which is refused memory
+//!   returns the same listener.
+//!
+//! No clause says which listeners are in a queue or which are told, since other threads may change that at any time. A
+//! call that takes the lock, as every wait does, promises its clauses if it returns. No clause says that it returns, or
+//! that a thread which is notified wakes.
 #![tactic(auto)]
 
 mod event;

@@ -35,7 +35,7 @@ impl Flag {
         self.is_set.load(Ordering::SeqCst)
     }
 
-    /// Sets the flag first, and then tells everyone who waits.
+    /// Sets the flag, and then notifies every listener.
     pub fn set<R: Wait>(&self, rt: &R) {
         self.is_set.store(true, Ordering::SeqCst);
         self.set.notify_relaxed(rt, usize::MAX);
@@ -51,7 +51,7 @@ impl Flag {
                 return Ok(());
             }
             let listener = self.set.listen(rt, alloc)?;
-            // It may have been set before the listener stood in the queue, and then nobody tells the listener.
+            // A notification that came before the listener was in the queue does not tell it, so look again.
             if self.is_set() {
                 return Ok(());
             }
@@ -81,7 +81,7 @@ impl Model for Flag {
     ghost view = { λ flag. flag.set };
 }
 
-/// Two flags of one source. Their clause says that their events are not the same.
+/// Two flags of one source, whose events are not the same.
 pub fn pair(ids: &mut EventIds) -> Result<(Flag, Flag), IdsUsedUp>
     ensures differ { IfOk result (λ flags. flags.0 ≢ flags.1) }
     ensures refused { OnErr result (2 ^ 64 ≤ ids.old + 2) }

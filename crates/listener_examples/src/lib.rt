@@ -1,5 +1,4 @@
-//! What a user of `event_listener` writes first: a flag that threads wait for, an event with tags, and a wait with a
-//! limit.
+//! Short callers of `event_listener`: a flag that threads wait for, an event with tags, and a wait against a deadline.
 #![tactic(auto)]
 
 pub mod flag;

@@ -27,22 +27,23 @@ impl<L: Drop> From<WaitError<L>> for TagsError {
     }
 }
 
-/// Has one listener told: the first that waits gets this tag, unless one is told already. Answers how many it told.
-/// A number as a tag is never refused.
+/// Tells the first listener that waits, with this tag, unless one is told already. Returns how many it told.
+///
+/// A clone of a number is never refused, so no tag is.
 pub fn tell_one<R: Wait>(rt: &R, event: &Event<u32>, tag: u32) -> usize
     ensures { result ≤ 1 }
 {
     event.notify(rt, 1.tag(tag)).unwrap()
 }
 
-/// Tells one listener more: the first that waits gets this tag, whoever is told already. Answers how many it told.
+/// Tells the first listener that waits, with this tag, even if others are told already. Returns how many it told.
 pub fn tell_one_more<R: Wait>(rt: &R, event: &Event<u32>, tag: u32) -> usize
     ensures { result ≤ 1 }
 {
     event.notify(rt, 1.additional().tag(tag)).unwrap()
 }
 
-/// Two listeners and three notifications: gives the tags that the listeners got, 7 and 9.
+/// Notifies two listeners three times, and returns the tags that they got: 7 and 9.
 pub fn tags_of_two<R>(rt: &R, alloc: Global, id: EventId) -> Result<(u32, u32), TagsError>
 where
     R: Wait + Clock + Clone,

@@ -1,0 +1,33 @@
+//! Notifications with tags: one that never refuses a tag, and one that may.
+ghost use Rattle.std.specs.Prelude.{◌≡◌, ◌<◌, min, length, IfOk, IfErr};
+ghost use Rattle.event_queue.specs.Queue.{order_of};
+
+#[cfg(test)]
+mod tests;
+
+use event_queue::{IntoNotification, IntoTagged, List, NotifyError, Woken};
+
+/// Calls the first who waits to this desk. Returns how many it told: 1, or 0 where nobody waits.
+///
+/// A clone of a number is never refused, so no tag is.
+pub fn call_to_desk(line: &mut List<u32, u64>, desk: u32, called: &mut Woken<u64>) -> usize
+    ensures { result ≡ min 1 (length line.old.waiting) }
+{
+    line.notify(&mut 1.additional().tag(desk), called).unwrap()
+}
+
+/// Calls the first `n` who wait, and hands each a copy of the text. Returns how many it told.
+///
+/// Where memory for a copy is refused, those told before keep theirs, and the error says how many they are.
+pub fn announce(
+    line: &mut List<String, u64>,
+    n: usize,
+    text: String,
+    called: &mut Woken<u64>,
+) -> Result<usize, NotifyError>
+    ensures all { IfOk result (λ told. told ≡ min n (length line.old.waiting)) }
+    ensures some { IfErr result (λ error. error.told < min n (length line.old.waiting)) }
+    ensures order { order_of line.new ≡ order_of line.old }
+{
+    line.notify(&mut n.additional().tag(text), called)
+}
