@@ -4,8 +4,12 @@
 #[cfg(test)]
 mod doubles;
 #[cfg(test)]
+mod drops;
+#[cfg(test)]
 mod notifications;
 #[cfg(test)]
 mod queue;
+#[cfg(test)]
+mod room;
 #[cfg(test)]
 mod tagged_queue;
