@@ -1,7 +1,8 @@
 //! Waits of one thread, each with a limit or of a listener that was told before.
 use crate::clocks::{NotifyingClock, SlowClock};
-use crate::support::{TIMED_WAITS, WaitCall, answered, deadline_after, new_event};
-use event_listener::{Event, IntoNotification, IntoTagged, Listener, WaitError};
+use event_listener::{
+    Event, EventIds, IdsUsedUp, IntoNotification, IntoTagged, Listener, WaitError,
+};
 use futures::task::Poll;
 use std::alloc::{AllocGlobal, Global};
 use std::cell::Cell;
@@ -10,7 +11,14 @@ use std::random::RandomSource;
 use std::sync::Wait;
 use std::test::Fail;
 use std::time::{Clock, Duration, Instant};
-use test_support::{Borrowing, CountedClock, ListenerKind, NoClock, Sharing, any_waker};
+use test_support::{
+    Borrowing, CountedClock, ListenerKind, NoClock, Sharing, TIMED_WAITS, WaitCall, answered,
+    any_waker, deadline_after,
+};
+
+fn new_event<T>() -> Result<Event<T>, IdsUsedUp> {
+    Ok(Event::with_tag(EventIds::new().next()?))
+}
 
 fn short() -> Duration {
     Duration::from_millis(50)
@@ -235,7 +243,7 @@ fn a_tag_that_came_before_the_removal_at_a_deadline_is_given(rt: HostRuntime) ->
     Ok(())
 }
 
-// The next reading is that of the thread as it parks. No lock is held then, and the thread does not sleep through.
+// The clock notifies while the thread is about to park. No lock is held then, and the thread does not sleep through.
 fn is_told_as_it_parks<'ev, K, C, R>(
     rt: &R,
     notifying: &C,
@@ -256,26 +264,27 @@ where
     Ok(())
 }
 
+// The first reading comes before the thread parks, and the second as it does.
 #[test]
 fn a_clock_may_notify_as_a_thread_parks(rt: HostRuntime) -> Result<(), Fail> {
     let event = new_event()?;
-    let others = Cell::new(1);
+    let others = Cell::new(0);
     let notifying = NotifyingClock {
         rt: &rt,
         event: &event,
         others: &others,
     };
-    is_told_as_it_parks::<Sharing, _, _>(&rt, &notifying, rt.alloc(), &event)?;
-    others.set(1);
-    is_told_as_it_parks::<Borrowing, _, _>(&rt, &notifying, rt.alloc(), &event)
+    for readings in [0, 1] {
+        others.set(readings);
+        is_told_as_it_parks::<Sharing, _, _>(&rt, &notifying, rt.alloc(), &event)?;
+        others.set(readings);
+        is_told_as_it_parks::<Borrowing, _, _>(&rt, &notifying, rt.alloc(), &event)?;
+    }
+    Ok(())
 }
 
 // A listener that gave its tag to a poll.
-fn finished<'ev, K, R>(
-    rt: &R,
-    alloc: Global,
-    event: &'ev Event<()>,
-) -> Result<K::Listener, Fail>
+fn finished<'ev, K, R>(rt: &R, alloc: Global, event: &'ev Event<()>) -> Result<K::Listener, Fail>
 where
     K: ListenerKind<'ev, (), R>,
     R: Wait + RandomSource + AllocGlobal,

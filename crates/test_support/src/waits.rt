@@ -1,11 +1,6 @@
-//! What the tests of waiting share.
-use event_listener::{Event, EventIds, IdsUsedUp, Listener, WaitError};
+//! The waits of a listener, so that what is said of each wait is written once.
+use event_listener::{Listener, WaitError};
 use std::time::{Clock, Duration, Instant};
-
-/// A new event, the only one of its source.
-pub fn new_event<T>() -> Result<Event<T>, IdsUsedUp> {
-    Ok(Event::with_tag(EventIds::new().next()?))
-}
 
 /// What a wait answered, or the text of its refusal.
 pub fn answered<A, L: Drop>(reply: Result<A, WaitError<L>>) -> Result<A, &'static str> {
@@ -16,7 +11,7 @@ pub fn answered<A, L: Drop>(reply: Result<A, WaitError<L>>) -> Result<A, &'stati
     }
 }
 
-/// The moment so long after the present one.
+/// The moment so long after the present one. The error is a text.
 pub fn deadline_after<R: Clock>(clock: &R, limit: Duration) -> Result<Instant, &'static str> {
     let Ok(now) = Instant::now(clock) else {
         return Err("the clock can't be read");
@@ -24,24 +19,29 @@ pub fn deadline_after<R: Clock>(clock: &R, limit: Duration) -> Result<Instant, &
     now.checked_add(limit).ok_or("the clock is at its end")
 }
 
-/// One of the three waits.
+/// A wait that is tried.
 #[derive(Clone, Copy, Debug)]
 pub enum WaitCall {
-    UntilTold,
     Timeout,
     Deadline,
+    UntilTold,
+    /// A timeout whose moment can't be represented, and so never comes.
+    GreatestTimeout,
 }
 
+/// The waits that end at a limit.
 pub const TIMED_WAITS: [WaitCall; 2] = [WaitCall::Timeout, WaitCall::Deadline];
 
-pub const WAITS: [WaitCall; 3] = [
-    WaitCall::UntilTold,
+/// All waits.
+pub const WAITS: [WaitCall; 4] = [
     WaitCall::Timeout,
     WaitCall::Deadline,
+    WaitCall::UntilTold,
+    WaitCall::GreatestTimeout,
 ];
 
 impl WaitCall {
-    /// Makes the call, with this limit from now on where it has one. `clock` is the listener's.
+    /// Makes the call, with this limit from now on if it has one. `clock` is the listener's.
     pub fn make<T, R: Clock, L: Listener<T> + Drop>(
         self,
         clock: &R,
@@ -49,12 +49,13 @@ impl WaitCall {
         limit: Duration,
     ) -> Result<Option<T>, &'static str> {
         match self {
-            WaitCall::UntilTold => Ok(Some(answered(listener.wait())?)),
             WaitCall::Timeout => answered(listener.wait_timeout(limit)),
             WaitCall::Deadline => {
                 let deadline = deadline_after(clock, limit)?;
                 answered(listener.wait_deadline(deadline))
             }
+            WaitCall::UntilTold => Ok(Some(answered(listener.wait())?)),
+            WaitCall::GreatestTimeout => answered(listener.wait_timeout(Duration::MAX)),
         }
     }
 }

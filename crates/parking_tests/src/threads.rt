@@ -1,0 +1,288 @@
+//! Waits of several threads.
+use event_listener::{Event, EventIds, IdsUsedUp, IntoTagged, ListenError, Listener};
+use std::alloc::Global;
+use std::process::Abort;
+use std::sync::Wait;
+use std::test::Fail;
+use std::thread::{self, Threads};
+use std::time::{Clock, CpuClock, Duration, Instant};
+use test_support::{Borrowing, ListenerKind, Sharing, WAITS, WaitCall, answered, deadline_after};
+
+fn new_event<T>() -> Result<Event<T>, IdsUsedUp> {
+    Ok(Event::with_tag(EventIds::new().next()?))
+}
+
+// Long enough for the other thread to park meanwhile. A thread that isn't parked yet needs nobody to wake it.
+fn a_while() -> Duration {
+    Duration::from_millis(100)
+}
+
+// A wait that nobody wakes ends here, if it has a limit.
+fn limit() -> Duration {
+    Duration::from_secs(20)
+}
+
+// One that is woken ends well before this.
+fn soon() -> Duration {
+    Duration::from_secs(10)
+}
+
+// Notifies so many listeners, each with the tag 7. Whether that many were told.
+fn tells<R: Wait>(rt: &R, event: &Event<u32>, n: usize) -> bool {
+    matches!(event.notify(rt, n.tag(7u32)), Ok(told) if told == n)
+}
+
+// What a wait answered, and the processor time that its thread used meanwhile.
+type Waited<T> = Result<(Option<T>, Duration), &'static str>;
+
+// Waits, and answers how much time the processor spent on it too.
+fn measured<T, R, L>(rt: &R, listener: L, wait: WaitCall) -> Waited<T>
+where
+    T: Drop,
+    R: Clock + CpuClock,
+    L: Listener<T> + Drop,
+{
+    let Ok(before) = rt.thread_cpu_time() else {
+        return Err("no processor time before");
+    };
+    let tag = wait.make(rt, listener, limit())?;
+    let Ok(after) = rt.thread_cpu_time() else {
+        return Err("no processor time after");
+    };
+    Ok((tag, after.saturating_sub(before)))
+}
+
+// Has a thread wait on the listener and `wake` called meanwhile: it parks until then, and is woken soon.
+fn is_woken_by<T, R, L, W>(rt: &R, listener: L, wait: WaitCall, wake: W) -> Result<T, Fail>
+where
+    T: Drop + Send,
+    R: Abort + Threads + Wait + Clock + CpuClock + Sync,
+    L: Listener<T> + Drop + Send,
+    W: FnOnce() -> bool,
+    requires { W.pre wake }
+{
+    let start = Instant::now(rt)?;
+    let (waited, woke) = thread::join(
+        rt,
+        || measured(rt, listener, wait),
+        || {
+            rt.sleep(a_while());
+            wake()
+        },
+    );
+    assert!(rt; start.elapsed(rt)? < soon());
+    assert!(rt; woke);
+    let (tag, used) = waited?;
+    // A thread that looked again and again would have used most of the time.
+    assert!(rt; used < a_while() / 4);
+    Ok(tag.ok_or("the listener was not told")?)
+}
+
+fn is_woken_by_a_notification<'ev, K, L, R>(
+    rt: &R,
+    alloc: Global,
+    event: &'ev Event<u32>,
+    wait: WaitCall,
+) -> Result<(), Fail>
+where
+    K: ListenerKind<'ev, u32, R, Listener = L>,
+    L: Listener<u32> + Drop + Send,
+    R: Abort + Threads + Wait + Clock + CpuClock + Sync,
+{
+    let listener = K::listen(rt, alloc, event)?;
+    let tag = is_woken_by(rt, listener, wait, || tells(rt, event, 1))?;
+    assert_eq!(rt; tag, 7);
+    assert_eq!(rt; event.total_listeners(rt), 0);
+    Ok(())
+}
+
+#[test]
+fn a_notification_wakes_a_parked_thread(rt: HostRuntime) -> Result<(), Fail> {
+    let event = new_event()?;
+    for wait in WAITS {
+        is_woken_by_a_notification::<Sharing, _, _>(&rt, rt.alloc(), &event, wait)?;
+        is_woken_by_a_notification::<Borrowing, _, _>(&rt, rt.alloc(), &event, wait)?;
+    }
+    Ok(())
+}
+
+fn is_woken_by_a_drop<'ev, K, L, R>(
+    rt: &R,
+    alloc: Global,
+    event: &'ev Event<u32>,
+    wait: WaitCall,
+) -> Result<(), Fail>
+where
+    K: ListenerKind<'ev, u32, R, Listener = L>,
+    L: Listener<u32> + Drop + Send,
+    R: Abort + Threads + Wait + Clock + CpuClock + Sync,
+{
+    let told = K::listen(rt, alloc, event)?;
+    assert!(rt; tells(rt, event, 1));
+    let waiting = K::listen(rt, alloc, event)?;
+    let tag = is_woken_by(rt, waiting, wait, || {
+        drop(told);
+        true
+    })?;
+    assert_eq!(rt; tag, 7);
+    assert_eq!(rt; event.total_listeners(rt), 0);
+    Ok(())
+}
+
+#[test]
+fn the_drop_of_a_told_listener_wakes_a_parked_thread(rt: HostRuntime) -> Result<(), Fail> {
+    let event = new_event()?;
+    for wait in WAITS {
+        is_woken_by_a_drop::<Sharing, _, _>(&rt, rt.alloc(), &event, wait)?;
+        is_woken_by_a_drop::<Borrowing, _, _>(&rt, rt.alloc(), &event, wait)?;
+    }
+    Ok(())
+}
+
+fn both_are_woken_by_one<'ev, K, L, R>(
+    rt: &R,
+    alloc: Global,
+    event: &'ev Event<u32>,
+    wait: WaitCall,
+) -> Result<(), Fail>
+where
+    K: ListenerKind<'ev, u32, R, Listener = L>,
+    L: Listener<u32> + Drop + Send,
+    R: Abort + Threads + Wait + Clock + Sync,
+{
+    let first = K::listen(rt, alloc, event)?;
+    let second = K::listen(rt, alloc, event)?;
+    let start = Instant::now(rt)?;
+    let (one, (two, told)) = thread::join(
+        rt,
+        || wait.make(rt, first, limit()),
+        || {
+            thread::join(
+                rt,
+                || wait.make(rt, second, limit()),
+                || {
+                    rt.sleep(a_while());
+                    tells(rt, event, 2)
+                },
+            )
+        },
+    );
+    assert!(rt; start.elapsed(rt)? < soon());
+    assert!(rt; told);
+    assert_eq!(rt; one?, Some(7));
+    assert_eq!(rt; two?, Some(7));
+    Ok(())
+}
+
+#[test]
+fn one_notification_wakes_two_parked_threads(rt: HostRuntime) -> Result<(), Fail> {
+    let event = new_event()?;
+    for wait in WAITS {
+        both_are_woken_by_one::<Sharing, _, _>(&rt, rt.alloc(), &event, wait)?;
+        both_are_woken_by_one::<Borrowing, _, _>(&rt, rt.alloc(), &event, wait)?;
+    }
+    Ok(())
+}
+
+const ROUNDS: u32 = 10_000;
+
+// Why a round did not end.
+#[derive(Clone, Copy, Debug, PartialEq, Eq)]
+enum Fault {
+    Listen(ListenError),
+    Wait(&'static str),
+    NotTold,
+}
+
+impl From<ListenError> for Fault {
+    fn from(refused: ListenError) -> Fault {
+        Fault::Listen(refused)
+    }
+}
+
+// One of two players: it waits to be told by the other, and tells the other. Whoever serves tells first.
+#[derive(Drop)]
+struct Player<'ev, R> {
+    rt: &'ev R,
+    alloc: Global,
+    own: &'ev Event<()>,
+    other: &'ev Event<()>,
+    serves: bool,
+    deadline: Instant,
+}
+
+// Plays all rounds. A listener for the next round stands in the queue before the other player is told, so no
+// notification finds nobody.
+fn play<'ev, K, L, R>(player: &Player<'ev, R>, first: L) -> Result<(), Fault>
+where
+    K: ListenerKind<'ev, (), R, Listener = L>,
+    L: Listener<()> + Drop,
+    R: Wait,
+{
+    let rt = player.rt;
+    let mut listener = first;
+    for _ in 0..ROUNDS {
+        if player.serves {
+            player.other.notify_additional(rt, 1);
+        }
+        match answered(listener.wait_deadline(player.deadline)) {
+            Ok(Some(())) => {}
+            Ok(None) => return Err(Fault::NotTold),
+            Err(text) => return Err(Fault::Wait(text)),
+        }
+        listener = K::listen(rt, player.alloc, player.own)?;
+        if !player.serves {
+            player.other.notify_additional(rt, 1);
+        }
+    }
+    Ok(())
+}
+
+fn tell_each_other_in_turn<'ev, K, L, R>(
+    rt: &'ev R,
+    alloc: Global,
+    ping: &'ev Event<()>,
+    pong: &'ev Event<()>,
+) -> Result<(), Fail>
+where
+    K: ListenerKind<'ev, (), R, Listener = L>,
+    L: Listener<()> + Drop + Send,
+    R: Abort + Threads + Wait + Clock + Sync,
+{
+    let first = Player {
+        rt,
+        alloc,
+        own: ping,
+        other: pong,
+        serves: true,
+        deadline: deadline_after(rt, Duration::from_secs(50))?,
+    };
+    let second = Player {
+        own: pong,
+        other: ping,
+        serves: false,
+        ..first
+    };
+    let pinged = K::listen(rt, alloc, ping)?;
+    let ponged = K::listen(rt, alloc, pong)?;
+    let (one, other) = thread::join(
+        rt,
+        || play::<K, L, R>(&first, pinged),
+        || play::<K, L, R>(&second, ponged),
+    );
+    assert_eq!(rt; one, Ok(()));
+    assert_eq!(rt; other, Ok(()));
+    Ok(())
+}
+
+#[test]
+fn two_threads_tell_each_other_in_turn(rt: HostRuntime) -> Result<(), Fail> {
+    let (ping, pong) = (new_event()?, new_event()?);
+    tell_each_other_in_turn::<Sharing, _, _>(&rt, rt.alloc(), &ping, &pong)
+}
+
+#[test]
+fn two_threads_tell_each_other_in_turn_by_borrowing_listeners(rt: HostRuntime) -> Result<(), Fail> {
+    let (ping, pong) = (new_event()?, new_event()?);
+    tell_each_other_in_turn::<Borrowing, _, _>(&rt, rt.alloc(), &ping, &pong)
+}
