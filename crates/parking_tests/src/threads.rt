@@ -1,12 +1,12 @@
 //! Waits of several threads.
-use event_listener::{Event, EventIds, IdsUsedUp, IntoTagged, ListenError, Listener};
+use event_listener::{Event, EventIds, IdsUsedUp, IntoTagged, ListenError, Listener, WaitError};
 use std::alloc::Global;
 use std::process::Abort;
 use std::sync::Wait;
 use std::test::Fail;
 use std::thread::{self, Threads};
 use std::time::{Clock, CpuClock, Duration, Instant};
-use test_support::{Borrowing, ListenerKind, Sharing, WAITS, WaitCall, answered, deadline_after};
+use test_support::{Borrowing, ListenerKind, Sharing, WAITS, WaitCall, deadline_after};
 
 fn new_event<T>() -> Result<Event<T>, IdsUsedUp> {
     Ok(Event::with_tag(EventIds::new().next()?))
@@ -190,7 +190,8 @@ const ROUNDS: u32 = 10_000;
 #[derive(Clone, Copy, Debug, PartialEq, Eq)]
 enum Fault {
     Listen(ListenError),
-    Wait(&'static str),
+    NeverInserted,
+    NoParker,
     NotTold,
 }
 
@@ -225,10 +226,11 @@ where
         if player.serves {
             player.other.notify_additional(rt, 1);
         }
-        match answered(listener.wait_deadline(player.deadline)) {
+        match listener.wait_deadline(player.deadline) {
             Ok(Some(())) => {}
             Ok(None) => return Err(Fault::NotTold),
-            Err(text) => return Err(Fault::Wait(text)),
+            Err(WaitError::NeverInserted) => return Err(Fault::NeverInserted),
+            Err(WaitError::Memory(_)) => return Err(Fault::NoParker),
         }
         listener = K::listen(rt, player.alloc, player.own)?;
         if !player.serves {
