@@ -6,7 +6,7 @@ use std::sync::Wait;
 use std::test::Fail;
 use std::thread::{self, Threads};
 use std::time::{Clock, CpuClock, Duration, Instant};
-use test_support::{Borrowing, ListenerKind, Sharing, WAITS, WaitCall, deadline_after};
+use test_support::{Borrowing, ListenerKind, Sharing, WaitCall, deadline_after};
 
 fn new_event<T>() -> Result<Event<T>, IdsUsedUp> {
     Ok(Event::with_tag(EventIds::new().next()?))
@@ -78,18 +78,17 @@ where
     Ok(tag.ok_or("the listener was not told")?)
 }
 
-fn is_woken_by_a_notification<'ev, K, L, R>(
+// A thread that waits on the listener is woken by a notification of one.
+fn is_woken_by_a_notification<R, L>(
     rt: &R,
-    alloc: Global,
-    event: &'ev Event<u32>,
+    event: &Event<u32>,
+    listener: L,
     wait: WaitCall,
 ) -> Result<(), Fail>
 where
-    K: ListenerKind<'ev, u32, R, Listener = L>,
     L: Listener<u32> + Drop + Send,
     R: Abort + Threads + Wait + Clock + CpuClock + Sync,
 {
-    let listener = K::listen(rt, alloc, event)?;
     let tag = is_woken_by(rt, listener, wait, || tells(rt, event, 1))?;
     assert_eq!(rt; tag, 7);
     assert_eq!(rt; event.total_listeners(rt), 0);
@@ -97,69 +96,76 @@ where
 }
 
 #[test]
-fn a_notification_wakes_a_parked_thread(rt: HostRuntime) -> Result<(), Fail> {
+fn a_notification_wakes_a_thread_in_a_timed_wait(rt: HostRuntime) -> Result<(), Fail> {
     let event = new_event()?;
-    for wait in WAITS {
-        is_woken_by_a_notification::<Sharing, _, _>(&rt, rt.alloc(), &event, wait)?;
-        is_woken_by_a_notification::<Borrowing, _, _>(&rt, rt.alloc(), &event, wait)?;
-    }
-    Ok(())
+    let sharing = Sharing::listen(&rt, rt.alloc(), &event)?;
+    is_woken_by_a_notification(&rt, &event, sharing, WaitCall::Timeout)?;
+    let borrowing = Borrowing::listen(&rt, rt.alloc(), &event)?;
+    is_woken_by_a_notification(&rt, &event, borrowing, WaitCall::Timeout)?;
+    let sharing = Sharing::listen(&rt, rt.alloc(), &event)?;
+    is_woken_by_a_notification(&rt, &event, sharing, WaitCall::Deadline)?;
+    let borrowing = Borrowing::listen(&rt, rt.alloc(), &event)?;
+    is_woken_by_a_notification(&rt, &event, borrowing, WaitCall::Deadline)
 }
 
-fn is_woken_by_a_drop<'ev, K, L, R>(
-    rt: &R,
-    alloc: Global,
-    event: &'ev Event<u32>,
-    wait: WaitCall,
-) -> Result<(), Fail>
+#[test]
+fn a_notification_wakes_a_thread_in_a_wait_without_a_limit(rt: HostRuntime) -> Result<(), Fail> {
+    let event = new_event()?;
+    let sharing = Sharing::listen(&rt, rt.alloc(), &event)?;
+    is_woken_by_a_notification(&rt, &event, sharing, WaitCall::UntilTold)?;
+    let borrowing = Borrowing::listen(&rt, rt.alloc(), &event)?;
+    is_woken_by_a_notification(&rt, &event, borrowing, WaitCall::UntilTold)?;
+    let sharing = Sharing::listen(&rt, rt.alloc(), &event)?;
+    is_woken_by_a_notification(&rt, &event, sharing, WaitCall::GreatestTimeout)?;
+    let borrowing = Borrowing::listen(&rt, rt.alloc(), &event)?;
+    is_woken_by_a_notification(&rt, &event, borrowing, WaitCall::GreatestTimeout)
+}
+
+// A thread that waits on a listener is woken by the drop of another one, which was told before it listened.
+fn is_woken_by_a_drop<R, L>(rt: &R, told: L, waiting: L) -> Result<(), Fail>
 where
-    K: ListenerKind<'ev, u32, R, Listener = L>,
     L: Listener<u32> + Drop + Send,
     R: Abort + Threads + Wait + Clock + CpuClock + Sync,
 {
-    let told = K::listen(rt, alloc, event)?;
-    assert!(rt; tells(rt, event, 1));
-    let waiting = K::listen(rt, alloc, event)?;
-    let tag = is_woken_by(rt, waiting, wait, || {
+    let tag = is_woken_by(rt, waiting, WaitCall::Timeout, || {
         drop(told);
         true
     })?;
     assert_eq!(rt; tag, 7);
-    assert_eq!(rt; event.total_listeners(rt), 0);
     Ok(())
 }
 
 #[test]
 fn the_drop_of_a_told_listener_wakes_a_parked_thread(rt: HostRuntime) -> Result<(), Fail> {
     let event = new_event()?;
-    for wait in WAITS {
-        is_woken_by_a_drop::<Sharing, _, _>(&rt, rt.alloc(), &event, wait)?;
-        is_woken_by_a_drop::<Borrowing, _, _>(&rt, rt.alloc(), &event, wait)?;
-    }
+    let told = Sharing::listen(&rt, rt.alloc(), &event)?;
+    assert!(rt; tells(&rt, &event, 1));
+    let waiting = Sharing::listen(&rt, rt.alloc(), &event)?;
+    is_woken_by_a_drop(&rt, told, waiting)?;
+    assert_eq!(rt; event.total_listeners(&rt), 0);
+
+    let told = Borrowing::listen(&rt, rt.alloc(), &event)?;
+    assert!(rt; tells(&rt, &event, 1));
+    let waiting = Borrowing::listen(&rt, rt.alloc(), &event)?;
+    is_woken_by_a_drop(&rt, told, waiting)?;
+    assert_eq!(rt; event.total_listeners(&rt), 0);
     Ok(())
 }
 
-fn both_are_woken_by_one<'ev, K, L, R>(
-    rt: &R,
-    alloc: Global,
-    event: &'ev Event<u32>,
-    wait: WaitCall,
-) -> Result<(), Fail>
+// Two threads that wait are both woken by one notification of two.
+fn both_are_woken_by_one<R, L>(rt: &R, event: &Event<u32>, first: L, second: L) -> Result<(), Fail>
 where
-    K: ListenerKind<'ev, u32, R, Listener = L>,
     L: Listener<u32> + Drop + Send,
     R: Abort + Threads + Wait + Clock + Sync,
 {
-    let first = K::listen(rt, alloc, event)?;
-    let second = K::listen(rt, alloc, event)?;
     let start = Instant::now(rt)?;
     let (one, (two, told)) = thread::join(
         rt,
-        || wait.make(rt, first, limit()),
+        || WaitCall::Timeout.make(rt, first, limit()),
         || {
             thread::join(
                 rt,
-                || wait.make(rt, second, limit()),
+                || WaitCall::Timeout.make(rt, second, limit()),
                 || {
                     rt.sleep(a_while());
                     tells(rt, event, 2)
@@ -177,11 +183,13 @@ where
 #[test]
 fn one_notification_wakes_two_parked_threads(rt: HostRuntime) -> Result<(), Fail> {
     let event = new_event()?;
-    for wait in WAITS {
-        both_are_woken_by_one::<Sharing, _, _>(&rt, rt.alloc(), &event, wait)?;
-        both_are_woken_by_one::<Borrowing, _, _>(&rt, rt.alloc(), &event, wait)?;
-    }
-    Ok(())
+    let first = Sharing::listen(&rt, rt.alloc(), &event)?;
+    let second = Sharing::listen(&rt, rt.alloc(), &event)?;
+    both_are_woken_by_one(&rt, &event, first, second)?;
+
+    let first = Borrowing::listen(&rt, rt.alloc(), &event)?;
+    let second = Borrowing::listen(&rt, rt.alloc(), &event)?;
+    both_are_woken_by_one(&rt, &event, first, second)
 }
 
 const ROUNDS: u32 = 10_000;
@@ -203,74 +211,86 @@ impl From<ListenError> for Fault {
 
 // One of two players: it waits to be told by the other, and tells the other. Whoever serves tells first.
 #[derive(Drop)]
-struct Player<'ev, R> {
+struct Player<'ev, L, R> {
     rt: &'ev R,
     alloc: Global,
     own: &'ev Event<()>,
     other: &'ev Event<()>,
     serves: bool,
+    listener: L,
     deadline: Instant,
+}
+
+// A player whose listener stands in its queue.
+fn player<'ev, K, L, R>(
+    rt: &'ev R,
+    alloc: Global,
+    own: &'ev Event<()>,
+    other: &'ev Event<()>,
+    serves: bool,
+) -> Result<Player<'ev, L, R>, Fail>
+where
+    K: ListenerKind<'ev, (), R, Listener = L>,
+    L: Listener<()> + Drop,
+    R: Clock,
+{
+    let deadline = deadline_after(rt, Duration::from_secs(50))?;
+    let listener = K::listen(rt, alloc, own)?;
+    Ok(Player {
+        rt,
+        alloc,
+        own,
+        other,
+        serves,
+        listener,
+        deadline,
+    })
 }
 
 // Plays all rounds. A listener for the next round stands in the queue before the other player is told, so no
 // notification finds nobody.
-fn play<'ev, K, L, R>(player: &Player<'ev, R>, first: L) -> Result<(), Fault>
+fn play<'ev, K, L, R>(player: Player<'ev, L, R>) -> Result<(), Fault>
 where
     K: ListenerKind<'ev, (), R, Listener = L>,
     L: Listener<()> + Drop,
     R: Wait,
 {
-    let rt = player.rt;
-    let mut listener = first;
+    let Player {
+        rt,
+        alloc,
+        own,
+        other,
+        serves,
+        mut listener,
+        deadline,
+    } = player;
     for _ in 0..ROUNDS {
-        if player.serves {
-            player.other.notify_additional(rt, 1);
+        if serves {
+            other.notify_additional(rt, 1);
         }
-        match listener.wait_deadline(player.deadline) {
+        match listener.wait_deadline(deadline) {
             Ok(Some(())) => {}
             Ok(None) => return Err(Fault::NotTold),
             Err(WaitError::NeverInserted) => return Err(Fault::NeverInserted),
             Err(WaitError::Memory(_)) => return Err(Fault::NoParker),
         }
-        listener = K::listen(rt, player.alloc, player.own)?;
-        if !player.serves {
-            player.other.notify_additional(rt, 1);
+        listener = K::listen(rt, alloc, own)?;
+        if !serves {
+            other.notify_additional(rt, 1);
         }
     }
     Ok(())
 }
 
-fn tell_each_other_in_turn<'ev, K, L, R>(
-    rt: &'ev R,
-    alloc: Global,
-    ping: &'ev Event<()>,
-    pong: &'ev Event<()>,
-) -> Result<(), Fail>
-where
-    K: ListenerKind<'ev, (), R, Listener = L>,
-    L: Listener<()> + Drop + Send,
-    R: Abort + Threads + Wait + Clock + Sync,
-{
-    let first = Player {
-        rt,
-        alloc,
-        own: ping,
-        other: pong,
-        serves: true,
-        deadline: deadline_after(rt, Duration::from_secs(50))?,
-    };
-    let second = Player {
-        own: pong,
-        other: ping,
-        serves: false,
-        ..first
-    };
-    let pinged = K::listen(rt, alloc, ping)?;
-    let ponged = K::listen(rt, alloc, pong)?;
+#[test]
+fn two_threads_tell_each_other_in_turn(rt: HostRuntime) -> Result<(), Fail> {
+    let (ping, pong) = (new_event()?, new_event()?);
+    let first = player::<Sharing, _, _>(&rt, rt.alloc(), &ping, &pong, true)?;
+    let second = player::<Sharing, _, _>(&rt, rt.alloc(), &pong, &ping, false)?;
     let (one, other) = thread::join(
-        rt,
-        || play::<K, L, R>(&first, pinged),
-        || play::<K, L, R>(&second, ponged),
+        &rt,
+        || play::<Sharing, _, _>(first),
+        || play::<Sharing, _, _>(second),
     );
     assert_eq!(rt; one, Ok(()));
     assert_eq!(rt; other, Ok(()));
@@ -278,13 +298,16 @@ where
 }
 
 #[test]
-fn two_threads_tell_each_other_in_turn(rt: HostRuntime) -> Result<(), Fail> {
-    let (ping, pong) = (new_event()?, new_event()?);
-    tell_each_other_in_turn::<Sharing, _, _>(&rt, rt.alloc(), &ping, &pong)
-}
-
-#[test]
 fn two_threads_tell_each_other_in_turn_by_borrowing_listeners(rt: HostRuntime) -> Result<(), Fail> {
     let (ping, pong) = (new_event()?, new_event()?);
-    tell_each_other_in_turn::<Borrowing, _, _>(&rt, rt.alloc(), &ping, &pong)
+    let first = player::<Borrowing, _, _>(&rt, rt.alloc(), &ping, &pong, true)?;
+    let second = player::<Borrowing, _, _>(&rt, rt.alloc(), &pong, &ping, false)?;
+    let (one, other) = thread::join(
+        &rt,
+        || play::<Borrowing, _, _>(first),
+        || play::<Borrowing, _, _>(second),
+    );
+    assert_eq!(rt; one, Ok(()));
+    assert_eq!(rt; other, Ok(()));
+    Ok(())
 }

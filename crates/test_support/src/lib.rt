@@ -15,5 +15,5 @@ pub use hog::Hog;
 pub use kinds::{Borrowing, ListenerKind, Sharing};
 pub use parked::wakes_a_parked_thread;
 pub use runtimes::Unshared;
-pub use waits::{TIMED_WAITS, WAITS, WaitCall, answered, deadline_after};
+pub use waits::{TIMED_WAITS, WaitCall, answered, deadline_after};
 pub use wakers::{WakeOrder, any_waker, waker_of};

@@ -32,14 +32,6 @@ pub enum WaitCall {
 /// The waits that end at a limit.
 pub const TIMED_WAITS: [WaitCall; 2] = [WaitCall::Timeout, WaitCall::Deadline];
 
-/// All waits.
-pub const WAITS: [WaitCall; 4] = [
-    WaitCall::Timeout,
-    WaitCall::Deadline,
-    WaitCall::UntilTold,
-    WaitCall::GreatestTimeout,
-];
-
 impl WaitCall {
     /// Makes the call, with this limit from now on if it has one. `clock` is the listener's.
     pub fn make<T, R: Clock, L: Listener<T> + Drop>(
