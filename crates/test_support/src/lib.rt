@@ -7,6 +7,7 @@ mod hog;
 mod kinds;
 mod parked;
 mod runtimes;
+mod waits;
 mod wakers;
 
 pub use clocks::{CountedClock, NoClock};
@@ -14,4 +15,5 @@ pub use hog::Hog;
 pub use kinds::{Borrowing, ListenerKind, Sharing};
 pub use parked::wakes_a_parked_thread;
 pub use runtimes::Unshared;
+pub use waits::{TIMED_WAITS, WaitCall, answered, deadline_after};
 pub use wakers::{WakeOrder, any_waker, waker_of};

@@ -1,9 +1,7 @@
-//! Tests of waiting: what no clause says of the listeners that a thread waits on.
+//! Tests of waiting by one thread: what no clause says of the limits of a wait.
 #![tactic(auto)]
 
 #[cfg(test)]
+mod clocks;
+#[cfg(test)]
 mod limits;
-#[cfg(test)]
-mod support;
-#[cfg(test)]
-mod threads;
