@@ -20,17 +20,6 @@ struct Shape {
     spare: usize,
 }
 
-impl Shape {
-    // Whether no listener changed and no room was lost.
-    fn stands_after_reserve(self, before: Shape) -> bool {
-        let as_before = Shape {
-            spare: before.spare,
-            ..self
-        };
-        as_before == before && self.spare >= before.spare
-    }
-}
-
 impl<T, W> HookedList<T, W> {
     /// An empty queue.
     pub fn new<H: Hook>(hook: &mut H, alloc: Global) -> Self {
@@ -46,24 +35,6 @@ impl<T, W> HookedList<T, W> {
         let list = List::starting_at(alloc, first);
         hook.after();
         HookedList { list }
-    }
-
-    /// Makes room for `n` more listeners. Where memory is refused, the hook is told whether the listeners are as they
-    /// were and no room is lost, and may have the call made again.
-    pub fn reserve<H: Hook>(&mut self, hook: &mut H, n: usize) -> Result<(), AllocError> {
-        let before = self.shape();
-        let reply = self.reserve_once(hook, n);
-        if reply.is_err() && hook.refused(self.shape().stands_after_reserve(before)) {
-            return self.reserve_once(hook, n);
-        }
-        reply
-    }
-
-    fn reserve_once<H: Hook>(&mut self, hook: &mut H, n: usize) -> Result<(), AllocError> {
-        hook.before(self.list.spare() < n);
-        let reply = self.list.reserve(n);
-        hook.after();
-        reply
     }
 
     /// Inserts. Where memory is refused, the hook is told whether the queue is as it was, and may have the call made

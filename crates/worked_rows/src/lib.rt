@@ -1,4 +1,4 @@
-//! The worked rows: short lists of calls, each with the answers that it must give.
+//! What the families of worked rows share. A row is a short list of calls, each with the answer that it must give.
 //!
 //! A row is written once, as code over a [`Hook`] that comes round each call. The program `vectors` runs all rows
 //! undisturbed and prints how each ended; a driver with a hook of its own can refuse memory during a call, and have
@@ -8,17 +8,22 @@
 //! future of one task, which is ready at its first poll.
 #![tactic(auto)]
 
-mod bench;
 mod difference;
+mod event_harness;
+mod harness;
 mod hook;
 mod hooked_list;
 mod report;
-mod rows;
+mod row;
 mod sink;
 mod task;
 mod wakers;
 
-pub use difference::{Difference, Refusal};
+pub use difference::{Difference, Refusal, same};
+pub use event_harness::{EventCalls, EventHarness, ListenerIndex, UntaggedCalls};
+pub use harness::Harness;
 pub use hook::{Hook, Undisturbed};
+pub use hooked_list::{HookedList, woken_with_room};
 pub use report::print_rows;
-pub use rows::{EventRow, Row, TaggedRow, WaitRow};
+pub use row::Row;
+pub use sink::DropsTasks;

@@ -1,7 +1,7 @@
-use crate::bench::Bench;
 use crate::difference::{Difference, Refusal};
+use crate::harness::Harness;
 use crate::hook::Hook;
-use crate::rows::Row;
+use crate::row::Row;
 use crate::wakers::Wakers;
 use futures::Future;
 use futures::executor::block_on;
@@ -13,26 +13,27 @@ use std::time::Clock;
 
 // A row as the future of one task. Its first poll makes all calls of the row.
 #[derive(Drop)]
-struct RowTask<'a, R, H> {
-    row: Row,
+struct RowTask<'a, F, R, H> {
+    row: F,
     rt: &'a R,
     alloc: Global,
     hook: &'a mut H,
 }
 
-impl<'a, R: Wait + Clock + Clone, H: Hook> Future for RowTask<'a, R, H> {
+impl<'a, F: Row, R: Wait + Clock + Clone, H: Hook> Future for RowTask<'a, F, R, H> {
     type Output = Result<(), Difference>;
 
     fn poll(&mut self, cx: &mut Context<'_>) -> Poll<Result<(), Difference>> {
         let wakers = Wakers::of(cx);
-        let mut bench = Bench::new(self.rt, self.alloc, &mut *self.hook, wakers);
-        Poll::Ready(self.row.run(&mut bench))
+        let mut harness = Harness::new(self.rt, self.alloc, &mut *self.hook, wakers);
+        Poll::Ready(self.row.run(&mut harness))
     }
 }
 
 /// Runs a row in a task of its own, of which its polls get their wakers.
-pub fn run_in_task<R, H>(rt: &R, alloc: Global, hook: &mut H, row: Row) -> Result<(), Difference>
+pub fn run_in_task<F, R, H>(rt: &R, alloc: Global, hook: &mut H, row: F) -> Result<(), Difference>
 where
+    F: Row,
     R: Wait + Clock + Clone + RandomSource + AllocGlobal,
     H: Hook,
 {

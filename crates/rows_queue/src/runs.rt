@@ -1,11 +1,8 @@
 //! Rows that make their calls as a run.
-use super::notifications::fits;
-use crate::difference::{Difference, same};
-use crate::hook::Hook;
-use crate::hooked_list::{HookedList, woken_with_room};
-use crate::sink::DropsTasks;
+use crate::notifications::fits;
 use event_queue::{Call, Key, NotifyError, Reply, State};
 use std::alloc::{AllocError, Global};
+use worked_rows::{Difference, DropsTasks, Hook, HookedList, same, woken_with_room};
 
 type Queue = HookedList<u32, u32>;
 
@@ -27,12 +24,26 @@ pub fn refused_tag<H: Hook>(alloc: Global, hook: &mut H) -> Result<(), Differenc
     else {
         return Err(Difference::Answer);
     };
-    same([first.serial(), second.serial(), third.serial()], [0, 1, 2])?;
-    same(*refused, Err(NotifyError { told: 1 }))?;
-    same(*told, Ok(1))?;
-    same(remove(&mut queue, hook, *first), told_with(5))?;
-    same(remove(&mut queue, hook, *second), told_with(6))?;
-    same(remove(&mut queue, hook, *third), CREATED)
+    skips_nobody(
+        &mut queue,
+        hook,
+        [*first, *second, *third],
+        [*refused, *told],
+    )
+}
+
+fn skips_nobody<H: Hook>(
+    queue: &mut Queue,
+    hook: &mut H,
+    keys: [Key; 3],
+    notified: [Notified; 2],
+) -> Result<(), Difference> {
+    same(keys.map(|key| key.serial()), [0, 1, 2])?;
+    same(notified, [Err(NotifyError { told: 1 }), Ok(1)])?;
+    let [first, second, third] = keys;
+    same(remove(queue, hook, first), told_with(5))?;
+    same(remove(queue, hook, second), told_with(6))?;
+    same(remove(queue, hook, third), CREATED)
 }
 
 fn too_few_tags(alloc: Global) -> Result<Calls, AllocError> {
@@ -86,23 +97,32 @@ fn so_many_tags(alloc: Global, tags: usize) -> Result<Calls, AllocError> {
 }
 
 pub fn counts_at_their_ends<H: Hook>(alloc: Global, hook: &mut H) -> Result<(), Difference> {
-    let mut queue: Queue = HookedList::new(hook, alloc);
-    queue.insert(hook)?;
-    queue.insert(hook)?;
-    let mut woken = woken_with_room(hook, alloc, 0)?;
-    let replies = queue.run(hook, alloc, &|| least_and_greatest(alloc), &mut woken)?;
-    let answers = [
-        Reply::Notified(Ok(0)),
-        Reply::Notified(Err(NotifyError { told: 1 })),
-    ];
-    same(replies.as_slice(), answers.as_slice())?;
+    least_and_greatest(alloc, hook)?;
     same(fits(hook, usize::MAX), true)?;
     same(fits(hook, usize::MAX as u128), true)?;
     same(fits(hook, usize::MAX as u128 + 1), false)?;
     same(fits(hook, i128::MIN), false)
 }
 
-fn least_and_greatest(alloc: Global) -> Result<Calls, AllocError> {
+fn least_and_greatest<H: Hook>(alloc: Global, hook: &mut H) -> Result<(), Difference> {
+    let mut queue: Queue = HookedList::new(hook, alloc);
+    queue.insert(hook)?;
+    queue.insert(hook)?;
+    let mut woken = woken_with_room(hook, alloc, 0)?;
+    let replies = queue.run(
+        hook,
+        alloc,
+        &|| least_and_greatest_counts(alloc),
+        &mut woken,
+    )?;
+    let answers = [
+        Reply::Notified(Ok(0)),
+        Reply::Notified(Err(NotifyError { told: 1 })),
+    ];
+    same(replies.as_slice(), answers.as_slice())
+}
+
+fn least_and_greatest_counts(alloc: Global) -> Result<Calls, AllocError> {
     Ok(vec![in alloc;
         default(0, Vec::new(alloc)),
         Call::Notify {

@@ -1,7 +1,6 @@
 //! Rows over numbers as notifications.
-use crate::difference::{Difference, same};
-use crate::hook::Hook;
 use event_queue::IntoNotification;
+use worked_rows::{Difference, Hook, same};
 
 pub fn integers_that_fit<H: Hook>(hook: &mut H) -> Result<(), Difference> {
     same(fits(hook, -1i32), false)?;

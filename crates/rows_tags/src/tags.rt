@@ -1,0 +1,87 @@
+//! The rows over an event with tags.
+use event_listener::{IntoNotification, IntoTagged};
+use futures::task::Poll::Ready;
+use std::sync::Wait;
+use std::time::Clock;
+use test_support::{Borrowing, Sharing};
+use worked_rows::{Difference, EventCalls, Harness, Hook, Row, same};
+
+type Reply = Result<(), Difference>;
+
+/// A row over an event with tags.
+#[derive(Clone, Copy)]
+pub enum TagRow {
+    /// A default notification that is lost loses its tag.
+    DefaultTagIsLost,
+    /// A notification that is passed on takes its tag along.
+    TagMovesOn,
+    /// A tag function is called once for each listener told, in order.
+    TagsByAFunction,
+}
+
+impl Row for TagRow {
+    fn numbered(number: u8) -> Option<Self> {
+        match number {
+            7 => Some(TagRow::DefaultTagIsLost),
+            8 => Some(TagRow::TagMovesOn),
+            32 => Some(TagRow::TagsByAFunction),
+            _ => None,
+        }
+    }
+
+    fn run<R, H>(self, harness: &mut Harness<'_, R, H>) -> Reply
+    where
+        R: Wait + Clock + Clone,
+        H: Hook,
+    {
+        let (one, other) = (harness.event()?, harness.event()?);
+        self.make(&mut harness.on::<Sharing, u32>(&one))?;
+        self.make(&mut harness.on::<Borrowing, u32>(&other))
+    }
+}
+
+impl TagRow {
+    // Makes the calls of the row on a new event.
+    fn make<E: EventCalls<u32>>(self, event: &mut E) -> Reply {
+        match self {
+            TagRow::DefaultTagIsLost => default_tag_is_lost(event),
+            TagRow::TagMovesOn => tag_moves_on(event),
+            TagRow::TagsByAFunction => tags_by_a_function(event),
+        }
+    }
+}
+
+fn default_tag_is_lost<E: EventCalls<u32>>(event: &mut E) -> Reply {
+    let first = event.listen()?;
+    let second = event.listen()?;
+    event.notify(1.tag(7u32), 1)?;
+    event.notify(1.additional().tag(8u32), 1)?;
+    event.release(first)?;
+    event.poll(second, Ready(8))
+}
+
+fn tag_moves_on<E: EventCalls<u32>>(event: &mut E) -> Reply {
+    let first = event.listen()?;
+    let second = event.listen()?;
+    event.notify(1.additional().tag(7u32), 1)?;
+    event.release(first)?;
+    event.poll(second, Ready(7))
+}
+
+fn tags_by_a_function<E: EventCalls<u32>>(event: &mut E) -> Reply {
+    let first = event.listen()?;
+    let second = event.listen()?;
+    let third = event.listen()?;
+    let mut calls = 0u32;
+    event.notify(
+        5.additional().tag_with(|| {
+            calls = calls.wrapping_add(1);
+            calls.wrapping_add(9)
+        }),
+        3,
+    )?;
+    event.poll(first, Ready(10))?;
+    event.poll(second, Ready(11))?;
+    event.poll(third, Ready(12))?;
+    same(calls, 3)
+}

@@ -1,0 +1,51 @@
+use rows_events::{EventRow, IdentityRow};
+use rows_queue::QueueRow;
+use rows_tags::{TagRow, WaitRow};
+use std::sync::Wait;
+use std::time::Clock;
+use worked_rows::{Difference, Harness, Hook, Row};
+
+/// A row of any family.
+#[derive(Clone, Copy)]
+pub enum AnyRow {
+    Queue(QueueRow),
+    Event(EventRow),
+    Identity(IdentityRow),
+    Tag(TagRow),
+    Wait(WaitRow),
+}
+
+impl Row for AnyRow {
+    fn numbered(number: u8) -> Option<Self> {
+        if let Some(row) = QueueRow::numbered(number) {
+            return Some(AnyRow::Queue(row));
+        }
+        if let Some(row) = EventRow::numbered(number) {
+            return Some(AnyRow::Event(row));
+        }
+        if let Some(row) = IdentityRow::numbered(number) {
+            return Some(AnyRow::Identity(row));
+        }
+        if let Some(row) = TagRow::numbered(number) {
+            return Some(AnyRow::Tag(row));
+        }
+        if let Some(row) = WaitRow::numbered(number) {
+            return Some(AnyRow::Wait(row));
+        }
+        None
+    }
+
+    fn run<R, H>(self, harness: &mut Harness<'_, R, H>) -> Result<(), Difference>
+    where
+        R: Wait + Clock + Clone,
+        H: Hook,
+    {
+        match self {
+            AnyRow::Queue(row) => row.run(harness),
+            AnyRow::Event(row) => row.run(harness),
+            AnyRow::Identity(row) => row.run(harness),
+            AnyRow::Tag(row) => row.run(harness),
+            AnyRow::Wait(row) => row.run(harness),
+        }
+    }
+}
