@@ -222,7 +222,7 @@ struct Player<'ev, L, R> {
 }
 
 // A player whose listener stands in its queue.
-fn player<'ev, K, L, R>(
+fn new_player<'ev, K, L, R>(
     rt: &'ev R,
     alloc: Global,
     own: &'ev Event<()>,
@@ -285,8 +285,8 @@ where
 #[test]
 fn two_threads_tell_each_other_in_turn(rt: HostRuntime) -> Result<(), Fail> {
     let (ping, pong) = (new_event()?, new_event()?);
-    let first = player::<Sharing, _, _>(&rt, rt.alloc(), &ping, &pong, true)?;
-    let second = player::<Sharing, _, _>(&rt, rt.alloc(), &pong, &ping, false)?;
+    let first = new_player::<Sharing, _, _>(&rt, rt.alloc(), &ping, &pong, true)?;
+    let second = new_player::<Sharing, _, _>(&rt, rt.alloc(), &pong, &ping, false)?;
     let (one, other) = thread::join(
         &rt,
         || play::<Sharing, _, _>(first),
@@ -300,8 +300,8 @@ fn two_threads_tell_each_other_in_turn(rt: HostRuntime) -> Result<(), Fail> {
 #[test]
 fn two_threads_tell_each_other_in_turn_by_borrowing_listeners(rt: HostRuntime) -> Result<(), Fail> {
     let (ping, pong) = (new_event()?, new_event()?);
-    let first = player::<Borrowing, _, _>(&rt, rt.alloc(), &ping, &pong, true)?;
-    let second = player::<Borrowing, _, _>(&rt, rt.alloc(), &pong, &ping, false)?;
+    let first = new_player::<Borrowing, _, _>(&rt, rt.alloc(), &ping, &pong, true)?;
+    let second = new_player::<Borrowing, _, _>(&rt, rt.alloc(), &pong, &ping, false)?;
     let (one, other) = thread::join(
         &rt,
         || play::<Borrowing, _, _>(first),
