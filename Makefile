@@ -1,15 +1,14 @@
-# The times are those of an idle machine with four processors, from nothing. What a check has proved is kept in out/, so
-# the next check of it takes seconds.
+# The times are about those of an idle machine with four processors, from nothing. What a check proves is kept in out/,
+# so the next one of the same sources takes seconds; `make test` takes nothing that was kept.
 #
-# run       compiles and runs the worked rows, and proves nothing. About 40 seconds
-# test      the whole gate: proofs from nothing, edits and programs that must be refused, tests and programs.
-#           About 20 minutes. It takes nothing that was kept
-# prove     proves every crate, and proves and runs its tests and programs, but tries no edits. About 15 minutes
-# vectors   proves the program of the worked rows and all below it, runs it, and keeps it as crates/vectors/out/vectors.
-#           About 12 minutes
-# check     proves what an edit changed, without the tests
-# refused   small programs that must not compile, and some that must. About a minute
-# quoted    that the pages for callers quote the sources as they are. A second
+# run       compiles and runs the worked rows, with every check at run time, and proves nothing: under a minute
+# test      the whole gate: proofs from nothing, edits and programs that must be refused, tests and programs: 20 minutes
+# prove     proves every crate and its tests, and runs tests and programs, but tries no edits: 15 minutes with
+#           `make prove JOBS=4`, which works on four crates at a time in 10 GB; without JOBS it chooses one or two
+# vectors   proves and runs the program of the worked rows, and keeps it as crates/vectors/out/vectors: 12 minutes
+# check     proves every crate, without tests: what an edit changed takes seconds or minutes
+# refused   tries small programs that must not compile, and some that must: a minute or two
+# quoted    compares what the pages for callers quote with the sources: a second
 # fmt       lays out the files
 # diff      compares the queue with the Rust crate, where what that answers is at hand: `make diff ORACLE=FOLDER`, with
 #           a folder as crates/replies/README.md says
@@ -22,7 +21,7 @@ test:
 	@scripts/gate
 
 prove:
-	@rt all test
+	@rt all test $(if $(JOBS),--jobs $(JOBS))
 
 vectors:
 	@cd crates/vectors && rt run

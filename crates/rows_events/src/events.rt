@@ -75,14 +75,15 @@ impl Row for EventRow {
         H: Hook,
     {
         let (one, other) = (harness.event()?, harness.event()?);
-        self.make(&mut harness.on::<Sharing, ()>(&one))?;
-        self.make(&mut harness.on::<Borrowing, ()>(&other))
+        self.make(harness.on::<Sharing, ()>(&one))?;
+        self.make(harness.on::<Borrowing, ()>(&other))
     }
 }
 
 impl EventRow {
     // Makes the calls of the row on a new event.
-    fn make<E: UntaggedCalls>(self, event: &mut E) -> Reply {
+    fn make<E: UntaggedCalls + Drop>(self, mut calls: E) -> Reply {
+        let event = &mut calls;
         match self {
             EventRow::DefaultCountsTheTold => default_counts_the_told(event),
             EventRow::KindsMixed => kinds_mixed(event),

@@ -32,12 +32,7 @@ impl Row for IdentityRow {
     {
         match self {
             IdentityRow::IdentitiesEnd => identities_end(harness),
-            IdentityRow::EventsAreToldApart => {
-                let mut ids = harness.identities(0);
-                let (one, other) = (harness.event_of(&mut ids)?, harness.event_of(&mut ids)?);
-                told_apart(&mut harness.on::<Sharing, ()>(&one), &one, &other)?;
-                told_apart(&mut harness.on::<Borrowing, ()>(&one), &one, &other)
-            }
+            IdentityRow::EventsAreToldApart => events_are_told_apart(harness),
         }
     }
 }
@@ -49,8 +44,23 @@ fn identities_end<R: Wait, H: Hook>(harness: &mut Harness<'_, R, H>) -> Reply {
     same(harness.identity(&mut ids).err(), Some(IdsUsedUp))
 }
 
+fn events_are_told_apart<R, H>(harness: &mut Harness<'_, R, H>) -> Reply
+where
+    R: Wait + Clock + Clone,
+    H: Hook,
+{
+    let mut ids = harness.identities(0);
+    let (event, other) = (harness.event_of(&mut ids)?, harness.event_of(&mut ids)?);
+    told_apart(harness.on::<Sharing, ()>(&event), &event, &other)?;
+    told_apart(harness.on::<Borrowing, ()>(&event), &event, &other)
+}
+
 // Listeners of one event, asked of that event and of another of the same source.
-fn told_apart<E: EventCalls<()>>(calls: &mut E, event: &Event<()>, other: &Event<()>) -> Reply {
+fn told_apart<E: EventCalls<()> + Drop>(
+    mut calls: E,
+    event: &Event<()>,
+    other: &Event<()>,
+) -> Reply {
     let first = calls.listen()?;
     let second = calls.listen()?;
     calls.listens_to(first, event, true)?;

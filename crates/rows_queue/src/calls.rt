@@ -25,16 +25,14 @@ impl<'h, H: Hook> QueueCalls<'h, H> {
         QueueCalls { queue, hook }
     }
 
-    /// Inserts a listener, which gets that serial.
-    pub fn insert(&mut self, serial: u64) -> Result<Key, Difference> {
-        let key = self.queue.insert(self.hook)?;
-        same(key.serial(), serial)?;
-        Ok(key)
+    /// Inserts a listener.
+    pub fn insert(&mut self) -> Result<Key, Difference> {
+        Ok(self.queue.insert(self.hook)?)
     }
 
-    /// Inserts a listener, which gets that serial, and has it store that task.
-    pub fn insert_with_task(&mut self, serial: u64, task: u32) -> Result<Key, Difference> {
-        let key = self.insert(serial)?;
+    /// Inserts a listener and has it store that task.
+    pub fn insert_with_task(&mut self, task: u32) -> Result<Key, Difference> {
+        let key = self.insert()?;
         self.register(key, task, RegisterResult::Registered)?;
         Ok(key)
     }

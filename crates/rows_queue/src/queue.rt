@@ -1,21 +1,24 @@
 //! Rows over a queue alone.
 use crate::calls::QueueCalls;
 use event_queue::RegisterResult::{NeverInserted, Notified, Registered};
-use worked_rows::{Difference, DropsTasks, Hook};
+use worked_rows::{Difference, DropsTasks, Hook, same};
 
 type Reply = Result<(), Difference>;
 
 /// Takes a queue whose next serial is the last one.
 pub fn last_serial<H: Hook>(queue: &mut QueueCalls<'_, H>) -> Reply {
-    queue.insert(18_446_744_073_709_551_614)?;
+    let last = queue.insert()?;
+    same(last.serial(), 18_446_744_073_709_551_614)?;
     queue.insert_refused()?;
     queue.total_listeners(1)
 }
 
 pub fn stale_key<H: Hook>(queue: &mut QueueCalls<'_, H>) -> Reply {
-    let first = queue.insert(0)?;
+    let first = queue.insert()?;
+    same(first.serial(), 0)?;
     queue.remove_created(first)?;
-    let second = queue.insert(1)?;
+    let second = queue.insert()?;
+    same(second.serial(), 1)?;
     queue.register(first, 1, NeverInserted)?;
     // The second listener still waits, and no task is stored.
     queue.total_listeners(1)?;
@@ -24,9 +27,9 @@ pub fn stale_key<H: Hook>(queue: &mut QueueCalls<'_, H>) -> Reply {
 }
 
 pub fn totals<H: Hook>(queue: &mut QueueCalls<'_, H>) -> Reply {
-    let first = queue.insert(0)?;
-    let second = queue.insert(1)?;
-    queue.insert(2)?;
+    let first = queue.insert()?;
+    let second = queue.insert()?;
+    queue.insert()?;
     queue.total_listeners(3)?;
     queue.remove_created(second)?;
     queue.total_listeners(2)?;
@@ -35,9 +38,10 @@ pub fn totals<H: Hook>(queue: &mut QueueCalls<'_, H>) -> Reply {
 }
 
 pub fn counts_the_told<H: Hook>(queue: &mut QueueCalls<'_, H>) -> Reply {
-    let first = queue.insert(0)?;
-    let second = queue.insert(1)?;
-    let third = queue.insert(2)?;
+    let first = queue.insert()?;
+    let second = queue.insert()?;
+    let third = queue.insert()?;
+    same([first.serial(), second.serial(), third.serial()], [0, 1, 2])?;
     queue.register(first, 1, Registered)?;
     queue.register(second, 2, Registered)?;
     queue.register(third, 3, Registered)?;

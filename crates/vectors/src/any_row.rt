@@ -1,6 +1,5 @@
-use rows_events::{EventRow, IdentityRow};
+use rows_events::{EventRow, IdentityRow, TagRow, WaitRow};
 use rows_queue::QueueRow;
-use rows_tags::{TagRow, WaitRow};
 use std::sync::Wait;
 use std::time::Clock;
 use worked_rows::{Difference, Harness, Hook, Row};

@@ -6,24 +6,27 @@ use futures::task::Poll;
 use std::alloc::Global;
 use std::marker::PhantomData;
 use std::sync::Wait;
-use std::time::{Duration, Instant};
+use std::time::{Clock, Duration, Instant};
 use test_support::ListenerKind;
 
 type Reply = Result<(), Difference>;
 
-/// Which of the listeners that a row has.
-#[derive(Clone, Copy, PartialEq, Eq)]
+/// Which of the listeners that a row has. It may be that of a later listener once its own was given up.
+#[derive(Clone, Copy)]
 pub struct ListenerIndex(usize);
 
 /// The calls of a row on one event, whose listeners are of one kind. Each call takes the answer that it must give, and
 /// returns an error where it gives another or is refused.
 ///
-/// The listeners stay here until the row gives them up by a wait, a discard or a drop, or ends. A call with a listener
-/// that was given up differs from every answer.
+/// The listeners stay here, four at most, until the row gives them up by a wait, a discard or a drop, or ends. A fifth
+/// one, and a call with a listener that was given up, differ from every answer.
 pub trait EventCalls<T> {
     /// Makes a new listener. Where memory is refused, the hook is told whether the queue is as it was, and may have the
     /// call made again.
     fn listen(&mut self) -> Result<ListenerIndex, Difference>;
+
+    /// The present moment.
+    fn now(&mut self) -> Result<Instant, Difference>;
 
     /// Notifies, with a notification that does not allocate.
     fn notify<N: IntoNotification<Tag = T>>(&mut self, n: N, told: usize) -> Reply
@@ -99,7 +102,7 @@ enum Limit {
 impl Limit {
     fn wait<T, L: Listener<T>>(self, listener: L) -> Result<Option<T>, WaitError<L>> {
         match self {
-            Limit::Endless => listener.wait().map(|tag| Some(tag)),
+            Limit::Endless => Ok(Some(listener.wait()?)),
             Limit::Timeout(timeout) => listener.wait_timeout(timeout),
             Limit::Deadline(deadline) => listener.wait_deadline(deadline),
         }
@@ -215,12 +218,16 @@ where
     K: ListenerKind<'ev, T, R, Listener = L>,
     L: Listener<T> + Drop,
     T: PartialEq + Drop,
-    R: Wait,
+    R: Wait + Clock,
     H: Hook,
 {
     fn listen(&mut self) -> Result<ListenerIndex, Difference> {
         let listener = self.listen_again()?;
         self.keep(listener)
+    }
+
+    fn now(&mut self) -> Result<Instant, Difference> {
+        Instant::now(self.harness.rt()).map_err(|_| Difference::Refused(Refusal::Clock))
     }
 
     fn notify<N: IntoNotification<Tag = T>>(&mut self, n: N, told: usize) -> Reply
@@ -327,7 +334,7 @@ impl<'h, 'a, 'ev, K, L, R, H> UntaggedCalls for EventHarness<'h, 'a, 'ev, K, L, 
 where
     K: ListenerKind<'ev, (), R, Listener = L>,
     L: Listener<()> + Drop,
-    R: Wait,
+    R: Wait + Clock,
     H: Hook,
 {
     fn notify_additional(&mut self, n: usize, told: usize) -> Reply {

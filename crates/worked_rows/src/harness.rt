@@ -6,7 +6,6 @@ use event_listener::{Event, EventId, EventIds, IdsUsedUp};
 use futures::task::Waker;
 use std::alloc::Global;
 use std::sync::Wait;
-use std::time::{Clock, Instant};
 use test_support::ListenerKind;
 
 /// What the rows make their calls by. Each call takes the hook that comes round it.
@@ -37,14 +36,6 @@ impl<'a, R: Wait, H: Hook> Harness<'a, R, H> {
     /// The hook that comes round each call.
     pub fn hook(&mut self) -> &mut H {
         &mut *self.hook
-    }
-
-    /// The present moment, or the refusal of a clock that can't be read.
-    pub fn now(&self) -> Result<Instant, Difference>
-    where
-        R: Clock,
-    {
-        Instant::now(self.rt).map_err(|_| Difference::Refused(Refusal::Clock))
     }
 
     /// A new source of identities.
@@ -79,6 +70,9 @@ impl<'a, R: Wait, H: Hook> Harness<'a, R, H> {
     }
 
     /// What makes calls on this event, with listeners of the kind `K`.
+    ///
+    /// Give it away by value: a function that is generic in [`EventCalls`] drops it at little cost to its proof, and one
+    /// that knows its listeners at much.
     pub fn on<'h, 'ev, K, T>(
         &'h mut self,
         event: &'ev Event<T>,

@@ -1,7 +1,7 @@
 //! The rows whose listeners wait. Each listener was told before, or its limit has passed, so no thread parks.
 use event_listener::{IntoNotification, IntoTagged};
 use std::sync::Wait;
-use std::time::{Clock, Duration, Instant};
+use std::time::{Clock, Duration};
 use test_support::{Borrowing, Sharing};
 use worked_rows::{Difference, EventCalls, Harness, Hook, Row};
 
@@ -34,27 +34,28 @@ impl Row for WaitRow {
         H: Hook,
     {
         match self {
-            WaitRow::PastDeadline => {
+            WaitRow::WaitsGiveTheirTags => each_gives_its_tag(harness),
+            WaitRow::PastDeadline | WaitRow::LeastAndGreatestTimeout => {
                 let (one, other) = (harness.event()?, harness.event()?);
-                let past = harness.now()?;
-                past_deadline(&mut harness.on::<Sharing, u32>(&one), past)?;
-                past_deadline(&mut harness.on::<Borrowing, u32>(&other), past)
-            }
-            WaitRow::WaitsGiveTheirTags => {
-                let (one, other) = (harness.event()?, harness.event()?);
-                waits_give_their_tags(&mut harness.on::<Sharing, bool>(&one))?;
-                waits_give_their_tags(&mut harness.on::<Borrowing, bool>(&other))
-            }
-            WaitRow::LeastAndGreatestTimeout => {
-                let (one, other) = (harness.event()?, harness.event()?);
-                least_and_greatest_timeout(&mut harness.on::<Sharing, u32>(&one))?;
-                least_and_greatest_timeout(&mut harness.on::<Borrowing, u32>(&other))
+                self.make(harness.on::<Sharing, u32>(&one))?;
+                self.make(harness.on::<Borrowing, u32>(&other))
             }
         }
     }
 }
 
-fn past_deadline<E: EventCalls<u32>>(event: &mut E, past: Instant) -> Reply {
+impl WaitRow {
+    // Makes the calls of a row with a limit on a new event.
+    fn make<E: EventCalls<u32> + Drop>(self, mut calls: E) -> Reply {
+        match self {
+            WaitRow::PastDeadline => past_deadline(&mut calls),
+            _ => least_and_greatest_timeout(&mut calls),
+        }
+    }
+}
+
+fn past_deadline<E: EventCalls<u32>>(event: &mut E) -> Reply {
+    let past = event.now()?;
     let told = event.listen()?;
     event.notify(1.tag(7u32), 1)?;
     event.wait_deadline(told, past, Some(7))?;
@@ -74,8 +75,18 @@ fn least_and_greatest_timeout<E: EventCalls<u32>>(event: &mut E) -> Reply {
     event.total_listeners(0)
 }
 
+fn each_gives_its_tag<R, H>(harness: &mut Harness<'_, R, H>) -> Reply
+where
+    R: Wait + Clock + Clone,
+    H: Hook,
+{
+    let (one, other) = (harness.event()?, harness.event()?);
+    give_their_tags(harness.on::<Sharing, bool>(&one))?;
+    give_their_tags(harness.on::<Borrowing, bool>(&other))
+}
+
 // Two listeners are told, each with a tag of its own, and each waits for its own.
-fn waits_give_their_tags<E: EventCalls<bool>>(event: &mut E) -> Reply {
+fn give_their_tags<E: EventCalls<bool> + Drop>(mut event: E) -> Reply {
     let first = event.listen()?;
     let second = event.listen()?;
     event.notify(1.additional().tag(true), 1)?;

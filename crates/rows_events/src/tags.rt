@@ -35,14 +35,15 @@ impl Row for TagRow {
         H: Hook,
     {
         let (one, other) = (harness.event()?, harness.event()?);
-        self.make(&mut harness.on::<Sharing, u32>(&one))?;
-        self.make(&mut harness.on::<Borrowing, u32>(&other))
+        self.make(harness.on::<Sharing, u32>(&one))?;
+        self.make(harness.on::<Borrowing, u32>(&other))
     }
 }
 
 impl TagRow {
     // Makes the calls of the row on a new event.
-    fn make<E: EventCalls<u32>>(self, event: &mut E) -> Reply {
+    fn make<E: EventCalls<u32> + Drop>(self, mut calls: E) -> Reply {
+        let event = &mut calls;
         match self {
             TagRow::DefaultTagIsLost => default_tag_is_lost(event),
             TagRow::TagMovesOn => tag_moves_on(event),
