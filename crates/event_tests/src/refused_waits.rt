@@ -1,15 +1,11 @@
 //! Waits that are refused memory for what the thread parks on.
-use event_listener::{
-    Event, EventIds, IdsUsedUp, IntoNotification, IntoTagged, Listener, StackSlot, WaitError,
-};
-use std::alloc::Global;
-use std::sync::Wait;
-use std::test::Fail;
+use crate::support::{Runtime, listen, new_event, poll};
+use event_listener::{Event, IntoNotification, IntoTagged, Listener, WaitError};
 use std::time::{Duration, Instant};
-use test_support::{Hog, any_waker};
+use test_support::{Borrowing, Hog, ListenerKind, Sharing};
 
-// The three calls that wait.
-#[derive(Clone, Copy)]
+// The calls that wait.
+#[derive(Clone, Copy, Debug)]
 enum Call {
     Wait,
     Timeout(Duration),
@@ -19,103 +15,100 @@ enum Call {
 impl Call {
     fn on<L: Listener<u32> + Drop>(self, listener: L) -> Result<Option<u32>, WaitError<L>> {
         match self {
-            Call::Wait => Ok(Some(listener.wait()?)),
+            Call::Wait => match listener.wait() {
+                Ok(tag) => Ok(Some(tag)),
+                Err(refused) => Err(refused),
+            },
             Call::Timeout(timeout) => listener.wait_timeout(timeout),
             Call::Deadline(deadline) => listener.wait_deadline(deadline),
         }
     }
 }
 
-// Makes the call while all memory is taken. The listener comes back, or else the test fails.
-fn refused<L>(alloc: Global, call: Call, listener: L) -> Result<L, Fail>
+// Makes the call while all memory is taken. The listener comes back, or else the test ends.
+fn refused<L, R>(rt: &R, call: Call, listener: L) -> L
 where
     L: Listener<u32> + Drop,
+    R: Runtime,
 {
-    let hog = Hog::new(alloc)?;
+    let hog = Hog::new(rt.alloc()).expect(rt, "a hog");
     let reply = call.on(listener);
     drop(hog);
     match reply {
-        Err(WaitError::Memory(listener)) => Ok(listener),
-        Err(WaitError::NeverInserted) => Err("the listener was looked at".into()),
-        Ok(_) => Err("no memory was refused".into()),
+        Err(WaitError::Memory(listener)) => listener,
+        Err(WaitError::NeverInserted) => panic!(rt; "the listener was looked at"),
+        Ok(_) => panic!(rt; "no memory was refused"),
     }
 }
 
-fn new_event() -> Result<Event<u32>, IdsUsedUp> {
-    Ok(Event::with_tag(EventIds::new().next()?))
-}
-
-// Whether the listener that comes back from a refused call still stands in the queue, alone, so that a notification
-// reaches it and the same call gives the tag.
-fn stands_after_refusal<R, L>(
-    rt: &R,
-    alloc: Global,
-    event: &Event<u32>,
-    call: Call,
-    listener: L,
-) -> Result<bool, Fail>
+// The listener that comes back still stands in the queue, so that a notification reaches it and the same call gives the
+// tag.
+fn handed_back<'ev, K, R>(rt: &R, event: &'ev Event<u32>, call: Call)
 where
-    R: Wait,
-    L: Listener<u32> + Drop,
+    K: ListenerKind<'ev, u32, R>,
+    R: Runtime,
 {
-    let listener = refused(alloc, call, listener)?;
-    let stands = event.total_listeners(rt) == 1 && listener.listens_to(event);
-    let told = event.notify(rt, 1.tag(7u32))?;
-    let given = matches!(call.on(listener), Ok(Some(7)));
-    Ok(stands && told == 1 && given && event.total_listeners(rt) == 0)
+    let listener = refused(rt, call, listen::<K, _, R>(rt, event));
+    assert_eq!(rt; event.total_listeners(rt), 1, "{call:?}");
+    assert_eq!(rt; event.notify(rt, 1.tag(7)), Ok(1), "{call:?}");
+    assert!(rt; matches!(call.on(listener), Ok(Some(7))), "{call:?}");
 }
 
-fn all_calls(past: Instant) -> [Call; 4] {
-    [
+#[test]
+fn a_refused_wait_hands_the_listener_back(rt: HostRuntime) {
+    let event = new_event(&rt);
+    let past = Instant::now(&rt).expect(&rt, "the time");
+    let calls = [
         Call::Wait,
         Call::Timeout(Duration::MAX),
         Call::Timeout(Duration::ZERO),
         Call::Deadline(past),
-    ]
-}
-
-#[test]
-fn a_refused_wait_hands_the_listener_back(rt: HostRuntime) -> Result<(), Fail> {
-    let event = new_event()?;
-    for call in all_calls(Instant::now(&rt)?) {
-        let listener = event.listen(&rt, rt.alloc())?;
-        assert!(rt; stands_after_refusal(&rt, rt.alloc(), &event, call, listener)?);
+    ];
+    for call in calls {
+        handed_back::<Sharing, _>(&rt, &event, call);
+        handed_back::<Borrowing, _>(&rt, &event, call);
     }
-    Ok(())
 }
 
-#[test]
-fn a_refused_wait_hands_a_stack_listener_back(rt: HostRuntime) -> Result<(), Fail> {
-    let event = new_event()?;
-    for call in all_calls(Instant::now(&rt)?) {
-        let listener = StackSlot::new(&rt, rt.alloc(), &event)?.listen(&rt)?;
-        assert!(rt; stands_after_refusal(&rt, rt.alloc(), &event, call, listener)?);
-    }
-    Ok(())
-}
+fn stays_told<'ev, K, R>(rt: &R, event: &'ev Event<u32>)
+where
+    K: ListenerKind<'ev, u32, R>,
+    R: Runtime,
+{
+    let told = listen::<K, _, R>(rt, event);
+    let mut waiting = listen::<K, _, R>(rt, event);
+    assert_eq!(rt; event.notify(rt, 1.tag(7)), Ok(1));
+    let told = refused(rt, Call::Wait, told);
+    let left = (event.total_listeners(rt), event.is_notified(rt));
+    assert_eq!(rt; left, (2, true));
 
-#[test]
-fn a_told_listener_stays_told_when_its_wait_is_refused(rt: HostRuntime) -> Result<(), Fail> {
-    let event = new_event()?;
-    let told = event.listen(&rt, rt.alloc())?;
-    let waiting = event.listen(&rt, rt.alloc())?;
-    assert_eq!(rt; event.notify(&rt, 1.tag(7u32))?, 1);
-    let told = refused(rt.alloc(), Call::Wait, told)?;
-    assert!(rt; event.is_notified(&rt));
-
-    // One that comes back passes its notification on where it is let go.
+    // One that comes back passes its notification on where it is dropped.
     drop(told);
-    assert!(rt; matches!(waiting.wait(), Ok(7)));
-    Ok(())
+    assert_eq!(rt; poll(rt, &mut waiting), Some(7));
 }
 
 #[test]
-fn memory_is_refused_before_a_finished_listener_is(rt: HostRuntime) -> Result<(), Fail> {
-    let event = new_event()?;
-    let mut listener = event.listen(&rt, rt.alloc())?;
-    assert_eq!(rt; event.notify(&rt, 1.tag(7u32))?, 1);
-    assert!(rt; listener.poll(any_waker(&rt)?)?.is_ready());
-    let listener = refused(rt.alloc(), Call::Wait, listener)?;
+fn a_told_listener_stays_told_when_its_wait_is_refused(rt: HostRuntime) {
+    let event = new_event(&rt);
+    stays_told::<Sharing, _>(&rt, &event);
+    stays_told::<Borrowing, _>(&rt, &event);
+}
+
+fn finished<'ev, K, R>(rt: &R, event: &'ev Event<u32>)
+where
+    K: ListenerKind<'ev, u32, R>,
+    R: Runtime,
+{
+    let mut listener = listen::<K, _, R>(rt, event);
+    assert_eq!(rt; event.notify(rt, 1.tag(7)), Ok(1));
+    assert_eq!(rt; poll(rt, &mut listener), Some(7));
+    let listener = refused(rt, Call::Wait, listener);
     assert!(rt; matches!(listener.wait(), Err(WaitError::NeverInserted)));
-    Ok(())
+}
+
+#[test]
+fn memory_is_refused_before_a_finished_listener_is(rt: HostRuntime) {
+    let event = new_event(&rt);
+    finished::<Sharing, _>(&rt, &event);
+    finished::<Borrowing, _>(&rt, &event);
 }
