@@ -10,14 +10,8 @@ mod notifications;
 #[cfg(test)]
 mod races;
 #[cfg(test)]
-mod refused_listening;
-#[cfg(test)]
-mod refused_waits;
-#[cfg(test)]
 mod support;
 #[cfg(test)]
 mod tags;
 #[cfg(test)]
 mod wakes;
-#[cfg(test)]
-mod without_memory;

@@ -88,13 +88,23 @@ fn a_notification_before_the_first_listener_is_not_kept(rt: HostRuntime) {
     keeps_nothing::<Borrowing, _>(&rt, &new_event(&rt));
 }
 
+fn one_queue<'ev, One, Other, R>(rt: &R, event: &'ev Event<()>)
+where
+    One: ListenerKind<'ev, (), R>,
+    Other: ListenerKind<'ev, (), R>,
+    R: Runtime,
+{
+    let first = listen::<One, _, R>(rt, event);
+    let second = listen::<Other, _, R>(rt, event);
+    let third = listen::<One, _, R>(rt, event);
+    assert_eq!(rt; event.notify_additional(rt, 2), 2);
+    let told = [first.discard(), second.discard(), third.discard()];
+    assert_eq!(rt; told, [true, true, false]);
+}
+
 #[test]
 fn both_kinds_of_listeners_stand_in_one_queue(rt: HostRuntime) {
     let event = new_event(&rt);
-    let first = listen::<Borrowing, _, _>(&rt, &event);
-    let second = listen::<Sharing, _, _>(&rt, &event);
-    let third = listen::<Borrowing, _, _>(&rt, &event);
-    assert_eq!(rt; event.notify_additional(&rt, 2), 2);
-    let told = [first.discard(), second.discard(), third.discard()];
-    assert_eq!(rt; told, [true, true, false]);
+    one_queue::<Sharing, Borrowing, _>(&rt, &event);
+    one_queue::<Borrowing, Sharing, _>(&rt, &event);
 }

@@ -1,7 +1,8 @@
 //! The calls that allocate nothing, made while every request for memory is refused.
-use crate::support::{Runtime, listen, new_event, new_task, poll_with};
+use crate::support::{Runtime, all_memory, listen, new_event, poll};
 use event_listener::{Event, Listener};
-use test_support::{Borrowing, Hog, ListenerKind, Sharing, any_waker, waker_of};
+use futures::test::MockTask;
+use test_support::{Borrowing, ListenerKind, Sharing, any_waker, waker_of};
 
 // The queue is there and has a spare slot, and the runtime value is cloned for nothing. A share of the queue only counts
 // one owner more.
@@ -11,7 +12,7 @@ where
     R: Runtime,
 {
     drop(listen::<K, _, R>(rt, event));
-    let hog = Hog::new(rt.alloc()).expect(rt, "a hog");
+    let hog = all_memory(rt);
     let listener = listen::<K, _, R>(rt, event);
     let told = event.notify_additional(rt, 2);
     drop(hog);
@@ -30,7 +31,7 @@ where
     K: ListenerKind<'ev, (), R>,
     R: Runtime,
 {
-    let task = new_task(rt);
+    let task = MockTask::new(rt).expect(rt, "a task");
     let waker = waker_of(&task).expect(rt, "a waker");
     let last_waker = any_waker(rt).expect(rt, "a waker");
     let first = listen::<K, _, R>(rt, event);
@@ -39,9 +40,9 @@ where
     let fourth = listen::<K, _, R>(rt, event);
     let fifth = listen::<K, _, R>(rt, event);
 
-    let hog = Hog::new(rt.alloc()).expect(rt, "a hog");
+    let hog = all_memory(rt);
     let waiting = (event.total_listeners(rt), event.is_notified(rt));
-    let pending = poll_with(rt, &mut second, waker);
+    let pending = poll(rt, &mut second, waker);
     let first_told = event.notify(rt, 1);
     drop(first);
     let then_told = [
@@ -50,7 +51,7 @@ where
         event.notify_additional_relaxed(rt, 9),
     ];
     let all_told = (event.total_listeners(rt), event.is_notified(rt));
-    let ready = poll_with(rt, &mut second, last_waker);
+    let ready = poll(rt, &mut second, last_waker);
     let discarded = [third.discard(), fourth.discard(), fifth.discard()];
     let gone = (event.total_listeners(rt), event.is_notified(rt));
     drop(hog);

@@ -1,8 +1,8 @@
 //! Waits that are refused memory for what the thread parks on.
-use crate::support::{Runtime, listen, new_event, poll};
+use crate::support::{Runtime, all_memory, listen, new_event, poll};
 use event_listener::{Event, IntoNotification, IntoTagged, Listener, WaitError};
 use std::time::{Duration, Instant};
-use test_support::{Borrowing, Hog, ListenerKind, Sharing};
+use test_support::{Borrowing, ListenerKind, Sharing, any_waker};
 
 // The calls that wait.
 #[derive(Clone, Copy, Debug)]
@@ -31,7 +31,7 @@ where
     L: Listener<u32> + Drop,
     R: Runtime,
 {
-    let hog = Hog::new(rt.alloc()).expect(rt, "a hog");
+    let hog = all_memory(rt);
     let reply = call.on(listener);
     drop(hog);
     match reply {
@@ -75,6 +75,7 @@ where
     K: ListenerKind<'ev, u32, R>,
     R: Runtime,
 {
+    let waker = any_waker(rt).expect(rt, "a waker");
     let told = listen::<K, _, R>(rt, event);
     let mut waiting = listen::<K, _, R>(rt, event);
     assert_eq!(rt; event.notify(rt, 1.tag(7)), Ok(1));
@@ -84,7 +85,7 @@ where
 
     // One that comes back passes its notification on where it is dropped.
     drop(told);
-    assert_eq!(rt; poll(rt, &mut waiting), Some(7));
+    assert_eq!(rt; poll(rt, &mut waiting, waker), Some(7));
 }
 
 #[test]
@@ -99,9 +100,10 @@ where
     K: ListenerKind<'ev, u32, R>,
     R: Runtime,
 {
+    let waker = any_waker(rt).expect(rt, "a waker");
     let mut listener = listen::<K, _, R>(rt, event);
     assert_eq!(rt; event.notify(rt, 1.tag(7)), Ok(1));
-    assert_eq!(rt; poll(rt, &mut listener), Some(7));
+    assert_eq!(rt; poll(rt, &mut listener, waker), Some(7));
     let listener = refused(rt, Call::Wait, listener);
     assert!(rt; matches!(listener.wait(), Err(WaitError::NeverInserted)));
 }

@@ -1,7 +1,7 @@
 //! Listening that is refused what it needs.
-use crate::support::{Runtime, listen, new_event};
+use crate::support::{Runtime, all_memory, listen, new_event};
 use event_listener::{Event, ListenError, Listener, StackSlot};
-use test_support::{Borrowing, Hog, ListenerKind, Sharing, Unshared};
+use test_support::{Borrowing, ListenerKind, Sharing, Unshared};
 
 fn uncloned<'ev, K, R>(rt: &'ev R, event: &'ev Event<()>)
 where
@@ -30,7 +30,7 @@ where
     K: ListenerKind<'ev, (), R>,
     R: Runtime,
 {
-    let hog = Hog::new(rt.alloc()).expect(rt, "a hog");
+    let hog = all_memory(rt);
     let refused = K::listen(rt, rt.alloc(), event);
     let left = (event.total_listeners(rt), event.notify_additional(rt, 2));
     drop(hog);
@@ -52,7 +52,7 @@ fn a_new_event_stays_new_where_its_queue_is_refused(rt: HostRuntime) {
 #[test]
 fn a_slot_of_a_new_event_is_refused(rt: HostRuntime) {
     let event = new_event(&rt);
-    let hog = Hog::new(rt.alloc()).expect(&rt, "a hog");
+    let hog = all_memory(&rt);
     let refused = StackSlot::new(&rt, rt.alloc(), &event);
     drop(hog);
     assert!(rt; matches!(refused, Err(ListenError::Memory)));
@@ -72,7 +72,7 @@ where
     listeners
         .push(listen::<K, _, R>(rt, event))
         .expect(rt, "room");
-    let hog = Hog::new(rt.alloc()).expect(rt, "a hog");
+    let hog = all_memory(rt);
     let mut refusal = None;
     for _ in 1..MANY {
         match K::listen(rt, rt.alloc(), event) {
