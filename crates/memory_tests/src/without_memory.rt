@@ -58,7 +58,7 @@ where
 
     assert_eq!(rt; waiting, (5, false));
     assert_eq!(rt; (pending, ready), (None, Some(())));
-    // The drop of the first listener told the second, which the next two notifications then count or not.
+    // The drop of the first listener told the second.
     assert!(rt; task.is_woken());
     assert_eq!(rt; first_told, Ok(1));
     assert_eq!(rt; then_told, [1, 1, 1]);
