@@ -22,8 +22,10 @@ where
 
     assert_eq!(rt; event.notify_additional(rt, 2), 2);
     last_waker.wake();
-    let woken = [order.next(rt), order.next(rt), order.next(rt)];
-    assert_eq!(rt; woken, [Some(one), Some(two), Some(after)]);
+    // Where a task is kept, the last one comes too early.
+    assert_eq!(rt; order.next(rt), Some(one));
+    assert_eq!(rt; order.next(rt), Some(two));
+    assert_eq!(rt; order.next(rt), Some(after));
 }
 
 #[test]
