@@ -1,7 +1,17 @@
-//! Tests of events by their public calls: what no clause says.
+//! Tests of events and of every kind of listener by their public calls: what no clause says.
 #![tactic(auto)]
 
 #[cfg(test)]
-mod events;
+mod finished;
 #[cfg(test)]
-mod refused_waits;
+mod identity;
+#[cfg(test)]
+mod notifications;
+#[cfg(test)]
+mod races;
+#[cfg(test)]
+mod support;
+#[cfg(test)]
+mod tags;
+#[cfg(test)]
+mod wakes;

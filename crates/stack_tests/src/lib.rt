@@ -1,9 +1,7 @@
-//! Tests of listeners that borrow their event by their public calls: what no clause says.
+//! Tests of slots, of the macro that makes listeners, and of what all of them show.
 #![tactic(auto)]
 
 #[cfg(test)]
-mod debug_texts;
-#[cfg(test)]
-mod identity;
-#[cfg(test)]
 mod stack;
+#[cfg(test)]
+mod texts;

@@ -4,12 +4,13 @@ use event_listener::{
     listener,
 };
 use futures::task::Poll;
-use std::alloc::Global;
+use std::alloc::{AllocError, Global};
 use std::cell::Cell;
+use std::io;
 use std::sync::Wait;
 use std::test::Fail;
-use std::time::Clock;
-use test_support::{Unshared, WakeOrder, any_waker, wakes_a_parked_thread};
+use std::time::{Clock, Duration};
+use test_support::{Unshared, any_waker};
 
 // An error of the tests' own, that a refused listening turns into.
 #[derive(Debug, Drop, PartialEq, Eq)]
@@ -99,45 +100,6 @@ fn a_slot_changes_nothing_until_it_listens(rt: HostRuntime) -> Result<(), Fail> 
     Ok(())
 }
 
-#[test]
-fn the_drop_of_a_told_stack_listener_passes_on(rt: HostRuntime) -> Result<(), Fail> {
-    let event: Event<u8> = Event::with_tag(EventIds::new().next()?);
-    listener!(&rt, rt.alloc(); event => told);
-    listener!(&rt, rt.alloc(); event => waiting);
-    assert_eq!(rt; event.notify(&rt, 1.tag(7))?, 1);
-    drop(told);
-    assert_eq!(rt; event.total_listeners(&rt), 1);
-    assert!(rt; matches!(waiting.poll(any_waker(&rt)?)?, Poll::Ready(7)));
-    Ok(())
-}
-
-#[test]
-fn a_told_stack_listener_that_is_discarded_passes_nothing_on(rt: HostRuntime) -> Result<(), Fail> {
-    let event = Event::new(EventIds::new().next()?);
-    listener!(&rt, rt.alloc(); event => told);
-    listener!(&rt, rt.alloc(); event => waiting);
-    assert_eq!(rt; event.notify(&rt, 1)?, 1);
-    assert!(rt; told.discard());
-    assert_eq!(rt; event.total_listeners(&rt), 1);
-    assert!(rt; waiting.poll(any_waker(&rt)?)?.is_pending());
-    Ok(())
-}
-
-#[test]
-fn the_drop_of_a_told_stack_listener_wakes_a_parked_thread(rt: HostRuntime) -> Result<(), Fail> {
-    let event = Event::new(EventIds::new().next()?);
-    listener!(&rt, rt.alloc(); event => told);
-    assert_eq!(rt; event.notify(&rt, 1)?, 1);
-    let order = WakeOrder::new(&rt)?;
-    let (_, waker) = order.task(&rt)?;
-    listener!(&rt, rt.alloc(); event => waiting);
-    assert!(rt; waiting.poll(waker)?.is_pending());
-    let woken = wakes_a_parked_thread(&rt, &order, || drop(told));
-    assert!(rt; woken);
-    assert!(rt; waiting.poll(any_waker(&rt)?)?.is_ready());
-    Ok(())
-}
-
 // The slot ends here, and the listener goes on.
 fn listen<'ev, R: Wait + Clock + Clone>(
     rt: &R,
@@ -167,41 +129,58 @@ fn a_stack_listener_may_move_while_its_event_lives(rt: HostRuntime) -> Result<()
     Ok(())
 }
 
-#[test]
-fn both_kinds_of_listeners_stand_in_one_queue(rt: HostRuntime) -> Result<(), Fail> {
-    let event = Event::new(EventIds::new().next()?);
-    listener!(&rt, rt.alloc(); event => first);
-    let mut second = event.listen(&rt, rt.alloc())?;
-    listener!(&rt, rt.alloc(); event => third);
-    assert_eq!(rt; event.notify(&rt, 2)?, 2);
-    assert!(rt; first.poll(any_waker(&rt)?)?.is_ready());
-    assert!(rt; second.poll(any_waker(&rt)?)?.is_ready());
-    assert!(rt; third.poll(any_waker(&rt)?)?.is_pending());
-    Ok(())
+// A runtime value that counts how often it is cloned.
+#[derive(Drop)]
+struct CountedClones<'a, R> {
+    rt: &'a R,
+    clones: &'a Cell<u32>,
+}
+
+impl<'a, R: Wait> Wait for CountedClones<'a, R> {}
+
+impl<'a, R: Clock> Clock for CountedClones<'a, R> {
+    fn monotonic(&self) -> io::Result<Duration> {
+        self.rt.monotonic()
+    }
+
+    fn since_1970(&self) -> io::Result<Duration> {
+        self.rt.since_1970()
+    }
+}
+
+impl<'a, R> Clone for CountedClones<'a, R> {
+    fn clone(&self) -> Result<Self, AllocError> {
+        let (rt, clones) = (self.rt, self.clones);
+        Ok(counted(clones, CountedClones { rt, clones }))
+    }
+}
+
+fn counted<T>(times: &Cell<u32>, value: T) -> T {
+    times.set(times.get().saturating_add(1));
+    value
+}
+
+// How often the macro evaluates its runtime, its allocator and its event, and how often it listens: each listening
+// clones the runtime value once.
+fn evaluations<R: Wait + Clock + Clone>(
+    rt: &R,
+    alloc: Global,
+    event: &Event<()>,
+) -> Result<[u32; 4], ListenError> {
+    let (runtimes, allocators, events) = (Cell::new(0), Cell::new(0), Cell::new(0));
+    let clones = Cell::new(0);
+    let runtime = CountedClones {
+        rt,
+        clones: &clones,
+    };
+    listener!(counted(&runtimes, &runtime), counted(&allocators, alloc); *counted(&events, event) => _kept);
+    Ok([runtimes.get(), allocators.get(), events.get(), clones.get()])
 }
 
 #[test]
-fn a_shared_listener_passes_on_after_its_event_is_gone(rt: HostRuntime) -> Result<(), Fail> {
-    let event: Event<u8> = Event::with_tag(EventIds::new().next()?);
-    let told = event.listen(&rt, rt.alloc())?;
-    let mut waiting = event.listen(&rt, rt.alloc())?;
-    assert_eq!(rt; event.notify(&rt, 1.tag(7))?, 1);
-    drop(event);
-    drop(told);
-    assert!(rt; matches!(waiting.poll(any_waker(&rt)?)?, Poll::Ready(7)));
-    Ok(())
-}
-
-#[test]
-fn nobody_listens_where_the_runtime_is_not_cloned(rt: HostRuntime) -> Result<(), Fail> {
+fn the_macro_evaluates_each_of_its_expressions_once(rt: HostRuntime) -> Result<(), Fail> {
     let event = Event::new(EventIds::new().next()?);
-    let unshared = Unshared { rt: &rt };
-    let refused = StackSlot::new(&rt, rt.alloc(), &event)?.listen(&unshared);
-    assert!(rt; matches!(refused, Err(ListenError::Memory)));
-    assert_eq!(rt; event.total_listeners(&rt), 0);
-    let refused = event.listen(&unshared, rt.alloc());
-    assert!(rt; matches!(refused, Err(ListenError::Memory)));
-    assert_eq!(rt; event.total_listeners(&rt), 0);
+    assert_eq!(rt; evaluations(&rt, rt.alloc(), &event)?, [1, 1, 1, 1]);
     Ok(())
 }
 
@@ -218,7 +197,5 @@ fn tags_that_may_be_sent_are_enough(rt: HostRuntime) -> Result<(), Fail> {
     let shared: EventListener<Cell<u8>, HostRuntime> = event.listen(&rt, rt.alloc())?;
     is_shared_by_threads(&stacked);
     is_shared_by_threads(&shared);
-    let untagged = Event::new(EventIds::new().next()?);
-    is_shared_by_threads(&untagged);
     Ok(())
 }

@@ -1,6 +1,7 @@
-//! What events, slots and listeners show of themselves.
-use event_listener::{Event, EventIds, StackSlot, listener};
+//! What events, slots, listeners and refusals show of themselves.
+use event_listener::{Event, EventIds, Listener, StackSlot, listener};
 use std::test::Fail;
+use test_support::any_waker;
 
 // A tag that shows nothing of itself.
 #[derive(Drop)]
@@ -65,6 +66,30 @@ fn slots_and_listeners_show_their_names(rt: HostRuntime) -> Result<(), Fail> {
     assert_eq!(rt;
         format!(in alloc; "{event:?}")?.as_str(),
         "Event { listeners_notified: 0, listeners_total: 2 }"
+    );
+    Ok(())
+}
+
+#[test]
+fn refusals_say_what_was_refused(rt: HostRuntime) -> Result<(), Fail> {
+    let alloc = rt.alloc();
+    let used_up = EventIds::starting_at(u64::MAX)
+        .next()
+        .expect_err(&rt, "an identity was given");
+    assert_eq!(rt;
+        format!(in alloc; "{used_up}")?.as_str(),
+        "event identities are used up"
+    );
+    let event = Event::new(EventIds::new().next()?);
+    let mut finished = event.listen(&rt, alloc)?;
+    event.notify_additional(&rt, 1);
+    assert!(rt; finished.poll(any_waker(&rt)?)?.is_ready());
+    let absent = finished
+        .poll(any_waker(&rt)?)
+        .expect_err(&rt, "the listener is in the queue");
+    assert_eq!(rt;
+        format!(in alloc; "{absent}")?.as_str(),
+        "listener is not in the queue"
     );
     Ok(())
 }

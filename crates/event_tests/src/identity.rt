@@ -1,0 +1,42 @@
+//! Which listeners and events belong together.
+use crate::support::{Runtime, listen, new_event};
+use event_listener::{Event, EventIds, Listener};
+use test_support::{Borrowing, ListenerKind, Sharing};
+
+// Events are told apart by their numbers, so one of another source may be taken for the first.
+fn known_by_number<'ev, K, R>(
+    rt: &R,
+    event: &'ev Event<()>,
+    other: &'ev Event<()>,
+    namesake: &'ev Event<()>,
+)
+where
+    K: ListenerKind<'ev, (), R>,
+    R: Runtime,
+{
+    let listener = listen::<K, _, R>(rt, event);
+    let apart = listen::<K, _, R>(rt, other);
+    let of_namesake = listen::<K, _, R>(rt, namesake);
+    let listens = [
+        listener.listens_to(event),
+        listener.listens_to(other),
+        listener.listens_to(namesake),
+    ];
+    assert_eq!(rt; listens, [true, false, true]);
+    let same = [
+        listener.same_event(&listener),
+        listener.same_event(&apart),
+        listener.same_event(&of_namesake),
+    ];
+    assert_eq!(rt; same, [true, false, true]);
+}
+
+#[test]
+fn listeners_know_their_event_by_its_number(rt: HostRuntime) {
+    let mut ids = EventIds::new();
+    let event = Event::new(ids.next().expect(&rt, "an identity"));
+    let other = Event::new(ids.next().expect(&rt, "an identity"));
+    let namesake = new_event(&rt);
+    known_by_number::<Sharing, _>(&rt, &event, &other, &namesake);
+    known_by_number::<Borrowing, _>(&rt, &event, &other, &namesake);
+}
