@@ -4,8 +4,6 @@
 #[cfg(test)]
 mod doubles;
 #[cfg(test)]
-mod drops;
-#[cfg(test)]
 mod notifications;
 #[cfg(test)]
 mod queue;

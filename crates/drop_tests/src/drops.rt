@@ -1,9 +1,9 @@
 //! When a tag or a task is dropped. No clause says it, so each value here counts its own drops.
-use event_queue::{Call, List, Notification, RegisterResult, Reply, State, Woken};
-use std::alloc::{AllocError, Global};
+use event_queue::{Call, Key, List, Notification, RegisterResult, Reply, State, Woken};
+use std::alloc::{AllocError, AllocGlobal, Global};
 use std::cell::Cell;
+use std::process::Abort;
 use std::rc::Rc;
-use std::test::Fail;
 
 /// A tag or a task that counts its drops.
 struct Counted {
@@ -72,13 +72,27 @@ impl Notification for OneTag {
 
 type Queue = List<Counted, Counted>;
 
+// Each of these ends the test where memory is refused. A `?` would be a further way out of the test, on which every value
+// is dropped.
+fn with_drop_count<R: Abort + AllocGlobal>(rt: &R) -> (Counted, Rc<Cell<u8>>) {
+    Counted::with_count(rt.alloc()).expect(rt, "a counted value")
+}
+
+fn no_room<R: Abort + AllocGlobal>(rt: &R) -> Woken<Counted> {
+    Woken::with_room(rt.alloc(), 0).expect(rt, "a sink")
+}
+
+fn insert<R: Abort>(rt: &R, queue: &mut Queue) -> Key {
+    queue.insert().expect(rt, "a listener")
+}
+
 #[test]
-fn task_for_a_told_listener_is_dropped(rt: HostRuntime) -> Result<(), Fail> {
-    let (tag, tag_drops) = Counted::with_count(rt.alloc())?;
-    let (task, task_drops) = Counted::with_count(rt.alloc())?;
+fn task_for_a_told_listener_is_dropped(rt: HostRuntime) {
+    let (tag, tag_drops) = with_drop_count(&rt);
+    let (task, task_drops) = with_drop_count(&rt);
     let mut queue: Queue = List::new(rt.alloc());
-    let mut woken = Woken::with_room(rt.alloc(), 0)?;
-    let key = queue.insert()?;
+    let mut woken = no_room(&rt);
+    let key = insert(&rt, &mut queue);
     let answer = queue.notify(&mut OneTag::new(1, false, tag), &mut woken);
     assert_eq!(rt; answer, Ok(1));
 
@@ -88,33 +102,31 @@ fn task_for_a_told_listener_is_dropped(rt: HostRuntime) -> Result<(), Fail> {
     assert_eq!(rt; tag_drops.get(), 0);
     drop(answer);
     assert_eq!(rt; tag_drops.get(), 1);
-    Ok(())
 }
 
 #[test]
-fn task_for_a_stale_key_is_dropped(rt: HostRuntime) -> Result<(), Fail> {
-    let (stored, stored_drops) = Counted::with_count(rt.alloc())?;
-    let (late, late_drops) = Counted::with_count(rt.alloc())?;
+fn task_for_a_stale_key_is_dropped(rt: HostRuntime) {
+    let (stored, stored_drops) = with_drop_count(&rt);
+    let (late, late_drops) = with_drop_count(&rt);
     let mut queue: Queue = List::new(rt.alloc());
-    let mut woken = Woken::with_room(rt.alloc(), 0)?;
-    let stale = queue.insert()?;
+    let mut woken = no_room(&rt);
+    let stale = insert(&rt, &mut queue);
     drop(queue.remove(stale, false, &mut woken));
-    let key = queue.insert()?;
+    let key = insert(&rt, &mut queue);
     drop(queue.register(key, stored));
 
     let answer = queue.register(stale, late);
     assert!(rt; matches!(&answer, RegisterResult::NeverInserted));
     assert_eq!(rt; late_drops.get(), 1);
     assert_eq!(rt; stored_drops.get(), 0);
-    Ok(())
 }
 
 #[test]
-fn replaced_task_is_dropped(rt: HostRuntime) -> Result<(), Fail> {
-    let (first, first_drops) = Counted::with_count(rt.alloc())?;
-    let (second, second_drops) = Counted::with_count(rt.alloc())?;
+fn replaced_task_is_dropped(rt: HostRuntime) {
+    let (first, first_drops) = with_drop_count(&rt);
+    let (second, second_drops) = with_drop_count(&rt);
     let mut queue: Queue = List::new(rt.alloc());
-    let key = queue.insert()?;
+    let key = insert(&rt, &mut queue);
     let answer = queue.register(key, first);
     assert!(rt; matches!(&answer, RegisterResult::Registered));
     assert_eq!(rt; first_drops.get(), 0);
@@ -123,16 +135,15 @@ fn replaced_task_is_dropped(rt: HostRuntime) -> Result<(), Fail> {
     assert!(rt; matches!(&answer, RegisterResult::Registered));
     assert_eq!(rt; first_drops.get(), 1);
     assert_eq!(rt; second_drops.get(), 0);
-    Ok(())
 }
 
 #[test]
-fn stored_task_is_dropped_with_the_answer_of_its_removal(rt: HostRuntime) -> Result<(), Fail> {
+fn stored_task_is_dropped_with_the_answer_of_its_removal(rt: HostRuntime) {
     for propagate in [false, true] {
-        let (task, drops) = Counted::with_count(rt.alloc())?;
+        let (task, drops) = with_drop_count(&rt);
         let mut queue: Queue = List::new(rt.alloc());
-        let mut woken = Woken::with_room(rt.alloc(), 0)?;
-        let key = queue.insert()?;
+        let mut woken = no_room(&rt);
+        let key = insert(&rt, &mut queue);
         drop(queue.register(key, task));
 
         let answer = queue.remove(key, propagate, &mut woken);
@@ -144,17 +155,16 @@ fn stored_task_is_dropped_with_the_answer_of_its_removal(rt: HostRuntime) -> Res
         drop(answer);
         assert_eq!(rt; drops.get(), 1, "propagate: {propagate}");
     }
-    Ok(())
 }
 
 #[test]
-fn propagated_tag_is_dropped_once_nobody_is_left_to_tell(rt: HostRuntime) -> Result<(), Fail> {
+fn propagated_tag_is_dropped_once_nobody_is_left_to_tell(rt: HostRuntime) {
     for additional in [false, true] {
-        let (tag, drops) = Counted::with_count(rt.alloc())?;
+        let (tag, drops) = with_drop_count(&rt);
         let mut queue: Queue = List::new(rt.alloc());
-        let mut woken = Woken::with_room(rt.alloc(), 0)?;
-        let first = queue.insert()?;
-        let second = queue.insert()?;
+        let mut woken = no_room(&rt);
+        let first = insert(&rt, &mut queue);
+        let second = insert(&rt, &mut queue);
         let answer = queue.notify(&mut OneTag::new(1, additional, tag), &mut woken);
         assert_eq!(rt; answer, Ok(1));
 
@@ -167,18 +177,17 @@ fn propagated_tag_is_dropped_once_nobody_is_left_to_tell(rt: HostRuntime) -> Res
         assert!(rt; matches!(&answer, Some(State::NotifiedTaken)));
         assert_eq!(rt; drops.get(), 1, "additional: {additional}");
     }
-    Ok(())
 }
 
 #[test]
-fn default_tag_is_dropped_while_another_listener_stays_told(rt: HostRuntime) -> Result<(), Fail> {
-    let (tag, drops) = Counted::with_count(rt.alloc())?;
-    let (other, other_drops) = Counted::with_count(rt.alloc())?;
+fn default_tag_is_dropped_while_another_listener_stays_told(rt: HostRuntime) {
+    let (tag, drops) = with_drop_count(&rt);
+    let (other, other_drops) = with_drop_count(&rt);
     let mut queue: Queue = List::new(rt.alloc());
-    let mut woken = Woken::with_room(rt.alloc(), 0)?;
-    let first = queue.insert()?;
-    let second = queue.insert()?;
-    let third = queue.insert()?;
+    let mut woken = no_room(&rt);
+    let first = insert(&rt, &mut queue);
+    let second = insert(&rt, &mut queue);
+    let third = insert(&rt, &mut queue);
     let answer = queue.notify(&mut OneTag::new(1, false, tag), &mut woken);
     assert_eq!(rt; answer, Ok(1));
     let answer = queue.notify(&mut OneTag::new(2, false, other), &mut woken);
@@ -190,26 +199,28 @@ fn default_tag_is_dropped_while_another_listener_stays_told(rt: HostRuntime) -> 
     assert_eq!(rt; other_drops.get(), 0);
     assert!(rt; queue.is_told(second));
     assert!(rt; !queue.is_told(third));
-    Ok(())
 }
 
 #[test]
-fn tags_left_over_in_a_run_are_dropped(rt: HostRuntime) -> Result<(), Fail> {
-    let (given, given_drops) = Counted::with_count(rt.alloc())?;
-    let (left, left_drops) = Counted::with_count(rt.alloc())?;
-    let (last, last_drops) = Counted::with_count(rt.alloc())?;
+fn tags_left_over_in_a_run_are_dropped(rt: HostRuntime) {
+    let (given, given_drops) = with_drop_count(&rt);
+    let (left, left_drops) = with_drop_count(&rt);
+    let (last, last_drops) = with_drop_count(&rt);
     let mut queue: Queue = List::new(rt.alloc());
-    let mut woken = Woken::with_room(rt.alloc(), 0)?;
+    let mut woken = no_room(&rt);
     let mut replies = Vec::new(rt.alloc());
     let calls = vec![in rt.alloc();
         Call::Insert,
         Call::Notify {
             count: 3,
             additional: true,
-            tags: vec![in rt.alloc(); given, left, last]?,
+            tags: vec![in rt.alloc(); given, left, last].expect(&rt, "tags"),
         },
-    ]?;
-    queue.run(calls, &mut replies, &mut woken)?;
+    ]
+    .expect(&rt, "calls");
+    queue
+        .run(calls, &mut replies, &mut woken)
+        .expect(&rt, "replies");
     assert!(rt; matches!(replies.last(), Some(Reply::Notified(Ok(1)))));
     assert_eq!(rt; given_drops.get(), 0);
     assert_eq!(rt; left_drops.get(), 1);
@@ -218,5 +229,4 @@ fn tags_left_over_in_a_run_are_dropped(rt: HostRuntime) -> Result<(), Fail> {
     // What the queue still holds is dropped with it.
     drop(queue);
     assert_eq!(rt; given_drops.get(), 1);
-    Ok(())
 }

@@ -1,0 +1,5 @@
+//! Tests of when the queue drops a tag or a task, which no clause says.
+#![tactic(auto)]
+
+#[cfg(test)]
+mod drops;
