@@ -9,7 +9,7 @@ mod shared;
 #[cfg(test)]
 mod tests;
 
-use crate::listener::{EventListener, Seat};
+use crate::listener::{EventListener, InnerListener};
 use crate::task::Waking;
 use event_queue::{IntoNotification, ListenError, NotifyError};
 pub use identity::{EventId, EventIds, IdsUsedUp, given_numbers_are_distinct};
@@ -21,12 +21,12 @@ use std::time::Clock;
 
 /// What others listen to, and are notified of.
 ///
-/// Its listeners stand in one queue, in order of listening. The queue is made by the first of them, or by the first
-/// [`StackSlot`](crate::StackSlot). Each call that asks or changes it is one step under a lock that no other event has,
-/// and may wait for that lock. Tags are made and tasks are woken inside that step; a tag's function or clone that calls
-/// the same event waits for itself.
+/// Its listeners stand in one queue, in order of listening. The first of them, or the first
+/// [`StackSlot`](crate::StackSlot), makes the queue. Each call that reads or changes the queue is one step under a lock
+/// that no other event has, and may wait for that lock. Inside that step tags are made, lost tags are dropped and tasks
+/// are woken: calling the same event from a tag's function, clone or drop there deadlocks.
 ///
-/// A contract sees an event as the number of its identity. What stands in its queue no contract can name, since other
+/// A contract sees an event as the number of its identity. No contract can name what stands in its queue, since other
 /// threads may change it at any time.
 #[derive(Drop)]
 pub struct Event<T> {
@@ -43,8 +43,9 @@ impl<T> Model for Event<T> {
 }
 
 impl<T> Event<T> {
-    /// An event whose notifications have tags of type `T`. It takes no memory, and nor does a notification or a question
-    /// until somebody listens or makes a slot.
+    /// An event whose notifications have tags of type `T`. It has no queue until somebody listens or makes a slot.
+    ///
+    /// The call neither allocates nor waits.
     pub fn with_tag(id: EventId) -> Self
         ensures { result ≡ id }
     {
@@ -54,12 +55,14 @@ impl<T> Event<T> {
         }
     }
 
-    /// A new listener, which waits at the end of the queue. It starts untold, whoever is told already.
+    /// A new listener, which waits at the end of the queue. It starts untold, whoever is told already. It keeps a share
+    /// of the queue and a clone of the runtime value, for its own calls.
     ///
-    /// The call takes memory: for the queue, where there is none yet or it has no spare place, and for a share of it
-    /// and a clone of the runtime value, which the listener keeps for its own calls. [`ListenError::Memory`] is the
-    /// answer where any of that is refused, and [`ListenError::SerialsUsedUp`] where the queue has given out all
-    /// serial numbers. Either leaves the queue as it was.
+    /// Returns [`ListenError::Memory`] where memory, the share or the clone is refused, and
+    /// [`ListenError::SerialsUsedUp`] where the queue has given out all serial numbers. Neither inserts anybody.
+    ///
+    /// The call allocates where there is no queue yet or the queue has no spare slot. It may wait for the lock of the
+    /// event, and for a thread that is making the queue.
     pub fn listen<R>(&self, rt: &R, alloc: Global) -> Result<EventListener<T, R>, ListenError>
     where
         T: Drop,
@@ -74,8 +77,8 @@ impl<T> Event<T> {
             return Err(ListenError::Memory);
         };
         let key = shared.lock(rt).insert()?;
-        let seat = Seat::new(key, self.id.number(), runtime, alloc);
-        Ok(EventListener::new(shared, seat))
+        let inner = InnerListener::new(key, self.id.number(), runtime, alloc);
+        Ok(EventListener::new(shared, inner))
     }
 
     // A share of the queue, which is made where there is none.
@@ -87,7 +90,7 @@ impl<T> Event<T> {
     }
 
     /// The queue, which is made where there is none. Where two threads make it at once, the second drops its own and
-    /// takes the first one's.
+    /// takes that of the first.
     pub(crate) fn queue<R: Wait>(
         &self,
         rt: &R,
@@ -115,12 +118,16 @@ impl<T> Event<T> {
     }
 
     /// Tells the first of the waiting listeners, in order, each with the notification's next tag, and wakes their
-    /// tasks. Answers how many were told.
+    /// tasks. Returns how many it told.
     ///
     /// It tells as many as the notification counts, less those that are told already where it is a default one, and
-    /// no more than wait. One that finds nobody to tell is not kept. Before anybody has listened the answer is 0, and
-    /// no queue is made. The error comes only where the notification refused a tag: the listeners told until then stay
-    /// told, and nobody is skipped. The call takes no memory, but for what the notification takes.
+    /// no more than wait. A notification that finds nobody to tell is not kept. Before anybody has listened the call
+    /// returns 0, and makes no queue.
+    ///
+    /// Returns [`NotifyError`] only where the notification refused a tag: the listeners told until then stay told, and
+    /// nobody is skipped.
+    ///
+    /// The call allocates only what the notification allocates for its tags. It may wait for the lock of the event.
     pub fn notify<R: Wait, N: IntoNotification<Tag = T>>(
         &self,
         rt: &R,
@@ -141,7 +148,9 @@ impl<T> Event<T> {
         }
     }
 
-    /// Whether some listener is told. It takes no memory.
+    /// Whether some listener is told.
+    ///
+    /// The call does not allocate. It may wait for the lock of the event.
     pub fn is_notified<R: Wait>(&self, rt: &R) -> bool {
         match self.shared.get() {
             Some(shared) => shared.lock(rt).is_notified(),
@@ -149,7 +158,9 @@ impl<T> Event<T> {
         }
     }
 
-    /// How many listeners there are, told or waiting. It takes no memory.
+    /// How many listeners there are, told or waiting.
+    ///
+    /// The call does not allocate. It may wait for the lock of the event.
     pub fn total_listeners<R: Wait>(&self, rt: &R) -> usize {
         match self.shared.get() {
             Some(shared) => shared.lock(rt).total_listeners(),
@@ -159,37 +170,45 @@ impl<T> Event<T> {
 }
 
 impl Event<()> {
-    /// An event whose notifications have no tags. It takes no memory, and nor does a notification or a question until
-    /// somebody listens or makes a slot.
+    /// An event whose notifications have no tags. It has no queue until somebody listens or makes a slot.
+    ///
+    /// The call neither allocates nor waits.
     pub fn new(id: EventId) -> Event<()>
         ensures { result ≡ id }
     {
         Event::with_tag(id)
     }
 
-    /// [`notify`](Event::notify) with `n.relaxed()`: here that is `n` itself. Nothing is refused.
+    /// [`notify`](Event::notify) with `n.relaxed()`, which here means what `n` means. It returns no error.
+    ///
+    /// The call does not allocate. It may wait for the lock of the event.
     pub fn notify_relaxed<R: Wait>(&self, rt: &R, n: usize) -> usize
         ensures { result ≤ n }
     {
         self.notify_unrefused(rt, n.relaxed())
     }
 
-    /// [`notify`](Event::notify) with `n.additional()`: it tells as many listeners anew, whoever is told already.
-    /// Nothing is refused.
+    /// [`notify`](Event::notify) with `n.additional()`: it tells `n` listeners more, whoever is told already. It returns
+    /// no error.
+    ///
+    /// The call does not allocate. It may wait for the lock of the event.
     pub fn notify_additional<R: Wait>(&self, rt: &R, n: usize) -> usize
         ensures { result ≤ n }
     {
         self.notify_unrefused(rt, n.additional())
     }
 
-    /// [`notify`](Event::notify) with `n.additional().relaxed()`: here that is `n.additional()`. Nothing is refused.
+    /// [`notify`](Event::notify) with `n.additional().relaxed()`, which here means what `n.additional()` means. It
+    /// returns no error.
+    ///
+    /// The call does not allocate. It may wait for the lock of the event.
     pub fn notify_additional_relaxed<R: Wait>(&self, rt: &R, n: usize) -> usize
         ensures { result ≤ n }
     {
         self.notify_unrefused(rt, n.additional().relaxed())
     }
 
-    // A notification that refuses no tag gives no error.
+    // A notification that refuses no tag returns no error.
     fn notify_unrefused<R: Wait, N: IntoNotification<Tag = ()>>(&self, rt: &R, n: N) -> usize
     where
         N::Notify: Drop,

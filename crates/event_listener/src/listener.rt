@@ -4,8 +4,9 @@ ghost use Rattle.futures.specs.Poll.{IfReady, OnPending};
 ghost use Rattle.event_listener.specs.Waiting.{HandsBack};
 
 mod event_listener;
+mod inner_listener;
 mod macros;
-mod seat;
+mod membership;
 mod stack_listener;
 mod stack_slot;
 #[cfg(test)]
@@ -16,7 +17,7 @@ mod wait_error;
 use crate::event::Event;
 pub use event_listener::EventListener;
 use futures::task::{Poll, Waker};
-pub(crate) use seat::Seat;
+pub(crate) use inner_listener::InnerListener;
 pub use stack_listener::StackListener;
 pub use stack_slot::StackSlot;
 use std::time::{Duration, Instant};
@@ -30,9 +31,9 @@ pub struct NeverInserted;
 
 /// What waits in the queue of an event until it is told.
 ///
-/// Dropping a listener passes its notification on, if it was told: its event is notified of one, of the same kind and
-/// with the same tag. So a default notification is lost while another listener stays told, and an additional one only
-/// where nobody waits.
+/// Dropping a listener removes it from the queue. If it was told, that passes its notification on: the event is notified
+/// of one, of the same kind and with the same tag. So a default notification is lost while another listener stays told,
+/// and an additional one only where nobody waits. The drop does not allocate, and may wait for the lock of the event.
 ///
 /// The trait is open. Generic callers know an implementation by its ghost members: `event_number`, the number of the
 /// event that it listens to, and `is_finished`, whether it has given its tag.
@@ -40,28 +41,34 @@ pub struct NeverInserted;
 /// # Waiting
 ///
 /// [`wait`](Listener::wait), [`wait_timeout`](Listener::wait_timeout) and [`wait_deadline`](Listener::wait_deadline)
-/// use the calling thread. Each makes what the thread parks on, then takes the tag if the listener was told, and only
-/// then looks at the time; so a listener that was told already gets its tag, however late it is. Then the thread parks
-/// until it is woken or the time is up, and looks again. No contract says that it is woken, or that the call returns.
+/// block the calling thread, in this order:
 ///
-/// A wait takes memory for what it parks on, and before each look a share of that. Where either is refused, the answer
-/// is [`WaitError::Memory`] with the same listener, which is where it was, but that a task which the wait left in the
-/// queue stays there. Else a finished listener answers [`WaitError::NeverInserted`].
+/// 1. `wait_timeout` reads the clock, which fixes its deadline.
+/// 2. The wait allocates what the thread parks on, and takes a share of that.
+/// 3. If the listener was told, the wait takes the tag and returns it. Else it stores the share in the queue.
+/// 4. It reads the clock, if it has a deadline. If that has passed, it removes the listener and passes nothing on; a tag
+///    that came since the last step is returned.
+/// 5. The thread parks until it is woken or the deadline comes. Then the wait takes a new share, and goes on at 3.
 ///
-/// The time is that of the runtime value which the listener keeps. No lock is held while it is read.
+/// So a listener that was told already gives its tag, however late it is. Steps 3 and 4 may wait for the lock of the
+/// event. The clock is that of the runtime value which the listener keeps, and no lock is held while it is read. No
+/// contract says that a thread is woken, or that a wait returns.
+///
+/// Where step 2 or a new share is refused, the wait returns [`WaitError::Memory`] with the same listener. It is where it
+/// was: no wait removes a listener, or takes its tag, before it returns that error. A task that the wait stored in the
+/// queue stays there. Else a wait on a finished listener returns [`WaitError::NeverInserted`].
 pub trait Listener<T>: Sized {
     ghost event_number: { Self → ℕ };
 
     ghost is_finished: { Self → Bool };
 
-    /// Takes the tag if the listener was told, which finishes it; else leaves the waker, in place of any earlier one.
+    /// Takes the tag if the listener was told, which finishes it; else stores the waker, in place of any earlier one.
     ///
-    /// A finished listener answers [`NeverInserted`] and stays finished. The call takes no memory, and may wait for
+    /// A finished listener returns [`NeverInserted`] and stays finished. The call does not allocate. It may wait for
     /// the lock of the event.
     ///
-    /// The waker that is handed in always takes the place of the one before. A waker wakes when it is let go, so the
-    /// task of the one before is woken, even if that is the task that polls. The same happens to a waker that is
-    /// handed in and not stored.
+    /// The waker always takes the place of the one before. A waker wakes when it is dropped, so the task of the one
+    /// before is woken, even if that is the task that polls. The same happens to a waker that is not stored.
     fn poll(&mut self, waker: Waker) -> Result<Poll<T>, NeverInserted>
         ensures finished { is_finished self.old ≡ true → IsErr result }
         ensures event { event_number self.new ≡ event_number self.old }
@@ -73,48 +80,49 @@ pub trait Listener<T>: Sized {
         ensures same { IfOk result (λ polled. OnPending polled (self.new ≡ self.old)) }
         ensures err { OnErr result (is_finished self.new ≡ true) };
 
-    /// Waits until the listener is told, and gives the tag.
+    /// Waits until the listener is told, and returns the tag.
     ///
-    /// See [Waiting](Listener#waiting) for what a wait takes and what its refusals leave.
+    /// See [Waiting](Listener#waiting) for what it allocates, what it waits for, and what its errors leave.
     fn wait(self) -> Result<T, WaitError<Self>>
         ensures finished { is_finished self ≡ true → IsErr result }
         ensures memory { IfErr result (HandsBack self) };
 
-    /// Waits until the listener is told or so much time has passed, and gives the tag or `None`. The listener is out
-    /// of the queue then; what it was told after its time is not passed on, but given.
+    /// Waits until the listener is told or so much time has passed, and returns the tag or `None`. The listener is out
+    /// of the queue then. A tag that comes after that time and before the removal is returned too, and not passed on.
     ///
     /// Where the present moment and the timeout add up to one that can't be represented, it waits without a limit. A
-    /// clock that can't be read counts as one whose time has passed. See [Waiting](Listener#waiting) for what a wait
-    /// takes and what its refusals leave.
+    /// clock that can't be read counts as one that shows the deadline. See [Waiting](Listener#waiting) for what it
+    /// allocates, what it waits for, and what its errors leave.
     fn wait_timeout(self, timeout: Duration) -> Result<Option<T>, WaitError<Self>>
         ensures finished { is_finished self ≡ true → IsErr result }
         ensures memory { IfErr result (HandsBack self) };
 
-    /// Waits until the listener is told or that moment of its own clock has come, and gives the tag or `None`. The
-    /// listener is out of the queue then; what it was told after that moment is not passed on, but given.
+    /// Waits until the listener is told or that moment of its own clock has come, and returns the tag or `None`. The
+    /// listener is out of the queue then. A tag that comes after that moment and before the removal is returned too, and
+    /// not passed on.
     ///
-    /// A clock that can't be read counts as one whose time has passed. See [Waiting](Listener#waiting) for what a wait
-    /// takes and what its refusals leave.
+    /// A clock that can't be read counts as one that shows the deadline. See [Waiting](Listener#waiting) for what it
+    /// allocates, what it waits for, and what its errors leave.
     fn wait_deadline(self, deadline: Instant) -> Result<Option<T>, WaitError<Self>>
         ensures finished { is_finished self ≡ true → IsErr result }
         ensures memory { IfErr result (HandsBack self) };
 
-    /// Leaves the queue without passing a notification on, and answers whether the listener was told. A finished one
-    /// answers `false`.
+    /// Removes the listener from the queue without passing a notification on, and returns whether it was told. A
+    /// finished one returns `false`.
     ///
-    /// The call takes no memory, and may wait for the lock of the event.
+    /// The call does not allocate. It may wait for the lock of the event.
     fn discard(self) -> bool
         ensures finished { is_finished self ≡ true → result ≡ false };
 
     /// Whether the listener listens to this event: whether their numbers are the same.
     ///
-    /// Events of two sources may have one number. The call takes no memory and no lock.
+    /// Events of two sources may have one number. The call neither allocates nor waits.
     fn listens_to(&self, event: &Event<T>) -> bool
         ensures { IsTrue result ↔ (event_number self.now ≡ event.now) };
 
     /// Whether both listen to one event: whether the numbers of their events are the same.
     ///
-    /// Events of two sources may have one number. The call takes no memory and no lock.
+    /// Events of two sources may have one number. The call neither allocates nor waits.
     fn same_event(&self, other: &Self) -> bool
         ensures { IsTrue result ↔ (event_number self.now ≡ event_number other.now) };
 }

@@ -14,42 +14,41 @@ use std::sync::Wait;
 
 /// What is woken when a listener is told: the waker that a poll was handed, or a thread that waits.
 ///
-/// A waker wakes its task also when it is let go. So one that another takes the place of, and one that a listener leaves
-/// behind when it goes, wake theirs as well. A thread is woken only where its listener is told.
+/// A waker wakes its task also when it is dropped. So a waker that another one replaces wakes its task too, and so does
+/// one that a listener stored and that is dropped with it. A thread is woken only where its listener is told.
 #[derive(Drop)]
-pub struct Task(Sleeper);
+pub struct Task(TaskKind);
 
 #[derive(Drop)]
-enum Sleeper {
+enum TaskKind {
     Polled(Waker),
     Parked(Unparker),
 }
 
 impl Task {
-    /// The task that this waker wakes. It takes no memory.
+    /// The task that this waker wakes. The call neither allocates nor waits.
     pub fn from_waker(waker: Waker) -> Task {
-        Task(Sleeper::Polled(waker))
+        Task(TaskKind::Polled(waker))
     }
 
-    /// The thread that parks on this parker. It takes a share of the parker's token.
+    /// The thread that parks on this parker, by a share of the parker's token. The error is a refusal of that share.
     pub(crate) fn from_parker(parker: &Parker) -> Result<Task, AllocError> {
-        Ok(Task(Sleeper::Parked(parker.unparker()?)))
+        Ok(Task(TaskKind::Parked(parker.unparker()?)))
     }
 
     fn wake<R: Wait>(self, rt: &R) {
-        let Task(sleeper) = self;
-        match sleeper {
-            Sleeper::Polled(waker) => waker.wake(),
-            Sleeper::Parked(unparker) => unparker.unpark(rt),
+        let Task(kind) = self;
+        match kind {
+            TaskKind::Polled(waker) => waker.wake(),
+            TaskKind::Parked(unparker) => unparker.unpark(rt),
         }
     }
 }
 
-/// What every call on the queue of an event hands its tasks to: each is woken at once, so in queue order and under
-/// the lock.
+/// What every call on the queue of an event hands its tasks to. It wakes each at once, so in queue order and under the
+/// lock.
 ///
-/// It keeps nothing but the runtime value, so its relation says only that it stays as it is. That it wakes is shown by
-/// tests.
+/// It keeps nothing but the runtime value, so its relation says only that it stays as it is. Tests show that it wakes.
 #[derive(Drop)]
 pub(crate) struct Waking<'r, R: Wait> {
     rt: &'r R,

@@ -2,8 +2,8 @@
 use super::Event;
 use std::fmt;
 
-/// How many listeners are told and how many there are, or why that cannot be said: nobody has listened yet, or
-/// the lock can't be taken at once. It waits for nobody, and takes no memory.
+/// How many listeners are told and how many there are, or why that is not known: nobody has listened yet, or the lock
+/// can't be taken at once. It neither allocates nor waits, and holds no lock while it writes.
 impl<T> fmt::Debug for Event<T> {
     fn fmt<W: fmt::Write>(&self, f: &mut fmt::Formatter<W>) -> fmt::Result {
         let Some(shared) = self.shared.get() else {
@@ -19,7 +19,7 @@ impl<T> fmt::Debug for Event<T> {
                 .finish();
         };
         let (told, total) = (queue.listeners_notified(), queue.total_listeners());
-        // What is written to may ask the event too.
+        // The writer may call the event too.
         drop(queue);
         f.debug_struct("Event")
             .field("listeners_notified", &told)

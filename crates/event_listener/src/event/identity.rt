@@ -6,14 +6,15 @@ ghost use Rattle.event_listener.specs.Identity.{GivesNumber, IsLastNumber};
 use std::marker::Model;
 use thiserror::Error;
 
-/// A source of identities. Two that it gives are never the same; of two sources they may be.
+/// A source of identities. Two that it gives are never the same; of two sources they may be. Its calls neither allocate
+/// nor wait.
 #[derive(Debug, Drop)]
 pub struct EventIds {
     next: u64,
 }
 
-/// The identity of one event. It cannot be cloned, and an event takes it in, so two events with identities of one
-/// source have different numbers.
+/// The identity of one event. It cannot be cloned, and an event consumes it, so two events with identities of one source
+/// have different numbers.
 #[derive(Debug, Drop)]
 pub struct EventId {
     number: u64,
@@ -55,8 +56,8 @@ impl EventIds {
 
     /// The next identity; the one after it has the next number.
     ///
-    /// It is refused exactly where the next number is `u64::MAX`, which leaves the source as it was. It takes no
-    /// memory.
+    /// Returns [`IdsUsedUp`] exactly where the next number is `u64::MAX`, which leaves the source as it was. The call
+    /// neither allocates nor waits.
     pub fn next(&mut self) -> Result<EventId, IdsUsedUp>
         ensures given { IfOk result (λ id. GivesNumber self.old id self.new) }
         ensures refused { OnErr result (IsLastNumber self.old × (self.new ≡ self.old)) }
@@ -71,7 +72,7 @@ impl EventIds {
 }
 
 impl EventId {
-    /// The number of the identity, which is below `u64::MAX`.
+    /// The number of the identity, which is below `u64::MAX`. The call neither allocates nor waits.
     pub fn number(&self) -> u64
         ensures value { result ≡ self.now }
         ensures below { result + 1 < 2 ^ 64 }
@@ -85,13 +86,3 @@ pub fn given_numbers_are_distinct(ids: &EventIds)
     ensures { (numbers : List ℕ) (after : ℕ) → FoldsTo GivesNumber ids.now numbers after
         → AllPairs (λ earlier later. earlier ≢ later) numbers }
 {}
-
-// Two impls may not both fit one type, so these stand only as long as an identity cannot be cloned.
-#[cfg(test)]
-trait NotCloned {}
-
-#[cfg(test)]
-impl<T: Clone> NotCloned for T {}
-
-#[cfg(test)]
-impl NotCloned for EventId {}

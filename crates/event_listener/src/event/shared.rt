@@ -17,6 +17,14 @@ impl<T> Shared<T> {
         }
     }
 
+    // One whose queue gives this serial number next.
+    #[cfg(test)]
+    pub(super) fn starting_at(alloc: Global, serial: u64) -> Self {
+        Shared {
+            queue: Mutex::new(List::starting_at(alloc, serial)),
+        }
+    }
+
     /// The queue. Whoever takes the lock makes one call and gives it back, so each call is one step.
     pub(crate) fn lock<R: Wait>(&self, rt: &R) -> MutexGuard<'_, List<T, Task>> {
         self.queue.lock(rt)

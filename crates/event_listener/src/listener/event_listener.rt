@@ -1,8 +1,8 @@
 //! The listener that shares the queue of its event.
 ghost use Rattle.std.specs.Prelude.{◌≡◌};
 
-use super::seat::Seat;
-use super::wait::{Ended, Limit, Seated, wait_until_told, wait_within};
+use super::inner_listener::InnerListener;
+use super::wait::{Limit, wait_until_told, wait_within};
 use super::{Listener, NeverInserted, WaitError};
 use crate::event::{Event, Shared};
 use futures::task::{Poll, Waker};
@@ -13,11 +13,11 @@ use std::time::{Clock, Duration, Instant};
 
 /// A listener that shares the queue of its event, and so can outlive the event.
 ///
-/// It keeps a clone of the runtime value that it was made with and the allocator, for its own calls and its drop, which
-/// may wait for the lock of the event.
+/// It keeps a clone of the runtime value that it was made with and the allocator, for its own calls and its drop. What
+/// they do, allocate and wait for is said of every [`Listener`].
 pub struct EventListener<T, R: Wait + Clock + Clone> {
-    shared: Arc<Shared<T>>,
-    seat: Seat<R>,
+    pub(super) shared: Arc<Shared<T>>,
+    pub(super) inner: InnerListener<R>,
 }
 
 impl<T, R: Wait + Clock + Clone> Model for EventListener<T, R> {
@@ -26,26 +26,18 @@ impl<T, R: Wait + Clock + Clone> Model for EventListener<T, R> {
     ghost Value = { Listening };
 
     ghost view = { λ listener. record {
-      event_number = listener.seat.event_number;
-      key = listener.seat.key;
-      is_finished = listener.seat.is_finished;
+      event_number = listener.inner.event_number;
+      key = listener.inner.membership.key;
+      is_finished = listener.inner.membership.is_finished;
     } };
 }
 
 impl<T, R: Wait + Clock + Clone> EventListener<T, R> {
-    pub(crate) fn new(shared: Arc<Shared<T>>, seat: Seat<R>) -> Self
-        ensures event { result.event_number ≡ seat.event_number }
-        ensures finished { result.is_finished ≡ seat.is_finished }
+    pub(crate) fn new(shared: Arc<Shared<T>>, inner: InnerListener<R>) -> Self
+        ensures event { result.event_number ≡ inner.event_number }
+        ensures finished { result.is_finished ≡ inner.membership.is_finished }
     {
-        EventListener { shared, seat }
-    }
-}
-
-impl<T: Drop, R: Wait + Clock + Clone> Seated<T> for EventListener<T, R> {
-    ghost finished = { λ listener. listener.is_finished };
-
-    fn wait_in_place(&mut self, limit: Limit) -> Ended<T> {
-        self.seat.wait(&self.shared, limit)
+        EventListener { shared, inner }
     }
 }
 
@@ -55,7 +47,7 @@ impl<T: Drop, R: Wait + Clock + Clone> Listener<T> for EventListener<T, R> {
     ghost is_finished = { λ listener. listener.is_finished };
 
     fn poll(&mut self, waker: Waker) -> Result<Poll<T>, NeverInserted> {
-        self.seat.poll(&self.shared, waker)
+        self.inner.poll(&self.shared, waker)
     }
 
     fn wait(self) -> Result<T, WaitError<Self>> {
@@ -63,8 +55,7 @@ impl<T: Drop, R: Wait + Clock + Clone> Listener<T> for EventListener<T, R> {
     }
 
     fn wait_timeout(self, timeout: Duration) -> Result<Option<T>, WaitError<Self>> {
-        let limit = self.seat.limit_after(timeout);
-        wait_within(self, limit)
+        wait_within(self, Limit::After(timeout))
     }
 
     fn wait_deadline(self, deadline: Instant) -> Result<Option<T>, WaitError<Self>> {
@@ -72,23 +63,23 @@ impl<T: Drop, R: Wait + Clock + Clone> Listener<T> for EventListener<T, R> {
     }
 
     fn discard(self) -> bool {
-        let Self { shared, seat } = self;
-        seat.leave(&shared, false)
+        let Self { shared, inner } = self;
+        inner.remove(&shared, false)
     }
 
     fn listens_to(&self, event: &Event<T>) -> bool {
-        self.seat.event_number == event.number()
+        self.inner.event_number == event.number()
     }
 
     fn same_event(&self, other: &Self) -> bool {
-        self.seat.event_number == other.seat.event_number
+        self.inner.event_number == other.inner.event_number
     }
 }
 
 impl<T: Drop, R: Wait + Clock + Clone> Drop for EventListener<T, R> {
     fn drop(self) {
-        let Self { shared, seat } = self;
-        let _ = seat.leave(&shared, true);
+        let Self { shared, inner } = self;
+        let _ = inner.remove(&shared, true);
     }
 }
 

@@ -5,7 +5,7 @@
 /// `listener!(rt, alloc; event => l)` stands in a function's body. It makes the calls [`StackSlot::new`] and
 /// [`StackSlot::listen`]: `rt` is a reference to the runtime value, `alloc` is the allocator, and `event` is the
 /// event or a reference to it. Its two calls end in `?`, so it works wherever a `ListenError` can be turned into the
-/// function's error. What it takes and refuses is what they do.
+/// function's error. It allocates, waits and returns errors as they do.
 ///
 /// The name `l` can be written to, since [`poll`](crate::Listener::poll) does so; `mut l` says the same.
 ///

@@ -1,8 +1,8 @@
 //! The listener that borrows its event.
 ghost use Rattle.std.specs.Prelude.{◌≡◌};
 
-use super::seat::Seat;
-use super::wait::{Ended, Limit, Seated, wait_until_told, wait_within};
+use super::inner_listener::InnerListener;
+use super::wait::{Limit, wait_until_told, wait_within};
 use super::{Listener, NeverInserted, WaitError};
 use crate::event::{Event, Shared};
 use futures::task::{Poll, Waker};
@@ -13,14 +13,14 @@ use std::time::{Clock, Duration, Instant};
 
 /// A listener that borrows the queue of its event, and so cannot outlive the event. It needs no share of the queue.
 ///
-/// It may be moved and given away as long as the event lives. It is removed from the queue when it is dropped, and not
-/// when the scope ends in which its slot was made.
+/// It may be moved and given away as long as the event lives. Its drop removes it from the queue, and not the end of the
+/// scope in which its slot was made.
 ///
 /// It keeps a clone of the runtime value that it was made with and the allocator of its slot, for its own calls and its
-/// drop, which may wait for the lock of the event.
+/// drop. What they do, allocate and wait for is said of every [`Listener`].
 pub struct StackListener<'ev, T, R: Wait + Clock + Clone> {
-    shared: &'ev Shared<T>,
-    seat: Seat<R>,
+    pub(super) shared: &'ev Shared<T>,
+    pub(super) inner: InnerListener<R>,
 }
 
 impl<'ev, T, R: Wait + Clock + Clone> Model for StackListener<'ev, T, R> {
@@ -29,26 +29,18 @@ impl<'ev, T, R: Wait + Clock + Clone> Model for StackListener<'ev, T, R> {
     ghost Value = { Listening };
 
     ghost view = { λ listener. record {
-      event_number = listener.seat.event_number;
-      key = listener.seat.key;
-      is_finished = listener.seat.is_finished;
+      event_number = listener.inner.event_number;
+      key = listener.inner.membership.key;
+      is_finished = listener.inner.membership.is_finished;
     } };
 }
 
 impl<'ev, T, R: Wait + Clock + Clone> StackListener<'ev, T, R> {
-    pub(super) fn new(shared: &'ev Shared<T>, seat: Seat<R>) -> Self
-        ensures event { result.event_number ≡ seat.event_number }
-        ensures finished { result.is_finished ≡ seat.is_finished }
+    pub(super) fn new(shared: &'ev Shared<T>, inner: InnerListener<R>) -> Self
+        ensures event { result.event_number ≡ inner.event_number }
+        ensures finished { result.is_finished ≡ inner.membership.is_finished }
     {
-        StackListener { shared, seat }
-    }
-}
-
-impl<T: Drop, R: Wait + Clock + Clone> Seated<T> for StackListener<'_, T, R> {
-    ghost finished = { λ listener. listener.is_finished };
-
-    fn wait_in_place(&mut self, limit: Limit) -> Ended<T> {
-        self.seat.wait(self.shared, limit)
+        StackListener { shared, inner }
     }
 }
 
@@ -58,7 +50,7 @@ impl<T: Drop, R: Wait + Clock + Clone> Listener<T> for StackListener<'_, T, R> {
     ghost is_finished = { λ listener. listener.is_finished };
 
     fn poll(&mut self, waker: Waker) -> Result<Poll<T>, NeverInserted> {
-        self.seat.poll(self.shared, waker)
+        self.inner.poll(self.shared, waker)
     }
 
     fn wait(self) -> Result<T, WaitError<Self>> {
@@ -66,8 +58,7 @@ impl<T: Drop, R: Wait + Clock + Clone> Listener<T> for StackListener<'_, T, R> {
     }
 
     fn wait_timeout(self, timeout: Duration) -> Result<Option<T>, WaitError<Self>> {
-        let limit = self.seat.limit_after(timeout);
-        wait_within(self, limit)
+        wait_within(self, Limit::After(timeout))
     }
 
     fn wait_deadline(self, deadline: Instant) -> Result<Option<T>, WaitError<Self>> {
@@ -75,23 +66,23 @@ impl<T: Drop, R: Wait + Clock + Clone> Listener<T> for StackListener<'_, T, R> {
     }
 
     fn discard(self) -> bool {
-        let Self { shared, seat } = self;
-        seat.leave(shared, false)
+        let Self { shared, inner } = self;
+        inner.remove(shared, false)
     }
 
     fn listens_to(&self, event: &Event<T>) -> bool {
-        self.seat.event_number == event.number()
+        self.inner.event_number == event.number()
     }
 
     fn same_event(&self, other: &Self) -> bool {
-        self.seat.event_number == other.seat.event_number
+        self.inner.event_number == other.inner.event_number
     }
 }
 
 impl<T: Drop, R: Wait + Clock + Clone> Drop for StackListener<'_, T, R> {
     fn drop(self) {
-        let Self { shared, seat } = self;
-        let _ = seat.leave(shared, true);
+        let Self { shared, inner } = self;
+        let _ = inner.remove(shared, true);
     }
 }
 

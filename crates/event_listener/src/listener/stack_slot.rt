@@ -2,7 +2,7 @@
 ghost use Rattle.std.specs.Prelude.{◌≡◌, false, IfOk};
 
 use super::StackListener;
-use super::seat::Seat;
+use super::inner_listener::InnerListener;
 use crate::event::{Event, Shared};
 use event_queue::ListenError;
 use std::alloc::Global;
@@ -13,15 +13,15 @@ use std::time::Clock;
 
 /// What a [`StackListener`] is made of: the queue of an event that lives as long as the borrow.
 ///
-/// [`listen`](StackSlot::listen) takes the slot, which cannot be cloned. So a slot listens once. One that is let go
-/// leaves nobody in the queue.
+/// [`listen`](StackSlot::listen) consumes the slot, which cannot be cloned. So a slot listens once. Nobody stands in the
+/// queue for a slot that is dropped.
 ///
 /// A contract sees a slot as the number of its event.
 #[derive(Drop)]
 pub struct StackSlot<'ev, T> {
     shared: &'ev Shared<T>,
     event_number: u64,
-    // What the calls of the listener take their memory from.
+    // What the calls of the listener allocate from.
     alloc: Global,
 }
 
@@ -36,9 +36,10 @@ impl<'ev, T> Model for StackSlot<'ev, T> {
 impl<'ev, T> StackSlot<'ev, T> {
     /// A slot of this event. Nobody listens by it yet.
     ///
-    /// The call takes memory for the queue, where there is none yet, and may wait for a thread that is making it.
-    /// [`ListenError::Memory`] is the answer where that memory is refused, and the only refusal. It leaves the event
-    /// as it was.
+    /// Returns [`ListenError::Memory`] where there is no queue yet and no memory for one, which leaves the event as it
+    /// was. It returns no other error.
+    ///
+    /// The call allocates the queue, where there is none yet. It may wait for a thread that is making the queue.
     pub fn new<R: Wait>(rt: &R, alloc: Global, event: &'ev Event<T>) -> Result<Self, ListenError>
     where
         T: Drop,
@@ -54,12 +55,13 @@ impl<'ev, T> StackSlot<'ev, T> {
         })
     }
 
-    /// A new listener, which waits at the end of the queue. It starts untold, whoever is told already.
+    /// A new listener, which waits at the end of the queue. It starts untold, whoever is told already. It keeps a clone
+    /// of the runtime value, for its own calls.
     ///
-    /// The call takes memory: for the queue, where it has no spare place, and for a clone of the runtime value, which
-    /// the listener keeps for its own calls. It may wait for the lock of the event. [`ListenError::Memory`] is the
-    /// answer where memory is refused, and [`ListenError::SerialsUsedUp`] where the queue has given out all serial
-    /// numbers. Either leaves the queue as it was, and the slot is gone.
+    /// Returns [`ListenError::Memory`] where memory or the clone is refused, and [`ListenError::SerialsUsedUp`] where
+    /// the queue has given out all serial numbers. Neither inserts anybody, and either drops the slot.
+    ///
+    /// The call allocates where the queue has no spare slot. It may wait for the lock of the event.
     pub fn listen<R>(self, rt: &R) -> Result<StackListener<'ev, T, R>, ListenError>
     where
         T: Drop,
@@ -71,8 +73,8 @@ impl<'ev, T> StackSlot<'ev, T> {
             return Err(ListenError::Memory);
         };
         let key = self.shared.lock(rt).insert()?;
-        let seat = Seat::new(key, self.event_number, runtime, self.alloc);
-        Ok(StackListener::new(self.shared, seat))
+        let inner = InnerListener::new(key, self.event_number, runtime, self.alloc);
+        Ok(StackListener::new(self.shared, inner))
     }
 }
 
@@ -81,13 +83,3 @@ impl<T> fmt::Debug for StackSlot<'_, T> {
         f.debug_struct("StackSlot").finish_non_exhaustive()
     }
 }
-
-// Two impls may not both fit one type, so these stand only as long as a slot cannot be cloned.
-#[cfg(test)]
-trait NotCloned {}
-
-#[cfg(test)]
-impl<T: Clone> NotCloned for T {}
-
-#[cfg(test)]
-impl<T> NotCloned for StackSlot<'_, T> {}

@@ -17,7 +17,7 @@ pub(crate) struct Parker {
 }
 
 impl Parker {
-    /// A parker whose token is not set. It takes memory.
+    /// A parker whose token is not set. The call allocates the token; the error is a refusal of that.
     pub(crate) fn new(alloc: Global) -> Result<Self, AllocError> {
         let token = Token {
             is_set: Mutex::new(false),
@@ -27,7 +27,7 @@ impl Parker {
         Ok(Parker { token })
     }
 
-    /// A further hand that sets the token.
+    /// What sets the token from elsewhere, by a share of it. The error is a refusal of that share.
     pub(crate) fn unparker(&self) -> Result<Unparker, AllocError> {
         let token = Arc::try_clone(&self.token)?;
         Ok(Unparker { token })

@@ -1,6 +1,8 @@
 use super::Parker;
+use std::sync::atomic::{AtomicBool, Ordering};
 use std::test::Fail;
-use std::time::{Duration, Instant};
+use std::thread;
+use std::time::{Clock, Duration, Instant};
 
 #[test]
 fn several_unparks_are_one(rt: HostRuntime) -> Result<(), Fail> {
@@ -23,5 +25,37 @@ fn several_unparks_are_one(rt: HostRuntime) -> Result<(), Fail> {
     let start = Instant::now(&rt)?;
     parker.park_timeout(&rt, timeout);
     assert!(rt; start.elapsed(&rt)? >= timeout);
+    Ok(())
+}
+
+#[test]
+fn a_park_without_a_limit_ends_once_it_is_unparked(rt: HostRuntime) -> Result<(), Fail> {
+    let parker = Parker::new(rt.alloc())?;
+    let unparker = parker.unparker()?;
+    let is_unparked = AtomicBool::new(false);
+    let (_, was_unparked) = thread::join(
+        &rt,
+        || {
+            rt.sleep(Duration::from_millis(100));
+            is_unparked.store(true, Ordering::SeqCst);
+            unparker.unpark(&rt);
+        },
+        || {
+            parker.park(&rt);
+            is_unparked.load(Ordering::SeqCst)
+        },
+    );
+    assert!(rt; was_unparked);
+    Ok(())
+}
+
+// Half of the time is left for a machine that is busy.
+#[test]
+fn a_timed_park_ends_before_twice_its_time(rt: HostRuntime) -> Result<(), Fail> {
+    let parker = Parker::new(rt.alloc())?;
+    let timeout = Duration::from_secs(2);
+    let start = Instant::now(&rt)?;
+    parker.park_timeout(&rt, timeout);
+    assert!(rt; start.elapsed(&rt)? < Duration::from_secs(4));
     Ok(())
 }

@@ -1,0 +1,70 @@
+//! A listener's membership in the queue of its event.
+ghost use Rattle.std.specs.Prelude.{◌≡◌, ◌≢◌, true, false, Some, None};
+ghost use Rattle.event_queue.specs.declared.reply.RegisterResult.TheVariants.{Registered, NeverInserted};
+ghost use Rattle.event_queue.specs.declared.reply.State.TheVariants.{NotifiedTaken};
+
+use crate::event::Shared;
+use crate::task::{Task, Waking};
+use event_queue::{Key, RegisterResult, State};
+use std::sync::Wait;
+
+/// By which key a listener stands in the queue of its event, and whether it has left the queue by a call of its own.
+///
+/// The key is private to this file. So whatever takes the listener out of the queue is one of the two calls below, and
+/// each of them notes that it did: a listener that is not finished after a call was not taken out by that call.
+#[derive(Drop)]
+pub(super) struct Membership {
+    key: Key,
+    is_finished: bool,
+}
+
+impl Membership {
+    pub(super) fn new(key: Key) -> Self
+        ensures { result.is_finished ≡ false }
+    {
+        Membership {
+            key,
+            is_finished: false,
+        }
+    }
+
+    /// Takes the tag if the listener was told, which takes it out of the queue; else stores the task.
+    pub(super) fn register<T, R: Wait>(
+        &mut self,
+        rt: &R,
+        shared: &Shared<T>,
+        task: Task,
+    ) -> RegisterResult<T>
+        ensures finished { self.old.is_finished ≡ true → result ≡ NeverInserted }
+        ensures stays { result ≡ Registered → (self.old.is_finished ≡ false) × (self.new ≡ self.old) }
+        ensures leaves { result ≢ Registered → self.new.is_finished ≡ true }
+    {
+        if self.is_finished {
+            return RegisterResult::NeverInserted;
+        }
+        let found = shared.lock(rt).register(self.key, task);
+        self.is_finished = !matches!(found, RegisterResult::Registered);
+        found
+    }
+
+    /// Takes the listener out of the queue, if it is there, and answers what it was. With `propagate` its notification
+    /// is passed on.
+    pub(super) fn remove<T: Drop, R: Wait>(
+        &mut self,
+        rt: &R,
+        shared: &Shared<T>,
+        propagate: bool,
+    ) -> Option<State<T, Task>>
+        ensures finished { self.old.is_finished ≡ true → result ≡ None }
+        ensures leaves { self.new.is_finished ≡ true }
+        ensures kept { propagate ≡ false → result ≢ Some NotifiedTaken }
+    {
+        if self.is_finished {
+            return None;
+        }
+        self.is_finished = true;
+        shared
+            .lock(rt)
+            .remove(self.key, propagate, &mut Waking::new(rt))
+    }
+}
