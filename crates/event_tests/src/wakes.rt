@@ -1,7 +1,7 @@
 //! Which tasks wake, and in which order.
 //!
 //! A waker wakes its task when it is dropped, too. So these tests show that a call gives each task up before it returns,
-//! and in which order, but not that it wakes one: the tests of `waiting_tests`, in which threads wait, show that.
+//! and in which order, but not that it wakes one: those of `parking_tests`, in which threads wait, show that.
 use crate::support::{Runtime, listen, new_event, new_task, poll, poll_by, poll_with};
 use event_listener::{Event, IntoNotification, IntoTagged, Listener};
 use test_support::{Borrowing, ListenerKind, Sharing, WakeOrder};

@@ -1,11 +1,10 @@
-//! What tests of events share: kinds of listeners, wakers and parked threads, clocks of the tests' own, and all memory
+//! What tests of events share: kinds of listeners, wakers, clocks of the tests' own, and all memory
 //! of the process, taken for real.
 #![tactic(auto)]
 
 mod clocks;
 mod hog;
 mod kinds;
-mod parked;
 mod runtimes;
 mod waits;
 mod wakers;
@@ -13,7 +12,6 @@ mod wakers;
 pub use clocks::{CountedClock, NoClock};
 pub use hog::Hog;
 pub use kinds::{Borrowing, ListenerKind, Sharing};
-pub use parked::wakes_a_parked_thread;
 pub use runtimes::Unshared;
 pub use waits::{TIMED_WAITS, WaitCall, answered, deadline_after};
 pub use wakers::{WakeOrder, any_waker, waker_of};

@@ -6,7 +6,7 @@ use std::io;
 use std::random::RandomSource;
 use std::sync::Wait;
 
-/// A waker of this task. It wakes the task when it is let go, too. The error comes where no waker can be made.
+/// A waker of this task. It wakes the task when it is dropped, too. The error comes where no waker can be made.
 pub fn waker_of(task: &MockTask) -> Result<Waker, AllocError> {
     let source = Source::new();
     let mut slot = None;
@@ -16,7 +16,7 @@ pub fn waker_of(task: &MockTask) -> Result<Waker, AllocError> {
     slot.ok_or(AllocError)
 }
 
-/// A waker of a new task, which nobody looks at. The task takes memory; the error is a refusal of it, or of the random
+/// A waker of a new task, which nobody looks at. The task allocates; the error is a refusal of it, or of the random
 /// numbers that it starts from.
 pub fn any_waker<R: RandomSource + AllocGlobal>(rt: &R) -> io::Result<Waker> {
     Ok(waker_of(&MockTask::new(rt)?)?)
@@ -29,7 +29,7 @@ pub struct WakeOrder {
 }
 
 impl WakeOrder {
-    /// An order with no task. It takes memory; the error is a refusal of it, or of the random numbers that it starts
+    /// An order with no task. It allocates; the error is a refusal of memory, or of the random numbers that it starts
     /// from.
     pub fn new<R: RandomSource + AllocGlobal>(rt: &R) -> io::Result<Self> {
         Ok(WakeOrder {
@@ -37,7 +37,7 @@ impl WakeOrder {
         })
     }
 
-    /// A new task, which is not woken yet: its number, and a waker of it. The task takes memory. Every task of the order
+    /// A new task, which is not woken yet: its number, and a waker of it. The task allocates. Every task of the order
     /// that was woken has to be taken by [`next`](WakeOrder::next) before.
     pub fn task<R: Wait>(&self, rt: &R) -> Result<(usize, Waker), AllocError> {
         self.queue.add()?.schedule();

@@ -91,7 +91,7 @@ impl<T, W> HookedList<T, W> {
         reply
     }
 
-    /// Notifies, with a notification that takes no memory.
+    /// Notifies, with a notification that does not allocate.
     pub fn notify<H: Hook, N: Notification<Tag = T>, S: WakeSink<W>>(
         &mut self,
         hook: &mut H,
