@@ -9,8 +9,6 @@ mod macros;
 mod membership;
 mod stack_listener;
 mod stack_slot;
-#[cfg(test)]
-mod tests;
 mod wait;
 mod wait_error;
 
