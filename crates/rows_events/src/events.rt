@@ -81,9 +81,14 @@ impl Row for EventRow {
 }
 
 impl EventRow {
+    fn make<E: UntaggedCalls>(self, mut calls: E) -> Reply {
+        let reply = self.calls(&mut calls);
+        calls.end();
+        reply
+    }
+
     // Makes the calls of the row on a new event.
-    fn make<E: UntaggedCalls + Drop>(self, mut calls: E) -> Reply {
-        let event = &mut calls;
+    fn calls<E: UntaggedCalls>(self, event: &mut E) -> Reply {
         match self {
             EventRow::DefaultCountsTheTold => default_counts_the_told(event),
             EventRow::KindsMixed => kinds_mixed(event),

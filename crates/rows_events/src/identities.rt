@@ -55,12 +55,14 @@ where
     told_apart(harness.on::<Borrowing, ()>(&event), &event, &other)
 }
 
+fn told_apart<E: EventCalls<()>>(mut calls: E, event: &Event<()>, other: &Event<()>) -> Reply {
+    let reply = tells_apart(&mut calls, event, other);
+    calls.end();
+    reply
+}
+
 // Listeners of one event, asked of that event and of another of the same source.
-fn told_apart<E: EventCalls<()> + Drop>(
-    mut calls: E,
-    event: &Event<()>,
-    other: &Event<()>,
-) -> Reply {
+fn tells_apart<E: EventCalls<()>>(calls: &mut E, event: &Event<()>, other: &Event<()>) -> Reply {
     let first = calls.listen()?;
     let second = calls.listen()?;
     calls.listens_to(first, event, true)?;

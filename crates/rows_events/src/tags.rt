@@ -41,9 +41,14 @@ impl Row for TagRow {
 }
 
 impl TagRow {
+    fn make<E: EventCalls<u32>>(self, mut calls: E) -> Reply {
+        let reply = self.calls(&mut calls);
+        calls.end();
+        reply
+    }
+
     // Makes the calls of the row on a new event.
-    fn make<E: EventCalls<u32> + Drop>(self, mut calls: E) -> Reply {
-        let event = &mut calls;
+    fn calls<E: EventCalls<u32>>(self, event: &mut E) -> Reply {
         match self {
             TagRow::DefaultTagIsLost => default_tag_is_lost(event),
             TagRow::TagMovesOn => tag_moves_on(event),

@@ -46,11 +46,13 @@ impl Row for WaitRow {
 
 impl WaitRow {
     // Makes the calls of a row with a limit on a new event.
-    fn make<E: EventCalls<u32> + Drop>(self, mut calls: E) -> Reply {
-        match self {
+    fn make<E: EventCalls<u32>>(self, mut calls: E) -> Reply {
+        let reply = match self {
             WaitRow::PastDeadline => past_deadline(&mut calls),
             _ => least_and_greatest_timeout(&mut calls),
-        }
+        };
+        calls.end();
+        reply
     }
 }
 
@@ -85,8 +87,14 @@ where
     give_their_tags(harness.on::<Borrowing, bool>(&other))
 }
 
+fn give_their_tags<E: EventCalls<bool>>(mut calls: E) -> Reply {
+    let reply = waits_give_their_tags(&mut calls);
+    calls.end();
+    reply
+}
+
 // Two listeners are told, each with a tag of its own, and each waits for its own.
-fn give_their_tags<E: EventCalls<bool> + Drop>(mut event: E) -> Reply {
+fn waits_give_their_tags<E: EventCalls<bool>>(event: &mut E) -> Reply {
     let first = event.listen()?;
     let second = event.listen()?;
     event.notify(1.additional().tag(true), 1)?;

@@ -20,7 +20,7 @@ pub struct ListenerIndex(usize);
 ///
 /// The listeners stay here, four at most, until the row gives them up by a wait, a discard or a drop, or ends. A fifth
 /// one, and a call with a listener that was given up, differ from every answer.
-pub trait EventCalls<T> {
+pub trait EventCalls<T>: Sized {
     /// Makes a new listener. Where memory is refused, the hook is told whether the queue is as it was, and may have the
     /// call made again.
     fn listen(&mut self) -> Result<ListenerIndex, Difference>;
@@ -77,6 +77,9 @@ pub trait EventCalls<T> {
 
     /// Drops a listener.
     fn release(&mut self, listener: ListenerIndex) -> Reply;
+
+    /// Ends the row, and drops the listeners that are left.
+    fn end(self);
 }
 
 /// The calls that an event has where its notifications take no tag.
@@ -111,7 +114,6 @@ impl Limit {
 
 /// What makes the calls of a row on one event, with listeners of the kind `K`. A poll takes a waker of the task that the
 /// row runs in.
-#[derive(Drop)]
 pub struct EventHarness<'h, 'a, 'ev, K, L, T, R, H> {
     harness: &'h mut Harness<'a, R, H>,
     event: &'ev Event<T>,
@@ -327,6 +329,11 @@ where
         drop(listener);
         self.harness.after();
         Ok(())
+    }
+
+    fn end(self) {
+        let EventHarness { listeners, .. } = self;
+        drop(listeners);
     }
 }
 

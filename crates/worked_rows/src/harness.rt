@@ -69,10 +69,7 @@ impl<'a, R: Wait, H: Hook> Harness<'a, R, H> {
         Ok(event)
     }
 
-    /// What makes calls on this event, with listeners of the kind `K`.
-    ///
-    /// Give it away by value: a function that is generic in [`EventCalls`] drops it at little cost to its proof, and one
-    /// that knows its listeners at much.
+    /// What makes calls on this event, with listeners of the kind `K`, until its [`end`](crate::EventCalls::end).
     pub fn on<'h, 'ev, K, T>(
         &'h mut self,
         event: &'ev Event<T>,
