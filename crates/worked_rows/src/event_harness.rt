@@ -180,7 +180,7 @@ where
         self.harness.before(false);
         let reply = listener.poll(waker);
         self.harness.after();
-        self.listeners.put_back(index, listener);
+        self.listeners.put(index, listener);
         Ok(reply)
     }
 
