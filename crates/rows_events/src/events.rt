@@ -3,8 +3,7 @@ use event_listener::IntoNotification;
 use futures::task::Poll::{Pending, Ready};
 use std::sync::Wait;
 use std::time::Clock;
-use test_support::{Borrowing, Sharing};
-use worked_rows::{Difference, EventCalls, Harness, Hook, Row, UntaggedCalls};
+use worked_rows::{Difference, EventCalls, Harness, Hook, OnUntaggedEvent, Row, UntaggedCalls};
 
 type Reply = Result<(), Difference>;
 
@@ -74,16 +73,12 @@ impl Row for EventRow {
         R: Wait + Clock + Clone,
         H: Hook,
     {
-        let (one, other) = (harness.event()?, harness.event()?);
-        self.make(harness.on::<Sharing, ()>(&one))?;
-        self.make(harness.on::<Borrowing, ()>(&other))
+        harness.on_each_kind_untagged(self)
     }
 }
 
-impl EventRow {
-    // Makes the calls of the row on a new event.
-    fn make<E: UntaggedCalls + Drop>(self, mut calls: E) -> Reply {
-        let event = &mut calls;
+impl OnUntaggedEvent for EventRow {
+    fn make<E: UntaggedCalls>(self, event: &mut E) -> Reply {
         match self {
             EventRow::DefaultCountsTheTold => default_counts_the_told(event),
             EventRow::KindsMixed => kinds_mixed(event),

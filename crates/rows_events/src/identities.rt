@@ -3,7 +3,7 @@ use event_listener::{Event, IdsUsedUp};
 use std::sync::Wait;
 use std::time::Clock;
 use test_support::{Borrowing, Sharing};
-use worked_rows::{Difference, EventCalls, Harness, Hook, Row, same};
+use worked_rows::{Difference, EventCalls, Harness, Hook, OnEvent, Row, same};
 
 type Reply = Result<(), Difference>;
 
@@ -51,19 +51,27 @@ where
 {
     let mut ids = harness.identities(0);
     let (event, other) = (harness.event_of(&mut ids)?, harness.event_of(&mut ids)?);
-    told_apart(harness.on::<Sharing, ()>(&event), &event, &other)?;
-    told_apart(harness.on::<Borrowing, ()>(&event), &event, &other)
+    let row = ToldApart {
+        event: &event,
+        other: &other,
+    };
+    harness.on::<Sharing, (), _>(&event, row)?;
+    harness.on::<Borrowing, (), _>(&event, row)
 }
 
 // Listeners of one event, asked of that event and of another of the same source.
-fn told_apart<E: EventCalls<()> + Drop>(
-    mut calls: E,
-    event: &Event<()>,
-    other: &Event<()>,
-) -> Reply {
-    let first = calls.listen()?;
-    let second = calls.listen()?;
-    calls.listens_to(first, event, true)?;
-    calls.listens_to(first, other, false)?;
-    calls.same_event(first, second, true)
+#[derive(Clone, Copy)]
+struct ToldApart<'ev> {
+    event: &'ev Event<()>,
+    other: &'ev Event<()>,
+}
+
+impl<'ev> OnEvent<()> for ToldApart<'ev> {
+    fn make<E: EventCalls<()>>(self, calls: &mut E) -> Reply {
+        let first = calls.listen()?;
+        let second = calls.listen()?;
+        calls.listens_to(first, self.event, true)?;
+        calls.listens_to(first, self.other, false)?;
+        calls.same_event(first, second, true)
+    }
 }

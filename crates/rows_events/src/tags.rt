@@ -3,8 +3,7 @@ use event_listener::{IntoNotification, IntoTagged};
 use futures::task::Poll::Ready;
 use std::sync::Wait;
 use std::time::Clock;
-use test_support::{Borrowing, Sharing};
-use worked_rows::{Difference, EventCalls, Harness, Hook, Row, same};
+use worked_rows::{Difference, EventCalls, Harness, Hook, OnEvent, Row, same};
 
 type Reply = Result<(), Difference>;
 
@@ -34,16 +33,12 @@ impl Row for TagRow {
         R: Wait + Clock + Clone,
         H: Hook,
     {
-        let (one, other) = (harness.event()?, harness.event()?);
-        self.make(harness.on::<Sharing, u32>(&one))?;
-        self.make(harness.on::<Borrowing, u32>(&other))
+        harness.on_each_kind(self)
     }
 }
 
-impl TagRow {
-    // Makes the calls of the row on a new event.
-    fn make<E: EventCalls<u32> + Drop>(self, mut calls: E) -> Reply {
-        let event = &mut calls;
+impl OnEvent<u32> for TagRow {
+    fn make<E: EventCalls<u32>>(self, event: &mut E) -> Reply {
         match self {
             TagRow::DefaultTagIsLost => default_tag_is_lost(event),
             TagRow::TagMovesOn => tag_moves_on(event),

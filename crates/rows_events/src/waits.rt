@@ -2,8 +2,7 @@
 use event_listener::{IntoNotification, IntoTagged};
 use std::sync::Wait;
 use std::time::{Clock, Duration};
-use test_support::{Borrowing, Sharing};
-use worked_rows::{Difference, EventCalls, Harness, Hook, Row};
+use worked_rows::{Difference, EventCalls, Harness, Hook, OnEvent, Row};
 
 type Reply = Result<(), Difference>;
 
@@ -34,63 +33,55 @@ impl Row for WaitRow {
         H: Hook,
     {
         match self {
-            WaitRow::WaitsGiveTheirTags => each_gives_its_tag(harness),
-            WaitRow::PastDeadline | WaitRow::LeastAndGreatestTimeout => {
-                let (one, other) = (harness.event()?, harness.event()?);
-                self.make(harness.on::<Sharing, u32>(&one))?;
-                self.make(harness.on::<Borrowing, u32>(&other))
-            }
+            WaitRow::WaitsGiveTheirTags => harness.on_each_kind(GiveTheirTags),
+            WaitRow::PastDeadline => harness.on_each_kind(PastDeadline),
+            WaitRow::LeastAndGreatestTimeout => harness.on_each_kind(LeastAndGreatestTimeout),
         }
     }
 }
 
-impl WaitRow {
-    // Makes the calls of a row with a limit on a new event.
-    fn make<E: EventCalls<u32> + Drop>(self, mut calls: E) -> Reply {
-        match self {
-            WaitRow::PastDeadline => past_deadline(&mut calls),
-            _ => least_and_greatest_timeout(&mut calls),
-        }
+#[derive(Clone, Copy)]
+struct PastDeadline;
+
+impl OnEvent<u32> for PastDeadline {
+    fn make<E: EventCalls<u32>>(self, event: &mut E) -> Reply {
+        let past = event.now()?;
+        let told = event.listen()?;
+        event.notify(1.tag(7u32), 1)?;
+        event.wait_deadline(told, past, Some(7))?;
+        let untold = event.listen()?;
+        event.total_listeners(1)?;
+        event.wait_deadline(untold, past, None)?;
+        event.total_listeners(0)
     }
 }
 
-fn past_deadline<E: EventCalls<u32>>(event: &mut E) -> Reply {
-    let past = event.now()?;
-    let told = event.listen()?;
-    event.notify(1.tag(7u32), 1)?;
-    event.wait_deadline(told, past, Some(7))?;
-    let untold = event.listen()?;
-    event.total_listeners(1)?;
-    event.wait_deadline(untold, past, None)?;
-    event.total_listeners(0)
-}
+#[derive(Clone, Copy)]
+struct LeastAndGreatestTimeout;
 
-fn least_and_greatest_timeout<E: EventCalls<u32>>(event: &mut E) -> Reply {
-    let told = event.listen()?;
-    event.notify(1.tag(7u32), 1)?;
-    event.wait_timeout(told, Duration::MAX, Some(7))?;
-    let untold = event.listen()?;
-    event.total_listeners(1)?;
-    event.wait_timeout(untold, Duration::ZERO, None)?;
-    event.total_listeners(0)
-}
-
-fn each_gives_its_tag<R, H>(harness: &mut Harness<'_, R, H>) -> Reply
-where
-    R: Wait + Clock + Clone,
-    H: Hook,
-{
-    let (one, other) = (harness.event()?, harness.event()?);
-    give_their_tags(harness.on::<Sharing, bool>(&one))?;
-    give_their_tags(harness.on::<Borrowing, bool>(&other))
+impl OnEvent<u32> for LeastAndGreatestTimeout {
+    fn make<E: EventCalls<u32>>(self, event: &mut E) -> Reply {
+        let told = event.listen()?;
+        event.notify(1.tag(7u32), 1)?;
+        event.wait_timeout(told, Duration::MAX, Some(7))?;
+        let untold = event.listen()?;
+        event.total_listeners(1)?;
+        event.wait_timeout(untold, Duration::ZERO, None)?;
+        event.total_listeners(0)
+    }
 }
 
 // Two listeners are told, each with a tag of its own, and each waits for its own.
-fn give_their_tags<E: EventCalls<bool> + Drop>(mut event: E) -> Reply {
-    let first = event.listen()?;
-    let second = event.listen()?;
-    event.notify(1.additional().tag(true), 1)?;
-    event.notify(1.additional().tag(false), 1)?;
-    event.wait(first, true)?;
-    event.wait(second, false)
+#[derive(Clone, Copy)]
+struct GiveTheirTags;
+
+impl OnEvent<bool> for GiveTheirTags {
+    fn make<E: EventCalls<bool>>(self, event: &mut E) -> Reply {
+        let first = event.listen()?;
+        let second = event.listen()?;
+        event.notify(1.additional().tag(true), 1)?;
+        event.notify(1.additional().tag(false), 1)?;
+        event.wait(first, true)?;
+        event.wait(second, false)
+    }
 }

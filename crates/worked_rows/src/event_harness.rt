@@ -1,6 +1,7 @@
 use crate::difference::{Difference, Refusal, same};
 use crate::harness::Harness;
 use crate::hook::Hook;
+use crate::listeners::{ListenerIndex, Listeners};
 use event_listener::{Event, IntoNotification, ListenError, Listener, NeverInserted, WaitError};
 use futures::task::Poll;
 use std::alloc::Global;
@@ -10,10 +11,6 @@ use std::time::{Clock, Duration, Instant};
 use test_support::ListenerKind;
 
 type Reply = Result<(), Difference>;
-
-/// Which of the listeners that a row has. It may be that of a later listener once its own was given up.
-#[derive(Clone, Copy)]
-pub struct ListenerIndex(usize);
 
 /// The calls of a row on one event, whose listeners are of one kind. Each call takes the answer that it must give, and
 /// returns an error where it gives another or is refused.
@@ -109,14 +106,25 @@ impl Limit {
     }
 }
 
-/// What makes the calls of a row on one event, with listeners of the kind `K`. A poll takes a waker of the task that the
-/// row runs in.
+/// What a row does on one event, whatever the kind of its listeners.
+pub trait OnEvent<T>: Copy {
+    /// Makes the calls of the row.
+    fn make<E: EventCalls<T>>(self, event: &mut E) -> Reply;
+}
+
+/// What a row does on one event whose notifications take no tag, whatever the kind of its listeners.
+pub trait OnUntaggedEvent: Copy {
+    /// Makes the calls of the row.
+    fn make<E: UntaggedCalls>(self, event: &mut E) -> Reply;
+}
+
+// What makes the calls of a row on one event, with listeners of the kind `K`. A poll takes a waker of the task that the
+// row runs in.
 #[derive(Drop)]
 pub struct EventHarness<'h, 'a, 'ev, K, L, T, R, H> {
     harness: &'h mut Harness<'a, R, H>,
     event: &'ev Event<T>,
-    // More than any row has at a time.
-    listeners: [Option<L>; 4],
+    listeners: &'h mut Listeners<L>,
     kind: PhantomData<K>,
 }
 
@@ -127,11 +135,15 @@ where
     R: Wait,
     H: Hook,
 {
-    pub(crate) fn new(harness: &'h mut Harness<'a, R, H>, event: &'ev Event<T>) -> Self {
+    pub fn new(
+        harness: &'h mut Harness<'a, R, H>,
+        event: &'ev Event<T>,
+        listeners: &'h mut Listeners<L>,
+    ) -> Self {
         EventHarness {
             harness,
             event,
-            listeners: [None, None, None, None],
+            listeners,
             kind: PhantomData,
         }
     }
@@ -159,34 +171,16 @@ where
         }
     }
 
-    fn keep(&mut self, listener: L) -> Result<ListenerIndex, Difference> {
-        for (index, slot) in self.listeners.iter_mut().enumerate() {
-            if slot.is_none() {
-                *slot = Some(listener);
-                return Ok(ListenerIndex(index));
-            }
-        }
-        Err(Difference::Answer)
-    }
-
-    fn give_up(&mut self, listener: ListenerIndex) -> Result<L, Difference> {
-        match self.listeners.get_mut(listener.0) {
-            Some(slot) => slot.take().ok_or(Difference::Answer),
-            None => Err(Difference::Answer),
-        }
-    }
-
     fn poll_once(
         &mut self,
-        listener: ListenerIndex,
+        index: ListenerIndex,
     ) -> Result<Result<Poll<T>, NeverInserted>, Difference> {
         let waker = self.harness.waker()?;
-        let Some(Some(listener)) = self.listeners.get_mut(listener.0) else {
-            return Err(Difference::Answer);
-        };
+        let mut listener = self.listeners.give_up(index)?;
         self.harness.before(false);
         let reply = listener.poll(waker);
         self.harness.after();
+        self.listeners.put(index, listener);
         Ok(reply)
     }
 
@@ -223,7 +217,7 @@ where
 {
     fn listen(&mut self) -> Result<ListenerIndex, Difference> {
         let listener = self.listen_again()?;
-        self.keep(listener)
+        self.listeners.keep(listener)
     }
 
     fn now(&mut self) -> Result<Instant, Difference> {
@@ -263,7 +257,7 @@ where
     }
 
     fn wait(&mut self, listener: ListenerIndex, tag: T) -> Reply {
-        let listener = self.give_up(listener)?;
+        let listener = self.listeners.give_up(listener)?;
         same(self.wait_again(listener, Limit::Endless)?, Some(tag))
     }
 
@@ -273,7 +267,7 @@ where
         timeout: Duration,
         answer: Option<T>,
     ) -> Reply {
-        let listener = self.give_up(listener)?;
+        let listener = self.listeners.give_up(listener)?;
         same(self.wait_again(listener, Limit::Timeout(timeout))?, answer)
     }
 
@@ -283,7 +277,7 @@ where
         deadline: Instant,
         answer: Option<T>,
     ) -> Reply {
-        let listener = self.give_up(listener)?;
+        let listener = self.listeners.give_up(listener)?;
         same(
             self.wait_again(listener, Limit::Deadline(deadline))?,
             answer,
@@ -291,9 +285,7 @@ where
     }
 
     fn listens_to(&mut self, listener: ListenerIndex, event: &Event<T>, answer: bool) -> Reply {
-        let Some(Some(listener)) = self.listeners.get(listener.0) else {
-            return Err(Difference::Answer);
-        };
+        let listener = self.listeners.get(listener)?;
         self.harness.before(false);
         let reply = listener.listens_to(event);
         self.harness.after();
@@ -301,12 +293,8 @@ where
     }
 
     fn same_event(&mut self, listener: ListenerIndex, other: ListenerIndex, answer: bool) -> Reply {
-        let Some(Some(listener)) = self.listeners.get(listener.0) else {
-            return Err(Difference::Answer);
-        };
-        let Some(Some(other)) = self.listeners.get(other.0) else {
-            return Err(Difference::Answer);
-        };
+        let listener = self.listeners.get(listener)?;
+        let other = self.listeners.get(other)?;
         self.harness.before(false);
         let reply = listener.same_event(other);
         self.harness.after();
@@ -314,7 +302,7 @@ where
     }
 
     fn discard(&mut self, listener: ListenerIndex, was_told: bool) -> Reply {
-        let listener = self.give_up(listener)?;
+        let listener = self.listeners.give_up(listener)?;
         self.harness.before(false);
         let reply = listener.discard();
         self.harness.after();
@@ -322,7 +310,7 @@ where
     }
 
     fn release(&mut self, listener: ListenerIndex) -> Reply {
-        let listener = self.give_up(listener)?;
+        let listener = self.listeners.give_up(listener)?;
         self.harness.before(false);
         drop(listener);
         self.harness.after();

@@ -1,12 +1,14 @@
 use crate::difference::{Difference, Refusal};
-use crate::event_harness::EventHarness;
+use crate::event_harness::{EventHarness, OnEvent, OnUntaggedEvent};
 use crate::hook::Hook;
+use crate::listeners::Listeners;
 use crate::wakers::Wakers;
 use event_listener::{Event, EventId, EventIds, IdsUsedUp};
 use futures::task::Waker;
 use std::alloc::Global;
 use std::sync::Wait;
-use test_support::ListenerKind;
+use std::time::Clock;
+use test_support::{Borrowing, ListenerKind, Sharing};
 
 /// What the rows make their calls by. Each call takes the hook that comes round it.
 #[derive(Drop)]
@@ -69,18 +71,51 @@ impl<'a, R: Wait, H: Hook> Harness<'a, R, H> {
         Ok(event)
     }
 
-    /// What makes calls on this event, with listeners of the kind `K`.
-    ///
-    /// Give it away by value: a function that is generic in [`EventCalls`] drops it at little cost to its proof, and one
-    /// that knows its listeners at much.
-    pub fn on<'h, 'ev, K, T>(
-        &'h mut self,
-        event: &'ev Event<T>,
-    ) -> EventHarness<'h, 'a, 'ev, K, K::Listener, T, R, H>
+    /// Makes the row with listeners that share their event, and then, on another event, with listeners that borrow it.
+    pub fn on_each_kind<T, F>(&mut self, row: F) -> Result<(), Difference>
+    where
+        T: PartialEq + Drop,
+        F: OnEvent<T>,
+        R: Clock + Clone,
+    {
+        let (one, other) = (self.event()?, self.event()?);
+        self.on::<Sharing, T, F>(&one, row)?;
+        self.on::<Borrowing, T, F>(&other, row)
+    }
+
+    /// Makes the row on this event, with listeners of the kind `K`.
+    pub fn on<'ev, K, T, F>(&mut self, event: &'ev Event<T>, row: F) -> Result<(), Difference>
     where
         K: ListenerKind<'ev, T, R>,
+        T: PartialEq + Drop,
+        F: OnEvent<T>,
+        R: Clock,
     {
-        EventHarness::new(self, event)
+        let mut listeners = Listeners::new();
+        let mut calls = EventHarness::<K, K::Listener, T, R, H>::new(self, event, &mut listeners);
+        row.make(&mut calls)
+    }
+
+    /// Makes the row as [`on_each_kind`](Harness::on_each_kind), on events whose notifications take no tag.
+    pub fn on_each_kind_untagged<F>(&mut self, row: F) -> Result<(), Difference>
+    where
+        F: OnUntaggedEvent,
+        R: Clock + Clone,
+    {
+        let (one, other) = (self.event()?, self.event()?);
+        self.on_untagged::<Sharing, F>(&one, row)?;
+        self.on_untagged::<Borrowing, F>(&other, row)
+    }
+
+    fn on_untagged<'ev, K, F>(&mut self, event: &'ev Event<()>, row: F) -> Result<(), Difference>
+    where
+        K: ListenerKind<'ev, (), R>,
+        F: OnUntaggedEvent,
+        R: Clock,
+    {
+        let mut listeners = Listeners::new();
+        let mut calls = EventHarness::<K, K::Listener, (), R, H>::new(self, event, &mut listeners);
+        row.make(&mut calls)
     }
 
     pub(crate) fn rt(&self) -> &'a R {
