@@ -1,37 +1,49 @@
 use super::Parker;
+use std::process::Abort;
+use std::sync::Wait;
 use std::sync::atomic::{AtomicBool, Ordering};
-use std::test::Fail;
 use std::thread;
 use std::time::{Clock, Duration, Instant};
 
-#[test]
-fn several_unparks_are_one(rt: HostRuntime) -> Result<(), Fail> {
-    let parker = Parker::new(rt.alloc())?;
-    parker.unparker()?.unpark(&rt);
-    parker.unparker()?.unpark(&rt);
-    parker.park(&rt);
+fn unpark<R: Abort + Wait>(rt: &R, parker: &Parker) {
+    parker.unparker().expect(rt, "a share").unpark(rt);
+}
 
-    // The token was taken, so this one ends at its time.
-    let start = Instant::now(&rt)?;
-    let timeout = Duration::from_millis(20);
-    parker.park_timeout(&rt, timeout);
-    assert!(rt; start.elapsed(&rt)? >= timeout);
+fn now<R: Abort + Clock>(rt: &R) -> Instant {
+    Instant::now(rt).expect(rt, "the time")
+}
 
-    // A token that was set before ends one that is timed, too, and is taken by it.
-    parker.unparker()?.unpark(&rt);
-    let start = Instant::now(&rt)?;
-    parker.park_timeout(&rt, Duration::from_secs(20));
-    assert!(rt; start.elapsed(&rt)? < Duration::from_secs(10));
-    let start = Instant::now(&rt)?;
-    parker.park_timeout(&rt, timeout);
-    assert!(rt; start.elapsed(&rt)? >= timeout);
-    Ok(())
+fn since<R: Abort + Clock>(rt: &R, start: Instant) -> Duration {
+    start.elapsed(rt).expect(rt, "the time")
 }
 
 #[test]
-fn a_park_without_a_limit_ends_once_it_is_unparked(rt: HostRuntime) -> Result<(), Fail> {
-    let parker = Parker::new(rt.alloc())?;
-    let unparker = parker.unparker()?;
+fn several_unparks_are_one(rt: HostRuntime) {
+    let parker = Parker::new(rt.alloc()).expect(&rt, "a parker");
+    unpark(&rt, &parker);
+    unpark(&rt, &parker);
+    parker.park(&rt);
+
+    // The token was taken, so this one ends at its time.
+    let start = now(&rt);
+    let timeout = Duration::from_millis(20);
+    parker.park_timeout(&rt, timeout);
+    assert!(rt; since(&rt, start) >= timeout);
+
+    // A token that was set before ends one that is timed, too, and is taken by it.
+    unpark(&rt, &parker);
+    let start = now(&rt);
+    parker.park_timeout(&rt, Duration::from_secs(20));
+    assert!(rt; since(&rt, start) < Duration::from_secs(10));
+    let start = now(&rt);
+    parker.park_timeout(&rt, timeout);
+    assert!(rt; since(&rt, start) >= timeout);
+}
+
+#[test]
+fn a_park_without_a_limit_ends_once_it_is_unparked(rt: HostRuntime) {
+    let parker = Parker::new(rt.alloc()).expect(&rt, "a parker");
+    let unparker = parker.unparker().expect(&rt, "a share");
     let is_unparked = AtomicBool::new(false);
     let (_, was_unparked) = thread::join(
         &rt,
@@ -46,16 +58,14 @@ fn a_park_without_a_limit_ends_once_it_is_unparked(rt: HostRuntime) -> Result<()
         },
     );
     assert!(rt; was_unparked);
-    Ok(())
 }
 
 // Half of the time is left for a machine that is busy.
 #[test]
-fn a_timed_park_ends_before_twice_its_time(rt: HostRuntime) -> Result<(), Fail> {
-    let parker = Parker::new(rt.alloc())?;
+fn a_timed_park_ends_before_twice_its_time(rt: HostRuntime) {
+    let parker = Parker::new(rt.alloc()).expect(&rt, "a parker");
     let timeout = Duration::from_secs(2);
-    let start = Instant::now(&rt)?;
+    let start = now(&rt);
     parker.park_timeout(&rt, timeout);
-    assert!(rt; start.elapsed(&rt)? < Duration::from_secs(4));
-    Ok(())
+    assert!(rt; since(&rt, start) < Duration::from_secs(4));
 }
