@@ -2,6 +2,8 @@
 #![tactic(auto)]
 
 #[cfg(test)]
+mod hog;
+#[cfg(test)]
 mod refused_listening;
 #[cfg(test)]
 mod refused_waits;

@@ -4,8 +4,6 @@
 //! another body of the queue is compared with.
 #![tactic(auto)]
 
-#[cfg(test)]
-mod comparison;
 mod queue;
 
 pub use queue::PlainQueue;

@@ -1,8 +1,8 @@
 //! The queue beside the plain program: both are given the same lists of calls, and answer the same.
 ghost use Rattle.std.specs.Prelude.{◌<◌};
 
-use crate::PlainQueue;
 use event_queue::{Call, Key, List, RegisterResult, Reply, State, TagList, Woken};
+use plain_queue::PlainQueue;
 use std::alloc::{AllocError, Global};
 use std::mem;
 use std::test::Fail;
