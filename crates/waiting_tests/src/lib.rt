@@ -1,7 +1,9 @@
-//! Tests of waiting by one thread: what no clause says of the limits of a wait.
+//! Tests of waiting by one thread: what no clause says of the end of a wait.
 #![tactic(auto)]
 
 #[cfg(test)]
-mod clocks;
-#[cfg(test)]
 mod limits;
+#[cfg(test)]
+mod refusals;
+#[cfg(test)]
+mod support;

@@ -1,0 +1,87 @@
+//! Waits of a listener whose clock notifies.
+use crate::clocks::NotifyingClock;
+use crate::support::{Runtime, WaitClock, after, elapsed, listen, new_event, now};
+use event_listener::{Event, Listener};
+use std::cell::Cell;
+use std::time::Duration;
+use test_support::{Borrowing, ListenerKind, Sharing, WaitCall, answered};
+
+// What a wait of the listener answers that has no time left.
+fn wait_with_no_time<L: Listener<u32> + Drop, R: Runtime>(
+    rt: &R,
+    listener: L,
+    wait: WaitCall,
+) -> Option<u32> {
+    let reply = match wait {
+        WaitCall::Deadline => listener.wait_deadline(now(rt, rt)),
+        _ => listener.wait_timeout(Duration::ZERO),
+    };
+    answered(reply).expect(rt, "a wait")
+}
+
+// The clock notifies once the wait has looked for its tag for the last time. The tag is given all the same, and nothing
+// is passed on to the listener behind.
+fn gives_a_late_tag<'ev, K, C, R>(rt: &R, notifying: &C, event: &'ev Event<u32>, wait: WaitCall)
+where
+    K: ListenerKind<'ev, u32, C>,
+    C: WaitClock,
+    R: Runtime,
+{
+    let listener = listen::<K, _, C, R>(rt, notifying, event);
+    let behind = listen::<K, _, C, R>(rt, notifying, event);
+    assert_eq!(rt; wait_with_no_time(rt, listener, wait), Some(7));
+    assert!(rt; !behind.discard());
+    assert_eq!(rt; event.total_listeners(rt), 0);
+}
+
+// The reading that notifies comes after the wait last registered, and before the listener leaves at its deadline. A
+// timeout has one reading more, which fixes its limit.
+#[test]
+fn a_tag_that_came_before_the_removal_at_a_deadline_is_given(rt: HostRuntime) {
+    let event = new_event(&rt);
+    let others = Cell::new(0);
+    let notifying = NotifyingClock {
+        rt: &rt,
+        event: &event,
+        others: &others,
+    };
+    for (wait, readings) in [(WaitCall::Deadline, 0), (WaitCall::Timeout, 1)] {
+        others.set(readings);
+        gives_a_late_tag::<Sharing, _, _>(&rt, &notifying, &event, wait);
+        others.set(readings);
+        gives_a_late_tag::<Borrowing, _, _>(&rt, &notifying, &event, wait);
+    }
+}
+
+// The clock notifies while the thread is about to park. No lock is held then, and the thread does not sleep through.
+fn is_told_as_it_parks<'ev, K, C, R>(rt: &R, notifying: &C, event: &'ev Event<u32>)
+where
+    K: ListenerKind<'ev, u32, C>,
+    C: WaitClock,
+    R: Runtime,
+{
+    let start = now(rt, rt);
+    let deadline = after(rt, Duration::from_secs(20));
+    let listener = listen::<K, _, C, R>(rt, notifying, event);
+    assert_eq!(rt; answered(listener.wait_deadline(deadline)), Ok(Some(7)));
+    assert!(rt; elapsed(rt, rt, start) < Duration::from_secs(10));
+    assert_eq!(rt; event.total_listeners(rt), 0);
+}
+
+// The first reading comes before the thread parks, and the second as it does.
+#[test]
+fn a_clock_may_notify_as_a_thread_parks(rt: HostRuntime) {
+    let event = new_event(&rt);
+    let others = Cell::new(0);
+    let notifying = NotifyingClock {
+        rt: &rt,
+        event: &event,
+        others: &others,
+    };
+    for readings in [0, 1] {
+        others.set(readings);
+        is_told_as_it_parks::<Sharing, _, _>(&rt, &notifying, &event);
+        others.set(readings);
+        is_told_as_it_parks::<Borrowing, _, _>(&rt, &notifying, &event);
+    }
+}
