@@ -1,31 +1,37 @@
 use super::*;
-use event_listener::EventIds;
-use std::test::Fail;
+use event_listener::{EventIds, EventListener};
+use std::alloc::AllocGlobal;
+use std::process::Abort;
+
+// The only identity of its source that is given.
+fn new_id<R: Abort>(rt: &R) -> EventId {
+    EventIds::new().next().expect(rt, "an identity")
+}
+
+fn listen<R>(rt: &R, event: &Event<u32>) -> EventListener<u32, R>
+where
+    R: Abort + AllocGlobal + Wait + Clock + Clone,
+{
+    event.listen(rt, rt.alloc()).expect(rt, "a listener")
+}
 
 #[test]
-fn a_default_notification_counts_who_is_told_and_an_additional_one_does_not(
-    rt: HostRuntime,
-) -> Result<(), Fail> {
-    let id = EventIds::new().next()?;
-    assert_eq!(rt; tags_of_two(&rt, rt.alloc(), id), Ok((7, 9)));
+fn a_default_notification_counts_who_is_told_and_an_additional_one_does_not(rt: HostRuntime) {
+    assert_eq!(rt; tags_of_two(&rt, rt.alloc(), new_id(&rt)), Ok((7, 9)));
 
-    let event = Event::with_tag(EventIds::new().next()?);
-    let first = event.listen(&rt, rt.alloc())?;
-    let second = event.listen(&rt, rt.alloc())?;
+    let event = Event::with_tag(new_id(&rt));
+    let first = listen(&rt, &event);
+    let second = listen(&rt, &event);
     assert_eq!(rt; tell_one(&rt, &event, 7), 1);
     assert_eq!(rt; tell_one(&rt, &event, 8), 0);
     assert_eq!(rt; tell_one_more(&rt, &event, 9), 1);
     assert_eq!(rt; tell_one_more(&rt, &event, 10), 0);
-    assert!(rt; first.discard() && second.discard());
-    Ok(())
+    assert_eq!(rt; [first.discard(), second.discard()], [true, true]);
 }
 
 #[test]
-fn texts_of_the_refusals(rt: HostRuntime) -> Result<(), Fail> {
+fn texts_of_the_refusals(rt: HostRuntime) {
     let wait = TagsError::from(WaitError::Memory(7u8));
-    assert_eq!(rt;
-        format!(in rt.alloc(); "{wait}")?.as_str(),
-        "no tag was given"
-    );
-    Ok(())
+    let text = format!(in rt.alloc(); "{wait}").expect(&rt, "a text");
+    assert_eq!(rt; text.as_str(), "no tag was given");
 }

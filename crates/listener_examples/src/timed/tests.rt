@@ -1,25 +1,65 @@
 use super::*;
-use event_listener::{Event, EventIds, IntoTagged, NeverInserted};
+use event_listener::{Event, EventIds, EventListener, IntoTagged, NeverInserted};
 use futures::task::{Poll, Waker};
+use std::alloc::AllocGlobal;
 use std::cell::Cell;
 use std::io;
-use std::test::Fail;
+use std::process::Abort;
+use std::sync::Wait;
+
+// A new event, the only one of its source.
+fn new_event<R: Abort>(rt: &R) -> Event<u32> {
+    Event::with_tag(EventIds::new().next().expect(rt, "an identity"))
+}
+
+fn listen<R>(rt: &R, event: &Event<u32>) -> EventListener<u32, R>
+where
+    R: Abort + AllocGlobal + Wait + Clock + Clone,
+{
+    event.listen(rt, rt.alloc()).expect(rt, "a listener")
+}
+
+// Tells one listener, with tag 7.
+fn notify<R: Abort + Wait>(rt: &R, event: &Event<u32>) {
+    assert_eq!(rt; event.notify(rt, 1.tag(7u32)), Ok(1));
+}
+
+// What the wait gave, which was not refused.
+fn answered<L: Drop, R: Abort>(rt: &R, answer: Result<Option<u32>, WaitError<L>>) -> Option<u32> {
+    match answer {
+        Ok(tag) => tag,
+        Err(_) => panic!(rt; "the wait was refused"),
+    }
+}
+
+// The listener that came back from a wait that was refused memory.
+fn returned<L: Drop, R: Abort>(rt: &R, answer: Result<Option<u32>, WaitError<L>>) -> L {
+    match answer {
+        Err(WaitError::Memory(listener)) => listener,
+        _ => panic!(rt; "the listener did not come back"),
+    }
+}
+
+fn now<R: Abort, C: Clock>(rt: &R, clock: &C) -> Instant {
+    Instant::now(clock).expect(rt, "a time")
+}
 
 #[test]
-fn a_listener_gives_its_tag_or_none_at_its_limit(rt: HostRuntime) -> Result<(), Fail> {
-    let event: Event<u32> = Event::with_tag(EventIds::new().next()?);
-    let told = event.listen(&rt, rt.alloc())?;
-    let untold = event.listen(&rt, rt.alloc())?;
-    assert_eq!(rt; event.notify(&rt, 1.tag(7u32))?, 1);
+fn a_listener_gives_its_tag_or_none_at_its_limit(rt: HostRuntime) {
+    let event = new_event(&rt);
+    let told = listen(&rt, &event);
+    let untold = listen(&rt, &event);
+    notify(&rt, &event);
     // It was told before, so it gets its tag, however short the limit is.
-    assert!(rt; matches!(tag_within(&rt, told, Duration::ZERO), Ok(Some(7))));
+    let tag = answered(&rt, tag_within(&rt, told, Duration::ZERO));
+    assert_eq!(rt; tag, Some(7));
 
     let limit = Duration::from_millis(50);
-    let start = Instant::now(&rt)?;
-    assert!(rt; matches!(tag_within(&rt, untold, limit), Ok(None)));
-    assert!(rt; start.elapsed(&rt)? >= limit);
+    let start = now(&rt, &rt);
+    let tag = answered(&rt, tag_within(&rt, untold, limit));
+    assert_eq!(rt; tag, None);
+    assert!(rt; start.elapsed(&rt).expect(&rt, "a time") >= limit);
     assert_eq!(rt; event.total_listeners(&rt), 0);
-    Ok(())
 }
 
 // A clock that can't be read.
@@ -37,15 +77,16 @@ impl Clock for NoClock {
 }
 
 #[test]
-fn a_clock_that_cant_be_read_is_a_passed_deadline(rt: HostRuntime) -> Result<(), Fail> {
-    let event: Event<u32> = Event::with_tag(EventIds::new().next()?);
-    let told = event.listen(&rt, rt.alloc())?;
-    let untold = event.listen(&rt, rt.alloc())?;
-    assert_eq!(rt; event.notify(&rt, 1.tag(7u32))?, 1);
-    assert!(rt; matches!(tag_within(&NoClock, told, Duration::MAX), Ok(Some(7))));
-    assert!(rt; matches!(tag_within(&NoClock, untold, Duration::MAX), Ok(None)));
+fn a_clock_that_cant_be_read_is_a_passed_deadline(rt: HostRuntime) {
+    let event = new_event(&rt);
+    let told = listen(&rt, &event);
+    let untold = listen(&rt, &event);
+    notify(&rt, &event);
+    let tag = answered(&rt, tag_within(&NoClock, told, Duration::MAX));
+    assert_eq!(rt; tag, Some(7));
+    let tag = answered(&rt, tag_within(&NoClock, untold, Duration::MAX));
+    assert_eq!(rt; tag, None);
     assert_eq!(rt; event.total_listeners(&rt), 0);
-    Ok(())
 }
 
 // A clock that is one second later each time it is read.
@@ -182,52 +223,50 @@ impl<'a, T, L: Listener<T> + Drop> Listener<T> for Refusing<'a, L> {
 
 // The clock is read once, so the second wait has the deadline of the first, and not a limit of its own.
 #[test]
-fn a_refused_wait_is_tried_again_against_the_same_deadline(rt: HostRuntime) -> Result<(), Fail> {
-    let event: Event<u32> = Event::with_tag(EventIds::new().next()?);
+fn a_refused_wait_is_tried_again_against_the_same_deadline(rt: HostRuntime) {
+    let event = new_event(&rt);
     let notes = Notes::new(1);
     let listener = Refusing {
-        listener: event.listen(&rt, rt.alloc())?,
+        listener: listen(&rt, &event),
         notes: &notes,
     };
-    assert_eq!(rt; event.notify(&rt, 1.tag(7u32))?, 1);
+    notify(&rt, &event);
 
     let limit = Duration::from_secs(10);
-    let start = Instant::now(&Ticking::new())?;
-    assert!(rt; matches!(tag_within(&Ticking::new(), listener, limit), Ok(Some(7))));
+    let start = now(&rt, &Ticking::new());
+    let tag = answered(&rt, tag_within(&Ticking::new(), listener, limit));
+    assert_eq!(rt; tag, Some(7));
     assert_eq!(rt; notes.refusals.get(), 0);
-    let deadline = start.checked_add(limit).ok_or("no such moment")?;
+    let deadline = start.checked_add(limit).expect(&rt, "a moment");
     assert!(rt; notes.asked.get() == Asked::Deadline(deadline));
-    Ok(())
 }
 
 #[test]
-fn a_listener_comes_back_after_two_refusals(rt: HostRuntime) -> Result<(), Fail> {
-    let event: Event<u32> = Event::with_tag(EventIds::new().next()?);
+fn a_listener_comes_back_after_two_refusals(rt: HostRuntime) {
+    let event = new_event(&rt);
     let notes = Notes::new(2);
     let listener = Refusing {
-        listener: event.listen(&rt, rt.alloc())?,
+        listener: listen(&rt, &event),
         notes: &notes,
     };
-    assert_eq!(rt; event.notify(&rt, 1.tag(7u32))?, 1);
-    let Err(WaitError::Memory(back)) = tag_by(listener, Instant::now(&rt)?) else {
-        return Err("the listener did not come back".into());
-    };
+    notify(&rt, &event);
+    let back = returned(&rt, tag_by(listener, now(&rt, &rt)));
     assert_eq!(rt; notes.refusals.get(), 0);
     assert_eq!(rt; event.total_listeners(&rt), 1);
-    assert!(rt; matches!(back.wait_timeout(Duration::ZERO), Ok(Some(7))));
-    Ok(())
+    let tag = answered(&rt, back.wait_timeout(Duration::ZERO));
+    assert_eq!(rt; tag, Some(7));
 }
 
 #[test]
-fn a_limit_too_long_to_be_represented_is_none(rt: HostRuntime) -> Result<(), Fail> {
-    let event: Event<u32> = Event::with_tag(EventIds::new().next()?);
+fn a_limit_too_long_to_be_represented_is_none(rt: HostRuntime) {
+    let event = new_event(&rt);
     let notes = Notes::new(0);
     let listener = Refusing {
-        listener: event.listen(&rt, rt.alloc())?,
+        listener: listen(&rt, &event),
         notes: &notes,
     };
-    assert_eq!(rt; event.notify(&rt, 1.tag(7u32))?, 1);
-    assert!(rt; matches!(tag_within(&rt, listener, Duration::MAX), Ok(Some(7))));
+    notify(&rt, &event);
+    let tag = answered(&rt, tag_within(&rt, listener, Duration::MAX));
+    assert_eq!(rt; tag, Some(7));
     assert!(rt; notes.asked.get() == Asked::Wait);
-    Ok(())
 }
