@@ -2,3 +2,12 @@ pub mod Identity
 pub mod Event
 pub mod Listening
 pub mod Waiting
+pub mod RecordedStep
+pub mod Replay
+pub mod Recording
+pub mod Noting
+pub mod Closing
+pub mod RecordedCalls
+pub mod RecordedWait
+pub mod RecordedWaitSteps
+pub mod RecordedRun

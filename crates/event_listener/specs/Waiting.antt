@@ -1,5 +1,5 @@
 -- How a wait ends.
-use Rattle.std.specs.Prelude.{◌≡◌, ◌⊎◌, Option, Some, None, Result, Ok, Err, ⊤}
+use Rattle.std.specs.Prelude.{◌≡◌, ◌≢◌, ◌⊎◌, ℕ, zero, suc, Option, Some, None, Result, Ok, Err, ⊤}
 use Rattle.event_queue.specs.declared.reply.State.{State}
 use Rattle.event_queue.specs.declared.reply.State.TheVariants.{Created, Notified, Task, NotifiedTaken}
 use Rattle.event_listener.specs.declared.listener.wait_error.WaitError.{WaitError}
@@ -32,3 +32,41 @@ module _ {T : Type 0} where
   answer_of listener TimedOut = Ok None
   answer_of listener Absent = Err NeverInserted
   answer_of listener Refused = Err (Memory listener)
+
+  -- the last step of a wait ended it so: it was not refused memory, the listener is out of the queue, and one that was
+  -- out before was not found there
+  pub record EndsWait (was_out is_out : Type 0) (outcome : WaitOutcome T) : Type 0 where
+    pub granted : outcome ≢ Refused
+    pub out : is_out
+    pub absent : was_out → outcome ≡ Absent
+
+module _ {S T : Type 0} (goes_on : S → S → Type 0) (ends leaves : S → WaitOutcome T → S → Type 0) where
+  -- so many registrations found the listener waiting
+  abbrev pub Rounds : ℕ → S → S → Type 0
+  Rounds zero before after = after ≡ before
+  Rounds (suc rounds) before after = (between : S) × Rounds rounds before between × goes_on between after
+
+  -- after some of them, the next registration ended the wait
+  pub record EndsInARound (before : S) (outcome : WaitOutcome T) (after : S) : Type 0 where
+    pub rounds : ℕ
+    pub between : S
+    pub waited : Rounds rounds before between
+    pub ended : ends between outcome after
+
+  -- after one at least, the deadline had passed, and the removal ended the wait
+  pub record EndsAtADeadline (before : S) (outcome : WaitOutcome T) (after : S) : Type 0 where
+    pub rounds : ℕ
+    pub between : S
+    pub waited : Rounds (suc rounds) before between
+    pub left : leaves between outcome after
+
+  -- after some of them, memory was refused for what the thread parks on, or for a share of it
+  pub record EndsRefused (before : S) (outcome : WaitOutcome T) (after : S) : Type 0 where
+    pub rounds : ℕ
+    pub waited : Rounds rounds before after
+    pub refused : outcome ≡ Refused
+
+  -- how a wait ends that may have a deadline
+  abbrev pub Waits : Type 0 → S → WaitOutcome T → S → Type 0
+  Waits may_end before outcome after =
+      EndsInARound before outcome after ⊎ (may_end × EndsAtADeadline before outcome after) ⊎ EndsRefused before outcome after

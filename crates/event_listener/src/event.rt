@@ -6,8 +6,6 @@ ghost use Rattle.event_listener.specs.Event.{TellsSome};
 mod debug;
 mod identity;
 mod shared;
-#[cfg(test)]
-mod tests;
 
 use crate::listener::{EventListener, InnerListener};
 use crate::task::Waking;
@@ -53,6 +51,21 @@ impl<T> Event<T> {
             id,
             shared: OnceLock::new(),
         }
+    }
+
+    /// For tests of the greatest serial numbers: an event whose queue is made already, and gives its first listener this
+    /// serial number.
+    ///
+    /// The call allocates the queue; the error is a refusal of that. It does not wait.
+    #[doc(hidden)]
+    pub fn starting_at(alloc: Global, id: EventId, first_serial: u64) -> Result<Self, AllocError>
+    where
+        T: Drop,
+        ensures { IfOk result (λ event. event ≡ id) }
+    {
+        let queue = Arc::new(alloc, Shared::starting_at(alloc, first_serial))?;
+        let shared = OnceLock::from(queue);
+        Ok(Event { id, shared })
     }
 
     /// A new listener, which waits at the end of the queue. It starts untold, whoever is told already. It keeps a share

@@ -129,6 +129,13 @@
 //! }
 //! ```
 //!
+//! # An event that keeps a record
+//!
+//! A [`RecordedEvent`] records every step of its queue. Whoever calls it has a [`Hand`], which notes its calls and the
+//! replies that it got. Once its listeners are gone, [`RecordedEvent::close`] gives its [`Record`] where the notes are
+//! its entries: one history of the queue, in which the calls of each hand stand, each once and in order. [`replays`]
+//! says of any entries whether they are such a history. The crate `recorded_example` has a flag that keeps a record.
+//!
 //! # What the contracts say
 //!
 //! A contract sees an event as the number of its identity, and a listener as the number of its event, its key in the
@@ -139,6 +146,8 @@
 //! - [`Event::notify`]: no more listeners are told than were asked for.
 //! - [`Listener`]: when a listener is finished, that a finished one is refused, and that a wait which is refused memory
 //!   returns the same listener.
+//! - [`RecordedEvent::close`]: a record is a history of its queue, and has the notes of each hand.
+//! - [`RecordedState::apply`]: one step of a queue, and one entry more.
 //!
 //! No clause says which listeners are in a queue or which are told, since other threads may change that at any time. A
 //! call that takes the lock, as every wait does, promises its clauses if it returns. No clause says that it returns, or
@@ -147,6 +156,7 @@
 
 mod event;
 mod listener;
+mod recorded;
 mod task;
 
 pub use event::{Event, EventId, EventIds, IdsUsedUp, given_numbers_are_distinct};
@@ -158,4 +168,9 @@ pub use event_queue::{
     relaxed_clone_means_the_same, tag_clone_has_both_clones, woken_keeps_the_first,
 };
 pub use listener::{EventListener, Listener, NeverInserted, StackListener, StackSlot, WaitError};
+pub use recorded::{
+    CloseError, Entry, Former, Hand, Note, Record, RecordError, RecordedCall, RecordedEvent,
+    RecordedListener, RecordedPollError, RecordedReply, RecordedState, StepCall, equal_calls,
+    equal_replies, replays, replays_exactly_the_runs,
+};
 pub use task::Task;

@@ -20,6 +20,7 @@ pub use stack_listener::StackListener;
 pub use stack_slot::StackSlot;
 use std::time::{Duration, Instant};
 use thiserror::Error;
+pub(crate) use wait::{Limit, WaitOutcome, WaitSteps, wait_in};
 pub use wait_error::WaitError;
 
 /// The listener is not in the queue: it has given its tag.

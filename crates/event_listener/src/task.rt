@@ -2,8 +2,6 @@
 ghost use Rattle.std.specs.Prelude.{◌≡◌};
 
 mod parker;
-#[cfg(test)]
-mod tests;
 
 use event_queue::WakeSink;
 use futures::task::Waker;

@@ -17,8 +17,7 @@ impl<T> Shared<T> {
         }
     }
 
-    // One whose queue gives this serial number next.
-    #[cfg(test)]
+    /// One whose queue gives this serial number next.
     pub(super) fn starting_at(alloc: Global, serial: u64) -> Self {
         Shared {
             queue: Mutex::new(List::starting_at(alloc, serial)),

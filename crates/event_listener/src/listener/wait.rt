@@ -1,13 +1,16 @@
 //! How a listener of any kind waits: from the public call to what it answers.
 //!
-//! The public calls are calls of [`wait_until_told`] and [`wait_within`]. For either kind of listener, these make
-//! [`InnerListener::wait`] with the queue of its event.
-ghost use Rattle.std.specs.Prelude.{◌≡◌, ◌≢◌, ◌⊎◌, Bool, true, Some, None, IsSome, IsErr, IfOk, IfErr};
+//! The public calls of the listeners of an [`Event`](crate::Event) are calls of [`wait_until_told`] and
+//! [`wait_within`]. For either kind of listener, these make [`InnerListener::wait`] with the queue of its event.
+//!
+//! That, and the wait of a recorded listener (`recorded/wait`), is [`wait_in`]: there is one wait, whatever it makes its
+//! steps on. [`WaitSteps`] is what it needs of a listener: a registration, and the removal at the deadline.
+ghost use Rattle.std.specs.Prelude.{◌≡◌, ◌≢◌, ◌⊎◌, Bool, true, false, Some, None, IsSome, IsErr, IfOk, IfErr, IfSome, IfNone};
 ghost use Rattle.event_queue.specs.declared.reply.State.TheVariants.{NotifiedTaken};
 ghost use Rattle.event_listener.specs.declared.listener.wait.Limit.TheVariants.{Never};
 ghost use Rattle.event_listener.specs.declared.listener.wait.Deadline.TheVariants.{Never as NoDeadline};
 ghost use Rattle.event_listener.specs.declared.listener.wait.WaitOutcome.TheVariants.{TimedOut, Refused};
-ghost use Rattle.event_listener.specs.Waiting.{HandsBack, IsFault, outcome_at_deadline, answer_of};
+ghost use Rattle.event_listener.specs.Waiting.{HandsBack, IsFault, EndsWait, Waits, outcome_at_deadline, answer_of};
 
 use super::inner_listener::InnerListener;
 use super::membership::Membership;
@@ -15,12 +18,13 @@ use super::{EventListener, StackListener, WaitError};
 use crate::event::Shared;
 use crate::task::{Parker, Task};
 use event_queue::{RegisterResult, State};
+use std::alloc::Global;
 use std::sync::Wait;
 use std::time::{Clock, Duration, Instant};
 
 /// How long a wait goes on if nobody tells the listener.
 #[derive(Clone, Copy)]
-pub(super) enum Limit {
+pub(crate) enum Limit {
     Never,
     After(Duration),
     At(Instant),
@@ -28,7 +32,7 @@ pub(super) enum Limit {
 
 /// How a wait ended.
 #[derive(Drop)]
-pub(super) enum WaitOutcome<T> {
+pub(crate) enum WaitOutcome<T> {
     /// The listener was told: this is its tag.
     Told(T),
     /// The deadline passed, and nobody had told it.
@@ -101,55 +105,138 @@ impl<R: Wait + Clock + Clone> InnerListener<R> {
         ensures over { (result ≡ Refused) ⊎ (self.new.membership.is_finished ≡ true) }
         ensures unlimited { limit ≡ Never → result ≢ TimedOut }
     {
-        // The time of a timeout begins here, before anything is made.
-        let deadline = limit.deadline(&self.runtime);
-        let Ok(parker) = Parker::new(self.alloc) else {
+        wait_in(
+            &mut self.membership,
+            &self.runtime,
+            self.alloc,
+            shared,
+            &mut (),
+            limit,
+        )
+    }
+}
+
+/// A listener's place in its queue, as a wait uses it: the steps that it makes there, and what each does to the place
+/// and to the notes that are taken of it.
+pub(crate) trait WaitSteps<T>: Sized {
+    ghost use Rattle.event_listener.specs.declared.listener.wait.WaitOutcome.{WaitOutcome};
+
+    /// What stands behind the lock of the queue.
+    type Queue;
+
+    /// What notes are taken in.
+    type Notes;
+
+    // A registration found the listener waiting, and the wait goes on.
+    ghost goes_on: { Self × Self.Notes → Self × Self.Notes → Type 0 };
+
+    // A registration ended the wait so.
+    ghost ends: { Self × Self.Notes → WaitOutcome T → Self × Self.Notes → Type 0 };
+
+    // The removal at the deadline ended the wait so.
+    ghost leaves: { Self × Self.Notes → WaitOutcome T → Self × Self.Notes → Type 0 };
+
+    /// Takes the tag if the listener was told; else stores the task. Answers how the wait ends, if that ends it.
+    fn round<R: Wait>(
+        &mut self,
+        rt: &R,
+        queue: &Self::Queue,
+        notes: &mut Self::Notes,
+        task: Task,
+    ) -> Option<WaitOutcome<T>>
+        ensures goes_on { IfNone result (goes_on (self.old, notes.old) (self.new, notes.new)) }
+        ensures ends { IfSome result (λ outcome. ends (self.old, notes.old) outcome (self.new, notes.new)) };
+
+    /// Removes the listener at its deadline, without passing a notification on. A tag that came since it last looked
+    /// stays its own. Answers how that ends the wait.
+    fn leave<R: Wait>(
+        &mut self,
+        rt: &R,
+        queue: &Self::Queue,
+        notes: &mut Self::Notes,
+    ) -> WaitOutcome<T>
+        ensures { leaves (self.old, notes.old) result (self.new, notes.new) };
+}
+
+// Waits until the listener is told or the limit has passed.
+pub(crate) fn wait_in<T, S: WaitSteps<T>, R: Wait + Clock>(
+    steps: &mut S,
+    rt: &R,
+    alloc: Global,
+    queue: &S::Queue,
+    notes: &mut S::Notes,
+    limit: Limit,
+) -> WaitOutcome<T>
+    ensures { Waits S.goes_on S.ends S.leaves (limit ≢ Never) (steps.old, notes.old) result (steps.new, notes.new) }
+{
+    // The time of a timeout begins here, before anything is made.
+    let deadline = limit.deadline(rt);
+    let Ok(parker) = Parker::new(alloc) else {
+        return WaitOutcome::Refused;
+    };
+    wait_on(steps, rt, &parker, queue, notes, deadline)
+}
+
+// Each round leaves the parker's task in the queue before it looks at the time: a listener that was told before the
+// deadline gets its tag, however late it looks.
+fn wait_on<T, S: WaitSteps<T>, R: Wait + Clock>(
+    steps: &mut S,
+    rt: &R,
+    parker: &Parker,
+    queue: &S::Queue,
+    notes: &mut S::Notes,
+    deadline: Deadline,
+) -> WaitOutcome<T>
+    ensures { Waits S.goes_on S.ends S.leaves (deadline ≢ NoDeadline) (steps.old, notes.old) result (steps.new, notes.new) }
+{
+    for _ in rt.forever() {
+        let Ok(task) = Task::from_parker(parker) else {
             return WaitOutcome::Refused;
         };
-        self.membership
-            .wait_on(&self.runtime, &parker, shared, deadline)
+        if let Some(outcome) = steps.round(rt, queue, notes, task) {
+            return outcome;
+        }
+        match deadline.left(rt) {
+            None => parker.park(rt),
+            Some(left) if left.is_zero() => return steps.leave(rt, queue, notes),
+            Some(left) => parker.park_timeout(rt, left),
+        }
+    }
+    unreachable!()
+}
+
+impl<T: Drop> WaitSteps<T> for Membership {
+    type Queue = Shared<T>;
+
+    type Notes = ();
+
+    ghost goes_on = { λ before after. (before.0.is_finished ≡ false) × (after ≡ before) };
+
+    ghost ends = { λ before outcome after. EndsWait (before.0.is_finished ≡ true) (after.0.is_finished ≡ true) outcome × (outcome ≢ TimedOut) };
+
+    ghost leaves = { λ before outcome after. EndsWait (before.0.is_finished ≡ true) (after.0.is_finished ≡ true) outcome };
+
+    fn round<R: Wait>(
+        &mut self,
+        rt: &R,
+        queue: &Shared<T>,
+        _notes: &mut (),
+        task: Task,
+    ) -> Option<WaitOutcome<T>> {
+        match self.register(rt, queue, task) {
+            RegisterResult::Notified(tag) => Some(WaitOutcome::Told(tag)),
+            RegisterResult::NeverInserted => Some(WaitOutcome::Absent),
+            RegisterResult::Registered => None,
+        }
+    }
+
+    fn leave<R: Wait>(&mut self, rt: &R, queue: &Shared<T>, _notes: &mut ()) -> WaitOutcome<T> {
+        let former = self.remove_at_deadline(rt, queue);
+        WaitOutcome::at_deadline(former)
     }
 }
 
 impl Membership {
-    // Each round leaves the parker's task in the queue before it looks at the time: a listener that was told before the
-    // deadline gets its tag, however late it looks.
-    //
-    // What `refused` says of the queue: a share of the parker may be refused in any round, and until then nothing took
-    // the listener out, since that would have finished it.
-    fn wait_on<T: Drop, R: Wait + Clock>(
-        &mut self,
-        rt: &R,
-        parker: &Parker,
-        shared: &Shared<T>,
-        deadline: Deadline,
-    ) -> WaitOutcome<T>
-        ensures finished { self.old.is_finished ≡ true → IsFault result }
-        ensures refused { result ≡ Refused → self.new ≡ self.old }
-        ensures over { (result ≡ Refused) ⊎ (self.new.is_finished ≡ true) }
-        ensures unlimited { deadline ≡ NoDeadline → result ≢ TimedOut }
-    {
-        for _ in rt.forever() {
-            let Ok(task) = Task::from_parker(parker) else {
-                return WaitOutcome::Refused;
-            };
-            match self.register(rt, shared, task) {
-                RegisterResult::Notified(tag) => return WaitOutcome::Told(tag),
-                RegisterResult::NeverInserted => return WaitOutcome::Absent,
-                RegisterResult::Registered => {}
-            }
-            match deadline.left(rt) {
-                None => parker.park(rt),
-                Some(left) if left.is_zero() => {
-                    let former = self.remove_at_deadline(rt, shared);
-                    return WaitOutcome::at_deadline(former);
-                }
-                Some(left) => parker.park_timeout(rt, left),
-            }
-        }
-        unreachable!()
-    }
-
     // At a deadline the listener leaves without passing a notification on. A tag that came since it last looked stays
     // its own.
     fn remove_at_deadline<T: Drop, R: Wait>(
@@ -157,6 +244,7 @@ impl Membership {
         rt: &R,
         shared: &Shared<T>,
     ) -> Option<State<T, Task>>
+        ensures finished { self.old.is_finished ≡ true → result ≡ None }
         ensures leaves { self.new.is_finished ≡ true }
         ensures kept { result ≢ Some NotifiedTaken }
     {

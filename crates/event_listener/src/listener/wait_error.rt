@@ -8,7 +8,8 @@ use std::fmt::{Debug, Display, Formatter};
 pub enum WaitError<L> {
     /// The listener is not in the queue: it has given its tag.
     NeverInserted,
-    /// There was no memory for what the thread parks on. This is the same listener, where it was.
+    /// There was no memory for what the thread parks on, or, of a listener of a
+    /// [`RecordedEvent`](crate::RecordedEvent), for an entry or a note. This is the same listener, where it was.
     Memory(L),
 }
 

@@ -1,0 +1,103 @@
+//! Whether the record of an event and the notes of its hands are one history.
+ghost use Rattle.std.specs.Prelude.{◌≡◌, ◌↔◌, ◌&&◌, IsTrue};
+ghost use Rattle.event_listener.specs.Closing.{AreAllHands, are_hands_below, are_notes, are_notes_of_all, entries_of, how_many_with, is_by, same_call};
+ghost use Rattle.event_listener.specs.Replay.{same_reply};
+
+use super::entry::Entry;
+use super::hand::{Hand, Note};
+use thiserror::Error;
+
+/// Why an event was closed without a record.
+#[derive(Clone, Copy, Debug, PartialEq, Eq, Error)]
+pub enum CloseError {
+    /// The numbers of the hands were not all those below the event's count of hands, each once.
+    #[error("hands are missing")]
+    HandsMissing,
+    /// The notes of some hand are not the record's entries of that hand, in order, or an entry is of a hand that the
+    /// event has not.
+    #[error("notes differ from the record")]
+    Differs,
+}
+
+// How many of the hands have that number.
+fn how_many_with<T>(hands: &[Hand<T>], number: usize) -> usize
+    ensures { result ≡ how_many_with number hands.now }
+{
+    let mut found = 0;
+    for hand in hands {
+        found += usize::from(number == hand.number());
+    }
+    found
+}
+
+// Whether each number below the count is that of exactly one of the hands. It looks at each of them for each number,
+// and allocates nothing.
+pub(super) fn are_all_hands<T>(hands: &[Hand<T>], count: usize) -> bool
+    ensures { IsTrue result ↔ AreAllHands count hands.now }
+{
+    for number in 0..count {
+        if how_many_with(hands, number) != 1 {
+            return false;
+        }
+    }
+    true
+}
+
+// Whether each entry that some hand made is of one with a number below the count.
+pub(super) fn are_hands_below<T>(entries: &[Entry<T>], count: usize) -> bool
+    ensures { result ≡ are_hands_below count entries.now }
+{
+    for entry in entries {
+        if let Some(hand) = entry.hand
+            && hand >= count
+        {
+            return false;
+        }
+    }
+    true
+}
+
+// Whether the note is of the same call and reply as the entry.
+fn is_note_of<T: Eq>(entry: &Entry<T>, note: &Note<T>) -> bool
+    ensures { result ≡ (same_call T.eq entry.now.call note.now.call && same_reply T.eq entry.now.reply note.now.reply) }
+{
+    entry.call == note.call && entry.reply == note.reply
+}
+
+// Whether that hand made the call.
+fn is_by<T>(entry: &Entry<T>, hand: usize) -> bool
+    ensures { result ≡ is_by hand entry.now.hand }
+{
+    entry.hand == Some(hand)
+}
+
+// Whether the notes are the entries of that hand, in order.
+fn are_notes_of<T: Eq>(entries: &[Entry<T>], hand: usize, notes: &[Note<T>]) -> bool
+    ensures { result ≡ are_notes T.eq (entries_of hand entries.now) notes.now }
+{
+    let mut left = notes;
+    for entry in entries {
+        if is_by(entry, hand) {
+            let Some((note, rest)) = left.split_first() else {
+                return false;
+            };
+            if !is_note_of(entry, note) {
+                return false;
+            }
+            left = rest;
+        }
+    }
+    left.is_empty()
+}
+
+// Whether the notes of each hand are the entries of that hand, in order.
+pub(super) fn are_notes_of_all<T: Eq>(entries: &[Entry<T>], hands: &[Hand<T>]) -> bool
+    ensures { result ≡ are_notes_of_all T.eq entries.now hands.now }
+{
+    for hand in hands {
+        if !are_notes_of(entries, hand.number(), hand.notes()) {
+            return false;
+        }
+    }
+    true
+}

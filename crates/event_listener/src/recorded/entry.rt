@@ -1,0 +1,14 @@
+use super::call::RecordedCall;
+use super::reply::RecordedReply;
+
+/// One step of a recorded queue: whose call it was, the call, and what the queue answered. Anybody may write entries,
+/// for [`replays`](crate::replays).
+#[derive(Clone, Copy, Debug, PartialEq, Eq, Drop)]
+pub struct Entry<T> {
+    /// The number of the hand that called, or `None` where a listener was dropped.
+    pub hand: Option<usize>,
+    /// The call.
+    pub call: RecordedCall<T>,
+    /// The answer.
+    pub reply: RecordedReply<T>,
+}

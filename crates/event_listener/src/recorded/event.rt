@@ -1,0 +1,223 @@
+//! Events that keep a record.
+ghost use Rattle.std.specs.Prelude.{◌≡◌, ◌↔◌, length, All, IsTrue, IsErrAnd, IfOk, IfErr};
+ghost use Rattle.event_listener.specs.Closing.{AreAllHands, are_hands_below, are_notes_of_all, entries_of_hands, notes_of_all};
+ghost use Rattle.event_listener.specs.Noting.{Owns, new_hands};
+ghost use Rattle.event_listener.specs.Replay.{replays};
+ghost use Rattle.event_listener.specs.RecordedCalls.{Listens, NotesNotify, NotesTotal, NotesIsNotified};
+
+use super::call::StepCall;
+use super::close::{CloseError, are_all_hands, are_hands_below, are_notes_of_all};
+use super::error::RecordError;
+use super::hand::{Hand, new_hands};
+use super::listener::RecordedListener;
+use super::record::Record;
+use super::reply::RecordedReply;
+use super::state::RecordedState;
+use crate::event::EventId;
+use event_queue::ListenError;
+use std::alloc::Global;
+use std::marker::Model;
+use std::sync::{Mutex, Wait};
+use std::time::Clock;
+
+/// An event that keeps a record of every step that its queue makes, and whose callers each note their own calls.
+///
+/// It is made with its hands. Each call is a call of one hand, which notes the call and its reply; the drop of a
+/// listener is nobody's call. Each step of the queue is made under the lock of the event, and recorded before the lock
+/// is given back. So whatever threads call it, its record is one history of its queue, in the order in which the steps
+/// were made, and it replays. [`close`](RecordedEvent::close) says whether the record has the notes of each hand, each
+/// once and in order.
+///
+/// A contract sees a recorded event as the number of its identity and its count of hands. A call with a hand has the
+/// condition that the event [`owns`](RecordedEvent::owns) it; the clauses of each call let the caller carry that over
+/// to the next.
+///
+/// Tags are copied, and compared by `close` and [`replays`](crate::replays) alone. Tasks are woken under the lock:
+/// calling the same event from what a waker runs there deadlocks. The record grows by an entry with each step, and
+/// never shrinks. No call but `close` and `replays` looks at older entries.
+#[derive(Drop)]
+pub struct RecordedEvent<T: Copy + Eq> {
+    id: EventId,
+    hands: usize,
+    state: Mutex<RecordedState<T>>,
+}
+
+impl<T: Copy + Eq> Model for RecordedEvent<T> {
+    ghost use Rattle.event_listener.specs.Noting.{Recorded};
+
+    ghost Value = { Recorded };
+
+    ghost view = { λ event. record { number = event.id; hands = event.hands } };
+}
+
+impl<T: Copy + Eq> RecordedEvent<T> {
+    /// An event with so many hands, which have the numbers from 0 on, in order, and no notes.
+    ///
+    /// Returns [`RecordError::Memory`] where memory for the hands is refused; the identity is used up then. It returns
+    /// no other error. The call allocates the hands, and does not wait.
+    pub fn new(
+        alloc: Global,
+        id: EventId,
+        hands: usize,
+    ) -> Result<(Self, Vec<Hand<T>>), RecordError>
+        ensures event { IfOk result (λ made. made.0 ≡ record { number = id; hands = hands }) }
+        ensures hands { IfOk result (λ made. made.1.items ≡ new_hands id hands) }
+        ensures memory { IfErr result (λ error. error ≡ RecordError.Memory) }
+    {
+        let made = new_hands(hands, id.number(), alloc)?;
+        let event = RecordedEvent {
+            id,
+            hands,
+            state: Mutex::new(RecordedState::new(alloc)),
+        };
+        Ok((event, made))
+    }
+
+    // What stands under the lock.
+    pub(super) fn state(&self) -> &Mutex<RecordedState<T>> {
+        &self.state
+    }
+
+    /// Whether the hand is one of this event's: whether it has the event's number, and a number below the event's count
+    /// of hands. Each call with a hand has this as its condition, and this is the test of it.
+    ///
+    /// Events of two sources may have one number, and then one owns hands of the other. The call neither allocates nor
+    /// waits.
+    pub fn owns(&self, hand: &Hand<T>) -> bool
+        ensures { IsTrue result ↔ Owns self.now hand.now }
+    {
+        hand.event_number() == self.id.number() && hand.number() < self.hands
+    }
+
+    /// A new listener, which waits at the end of the queue. It starts untold, whoever is told already. It keeps a clone
+    /// of the runtime value for its own calls.
+    ///
+    /// Returns [`RecordError::Memory`] where memory or the clone is refused: nobody is inserted, and nothing is
+    /// recorded or noted. Returns [`RecordError::SerialsUsedUp`] where the queue has given out all serial numbers:
+    /// nobody is inserted, and the call is recorded and noted with that reply.
+    ///
+    /// The call allocates, also what the drop of the listener needs to be recorded. It may wait for the lock of the
+    /// event.
+    pub fn listen<R>(
+        &self,
+        rt: &R,
+        alloc: Global,
+        hand: &mut Hand<T>,
+    ) -> Result<RecordedListener<'_, T, R>, RecordError>
+    where
+        R: Wait + Clock + Clone,
+        requires { Owns self.now hand.old }
+        ensures noted { Listens (λ listener. listener.key) hand.old result hand.new }
+        ensures event { IfOk result (λ listener. listener.event ≡ self.now) }
+    {
+        let Ok(runtime) = rt.clone() else {
+            return Err(RecordError::Memory);
+        };
+        let reply = hand.make(rt, &self.state, StepCall::Listen)?;
+        match reply {
+            RecordedReply::Listened(Ok(key)) => {
+                Ok(RecordedListener::new(self, key, runtime, alloc))
+            }
+            RecordedReply::Listened(Err(ListenError::SerialsUsedUp)) => {
+                Err(RecordError::SerialsUsedUp)
+            }
+            _ => unreachable!(),
+        }
+    }
+
+    /// Tells the first of the waiting listeners, in order, each with this tag, and wakes their tasks. Returns how many
+    /// it told: `count`, less those that are told already where it is not additional, and no more than wait. A
+    /// notification that finds nobody to tell is recorded, and not kept.
+    ///
+    /// Returns [`RecordError::Memory`] where memory for the record or the note is refused: nobody is told, and nothing
+    /// is recorded or noted. So who relies on it being told has to call again. It returns no other error.
+    ///
+    /// The call allocates. It may wait for the lock of the event.
+    pub fn notify<R: Wait>(
+        &self,
+        rt: &R,
+        hand: &mut Hand<T>,
+        count: usize,
+        additional: bool,
+        tag: T,
+    ) -> Result<usize, RecordError>
+        requires { Owns self.now hand.old }
+        ensures noted { NotesNotify count additional tag hand.old result hand.new }
+    {
+        let call = StepCall::Notify {
+            count,
+            additional,
+            tag,
+        };
+        match hand.make(rt, &self.state, call)? {
+            RecordedReply::Notified(told) => Ok(told),
+            _ => unreachable!(),
+        }
+    }
+
+    /// Whether some listener is told. The question is recorded and noted.
+    ///
+    /// Returns [`RecordError::Memory`] where memory for the record or the note is refused; nothing is recorded or noted
+    /// then. It returns no other error. The call allocates. It may wait for the lock of the event.
+    pub fn is_notified<R: Wait>(&self, rt: &R, hand: &mut Hand<T>) -> Result<bool, RecordError>
+        requires { Owns self.now hand.old }
+        ensures noted { NotesIsNotified hand.old result hand.new }
+    {
+        match hand.make(rt, &self.state, StepCall::IsNotified)? {
+            RecordedReply::IsNotified(told) => Ok(told),
+            _ => unreachable!(),
+        }
+    }
+
+    /// How many listeners there are, told or waiting. The question is recorded and noted.
+    ///
+    /// Returns [`RecordError::Memory`] where memory for the record or the note is refused; nothing is recorded or noted
+    /// then. It returns no other error. The call allocates. It may wait for the lock of the event.
+    pub fn total_listeners<R: Wait>(&self, rt: &R, hand: &mut Hand<T>) -> Result<usize, RecordError>
+        requires { Owns self.now hand.old }
+        ensures noted { NotesTotal hand.old result hand.new }
+    {
+        match hand.make(rt, &self.state, StepCall::TotalListeners)? {
+            RecordedReply::TotalListeners(total) => Ok(total),
+            _ => unreachable!(),
+        }
+    }
+
+    /// Ends the event, and gives its record, which replays. In it stand the calls of each hand, each once, in its
+    /// order, with the replies that the hand was given, and besides them only entries of no hand, which are drops of
+    /// listeners.
+    ///
+    /// Returns [`CloseError::HandsMissing`] exactly where the numbers of the hands are not all those below the event's
+    /// count of hands, each once. Returns [`CloseError::Differs`] where the notes of some hand are not its entries.
+    /// That takes a hand of an event of another source with the same number, handed to this call or to one before.
+    /// Event and hands are given up in any case.
+    ///
+    /// Listeners borrow the event, so none can be alive. The call allocates nothing and does not wait. It looks at each
+    /// hand for each number, and at each entry for each hand: its time grows with the hands times the entries.
+    pub fn close(self, hands: Vec<Hand<T>>) -> Result<Record<T>, CloseError>
+        requires { All (λ hand. Owns self hand) hands.items }
+        ensures missing { ¬ AreAllHands self.hands hands.items → IsErrAnd result (λ error. error ≡ CloseError.HandsMissing) }
+        ensures differ { AreAllHands self.hands hands.items → IfErr result (λ error. error ≡ CloseError.Differs) }
+        ensures notes { IfOk result (λ entries. IsTrue (are_notes_of_all T.eq entries hands.items)) }
+        ensures hands { IfOk result (λ entries. IsTrue (are_hands_below self.hands entries)) }
+        ensures as_many { IfOk result (λ entries. length (entries_of_hands entries) ≡ notes_of_all hands.items) }
+        ensures replays { IfOk result (λ entries. IsTrue (replays T.eq entries)) }
+    {
+        let RecordedEvent {
+            id: _,
+            hands: count,
+            state,
+        } = self;
+        if !are_all_hands(hands.as_slice(), count) {
+            return Err(CloseError::HandsMissing);
+        }
+        let entries = state.into_inner().into_entries();
+        if !are_hands_below(entries.as_slice(), count) {
+            return Err(CloseError::Differs);
+        }
+        if !are_notes_of_all(entries.as_slice(), hands.as_slice()) {
+            return Err(CloseError::Differs);
+        }
+        Ok(Record::new(entries))
+    }
+}

@@ -1,0 +1,124 @@
+//! Those that call a recorded event, and what they note.
+ghost use Rattle.std.specs.Prelude.{◌≡◌, [], OnErr, IfErr, IfOk};
+ghost use Rattle.event_listener.specs.RecordedStep.{IsReplyTo, without_task};
+ghost use Rattle.event_listener.specs.Noting.{noted, new_hands};
+
+use super::call::{RecordedCall, StepCall};
+use super::error::RecordError;
+use super::reply::RecordedReply;
+use super::state::RecordedState;
+use crate::task::Waking;
+use std::alloc::{AllocError, Global};
+use std::marker::Model;
+use std::sync::{Mutex, Wait};
+
+/// One call of a hand, and the reply that it got.
+#[derive(Clone, Copy, Debug, PartialEq, Eq, Drop)]
+pub struct Note<T> {
+    /// The call.
+    pub call: RecordedCall<T>,
+    /// The reply.
+    pub reply: RecordedReply<T>,
+}
+
+/// One of those that call a [`RecordedEvent`](crate::RecordedEvent). It notes each of its calls with the reply that it
+/// got, in the order in which it makes them. A call that is refused memory is not noted; of a wait, the steps before
+/// that are.
+///
+/// A call takes its hand by a `&mut`, so the calls of one hand are made one after another, whatever thread makes them.
+/// A hand can't be cloned. Its notes grow by one with each step, and never shrink. A contract sees a hand as its
+/// number, the number of its event, and its notes.
+#[derive(Drop)]
+pub struct Hand<T> {
+    number: usize,
+    event_number: u64,
+    notes: Vec<Note<T>>,
+}
+
+impl<T> Model for Hand<T> {
+    ghost use Rattle.event_listener.specs.Noting.{HandNotes};
+
+    ghost Value = { HandNotes T };
+
+    ghost view = { λ hand. record {
+      number = hand.number;
+      event_number = hand.event_number;
+      notes = hand.notes.items;
+    } };
+}
+
+impl<T> Hand<T> {
+    // A hand of that event, with no notes.
+    fn new(number: usize, event_number: u64, alloc: Global) -> Self
+        ensures { result ≡ record { number = number; event_number = event_number; notes = [] } }
+    {
+        Hand {
+            number,
+            event_number,
+            notes: Vec::new(alloc),
+        }
+    }
+
+    /// Its number among the hands of its event. The call neither allocates nor waits.
+    pub fn number(&self) -> usize
+        ensures { result ≡ self.now.number }
+    {
+        self.number
+    }
+
+    // The number of its event.
+    pub(super) fn event_number(&self) -> u64
+        ensures { result ≡ self.now.event_number }
+    {
+        self.event_number
+    }
+
+    /// Its calls and their replies, in order. The call neither allocates nor waits.
+    pub fn notes(&self) -> &[Note<T>]
+        ensures { result.now ≡ self.now.notes }
+    {
+        self.notes.as_slice()
+    }
+}
+
+// So many hands of that event, which have the numbers from 0 on.
+pub(super) fn new_hands<T>(
+    count: usize,
+    event_number: u64,
+    alloc: Global,
+) -> Result<Vec<Hand<T>>, AllocError>
+    ensures { IfOk result (λ hands. hands.items ≡ new_hands event_number count) }
+{
+    let mut hands = Vec::with_capacity(alloc, count)?;
+    for number in 0..count {
+        hands.push_reserved(Hand::new(number, event_number, alloc));
+    }
+    Ok(hands)
+}
+
+impl<T: Copy + Eq> Hand<T> {
+    // Makes one call under the lock, and notes it with its reply. Room for the note is made first, so a refusal leaves
+    // queue, record and notes as they were.
+    pub(super) fn make<R: Wait>(
+        &mut self,
+        rt: &R,
+        state: &Mutex<RecordedState<T>>,
+        call: StepCall<T>,
+    ) -> Result<RecordedReply<T>, RecordError>
+        ensures noted { IfOk result (λ reply. self.new ≡ noted self.old (without_task call) reply) }
+        ensures kind { IfOk result (λ reply. IsReplyTo (without_task call) reply) }
+        ensures unchanged { OnErr result (self.new ≡ self.old) }
+        ensures memory { IfErr result (λ error. error ≡ RecordError.Memory) }
+    {
+        self.notes.reserve(1)?;
+        let recorded = call.recorded();
+        let reply = state
+            .lock(rt)
+            .apply(self.number, call, &mut Waking::new(rt))?;
+        self.notes.push_reserved(Note {
+            call: recorded,
+            reply,
+        });
+        Ok(reply)
+    }
+}

@@ -1,0 +1,214 @@
+//! The listeners of a recorded event.
+ghost use Rattle.std.specs.Prelude.{◌≡◌, ⊤};
+ghost use Rattle.event_listener.specs.Noting.{Owns};
+ghost use Rattle.event_listener.specs.RecordedCalls.{Polls, Discards};
+ghost use Rattle.event_listener.specs.RecordedWait.{NotesWait, as_some};
+
+use super::call::StepCall;
+use super::event::RecordedEvent;
+use super::hand::Hand;
+use super::reply::{Former, RecordedReply};
+use super::wait::wait_within;
+use crate::listener::{Limit, WaitError};
+use crate::task::{Task, Waking};
+use event_queue::{Key, RegisterResult};
+use futures::task::{Poll, Waker};
+use std::alloc::Global;
+use std::fmt;
+use std::marker::Model;
+use std::sync::Wait;
+use std::time::{Clock, Duration, Instant};
+use thiserror::Error;
+
+/// Why a poll of a recorded listener gave no answer.
+#[derive(Clone, Copy, Debug, PartialEq, Eq, Error)]
+pub enum RecordedPollError {
+    /// The listener is not in the queue: it has given its tag. The poll is recorded and noted.
+    #[error("listener is not in the queue")]
+    NeverInserted,
+    /// Memory for the record or the note was refused. Nothing is changed, recorded or noted.
+    #[error("no memory for the record")]
+    Memory,
+}
+
+/// What waits in the queue of a recorded event until it is told.
+///
+/// It borrows its event, and so can't outlive it. Each of its calls is made by a hand of that event, any of them, which
+/// notes it. A call on a listener that has given its tag is recorded and noted too, with the reply that nobody is
+/// there.
+///
+/// Dropping it removes it from the queue. If it was told, that passes its notification on: the event is notified of
+/// one, of the same kind and with the same tag. The drop is recorded as nobody's call, in room that was made when it
+/// listened. The drop of a listener that has left the queue records nothing. It does not allocate, and may wait for the
+/// lock of the event.
+///
+/// It is no [`Listener`](crate::Listener), since each call takes a hand. A contract sees it as its event, and the key
+/// by which it stands in the queue there.
+pub struct RecordedListener<'ev, T: Copy + Eq, R: Wait + Clock + Clone> {
+    pub(super) event: &'ev RecordedEvent<T>,
+    pub(super) key: Key,
+    pub(super) runtime: R,
+    pub(super) alloc: Global,
+}
+
+impl<'ev, T: Copy + Eq, R: Wait + Clock + Clone> Model for RecordedListener<'ev, T, R> {
+    ghost use Rattle.event_listener.specs.Noting.{RecordedListening};
+
+    ghost Value = { RecordedListening };
+
+    ghost view = { λ listener. record { event = listener.event.now; key = listener.key } };
+}
+
+impl<'ev, T: Copy + Eq, R: Wait + Clock + Clone> RecordedListener<'ev, T, R> {
+    pub(super) fn new(event: &'ev RecordedEvent<T>, key: Key, runtime: R, alloc: Global) -> Self
+        ensures { result ≡ record { event = event.now; key = key } }
+    {
+        RecordedListener {
+            event,
+            key,
+            runtime,
+            alloc,
+        }
+    }
+
+    /// Takes the tag if the listener was told; else stores the waker, in place of any earlier one. The hand notes one
+    /// registration.
+    ///
+    /// Returns [`RecordedPollError::NeverInserted`] where the listener has given its tag, which is recorded and noted.
+    /// Returns [`RecordedPollError::Memory`] where memory for the record or the note is refused; the listener is as it
+    /// was then, and nothing is recorded or noted.
+    ///
+    /// The call allocates. It may wait for the lock of the event. A waker that is not stored is dropped, and so is one
+    /// that another one replaces, which wakes its task.
+    pub fn poll(&mut self, hand: &mut Hand<T>, waker: Waker) -> Result<Poll<T>, RecordedPollError>
+        requires { Owns self.old.event hand.old }
+        ensures noted { Polls self.old.key hand.old result hand.new }
+        ensures same { self.new ≡ self.old }
+    {
+        let call = StepCall::Register {
+            key: self.key,
+            task: Task::from_waker(waker),
+        };
+        let Ok(reply) = hand.make(&self.runtime, self.event.state(), call) else {
+            return Err(RecordedPollError::Memory);
+        };
+        match reply {
+            RecordedReply::Registered(RegisterResult::Notified(tag)) => Ok(Poll::Ready(tag)),
+            RecordedReply::Registered(RegisterResult::Registered) => Ok(Poll::Pending),
+            RecordedReply::Registered(RegisterResult::NeverInserted) => {
+                Err(RecordedPollError::NeverInserted)
+            }
+            _ => unreachable!(),
+        }
+    }
+
+    /// Removes the listener from the queue without passing a notification on, and returns whether it was told. One that
+    /// has given its tag was not. The hand notes one removal.
+    ///
+    /// Returns [`WaitError::Memory`] with the same listener where memory for the record or the note is refused; nothing
+    /// is changed, recorded or noted then. It returns no other error.
+    ///
+    /// The call allocates. It may wait for the lock of the event.
+    pub fn discard(self, hand: &mut Hand<T>) -> Result<bool, WaitError<Self>>
+        requires { Owns self.event hand.old }
+        ensures noted { Discards self.entry hand.old result hand.new }
+    {
+        let call = StepCall::Remove {
+            key: self.key,
+            propagate: false,
+        };
+        let Ok(reply) = hand.make(&self.runtime, self.event.state(), call) else {
+            return Err(WaitError::Memory(self));
+        };
+        self.forget();
+        match reply {
+            RecordedReply::Removed(former) => Ok(matches!(former, Some(Former::Notified { .. }))),
+            _ => unreachable!(),
+        }
+    }
+
+    /// Waits until the listener is told, and returns the tag. Each time that it looks for the listener in the queue is
+    /// one registration, which is recorded and noted: one at least, unless memory is refused before.
+    ///
+    /// Returns [`WaitError::NeverInserted`] where the listener has given its tag. Returns [`WaitError::Memory`] with
+    /// the same listener where memory is refused: for what the thread parks on, for the record or for a note. The
+    /// listener is not removed then, and the steps that were made before stay recorded and noted.
+    ///
+    /// The call waits and allocates as that of [any listener](crate::Listener#waiting) does, and allocates room for an
+    /// entry and a note before each step.
+    pub fn wait(self, hand: &mut Hand<T>) -> Result<T, WaitError<Self>>
+        requires { Owns self.event hand.old }
+        ensures noted { NotesWait ⊥ self.entry hand.old (as_some result) hand.new }
+    {
+        match wait_within(self, hand, Limit::Never)? {
+            Some(tag) => Ok(tag),
+            None => unreachable!(),
+        }
+    }
+
+    /// Waits until the listener is told or so much time has passed, and returns the tag or `None`. The listener is out
+    /// of the queue then. At the deadline it is removed, which is recorded and noted too; a tag that comes before that
+    /// is returned, and not passed on.
+    ///
+    /// A deadline that can't be represented never comes, and a clock that can't be read shows the deadline. What it
+    /// records, allocates and waits for, and its errors, are those of [`wait`](RecordedListener::wait); the removal may
+    /// be refused memory, too.
+    pub fn wait_timeout(
+        self,
+        hand: &mut Hand<T>,
+        timeout: Duration,
+    ) -> Result<Option<T>, WaitError<Self>>
+        requires { Owns self.event hand.old }
+        ensures noted { NotesWait ⊤ self.entry hand.old result hand.new }
+    {
+        wait_within(self, hand, Limit::After(timeout))
+    }
+
+    /// Waits until the listener is told or that moment of its own clock has come, and returns the tag or `None`. The
+    /// listener is out of the queue then. At the deadline it is removed, which is recorded and noted too; a tag that
+    /// comes before that is returned, and not passed on.
+    ///
+    /// A clock that can't be read shows the deadline. What it records, allocates and waits for, and its errors, are
+    /// those of [`wait`](RecordedListener::wait); the removal may be refused memory, too.
+    pub fn wait_deadline(
+        self,
+        hand: &mut Hand<T>,
+        deadline: Instant,
+    ) -> Result<Option<T>, WaitError<Self>>
+        requires { Owns self.event hand.old }
+        ensures noted { NotesWait ⊤ self.entry hand.old result hand.new }
+    {
+        wait_within(self, hand, Limit::At(deadline))
+    }
+
+    // Lets go of a listener that has left the queue, with no call on the queue.
+    pub(super) fn forget(self) {
+        let Self {
+            event: _,
+            key: _,
+            runtime: _,
+            alloc: _,
+        } = self;
+    }
+}
+
+impl<T: Copy + Eq, R: Wait + Clock + Clone> Drop for RecordedListener<'_, T, R> {
+    fn drop(self) {
+        let Self {
+            event,
+            key,
+            runtime,
+            alloc: _,
+        } = self;
+        event
+            .state()
+            .lock(&runtime)
+            .apply_end(key, &mut Waking::new(&runtime));
+    }
+}
+
+impl<T: Copy + Eq, R: Wait + Clock + Clone> fmt::Debug for RecordedListener<'_, T, R> {
+    fn fmt<W: fmt::Write>(&self, f: &mut fmt::Formatter<W>) -> fmt::Result {
+        f.debug_struct("RecordedListener").finish_non_exhaustive()
+    }
+}

@@ -1,0 +1,53 @@
+//! The record of an event that was closed.
+ghost use Rattle.std.specs.Prelude.{◌≡◌, IfOk, IsTrue};
+ghost use Rattle.event_listener.specs.Replay.{replays};
+
+use super::entry::Entry;
+use super::replay;
+use std::alloc::{AllocError, Global};
+use std::marker::Model;
+
+/// The record of a [`RecordedEvent`](crate::RecordedEvent) that was closed: every step of its queue, in order. It
+/// replays.
+#[derive(Drop)]
+pub struct Record<T: Copy + Eq> {
+    entries: Vec<Entry<T>>,
+}
+
+impl<T: Copy + Eq> Model for Record<T> {
+    ghost use Rattle.std.specs.Prelude.{List, IsTrue};
+    ghost use Rattle.event_listener.specs.declared.recorded.entry.Entry.{Entry};
+    ghost use Rattle.event_listener.specs.Replay.{replays};
+
+    ghost Value = { List (Entry T) };
+
+    ghost view = { λ kept. kept.entries.items };
+
+    ghost invariant = { λ kept. IsTrue (replays T.eq kept.entries.items) };
+}
+
+impl<T: Copy + Eq> Record<T> {
+    // The record of these entries, which replay.
+    pub(super) fn new(entries: Vec<Entry<T>>) -> Self
+        requires { IsTrue (replays T.eq entries.items) }
+        ensures { result ≡ entries.items }
+    {
+        Record { entries }
+    }
+
+    /// An entry for each step, in the order in which the queue made them. The call neither allocates nor waits.
+    pub fn entries(&self) -> &[Entry<T>]
+        ensures value { result.now ≡ self.now }
+        ensures replays { IsTrue (replays T.eq self.now) }
+    {
+        self.entries.as_slice()
+    }
+
+    /// [`replays`](crate::replays) of the entries, which is `true`: the call makes every step anew, and takes as long.
+    /// It allocates; a refusal of that is its error. It does not wait.
+    pub fn replays(&self, alloc: Global) -> Result<bool, AllocError>
+        ensures { IfOk result (λ answer. IsTrue answer) }
+    {
+        replay::replays(alloc, self.entries.as_slice())
+    }
+}

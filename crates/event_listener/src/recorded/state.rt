@@ -1,0 +1,158 @@
+//! A queue with its record.
+ghost use Rattle.std.specs.Prelude.{◌≡◌, ◌+◌, ◌≤◌, true, [], ◌∷◌, ◌++◌, length, IsTrue, OnOk, OnErr, IfOk, IfErr, vec_len, vec_capacity};
+ghost use Rattle.std.specs.List.{FoldsTo};
+ghost use Rattle.event_queue.specs.Queue.{IsQueue, IsAbsent, listeners_of};
+ghost use Rattle.event_queue.specs.Remove.{woken_by_removal};
+ghost use Rattle.event_listener.specs.RecordedStep.{StepsAnySpare, IsReplyTo, without_task, task_of, woken_by_call};
+ghost use Rattle.event_listener.specs.Replay.{ReplaysTo, replays};
+ghost use Rattle.event_listener.specs.Recording.{Ends};
+
+use super::call::{RecordedCall, StepCall};
+use super::entry::Entry;
+use super::error::RecordError;
+use super::reply::RecordedReply;
+use super::step::{make_removal, make_step};
+use crate::task::Task;
+use event_queue::{Key, List, WakeSink};
+use std::alloc::Global;
+use std::marker::Model;
+
+/// A queue and the record of every step that it made: what stands under the lock of a recorded event.
+///
+/// The type keeps that the record replays to the queue, and room to record the end of each listener that stands in it.
+/// Only [`apply`](RecordedState::apply) and [`apply_end`](RecordedState::apply_end) change it; each makes one step of
+/// the queue and records it. No call takes a lock, and none waits unless its sink does. A contract sees a state as its
+/// entries and its queue, but for how much is spare.
+#[derive(Drop)]
+pub struct RecordedState<T: Copy + Eq> {
+    list: List<T, Task>,
+    entries: Vec<Entry<T>>,
+}
+
+impl<T: Copy + Eq> Model for RecordedState<T> {
+    ghost use Rattle.std.specs.Prelude.{vec_len, vec_capacity};
+    ghost use Rattle.event_listener.specs.Recording.{Recording, IsRecording};
+
+    ghost Value = { Recording T };
+
+    ghost view = { λ state. record { entries = state.entries.items; queue = record state.list { spare = 0 } } };
+
+    ghost invariant = { λ state. IsRecording T.eq state.entries.items (record state.list { spare = 0 }) (vec_len state.entries) (vec_capacity state.entries) };
+}
+
+// Makes room for so many new entries, and for one for each listener.
+fn make_room<T>(
+    entries: &mut Vec<Entry<T>>,
+    listeners: usize,
+    new: usize,
+) -> Result<(), RecordError>
+    ensures items { entries.new.items ≡ entries.old.items }
+    ensures len { vec_len entries.new ≡ vec_len entries.old }
+    ensures room { OnOk result (vec_len entries.new + new + listeners ≤ vec_capacity entries.new) }
+    ensures kept { vec_capacity entries.old ≤ vec_capacity entries.new }
+    ensures memory { IfErr result (λ error. error ≡ RecordError.Memory) }
+{
+    let Some(wanted) = new.checked_add(listeners) else {
+        return Err(RecordError::Memory);
+    };
+    Ok(entries.reserve(wanted)?)
+}
+
+impl<T: Copy + Eq> RecordedState<T> {
+    /// An empty queue, whose first listener gets the serial 0, and an empty record. The call allocates nothing.
+    pub fn new(alloc: Global) -> Self
+        ensures empty { result ≡ record { entries = []; queue = record { told = []; waiting = []; next_serial = 0; spare = 0 } } }
+    {
+        RecordedState {
+            list: List::new(alloc),
+            entries: Vec::new(alloc),
+        }
+    }
+
+    /// Makes one call on the queue, and records it as a call of that hand.
+    ///
+    /// It makes all room first: for the entry, and for a new listener and the entry of its end. Where that is refused
+    /// it returns [`RecordError::Memory`], makes no call, drops the task of the call, and leaves the queue, the record
+    /// and the sink as they were. It returns no other error: where the serials are used up, that is the reply, and it
+    /// is recorded.
+    pub fn apply<S: WakeSink<Task>>(
+        &mut self,
+        hand: usize,
+        call: StepCall<T>,
+        sink: &mut S,
+    ) -> Result<RecordedReply<T>, RecordError>
+        // The queue made this one step, the sink was handed the tasks that it woke, and the step is the record's last
+        // entry.
+        ensures step { IfOk result (λ reply. StepsAnySpare self.old.queue (without_task call) (task_of call) reply self.new.queue) }
+        ensures wakes { OnOk result (FoldsTo S.woke sink.old (woken_by_call (without_task call) self.old.queue) sink.new) }
+        ensures recorded { IfOk result (λ reply. self.new.entries ≡ self.old.entries ++ record { hand = Some hand; call = without_task call; reply = reply } ∷ []) }
+        ensures kind { IfOk result (λ reply. IsReplyTo (without_task call) reply) }
+
+        // A refusal changes nothing.
+        ensures memory { IfErr result (λ error. error ≡ RecordError.Memory) }
+        ensures unchanged { OnErr result (self.new ≡ self.old) }
+        ensures sink_unchanged { OnErr result (sink.new ≡ sink.old) }
+    {
+        let newcomers = call.newcomers();
+        let listeners = self.list.total_listeners();
+        make_room(&mut self.entries, listeners, 1 + newcomers)?;
+        self.list.reserve(newcomers)?;
+        let recorded = call.recorded();
+        let reply = make_step(&mut self.list, call, sink);
+        self.entries.push_reserved(Entry {
+            hand: Some(hand),
+            call: recorded,
+            reply,
+        });
+        Ok(reply)
+    }
+
+    /// Removes a listener that is dropped: its notification, if it was told, is passed on, and the removal is recorded
+    /// as nobody's call. Where no listener has that key, nothing changes. The call allocates nothing.
+    pub fn apply_end<S: WakeSink<Task>>(&mut self, key: Key, sink: &mut S)
+        ensures ends { ¬ IsAbsent key self.old.queue → Ends self.old key self.new }
+        ensures wakes { FoldsTo S.woke sink.old (woken_by_removal key true self.old.queue) sink.new }
+
+        // A key of nobody changes nothing.
+        ensures unchanged { IsAbsent key self.old.queue → self.new ≡ self.old }
+        ensures sink_unchanged { IsAbsent key self.old.queue → sink.new ≡ sink.old }
+    {
+        let Some(was) = make_removal(&mut self.list, key, true, sink) else {
+            return;
+        };
+        self.entries.push_reserved(Entry {
+            hand: None,
+            call: RecordedCall::Remove {
+                key,
+                propagate: true,
+            },
+            reply: RecordedReply::Removed(Some(was)),
+        });
+    }
+
+    /// The record: an entry for each step, in the order in which the queue made them. The call allocates nothing.
+    pub fn entries(&self) -> &[Entry<T>]
+        ensures value { result.now ≡ self.now.entries }
+        ensures replays { ReplaysTo T.eq self.now.entries self.now.queue }
+    {
+        self.entries.as_slice()
+    }
+
+    /// How many listeners there are, told or waiting. The call allocates nothing and is not recorded.
+    pub fn total_listeners(&self) -> usize
+        ensures value { result ≡ length self.now.queue.told + length self.now.queue.waiting }
+        ensures queue { IsQueue self.now.queue }
+    {
+        self.list.total_listeners()
+    }
+
+    /// The record alone, which replays. The call drops the queue with its tasks and tags, and neither allocates nor
+    /// waits.
+    pub(crate) fn into_entries(self) -> Vec<Entry<T>>
+        ensures value { result.items ≡ self.entries }
+        ensures replays { IsTrue (replays T.eq result.items) }
+    {
+        let RecordedState { list: _, entries } = self;
+        entries
+    }
+}

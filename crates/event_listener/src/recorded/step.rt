@@ -1,0 +1,74 @@
+//! One step of a recorded queue.
+ghost use Rattle.std.specs.Prelude.{◌≡◌, replicate};
+ghost use Rattle.std.specs.List.{FoldsTo};
+ghost use Rattle.event_queue.specs.Queue.{IsQueue, how_many, after_telling, tasks_of};
+ghost use Rattle.event_queue.specs.Remove.{woken_by_removal};
+ghost use Rattle.event_listener.specs.RecordedStep.{Steps, RemovesAs, without_task, task_of, woken_by_call};
+ghost use Rattle.event_listener.specs.Recording.{unspared};
+
+use super::call::StepCall;
+use super::copied_tag::CopiedTag;
+use super::reply::{Former, RecordedReply};
+use crate::task::Task;
+use event_queue::{Key, List, WakeSink};
+
+/// Makes the call, and returns what the queue answered. It allocates where an insertion does, and never waits.
+pub(super) fn make_step<T: Copy, S: WakeSink<Task>>(
+    list: &mut List<T, Task>,
+    call: StepCall<T>,
+    sink: &mut S,
+) -> RecordedReply<T>
+    ensures step { Steps list.old (without_task call) (task_of call) result list.new }
+    ensures wakes { FoldsTo S.woke sink.old (woken_by_call (without_task call) (unspared list.old)) sink.new }
+    ensures queue { IsQueue list.new }
+{
+    match call {
+        StepCall::Listen => RecordedReply::Listened(list.insert()),
+        StepCall::Register { key, task } => RecordedReply::Registered(list.register(key, task)),
+        StepCall::Remove { key, propagate } => {
+            RecordedReply::Removed(make_removal(list, key, propagate, sink))
+        }
+        StepCall::Notify {
+            count,
+            additional,
+            tag,
+        } => {
+            let source = CopiedTag {
+                count,
+                additional,
+                tag,
+            };
+            RecordedReply::Notified(make_notification(list, source, sink))
+        }
+        StepCall::TotalListeners => RecordedReply::TotalListeners(list.total_listeners()),
+        StepCall::IsNotified => RecordedReply::IsNotified(list.is_notified()),
+    }
+}
+
+/// Removes a listener, and returns what it was without its task. It neither allocates nor waits.
+pub(super) fn make_removal<T: Copy, S: WakeSink<Task>>(
+    list: &mut List<T, Task>,
+    key: Key,
+    propagate: bool,
+    sink: &mut S,
+) -> Option<Former<T>>
+    ensures step { RemovesAs list.old key propagate result list.new }
+    ensures wakes { FoldsTo S.woke sink.old (woken_by_removal key propagate (unspared list.old)) sink.new }
+    ensures queue { IsQueue list.new }
+{
+    Some(Former::of(list.remove(key, propagate, sink)?))
+}
+
+// Notifies with copies of one tag, and returns how many listeners were told. No copy is refused.
+fn make_notification<T: Copy, S: WakeSink<Task>>(
+    list: &mut List<T, Task>,
+    mut source: CopiedTag<T>,
+    sink: &mut S,
+) -> usize
+    ensures told { result ≡ how_many source.count source.additional list.old }
+    ensures queue_after { list.new ≡ after_telling source.additional (replicate result source.tag) list.old }
+    ensures wakes { FoldsTo S.woke sink.old (tasks_of result list.old) sink.new }
+    ensures queue { IsQueue list.new }
+{
+    list.notify(&mut source, sink).unwrap()
+}
