@@ -1,5 +1,6 @@
 use rows_events::{EventRow, IdentityRow, TagRow, WaitRow};
 use rows_queue::QueueRow;
+use rows_recorded::RecordedRow;
 use std::sync::Wait;
 use std::time::Clock;
 use worked_rows::{Difference, Harness, Hook, Row};
@@ -12,6 +13,7 @@ pub enum AnyRow {
     Identity(IdentityRow),
     Tag(TagRow),
     Wait(WaitRow),
+    Recorded(RecordedRow),
 }
 
 impl Row for AnyRow {
@@ -31,6 +33,9 @@ impl Row for AnyRow {
         if let Some(row) = WaitRow::numbered(number) {
             return Some(AnyRow::Wait(row));
         }
+        if let Some(row) = RecordedRow::numbered(number) {
+            return Some(AnyRow::Recorded(row));
+        }
         None
     }
 
@@ -45,6 +50,7 @@ impl Row for AnyRow {
             AnyRow::Identity(row) => row.run(harness),
             AnyRow::Tag(row) => row.run(harness),
             AnyRow::Wait(row) => row.run(harness),
+            AnyRow::Recorded(row) => row.run(harness),
         }
     }
 }

@@ -1,4 +1,4 @@
-use event_listener::{IdsUsedUp, ListenError, NeverInserted, NotifyError, WaitError};
+use event_listener::{IdsUsedUp, ListenError, NeverInserted, NotifyError, RecordError, WaitError};
 use std::alloc::AllocError;
 use thiserror::Error;
 
@@ -35,6 +35,9 @@ pub enum Refusal {
     /// There was no memory for what a waiting thread parks on.
     #[error("no memory for a parker")]
     Parker,
+    /// A call of a recorded event was refused.
+    #[error(transparent)]
+    Record(RecordError),
     /// The clock could not be read.
     #[error("no memory for the program")]
     Clock,
@@ -67,6 +70,12 @@ impl From<IdsUsedUp> for Difference {
 impl From<NeverInserted> for Difference {
     fn from(refused: NeverInserted) -> Difference {
         Difference::Refused(Refusal::Poll(refused))
+    }
+}
+
+impl From<RecordError> for Difference {
+    fn from(refused: RecordError) -> Difference {
+        Difference::Refused(Refusal::Record(refused))
     }
 }
 

@@ -118,7 +118,8 @@ impl<'a, R: Wait, H: Hook> Harness<'a, R, H> {
         row.make(&mut calls)
     }
 
-    pub(crate) fn rt(&self) -> &'a R {
+    /// The runtime value that the calls of the row take.
+    pub fn rt(&self) -> &'a R {
         self.rt
     }
 
@@ -134,7 +135,8 @@ impl<'a, R: Wait, H: Hook> Harness<'a, R, H> {
         self.hook.refused(stands)
     }
 
-    pub(crate) fn waker(&mut self) -> Result<Waker, Difference> {
+    /// A waker of the task that the row runs in. It takes no memory.
+    pub fn waker(&mut self) -> Result<Waker, Difference> {
         self.wakers.take().ok_or(Difference::Refused(Refusal::Task))
     }
 }

@@ -1,0 +1,38 @@
+use super::*;
+use event_listener::{Former, Key, RecordedCall, RecordedReply};
+
+#[test]
+fn a_table_has_a_line_for_each_entry(rt: HostRuntime) {
+    let key = Key { slot: 2, serial: 5 };
+    let entries = [
+        Entry {
+            hand: Some(3),
+            call: RecordedCall::Listen,
+            reply: RecordedReply::Listened(Ok(key)),
+        },
+        Entry {
+            hand: Some(0),
+            call: RecordedCall::Notify {
+                count: 1,
+                additional: false,
+                tag: 7,
+            },
+            reply: RecordedReply::Notified(1),
+        },
+        Entry {
+            hand: None,
+            call: RecordedCall::Remove {
+                key,
+                propagate: true,
+            },
+            reply: RecordedReply::Removed(Some(Former::NotifiedTaken)),
+        },
+    ];
+    let mut table = String::new(rt.alloc());
+    write_table(&entries, &mut table).expect(&rt, "a table");
+    let expected = "3 | Listen | Listened(Ok(Key { slot: 2, serial: 5 }))
+0 | Notify { count: 1, additional: false, tag: 7 } | Notified(1)
+- | Remove { key: Key { slot: 2, serial: 5 }, propagate: true } | Removed(Some(NotifiedTaken))
+";
+    assert_eq!(rt; table.as_str(), expected);
+}
