@@ -1,60 +1,67 @@
 //! Listeners that gave their tag, and listeners without their event.
-use crate::support::{Runtime, listen, new_event, new_task, poll};
-use event_listener::{Event, IntoNotification, IntoTagged, Listener, NeverInserted};
-use test_support::{Borrowing, ListenerKind, Sharing, waker_of};
+use crate::support::{
+    Case, Runtime, Subject, Trial, assert_same, new_event, share, with_each_kind,
+};
+use event_listener::{Event, IntoNotification, IntoTagged, Listener};
+use futures::task::Poll;
+use test_support::any_waker;
 
 // A listener that gave its tag to a poll.
-fn finished<'ev, K, R>(rt: &R, event: &'ev Event<u32>) -> K::Listener
-where
-    K: ListenerKind<'ev, u32, R>,
-    R: Runtime,
-{
-    let mut listener = listen::<K, _, R>(rt, event);
-    assert_eq!(rt; event.notify(rt, 1.tag(7)), Ok(1));
-    assert_eq!(rt; poll(rt, &mut listener), Some(7));
+fn finished<S: Subject<Tag = u32>>(trial: &Trial<S>) -> S::Listener {
+    let mut listener = trial.listen();
+    trial.tell(1.tag(7), 1);
+    trial.poll_told(&mut listener, 7);
     listener
 }
 
-// Each of the finished listeners had the slot that the told one has now.
-fn absent<'ev, K, R>(rt: &R, event: &'ev Event<u32>)
-where
-    K: ListenerKind<'ev, u32, R>,
-    R: Runtime,
-{
-    let mut polled = finished::<K, R>(rt, event);
-    let discarded = finished::<K, R>(rt, event);
-    let dropped = finished::<K, R>(rt, event);
-    let told = listen::<K, _, R>(rt, event);
-    let waiting = listen::<K, _, R>(rt, event);
-    assert_eq!(rt; event.notify(rt, 1.tag(8)), Ok(1));
+struct NotInQueue;
 
-    let task = new_task(rt);
-    let waker = waker_of(&task).expect(rt, "a waker");
-    assert_eq!(rt; polled.poll(waker), Err(NeverInserted));
-    assert!(rt; task.is_woken());
-    assert!(rt; !discarded.discard());
-    drop(dropped);
-    assert_eq!(rt; event.total_listeners(rt), 2);
-    assert_eq!(rt; [told.discard(), waiting.discard()], [true, false]);
+// Each of the finished listeners had the slot that the told one has now.
+impl Case for NotInQueue {
+    type Tag = u32;
+
+    fn run<S: Subject<Tag = u32>>(trial: &Trial<S>) {
+        let mut polled = finished(trial);
+        let discarded = finished(trial);
+        let dropped = finished(trial);
+        let told = trial.listen();
+        let waiting = trial.listen();
+        trial.tell(1.tag(8), 1);
+
+        let task = trial.task();
+        trial.poll_finished(&mut polled, trial.waker(&task));
+        trial.assert_woken(&task);
+        trial.discard_untold(discarded);
+        drop(dropped);
+        trial.assert_counts(2, true);
+        trial.discard_told(told);
+        trial.discard_untold(waiting);
+    }
 }
 
 #[test]
 fn a_finished_listener_is_not_in_the_queue(rt: HostRuntime) {
-    let event = new_event(&rt);
-    absent::<Sharing, _>(&rt, &event);
-    absent::<Borrowing, _>(&rt, &event);
+    with_each_kind::<NotInQueue, _>(&rt);
+}
+
+fn outlive<L, R>(rt: &R, event: Event<u32>, first: L, mut second: L, mut third: L)
+where
+    L: Listener<u32> + Drop,
+    R: Runtime,
+{
+    assert_same(rt, event.notify(rt, 1.tag(7)), Ok(1), "how many are told");
+    drop(event);
+    let polled = third.poll(any_waker(rt).expect(rt, "a waker"));
+    assert_same(rt, polled, Ok(Poll::Pending), "the third");
+    drop(first);
+    let polled = second.poll(any_waker(rt).expect(rt, "a waker"));
+    assert_same(rt, polled, Ok(Poll::Ready(7)), "the second");
+    assert_same(rt, third.discard(), false, "whether the third is told");
 }
 
 #[test]
 fn listeners_that_share_the_queue_outlive_their_event(rt: HostRuntime) {
     let event = new_event(&rt);
-    let first = listen::<Sharing, u32, _>(&rt, &event);
-    let mut second = listen::<Sharing, _, _>(&rt, &event);
-    let mut third = listen::<Sharing, _, _>(&rt, &event);
-    assert_eq!(rt; event.notify(&rt, 1.tag(7)), Ok(1));
-    drop(event);
-    assert_eq!(rt; poll(&rt, &mut third), None);
-    drop(first);
-    assert_eq!(rt; poll(&rt, &mut second), Some(7));
-    assert!(rt; !third.discard());
+    let (first, second, third) = (share(&rt, &event), share(&rt, &event), share(&rt, &event));
+    outlive(&rt, event, first, second, third);
 }

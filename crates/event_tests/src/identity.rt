@@ -1,34 +1,27 @@
 //! Which listeners and events belong together.
-use crate::support::{Runtime, listen, new_event};
+use crate::support::{assert_same, borrow, new_event, share};
 use event_listener::{Event, EventIds, Listener};
-use test_support::{Borrowing, ListenerKind, Sharing};
+use std::process::Abort;
 
 // Events are told apart by their numbers, so one of another source may be taken for the first.
-fn known_by_number<'ev, K, R>(
-    rt: &R,
-    event: &'ev Event<()>,
-    other: &'ev Event<()>,
-    namesake: &'ev Event<()>,
-)
+fn known_by_number<L, R>(rt: &R, events: [&Event<()>; 3], listener: L, apart: L, of_namesake: L)
 where
-    K: ListenerKind<'ev, (), R>,
-    R: Runtime,
+    L: Listener<()> + Drop,
+    R: Abort,
 {
-    let listener = listen::<K, _, R>(rt, event);
-    let apart = listen::<K, _, R>(rt, other);
-    let of_namesake = listen::<K, _, R>(rt, namesake);
+    let [event, other, namesake] = events;
     let listens = [
         listener.listens_to(event),
         listener.listens_to(other),
         listener.listens_to(namesake),
     ];
-    assert_eq!(rt; listens, [true, false, true]);
+    assert_same(rt, listens, [true, false, true], "whether it listens to it");
     let same = [
         listener.same_event(&listener),
         listener.same_event(&apart),
         listener.same_event(&of_namesake),
     ];
-    assert_eq!(rt; same, [true, false, true]);
+    assert_same(rt, same, [true, false, true], "whether both have one event");
 }
 
 #[test]
@@ -37,6 +30,21 @@ fn listeners_know_their_event_by_its_number(rt: HostRuntime) {
     let event = Event::new(ids.next().expect(&rt, "an identity"));
     let other = Event::new(ids.next().expect(&rt, "an identity"));
     let namesake = new_event(&rt);
-    known_by_number::<Sharing, _>(&rt, &event, &other, &namesake);
-    known_by_number::<Borrowing, _>(&rt, &event, &other, &namesake);
+    let events = [&event, &other, &namesake];
+    let listener = share(&rt, &event);
+    known_by_number(
+        &rt,
+        events,
+        listener,
+        share(&rt, &other),
+        share(&rt, &namesake),
+    );
+    let listener = borrow(&rt, &event);
+    known_by_number(
+        &rt,
+        events,
+        listener,
+        borrow(&rt, &other),
+        borrow(&rt, &namesake),
+    );
 }

@@ -1,10 +1,13 @@
 //! How many listeners a notification tells, and which.
-use crate::support::{Runtime, listen, new_event, poll};
+use crate::support::{
+    Case, Runtime, Subject, Trial, assert_same, borrow, new_event, share, with_each_kind,
+};
 use event_listener::{Event, Listener};
-use test_support::{Borrowing, ListenerKind, Sharing};
+use std::process::Abort;
+use std::sync::Wait;
 
 // The calls that notify without tags.
-#[derive(Clone, Copy, Debug)]
+#[derive(Clone, Copy)]
 enum Call {
     Notify,
     NotifyRelaxed,
@@ -20,7 +23,7 @@ const ALL: [Call; 4] = [
 ];
 
 impl Call {
-    fn on<R: Runtime>(self, rt: &R, event: &Event<()>, n: usize) -> usize {
+    fn on<R: Abort + Wait>(self, rt: &R, event: &Event<()>, n: usize) -> usize {
         match self {
             Call::Notify => event.notify(rt, n).expect(rt, "no tag is refused"),
             Call::NotifyRelaxed => event.notify_relaxed(rt, n),
@@ -28,83 +31,86 @@ impl Call {
             Call::NotifyAdditionalRelaxed => event.notify_additional_relaxed(rt, n),
         }
     }
+
+    fn name(self) -> &'static str {
+        match self {
+            Call::Notify => "notify",
+            Call::NotifyRelaxed => "notify_relaxed",
+            Call::NotifyAdditional => "notify_additional",
+            Call::NotifyAdditionalRelaxed => "notify_additional_relaxed",
+        }
+    }
 }
 
 // Notifies three listeners of so many. Answers how many were told, and which.
-fn told_of_three<'ev, K, R>(
-    rt: &R,
-    event: &'ev Event<()>,
-    call: Call,
-    n: usize,
-) -> (usize, [bool; 3])
+fn told_of_three<S>(trial: &Trial<S>, call: Call, n: usize) -> (usize, [bool; 3])
 where
-    K: ListenerKind<'ev, (), R>,
-    R: Runtime,
+    S: Subject<Tag = ()>,
 {
-    let first = listen::<K, _, R>(rt, event);
-    let second = listen::<K, _, R>(rt, event);
-    let third = listen::<K, _, R>(rt, event);
-    let told = call.on(rt, event, n);
+    let first = trial.listen();
+    let second = trial.listen();
+    let third = trial.listen();
+    let told = call.on(trial.rt(), trial.event(), n);
     (told, [first.discard(), second.discard(), third.discard()])
 }
 
-fn tells_as_many<'ev, K, R>(rt: &R, event: &'ev Event<()>)
-where
-    K: ListenerKind<'ev, (), R>,
-    R: Runtime,
-{
-    for call in ALL {
-        let told = told_of_three::<K, R>(rt, event, call, 2);
-        assert_eq!(rt; told, (2, [true, true, false]), "{call:?}");
-        let told = told_of_three::<K, R>(rt, event, call, 9);
-        assert_eq!(rt; told, (3, [true, true, true]), "{call:?}");
+struct TellsAsMany;
+
+impl Case for TellsAsMany {
+    type Tag = ();
+
+    fn run<S: Subject<Tag = ()>>(trial: &Trial<S>) {
+        for call in ALL {
+            let told = told_of_three(trial, call, 2);
+            trial.assert_same(told, (2, [true, true, false]), call.name());
+            let told = told_of_three(trial, call, 9);
+            trial.assert_same(told, (3, [true, true, true]), call.name());
+        }
     }
 }
 
 #[test]
 fn a_notification_tells_as_many_as_it_counts_and_wait(rt: HostRuntime) {
-    let event = new_event(&rt);
-    tells_as_many::<Sharing, _>(&rt, &event);
-    tells_as_many::<Borrowing, _>(&rt, &event);
+    with_each_kind::<TellsAsMany, _>(&rt);
 }
 
-fn keeps_nothing<'ev, K, R>(rt: &R, event: &'ev Event<()>)
-where
-    K: ListenerKind<'ev, (), R>,
-    R: Runtime,
-{
-    for call in ALL {
-        assert_eq!(rt; call.on(rt, event, 2), 0, "{call:?}");
+struct KeepsNothing;
+
+impl Case for KeepsNothing {
+    type Tag = ();
+
+    fn run<S: Subject<Tag = ()>>(trial: &Trial<S>) {
+        for call in ALL {
+            let told = call.on(trial.rt(), trial.event(), 2);
+            trial.assert_same(told, 0, call.name());
+        }
+        trial.assert_counts(0, false);
+        let task = trial.task();
+        trial.poll_waiting(&mut trial.listen(), trial.waker(&task));
     }
-    let before = (event.total_listeners(rt), event.is_notified(rt));
-    assert_eq!(rt; before, (0, false));
-    let mut listener = listen::<K, _, R>(rt, event);
-    assert_eq!(rt; poll(rt, &mut listener), None);
 }
 
 #[test]
 fn a_notification_before_the_first_listener_is_not_kept(rt: HostRuntime) {
-    keeps_nothing::<Sharing, _>(&rt, &new_event(&rt));
-    keeps_nothing::<Borrowing, _>(&rt, &new_event(&rt));
+    with_each_kind::<KeepsNothing, _>(&rt);
 }
 
-fn one_queue<'ev, One, Other, R>(rt: &R, event: &'ev Event<()>)
+fn one_queue<One, Other, R>(rt: &R, event: &Event<()>, first: One, second: Other, third: One)
 where
-    One: ListenerKind<'ev, (), R>,
-    Other: ListenerKind<'ev, (), R>,
+    One: Listener<()> + Drop,
+    Other: Listener<()> + Drop,
     R: Runtime,
 {
-    let first = listen::<One, _, R>(rt, event);
-    let second = listen::<Other, _, R>(rt, event);
-    let third = listen::<One, _, R>(rt, event);
-    assert_eq!(rt; event.notify_additional(rt, 2), 2);
+    assert_same(rt, event.notify_additional(rt, 2), 2, "how many are told");
     let told = [first.discard(), second.discard(), third.discard()];
-    assert_eq!(rt; told, [true, true, false]);
+    assert_same(rt, told, [true, true, false], "which are told");
 }
 
 #[test]
 fn both_kinds_of_listeners_stand_in_one_queue(rt: HostRuntime) {
     let event = new_event(&rt);
-    one_queue::<Sharing, Borrowing, _>(&rt, &event);
-    one_queue::<Borrowing, Sharing, _>(&rt, &event);
+    let (first, second, third) = (share(&rt, &event), borrow(&rt, &event), share(&rt, &event));
+    one_queue(&rt, &event, first, second, third);
+    let (first, second, third) = (borrow(&rt, &event), share(&rt, &event), borrow(&rt, &event));
+    one_queue(&rt, &event, first, second, third);
 }

@@ -1,5 +1,5 @@
 //! Two threads that make the queue of one event at once.
-use crate::support::{Runtime, new_event};
+use crate::support::{Runtime, assert_same, new_event};
 use event_listener::{Event, ListenError, Listener};
 use std::hint;
 use std::sync::atomic::{AtomicU64, Ordering};
@@ -36,46 +36,39 @@ impl Meeting {
     }
 }
 
-// Two threads make these calls at once, which listen to an event that nobody has listened to yet. One notification
-// tells both, since there is one queue.
-fn race<R, One, Other, First, Second>(rt: &R, event: &Event<()>, first: First, second: Second)
+// Two threads listen at once to an event that nobody has listened to yet. One notification tells both, since there is one
+// queue.
+fn race<R, L, F>(rt: &R, event: &Event<()>, listen: F)
 where
     R: Runtime + Threads,
-    One: Listener<()> + Drop + Send,
-    Other: Listener<()> + Drop,
-    First: FnOnce() -> Result<One, ListenError> + Send,
-    Second: FnOnce() -> Result<Other, ListenError>,
-    requires first { First.pre first }
-    requires second { Second.pre second }
+    L: Listener<()> + Drop + Send,
+    F: Fn() -> Result<L, ListenError> + Sync,
+    requires { F.IsAlwaysCallable listen }
 {
     let meeting = Meeting::new();
     let (one, other) = thread::join(
         rt,
         || {
             meeting.meet();
-            first()
+            listen()
         },
         || {
             meeting.meet();
-            second()
+            listen()
         },
     );
     let one = one.expect(rt, "a listener of the one thread");
     let other = other.expect(rt, "a listener of the other");
-    assert_eq!(rt; event.notify_additional(rt, 2), 2);
-    assert_eq!(rt; [one.discard(), other.discard()], [true, true]);
+    assert_same(rt, event.notify_additional(rt, 2), 2, "how many are told");
+    let told = [one.discard(), other.discard()];
+    assert_same(rt, told, [true, true], "which are told");
 }
 
 #[test]
 fn threads_that_race_to_listen_share_one_queue(rt: HostRuntime) {
     for _ in 0..ROUNDS {
         let event = new_event(&rt);
-        race(
-            &rt,
-            &event,
-            || Sharing::listen(&rt, rt.alloc(), &event),
-            || Sharing::listen(&rt, rt.alloc(), &event),
-        );
+        race(&rt, &event, || Sharing::listen(&rt, rt.alloc(), &event));
     }
 }
 
@@ -83,11 +76,6 @@ fn threads_that_race_to_listen_share_one_queue(rt: HostRuntime) {
 fn threads_that_race_to_borrow_share_one_queue(rt: HostRuntime) {
     for _ in 0..ROUNDS {
         let event = new_event(&rt);
-        race(
-            &rt,
-            &event,
-            || Borrowing::listen(&rt, rt.alloc(), &event),
-            || Borrowing::listen(&rt, rt.alloc(), &event),
-        );
+        race(&rt, &event, || Borrowing::listen(&rt, rt.alloc(), &event));
     }
 }

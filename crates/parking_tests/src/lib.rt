@@ -2,4 +2,8 @@
 #![tactic(auto)]
 
 #[cfg(test)]
-mod threads;
+mod support;
+#[cfg(test)]
+mod turns;
+#[cfg(test)]
+mod wakes;

@@ -27,7 +27,7 @@ impl WakeSink<u32> for Noted {
 }
 
 /// A notification of either kind that gives each listener the same tag.
-#[derive(Drop)]
+#[derive(Debug, Drop)]
 pub struct Tagged {
     pub count: usize,
     pub additional: bool,

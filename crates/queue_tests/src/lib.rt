@@ -2,6 +2,10 @@
 #![tactic(auto)]
 
 #[cfg(test)]
+mod checked_queue;
+#[cfg(test)]
+mod checks;
+#[cfg(test)]
 mod doubles;
 #[cfg(test)]
 mod notifications;

@@ -1,148 +1,193 @@
 //! Notifications: texts, integers at their ends, kinds and tags.
+use crate::checks::{check, shows};
 use event_queue::{IntoNotification, IntoTagged, Notification};
-use std::alloc::AllocError;
-use std::test::Fail;
+use std::alloc::{AllocError, AllocGlobal};
+use std::fmt::Debug;
+use std::process::Abort;
+
+// A function that makes tags.
+fn seven() -> u32 {
+    7
+}
 
 #[test]
-fn debug_texts(rt: HostRuntime) -> Result<(), Fail> {
-    let alloc = rt.alloc();
-    assert_eq!(rt;
-        format!(in alloc; "{:?}", 1.into_notification())?.as_str(),
-        "Notify(1)"
+fn debug_texts(rt: HostRuntime) {
+    shows(&rt, 1.into_notification(), "Notify(1)");
+    shows(&rt, 1.additional(), "Additional(Notify(1))");
+    shows(&rt, 1.relaxed(), "Relaxed(Notify(1))");
+    shows(&rt, 1.tag(7), "Tag { tag: 7, inner: Notify(1) }");
+    shows(
+        &rt,
+        1.tag_with(seven),
+        "TagWith { tag: .., inner: Notify(1) }",
     );
-    assert_eq!(rt;
-        format!(in alloc; "{:?}", 1.additional())?.as_str(),
-        "Additional(Notify(1))"
-    );
-    assert_eq!(rt;
-        format!(in alloc; "{:?}", 1.relaxed())?.as_str(),
-        "Relaxed(Notify(1))"
-    );
-    assert_eq!(rt;
-        format!(in alloc; "{:?}", 1.tag(7))?.as_str(),
-        "Tag { tag: 7, inner: Notify(1) }"
-    );
-    assert_eq!(rt;
-        format!(in alloc; "{:?}", 1.tag_with(|| 7))?.as_str(),
-        "TagWith { tag: .., inner: Notify(1) }"
-    );
-    assert_eq!(rt;
-        format!(in alloc; "{:?}", 2.additional().relaxed().tag("go"))?.as_str(),
+    shows(
+        &rt,
+        2.additional().relaxed().tag("go"),
         "Tag { tag: \"go\", inner: Relaxed(Additional(Notify(2))) }",
     );
-    Ok(())
+}
+
+// Whether the value converts to a notification.
+fn fits<N: IntoNotification + Debug + Drop, R: Abort>(rt: &R, n: N, expected: bool) {
+    check(rt, &n, n.fits(), expected);
 }
 
 #[test]
 fn unsigned_integers_at_their_ends(rt: HostRuntime) {
-    assert!(rt; 0u8.fits() && u8::MAX.fits());
-    assert!(rt; 0u16.fits() && u16::MAX.fits());
-    assert!(rt; 0u32.fits() && u32::MAX.fits());
-    assert!(rt; 0u64.fits() && u64::MAX.fits());
-    assert!(rt; 0usize.fits() && usize::MAX.fits());
-    assert!(rt; 0u128.fits() && (usize::MAX as u128).fits());
-    assert!(rt; !(usize::MAX as u128 + 1).fits());
-    assert!(rt; !u128::MAX.fits());
+    fits(&rt, 0u8, true);
+    fits(&rt, u8::MAX, true);
+    fits(&rt, 0u16, true);
+    fits(&rt, u16::MAX, true);
+    fits(&rt, 0u32, true);
+    fits(&rt, u32::MAX, true);
+    fits(&rt, 0u64, true);
+    fits(&rt, u64::MAX, true);
+    fits(&rt, 0usize, true);
+    fits(&rt, usize::MAX, true);
+    fits(&rt, 0u128, true);
+    fits(&rt, usize::MAX as u128, true);
+    fits(&rt, usize::MAX as u128 + 1, false);
+    fits(&rt, u128::MAX, false);
 }
 
 #[test]
 fn signed_integers_at_their_ends(rt: HostRuntime) {
-    assert!(rt; !i8::MIN.fits() && !(-1i8).fits() && 0i8.fits() && i8::MAX.fits());
-    assert!(rt; !i16::MIN.fits() && !(-1i16).fits() && 0i16.fits() && i16::MAX.fits());
-    assert!(rt; !i32::MIN.fits() && !(-1i32).fits() && 0i32.fits() && i32::MAX.fits());
-    assert!(rt; !i64::MIN.fits() && !(-1i64).fits() && 0i64.fits() && i64::MAX.fits());
-    assert!(rt; !isize::MIN.fits() && !(-1isize).fits() && 0isize.fits() && isize::MAX.fits());
-    assert!(rt; !i128::MIN.fits() && !(-1i128).fits() && 0i128.fits());
-    assert!(rt; (usize::MAX as i128).fits());
-    assert!(rt; !(usize::MAX as i128 + 1).fits());
-    assert!(rt; !i128::MAX.fits());
-}
-
-#[test]
-fn integers_count_their_value(rt: HostRuntime) {
-    assert_eq!(rt; 0u8.into_notification().count(), 0);
-    assert_eq!(rt; u8::MAX.into_notification().count(), 255);
-    assert_eq!(rt; u16::MAX.into_notification().count(), 65_535);
-    assert_eq!(rt; u32::MAX.into_notification().count(), 4_294_967_295);
-    assert_eq!(rt; u64::MAX.into_notification().count(), usize::MAX);
-    assert_eq!(rt; usize::MAX.into_notification().count(), usize::MAX);
-    assert_eq!(rt;
-        (usize::MAX as u128).into_notification().count(),
-        usize::MAX
-    );
-    assert_eq!(rt; i8::MAX.into_notification().count(), 127);
-    assert_eq!(rt; i16::MAX.into_notification().count(), 32_767);
-    assert_eq!(rt; i32::MAX.into_notification().count(), 2_147_483_647);
-    assert_eq!(rt;
-        i64::MAX.into_notification().count(),
-        9_223_372_036_854_775_807
-    );
-    assert_eq!(rt;
-        isize::MAX.into_notification().count(),
-        9_223_372_036_854_775_807
-    );
-    assert_eq!(rt;
-        (usize::MAX as i128).into_notification().count(),
-        usize::MAX
-    );
-}
-
-#[test]
-fn kinds(rt: HostRuntime) {
-    assert!(rt; !3i32.into_notification().is_additional());
-    assert!(rt; !3.relaxed().is_additional());
-    assert!(rt; 3.additional().is_additional());
-    assert!(rt; 3.additional().relaxed().is_additional());
-    assert!(rt; 3.relaxed().additional().is_additional());
-    assert!(rt; 3.additional().additional().is_additional());
-    assert!(rt; !3.tag(7).is_additional());
-    assert!(rt; 3.additional().tag(7).is_additional());
-    assert!(rt; 3.tag(7).additional().is_additional());
-    assert!(rt; !3.tag_with(|| 7).is_additional());
-    assert!(rt; 3.additional().tag_with(|| 7).is_additional());
-}
-
-#[test]
-fn counts_pass_through(rt: HostRuntime) {
-    assert_eq!(rt; 3.additional().count(), 3);
-    assert_eq!(rt; 3.relaxed().count(), 3);
-    assert_eq!(rt; 3.tag(7).count(), 3);
-    assert_eq!(rt; 3.tag_with(|| 7).count(), 3);
-    assert_eq!(rt;
-        3.additional().tag(7).relaxed().into_notification().count(),
-        3
-    );
+    fits(&rt, i8::MIN, false);
+    fits(&rt, -1i8, false);
+    fits(&rt, 0i8, true);
+    fits(&rt, i8::MAX, true);
+    fits(&rt, i16::MIN, false);
+    fits(&rt, -1i16, false);
+    fits(&rt, 0i16, true);
+    fits(&rt, i16::MAX, true);
+    fits(&rt, i32::MIN, false);
+    fits(&rt, -1i32, false);
+    fits(&rt, 0i32, true);
+    fits(&rt, i32::MAX, true);
+    fits(&rt, i64::MIN, false);
+    fits(&rt, -1i64, false);
+    fits(&rt, 0i64, true);
+    fits(&rt, i64::MAX, true);
+    fits(&rt, isize::MIN, false);
+    fits(&rt, -1isize, false);
+    fits(&rt, 0isize, true);
+    fits(&rt, isize::MAX, true);
+    fits(&rt, i128::MIN, false);
+    fits(&rt, -1i128, false);
+    fits(&rt, 0i128, true);
+    fits(&rt, usize::MAX as i128, true);
+    fits(&rt, usize::MAX as i128 + 1, false);
+    fits(&rt, i128::MAX, false);
 }
 
 // How many listeners a source is for, which a caller may write as a bare number.
-fn count_of<N: IntoNotification>(n: N) -> usize
+fn counts<N: IntoNotification, R: Abort>(rt: &R, n: N, expected: usize)
 where
     N::Notify: Drop,
     requires { N.fits n }
 {
-    n.into_notification().count()
+    check(rt, "count", n.into_notification().count(), expected);
+}
+
+#[test]
+fn integers_count_their_value(rt: HostRuntime) {
+    counts(&rt, 0u8, 0);
+    counts(&rt, u8::MAX, 255);
+    counts(&rt, u16::MAX, 65_535);
+    counts(&rt, u32::MAX, 4_294_967_295);
+    counts(&rt, u64::MAX, usize::MAX);
+    counts(&rt, usize::MAX, usize::MAX);
+    counts(&rt, usize::MAX as u128, usize::MAX);
+    counts(&rt, i8::MAX, 127);
+    counts(&rt, i16::MAX, 32_767);
+    counts(&rt, i32::MAX, 2_147_483_647);
+    counts(&rt, i64::MAX, 9_223_372_036_854_775_807);
+    counts(&rt, isize::MAX, 9_223_372_036_854_775_807);
+    counts(&rt, usize::MAX as i128, usize::MAX);
 }
 
 #[test]
 fn numbers_without_a_type(rt: HostRuntime) {
-    assert_eq!(rt; count_of(1), 1);
-    assert_eq!(rt; count_of(1.additional().tag(7)), 1);
-    assert_eq!(rt; count_of(1.tag_with(|| 7).relaxed()), 1);
+    counts(&rt, 1, 1);
+    counts(&rt, 1.additional().tag(7), 1);
+    counts(&rt, 1.tag_with(seven).relaxed(), 1);
+}
+
+// A notification of three listeners. Only its kind is left to say.
+fn is_for_three<N: Notification + Debug + Drop, R: Abort>(rt: &R, n: N, additional: bool) {
+    check(rt, &n, (n.count(), n.is_additional()), (3, additional));
+}
+
+#[test]
+fn counts_and_kinds(rt: HostRuntime) {
+    is_for_three(&rt, 3i32.into_notification(), false);
+    is_for_three(&rt, 3.relaxed(), false);
+    is_for_three(&rt, 3.additional(), true);
+    is_for_three(&rt, 3.additional().relaxed(), true);
+    is_for_three(&rt, 3.relaxed().additional(), true);
+    is_for_three(&rt, 3.additional().additional(), true);
+    is_for_three(&rt, 3.tag(7), false);
+    is_for_three(&rt, 3.additional().tag(7), true);
+    is_for_three(&rt, 3.tag(7).additional(), true);
+    is_for_three(&rt, 3.tag_with(seven), false);
+    is_for_three(&rt, 3.additional().tag_with(seven), true);
+    is_for_three(
+        &rt,
+        3.additional().tag(7).relaxed().into_notification(),
+        true,
+    );
+}
+
+fn clone_of<N: Clone, R: Abort>(rt: &R, n: &N) -> N {
+    n.clone().expect(rt, "a clone")
+}
+
+#[test]
+fn clones_mean_the_same(rt: HostRuntime) {
+    is_for_three(&rt, clone_of(&rt, &3i32.into_notification()), false);
+    is_for_three(&rt, clone_of(&rt, &3.additional()), true);
+    is_for_three(&rt, clone_of(&rt, &3.relaxed()), false);
+    is_for_three(&rt, clone_of(&rt, &3.additional().tag(7)), true);
+    gives(&rt, &mut clone_of(&rt, &3.additional().tag(7)), 7);
+}
+
+// The notification gives this tag next.
+fn gives<N: Notification, R: Abort>(rt: &R, n: &mut N, tag: N::Tag)
+where
+    N::Tag: PartialEq + Debug + Drop,
+    requires { N.can_tag n.old }
+    ensures { N.can_tag n.new }
+{
+    check(rt, "next_tag", n.next_tag(), Ok(tag));
+}
+
+#[test]
+fn each_call_of_a_notification_succeeds(rt: HostRuntime) {
+    fits(&rt, 3usize, true);
+    fits(&rt, 3usize.into_notification(), true);
+    let mut notification = 3usize.into_notification().into_notification();
+    gives(&rt, &mut notification, ());
+    is_for_three(&rt, clone_of(&rt, &notification), false);
+    is_for_three(&rt, notification, false);
 }
 
 #[test]
 fn the_tag_is_the_unit_where_none_is_given(rt: HostRuntime) {
     let mut notification = 2.additional().relaxed();
-    assert_eq!(rt; notification.next_tag(), Ok(()));
-    assert_eq!(rt; notification.next_tag(), Ok(()));
+    gives(&rt, &mut notification, ());
+    gives(&rt, &mut notification, ());
+}
+
+fn text<R: Abort + AllocGlobal>(rt: &R, text: &str) -> String {
+    String::from_str(rt.alloc(), text).expect(rt, "a text")
 }
 
 #[test]
-fn a_tag_is_cloned_each_time(rt: HostRuntime) -> Result<(), Fail> {
-    let mut notification = 2.tag(String::from_str(rt.alloc(), "seven")?).additional();
-    assert_eq!(rt; notification.next_tag()?.as_str(), "seven");
-    assert_eq!(rt; notification.next_tag()?.as_str(), "seven");
-    Ok(())
+fn a_tag_is_cloned_each_time(rt: HostRuntime) {
+    let mut notification = 2.tag(text(&rt, "seven")).additional();
+    gives(&rt, &mut notification, text(&rt, "seven"));
+    gives(&rt, &mut notification, text(&rt, "seven"));
 }
 
 // A value of which no clone can be made.
@@ -157,9 +202,14 @@ impl Clone for Unclonable {
 
 #[test]
 fn a_refused_clone_is_a_refused_tag(rt: HostRuntime) {
-    let mut notification = 2.tag(Unclonable).relaxed();
-    assert!(rt; notification.next_tag().is_err());
-    assert_eq!(rt; notification.count(), 2);
+    let mut notification = 3.tag(Unclonable).relaxed();
+    check(
+        &rt,
+        "a tag is refused",
+        notification.next_tag().is_err(),
+        true,
+    );
+    is_for_three(&rt, notification, false);
 }
 
 #[test]
@@ -169,25 +219,9 @@ fn a_tag_function_is_called_once_for_each_tag(rt: HostRuntime) {
         calls = calls.wrapping_add(1);
         calls
     });
-    assert_eq!(rt; notification.next_tag(), Ok(1));
-    assert_eq!(rt; notification.next_tag(), Ok(2));
-    assert_eq!(rt; notification.next_tag(), Ok(3));
+    gives(&rt, &mut notification, 1);
+    gives(&rt, &mut notification, 2);
+    gives(&rt, &mut notification, 3);
     drop(notification);
-    assert_eq!(rt; calls, 3);
-}
-
-#[test]
-fn clones_mean_the_same(rt: HostRuntime) -> Result<(), Fail> {
-    assert_eq!(rt; 3i32.into_notification().clone()?.count(), 3);
-    let copy = 3.additional().clone()?;
-    assert_eq!(rt; copy.count(), 3);
-    assert!(rt; copy.is_additional());
-    let copy = 3.relaxed().clone()?;
-    assert_eq!(rt; copy.count(), 3);
-    assert!(rt; !copy.is_additional());
-    let mut copy = 3.additional().tag(7).clone()?;
-    assert_eq!(rt; copy.count(), 3);
-    assert!(rt; copy.is_additional());
-    assert_eq!(rt; copy.next_tag(), Ok(7));
-    Ok(())
+    check(&rt, "calls of the function", calls, 3);
 }

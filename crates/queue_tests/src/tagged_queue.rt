@@ -1,9 +1,9 @@
 //! A queue that is notified by what the combinators make.
-use crate::doubles::Noted;
-use event_queue::{IntoNotification, IntoTagged, List, NotifyError, RegisterResult};
+use crate::checked_queue::CheckedQueue;
+use crate::checks::{check, reads};
+use event_queue::{IntoNotification, IntoTagged, NotifyError};
 use std::alloc::AllocError;
 use std::cell::Cell;
-use std::test::Fail;
 
 /// A tag of which only so many clones can be made.
 #[derive(Debug, Drop)]
@@ -31,69 +31,52 @@ impl Clone for Scarce {
 }
 
 #[test]
-fn third_listener_waits_where_the_third_tag_is_refused(rt: HostRuntime) -> Result<(), Fail> {
-    let mut queue: List<Scarce, u32> = List::new(rt.alloc());
-    let mut woken = Noted::new(rt.alloc());
-    let first = queue.insert()?;
-    let second = queue.insert()?;
-    let third = queue.insert()?;
-    let answer = queue.notify(&mut 3.tag(Scarce::new(2)), &mut woken);
-    assert_eq!(rt; answer, Err(NotifyError { told: 2 }));
-    assert!(rt; queue.is_told(first));
-    assert!(rt; queue.is_told(second));
-    assert!(rt; !queue.is_told(third));
+fn third_listener_waits_where_the_third_tag_is_refused(rt: HostRuntime) {
+    let mut queue = CheckedQueue::new(&rt);
+    let first = queue.inserts();
+    let second = queue.inserts();
+    let third = queue.inserts();
+    queue.notifies(3.tag(Scarce::new(2)), Err(NotifyError { told: 2 }));
+    queue.is_told(first, true);
+    queue.is_told(second, true);
+    queue.is_told(third, false);
 
     // The next notification begins with the listener whose tag was refused.
-    let answer = queue.notify(&mut 1.additional().tag(Scarce::new(1)), &mut woken);
-    assert_eq!(rt; answer, Ok(1));
-    assert!(rt; queue.is_told(third));
-    Ok(())
+    queue.notifies(1.additional().tag(Scarce::new(1)), Ok(1));
+    queue.is_told(third, true);
 }
 
 #[test]
-fn refused_tag_has_its_text(rt: HostRuntime) -> Result<(), Fail> {
+fn refused_tag_has_its_text(rt: HostRuntime) {
     let refused = NotifyError { told: 2 };
-    let shown = format!(in rt.alloc(); "{refused}")?;
-    assert_eq!(rt; shown.as_str(), "a tag was refused after 2 listeners");
-    Ok(())
+    reads(&rt, refused, "a tag was refused after 2 listeners");
 }
 
 #[test]
-fn tag_function_is_called_once_for_each_listener_told(rt: HostRuntime) -> Result<(), Fail> {
-    let mut queue: List<u8, u32> = List::new(rt.alloc());
-    let mut woken = Noted::new(rt.alloc());
-    let first = queue.insert()?;
-    let second = queue.insert()?;
-    let third = queue.insert()?;
+fn tag_function_is_called_once_for_each_listener_told(rt: HostRuntime) {
+    let mut queue = CheckedQueue::new(&rt);
+    let first = queue.inserts();
+    let second = queue.inserts();
+    let third = queue.inserts();
     let mut calls = 0u8;
-    let mut notification = 5.additional().tag_with(|| {
+    let notification = 5.additional().tag_with(|| {
         calls = calls.wrapping_add(1);
         calls
     });
-    assert_eq!(rt; queue.notify(&mut notification, &mut woken), Ok(3));
-    drop(notification);
-    assert_eq!(rt; calls, 3);
-    assert_eq!(rt; queue.register(first, 1), RegisterResult::Notified(1));
-    assert_eq!(rt; queue.register(second, 2), RegisterResult::Notified(2));
-    assert_eq!(rt; queue.register(third, 3), RegisterResult::Notified(3));
-    Ok(())
+    queue.notifies(notification, Ok(3));
+    check(&rt, "calls of the function", calls, 3);
+    queue.takes(first, 1);
+    queue.takes(second, 2);
+    queue.takes(third, 3);
 }
 
 #[test]
-fn relaxed_additional_notification_is_additional(rt: HostRuntime) -> Result<(), Fail> {
-    let mut queue: List<(), u32> = List::new(rt.alloc());
-    let mut woken = Noted::new(rt.alloc());
-    let first = queue.insert()?;
-    let second = queue.insert()?;
-    assert_eq!(rt;
-        queue.notify(&mut 1i32.into_notification(), &mut woken),
-        Ok(1)
-    );
-    assert!(rt; queue.is_told(first));
-    assert_eq!(rt;
-        queue.notify(&mut 1.additional().relaxed(), &mut woken),
-        Ok(1)
-    );
-    assert!(rt; queue.is_told(second));
-    Ok(())
+fn relaxed_additional_notification_is_additional(rt: HostRuntime) {
+    let mut queue = CheckedQueue::new(&rt);
+    let first = queue.inserts();
+    let second = queue.inserts();
+    queue.notifies(1i32.into_notification(), Ok(1));
+    queue.is_told(first, true);
+    queue.notifies(1.additional().relaxed(), Ok(1));
+    queue.is_told(second, true);
 }

@@ -1,0 +1,153 @@
+//! Threads that park, and what wakes them.
+use crate::support::{Runtime, listen, new_event};
+use event_listener::{Event, IntoTagged, Listener};
+use std::process::Abort;
+use std::sync::Wait;
+use std::thread::{self, Threads};
+use std::time::{Clock, CpuClock, Duration, Instant};
+use test_support::{Borrowing, ListenerKind, Sharing, TIMED_WAITS, WaitCall};
+
+// Long enough for the other thread to park meanwhile. A thread that isn't parked yet needs nobody to wake it.
+fn a_while() -> Duration {
+    Duration::from_millis(100)
+}
+
+// A wait that nobody wakes ends here, if it has a limit.
+fn limit() -> Duration {
+    Duration::from_secs(20)
+}
+
+// One that is woken ends well before this.
+fn soon() -> Duration {
+    Duration::from_secs(10)
+}
+
+// Tells so many listeners, each with the tag 7.
+fn tell<R: Abort + Wait>(rt: &R, event: &Event<u32>, n: usize) {
+    assert_eq!(rt; event.notify(rt, n.tag(7u32)), Ok(n));
+}
+
+fn nobody_is_left<R: Abort + Wait>(rt: &R, event: &Event<u32>) {
+    assert_eq!(rt; event.total_listeners(rt), 0);
+}
+
+// The listener is told, with the tag 7.
+fn is_told<L: Listener<u32> + Drop, R: Abort + Clock>(rt: &R, listener: L, wait: WaitCall) {
+    assert_eq!(rt; wait.make(rt, listener, limit()), Ok(Some(7)));
+}
+
+fn processor_time<R: Abort + CpuClock>(rt: &R) -> Duration {
+    rt.thread_cpu_time().expect(rt, "the processor time")
+}
+
+// The listener is told, and its thread parks until then. One that looked again and again would use most of the time.
+fn parks<L, R>(rt: &R, listener: L, wait: WaitCall)
+where
+    L: Listener<u32> + Drop,
+    R: Abort + Clock + CpuClock,
+{
+    let before = processor_time(rt);
+    is_told(rt, listener, wait);
+    let used = processor_time(rt).saturating_sub(before);
+    assert!(rt; used < a_while() / 4);
+}
+
+fn ends_soon<R: Abort + Clock>(rt: &R, start: Instant) {
+    let elapsed = start.elapsed(rt).expect(rt, "the time");
+    assert!(rt; elapsed < soon());
+}
+
+// A thread waits on the listener until another one makes this call, which comes once it is parked.
+fn is_woken_by<L, R, W>(rt: &R, listener: L, wait: WaitCall, wake: W)
+where
+    L: Listener<u32> + Drop,
+    R: Runtime + CpuClock + Threads + Sync,
+    W: FnOnce() + Send,
+    requires { W.pre wake }
+{
+    let start = Instant::now(rt).expect(rt, "the time");
+    thread::join(
+        rt,
+        || {
+            rt.sleep(a_while());
+            wake();
+        },
+        || parks(rt, listener, wait),
+    );
+    ends_soon(rt, start);
+}
+
+fn is_woken_by_a_notification<'ev, K, R>(rt: &R, event: &'ev Event<u32>, wait: WaitCall)
+where
+    K: ListenerKind<'ev, u32, R>,
+    R: Runtime + CpuClock + Threads + Sync,
+{
+    let listener = listen::<K, _, R>(rt, event);
+    is_woken_by(rt, listener, wait, || tell(rt, event, 1));
+    nobody_is_left(rt, event);
+}
+
+#[test]
+fn a_notification_wakes_a_thread_in_a_timed_wait(rt: HostRuntime) {
+    let event = new_event(&rt);
+    for wait in TIMED_WAITS {
+        is_woken_by_a_notification::<Sharing, _>(&rt, &event, wait);
+        is_woken_by_a_notification::<Borrowing, _>(&rt, &event, wait);
+    }
+}
+
+#[test]
+fn a_notification_wakes_a_thread_in_a_wait_without_a_limit(rt: HostRuntime) {
+    let event = new_event(&rt);
+    for wait in [WaitCall::UntilTold, WaitCall::GreatestTimeout] {
+        is_woken_by_a_notification::<Sharing, _>(&rt, &event, wait);
+        is_woken_by_a_notification::<Borrowing, _>(&rt, &event, wait);
+    }
+}
+
+// A thread that waits on the second listener is woken by the drop of the first, which was told.
+fn is_woken_by_a_drop<L, R>(rt: &R, event: &Event<u32>, first: L, second: L)
+where
+    L: Listener<u32> + Drop + Send,
+    R: Runtime + CpuClock + Threads + Sync,
+{
+    tell(rt, event, 1);
+    is_woken_by(rt, second, WaitCall::Timeout, || drop(first));
+    nobody_is_left(rt, event);
+}
+
+#[test]
+fn the_drop_of_a_told_listener_wakes_a_parked_thread(rt: HostRuntime) {
+    let event = new_event(&rt);
+    let first = listen::<Sharing, _, _>(&rt, &event);
+    let second = listen::<Sharing, _, _>(&rt, &event);
+    is_woken_by_a_drop(&rt, &event, first, second);
+    let first = listen::<Borrowing, _, _>(&rt, &event);
+    let second = listen::<Borrowing, _, _>(&rt, &event);
+    is_woken_by_a_drop(&rt, &event, first, second);
+}
+
+fn both_are_woken_by_one<L, R>(rt: &R, event: &Event<u32>, first: L, second: L)
+where
+    L: Listener<u32> + Drop + Send,
+    R: Runtime + CpuClock + Threads + Sync,
+{
+    let start = Instant::now(rt).expect(rt, "the time");
+    thread::join(
+        rt,
+        || is_told(rt, first, WaitCall::Timeout),
+        || is_woken_by(rt, second, WaitCall::Timeout, || tell(rt, event, 2)),
+    );
+    ends_soon(rt, start);
+}
+
+#[test]
+fn one_notification_wakes_two_parked_threads(rt: HostRuntime) {
+    let event = new_event(&rt);
+    let first = listen::<Sharing, _, _>(&rt, &event);
+    let second = listen::<Sharing, _, _>(&rt, &event);
+    both_are_woken_by_one(&rt, &event, first, second);
+    let first = listen::<Borrowing, _, _>(&rt, &event);
+    let second = listen::<Borrowing, _, _>(&rt, &event);
+    both_are_woken_by_one(&rt, &event, first, second);
+}
