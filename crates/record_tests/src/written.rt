@@ -1,246 +1,248 @@
-//! Records that were written by hand: which of them replay.
-use crate::lines::{Line, asked, counted, listened, notified, registered, removed};
-use crate::support::Runtime;
 use event_listener::{
     Entry, Former, Key, ListenError, RecordedCall, RecordedReply, RegisterResult, replays,
 };
+use std::alloc::AllocGlobal;
+use std::process::Abort;
+use std::test::Fail;
 
-const FIRST: Key = Key { slot: 0, serial: 0 };
+type Step = Entry<u8>;
 
-const SECOND: Key = Key { slot: 1, serial: 1 };
-
-const THIRD: Key = Key { slot: 2, serial: 2 };
-
-// A key that comes second, in the slot of the first.
-const IN_ONE_SLOT: Key = Key { slot: 0, serial: 1 };
-
-const KINDS: [bool; 2] = [false, true];
-
-// Whether the lines replay, one after another. Each is the call of another hand, and the last is nobody's: whose call it
-// was is not looked at.
-fn is_run<R: Runtime>(rt: &R, lines: &[Line], last: Line) -> bool {
-    let mut entries = Vec::new(rt.alloc());
-    for (number, (call, reply)) in lines.iter().copied().enumerate() {
-        let hand = Some(number);
-        let entry = Entry { hand, call, reply };
-        entries.push(entry).expect(rt, "room");
-    }
-    let (call, reply) = last;
-    let hand = None;
-    let entry = Entry { hand, call, reply };
-    entries.push(entry).expect(rt, "room");
-    replays(rt.alloc(), entries.as_slice()).expect(rt, "an answer")
+fn key(slot: usize, serial: u64) -> Key {
+    Key { slot, serial }
 }
 
-// Of these last lines exactly the first replays.
-fn only_first<R: Runtime>(rt: &R, lines: &[Line], last: &[Line]) {
-    for (number, line) in last.iter().enumerate() {
-        assert_eq!(rt; is_run(rt, lines, *line), number == 0, "{lines:?} {line:?}");
+fn step(call: RecordedCall<u8>, reply: RecordedReply<u8>) -> Step {
+    Entry {
+        hand: Some(0),
+        call,
+        reply,
+    }
+}
+
+fn listened(key: Key) -> Step {
+    step(RecordedCall::Listen, RecordedReply::Listened(Ok(key)))
+}
+
+fn listening_refused(refusal: ListenError) -> Step {
+    step(RecordedCall::Listen, RecordedReply::Listened(Err(refusal)))
+}
+
+fn registered(key: Key, answer: RegisterResult<u8>) -> Step {
+    step(
+        RecordedCall::Register { key },
+        RecordedReply::Registered(answer),
+    )
+}
+
+fn removed(key: Key, propagate: bool, answer: Option<Former<u8>>) -> Step {
+    step(
+        RecordedCall::Remove { key, propagate },
+        RecordedReply::Removed(answer),
+    )
+}
+
+fn notified(count: usize, additional: bool, tag: u8, told: usize) -> Step {
+    step(
+        RecordedCall::Notify {
+            count,
+            additional,
+            tag,
+        },
+        RecordedReply::Notified(told),
+    )
+}
+
+fn total(listeners: usize) -> Step {
+    step(
+        RecordedCall::TotalListeners,
+        RecordedReply::TotalListeners(listeners),
+    )
+}
+
+fn is_notified(told: bool) -> Step {
+    step(RecordedCall::IsNotified, RecordedReply::IsNotified(told))
+}
+
+// Records that are compared as they come.
+#[derive(Drop)]
+struct Records<'r, R: Abort + AllocGlobal> {
+    rt: &'r R,
+}
+
+impl<'r, R: Abort + AllocGlobal> Records<'r, R> {
+    fn replays(&self, entries: &[Step]) {
+        assert_eq!(self.rt; replays(self.rt.alloc(), entries), Ok(true));
+    }
+
+    fn differs(&self, entries: &[Step]) {
+        assert_eq!(self.rt; replays(self.rt.alloc(), entries), Ok(false));
     }
 }
 
 #[test]
-fn each_call_has_replies_of_its_own_kind(rt: HostRuntime) {
-    let created = Some(Former::Created);
-    let right = [
-        listened(SECOND),
-        registered(FIRST, RegisterResult::Registered),
-        removed(FIRST, false, created),
-        removed(FIRST, true, created),
+fn a_newcomer_has_the_next_serial_and_any_slot(rt: HostRuntime) {
+    let records = Records { rt: &rt };
+    records.replays(&[]);
+    records.replays(&[listened(key(0, 0))]);
+    records.replays(&[listened(key(9, 0)), listened(key(2, 1))]);
+    records.replays(&[listened(key(3, 0)), listened(key(3, 1))]);
+    records.differs(&[listened(key(0, 1))]);
+    records.differs(&[listened(key(0, 0)), listened(key(1, 0))]);
+    records.differs(&[listening_refused(ListenError::Memory)]);
+    records.differs(&[listening_refused(ListenError::SerialsUsedUp)]);
+}
+
+#[test]
+fn a_notification_tells_as_many_as_it_wants_and_as_wait(rt: HostRuntime) {
+    let records = Records { rt: &rt };
+    let first = listened(key(0, 0));
+    let second = listened(key(1, 1));
+    records.replays(&[first, notified(1, false, 5, 1)]);
+    records.differs(&[first, notified(1, false, 5, 0)]);
+    records.replays(&[notified(1, false, 5, 0), first, is_notified(false)]);
+    records.replays(&[
+        first,
+        second,
         notified(1, false, 5, 1),
-        counted(1),
-        asked(false),
-    ];
-    for (call, right_reply) in right {
-        for (_, reply) in right {
-            let is_run = is_run(&rt, &[listened(FIRST)], (call, reply));
-            assert_eq!(rt; is_run, reply == right_reply, "{call:?} {reply:?}");
-        }
-    }
-}
-
-#[test]
-fn the_first_listener_has_serial_zero(rt: HostRuntime) {
-    let refused = [ListenError::Memory, ListenError::SerialsUsedUp];
-    for refusal in refused {
-        let reply = RecordedReply::Listened(Err(refusal));
-        assert!(rt; !is_run(&rt, &[], (RecordedCall::Listen, reply)));
-    }
-    // A queue chooses its slots, so any will do.
-    for slot in [0, 1, usize::MAX] {
-        let keys = [0, 1, 2, u64::MAX].map(|serial| listened(Key { slot, serial }));
-        only_first(&rt, &[], &keys);
-        let keys = [1, 0, 2, u64::MAX].map(|serial| listened(Key { slot, serial }));
-        only_first(&rt, &[listened(FIRST)], &keys);
-    }
-}
-
-// Such a notification tells so many, and no other number of listeners.
-fn tells<R: Runtime>(rt: &R, lines: &[Line], count: usize, additional: bool, right: usize) {
-    for told in 0..4 {
-        let line = notified(count, additional, 5, told);
-        assert_eq!(rt;
-            is_run(rt, lines, line),
-            told == right,
-            "{lines:?} {line:?}"
-        );
-    }
-}
-
-#[test]
-fn a_notification_tells_as_many_as_it_is_for_and_wait(rt: HostRuntime) {
-    let two = [listened(FIRST), listened(SECOND)];
-    for additional in KINDS {
-        for count in 0..4 {
-            tells(&rt, &two, count, additional, count.min(2));
-        }
-    }
-    let one_told = [listened(FIRST), listened(SECOND), notified(1, true, 5, 1)];
-    for count in 0..4 {
-        tells(&rt, &one_told, count, true, count.min(1));
-        tells(&rt, &one_told, count, false, usize::from(count > 1));
-    }
-    tells(&rt, &[], 3, true, 0);
-}
-
-#[test]
-fn questions_are_answered_of_the_queue(rt: HostRuntime) {
-    only_first(&rt, &[], &[counted(0), counted(1)]);
-    only_first(&rt, &[], &[asked(false), asked(true)]);
-    let told = [listened(FIRST), listened(SECOND), notified(1, false, 5, 1)];
-    only_first(
-        &rt,
-        &told,
-        &[counted(2), counted(1), counted(3), counted(0)],
-    );
-    only_first(&rt, &told, &[asked(true), asked(false)]);
-}
-
-#[test]
-fn a_told_listener_has_its_kind_and_its_tag(rt: HostRuntime) {
-    for additional in KINDS {
-        let told = [listened(FIRST), notified(1, additional, 5, 1)];
-        let answers = [
-            RegisterResult::Notified(5),
-            RegisterResult::Notified(6),
-            RegisterResult::Registered,
-            RegisterResult::NeverInserted,
-        ];
-        only_first(&rt, &told, &answers.map(|answer| registered(FIRST, answer)));
-
-        let with = |additional, tag| Some(Former::Notified { additional, tag });
-        let answers = [
-            with(additional, 5),
-            with(additional, 6),
-            with(!additional, 5),
-            Some(Former::NotifiedTaken),
-            Some(Former::Created),
-            Some(Former::Task),
-            None,
-        ];
-        only_first(
-            &rt,
-            &told,
-            &answers.map(|answer| removed(FIRST, false, answer)),
-        );
-
-        let answers = [
-            Some(Former::NotifiedTaken),
-            with(additional, 5),
-            Some(Former::Created),
-            None,
-        ];
-        only_first(
-            &rt,
-            &told,
-            &answers.map(|answer| removed(FIRST, true, answer)),
-        );
-    }
-}
-
-#[test]
-fn a_waiting_listener_has_a_task_once_it_is_registered(rt: HostRuntime) {
-    let (created, task) = (Some(Former::Created), Some(Former::Task));
-    let taken = Some(Former::NotifiedTaken);
-    let waiting = registered(FIRST, RegisterResult::Registered);
-    for propagate in KINDS {
-        let answers = [created, task, taken, None];
-        let last = answers.map(|answer| removed(FIRST, propagate, answer));
-        only_first(&rt, &[listened(FIRST)], &last);
-        let answers = [task, created, taken, None];
-        let last = answers.map(|answer| removed(FIRST, propagate, answer));
-        only_first(&rt, &[listened(FIRST), waiting], &last);
-    }
-}
-
-#[test]
-fn a_key_of_nobody_is_known_by_no_part_alone(rt: HostRuntime) {
-    let left = [
-        listened(FIRST),
-        removed(FIRST, false, Some(Former::Created)),
-        listened(IN_ONE_SLOT),
-    ];
-    let waiting = [listened(FIRST), listened(SECOND)];
-    // The first key has the slot of one that is there, and the other one its serial.
-    let keys = [(left.as_slice(), FIRST), (waiting.as_slice(), IN_ONE_SLOT)];
-    for (lines, key) in keys {
-        let answers = [RegisterResult::NeverInserted, RegisterResult::Registered];
-        only_first(&rt, lines, &answers.map(|answer| registered(key, answer)));
-        for propagate in KINDS {
-            let answers = [None, Some(Former::Created), Some(Former::NotifiedTaken)];
-            let last = answers.map(|answer| removed(key, propagate, answer));
-            only_first(&rt, lines, &last);
-        }
-    }
-}
-
-#[test]
-fn two_listeners_may_share_a_slot(rt: HostRuntime) {
-    let lines = [
-        listened(FIRST),
-        listened(IN_ONE_SLOT),
+        notified(1, false, 6, 0),
+    ]);
+    records.replays(&[
+        first,
+        second,
         notified(1, false, 5, 1),
-        registered(IN_ONE_SLOT, RegisterResult::Registered),
-        registered(FIRST, RegisterResult::Notified(5)),
+        notified(1, true, 6, 1),
+    ]);
+    records.replays(&[
+        first,
+        second,
+        notified(9, true, 5, 2),
+        total(2),
+        is_notified(true),
+    ]);
+    records.differs(&[first, second, notified(9, true, 5, 2), total(0)]);
+}
+
+#[test]
+fn a_registration_is_answered_by_who_is_told_and_who_waits(rt: HostRuntime) {
+    let records = Records { rt: &rt };
+    let listener = key(0, 0);
+    let told = [listened(listener), notified(1, false, 5, 1)];
+    records.replays(&[
+        listened(listener),
+        registered(listener, RegisterResult::Registered),
+    ]);
+    records.differs(&[
+        listened(listener),
+        registered(listener, RegisterResult::Notified(5)),
+    ]);
+    records.replays(&[
+        told[0],
+        told[1],
+        registered(listener, RegisterResult::Notified(5)),
+        total(0),
+    ]);
+    records.differs(&[
+        told[0],
+        told[1],
+        registered(listener, RegisterResult::Notified(6)),
+    ]);
+    records.differs(&[
+        told[0],
+        told[1],
+        registered(listener, RegisterResult::Registered),
+    ]);
+    records.replays(&[registered(listener, RegisterResult::NeverInserted)]);
+    records.differs(&[registered(listener, RegisterResult::Registered)]);
+    records.replays(&[
+        told[0],
+        registered(key(1, 0), RegisterResult::NeverInserted),
+    ]);
+}
+
+#[test]
+fn a_removal_answers_what_the_listener_was(rt: HostRuntime) {
+    let records = Records { rt: &rt };
+    let listener = key(0, 0);
+    let told = Former::Notified {
+        additional: true,
+        tag: 5,
+    };
+    let waits = registered(listener, RegisterResult::Registered);
+    records.replays(&[removed(listener, true, None)]);
+    records.replays(&[
+        listened(listener),
+        removed(listener, true, Some(Former::Created)),
+        total(0),
+    ]);
+    records.replays(&[
+        listened(listener),
+        waits,
+        removed(listener, false, Some(Former::Task)),
+    ]);
+    records.differs(&[
+        listened(listener),
+        waits,
+        removed(listener, false, Some(Former::Created)),
+    ]);
+    records.replays(&[
+        listened(listener),
+        notified(1, true, 5, 1),
+        removed(listener, false, Some(told)),
+    ]);
+    records.differs(&[
+        listened(listener),
+        notified(1, false, 5, 1),
+        removed(listener, false, Some(told)),
+    ]);
+    records.differs(&[
+        listened(listener),
+        notified(1, true, 5, 1),
+        removed(listener, true, Some(told)),
+    ]);
+}
+
+#[test]
+fn a_removal_passes_an_additional_notification_on(rt: HostRuntime) {
+    let records = Records { rt: &rt };
+    let taken = removed(key(0, 0), true, Some(Former::NotifiedTaken));
+    let tagged = registered(key(1, 1), RegisterResult::Notified(5));
+    let start = [
+        listened(key(0, 0)),
+        listened(key(1, 1)),
+        listened(key(2, 2)),
     ];
-    only_first(&rt, &lines, &[counted(1), counted(0), counted(2)]);
-    let answers = [Some(Former::Task), Some(Former::Created), None];
-    only_first(
-        &rt,
-        &lines,
-        &answers.map(|answer| removed(IN_ONE_SLOT, true, answer)),
-    );
-}
-
-// Three listen and two are told, of which the first leaves.
-fn left_by_the_first(additional: bool, propagate: bool, answer: Former<u32>) -> [Line; 5] {
-    [
-        listened(FIRST),
-        listened(SECOND),
-        listened(THIRD),
-        notified(2, additional, 5, 2),
-        removed(FIRST, propagate, Some(answer)),
-    ]
+    records.replays(&[
+        start[0],
+        start[1],
+        notified(1, true, 5, 1),
+        taken,
+        tagged,
+        total(0),
+    ]);
+    records.differs(&[
+        start[0],
+        start[1],
+        notified(1, true, 5, 1),
+        taken,
+        is_notified(false),
+    ]);
+    // A default one is lost while another listener stays told.
+    records.replays(&[
+        start[0],
+        start[1],
+        start[2],
+        notified(2, false, 5, 2),
+        taken,
+        registered(key(2, 2), RegisterResult::Registered),
+    ]);
 }
 
 #[test]
-fn a_notification_is_passed_on_or_lost(rt: HostRuntime) {
-    let waits = registered(THIRD, RegisterResult::Registered);
-    let is_told = registered(THIRD, RegisterResult::Notified(5));
-    // An additional one is passed on, and a default one is lost while another listener stays told.
-    let lines = left_by_the_first(true, true, Former::NotifiedTaken);
-    only_first(&rt, &lines, &[is_told, waits]);
-    let lines = left_by_the_first(false, true, Former::NotifiedTaken);
-    only_first(&rt, &lines, &[waits, is_told]);
-    for additional in KINDS {
-        let tag = 5;
-        let lines = left_by_the_first(additional, false, Former::Notified { additional, tag });
-        only_first(&rt, &lines, &[waits, is_told]);
+fn whose_call_it_was_is_not_looked_at(rt: HostRuntime) -> Result<(), Fail> {
+    let entry = listened(key(0, 0));
+    for hand in [None, Some(0), Some(usize::MAX)] {
+        let entries = [Entry { hand, ..entry }];
+        assert_eq!(rt; replays(rt.alloc(), &entries), Ok(true));
     }
-}
-
-#[test]
-fn a_wrong_reply_is_not_made_good(rt: HostRuntime) {
-    only_first(&rt, &[listened(FIRST)], &[counted(1), counted(0)]);
-    assert!(rt; !is_run(&rt, &[counted(1), listened(FIRST)], counted(1)));
+    Ok(())
 }

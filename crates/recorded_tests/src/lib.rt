@@ -13,3 +13,5 @@ mod refused;
 mod steps;
 #[cfg(test)]
 mod support;
+#[cfg(test)]
+mod texts;
