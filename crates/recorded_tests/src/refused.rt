@@ -223,7 +223,7 @@ fn drops_take_no_memory(rt: HostRuntime) {
 }
 
 #[test]
-fn closing_takes_no_memory_and_replaying_does(rt: HostRuntime) {
+fn closing_takes_no_memory(rt: HostRuntime) {
     let (event, mut hands) = new_event(&rt, 2);
     let hand = hands.first_mut().expect(&rt, "a hand");
     let calls = On {
@@ -235,9 +235,7 @@ fn closing_takes_no_memory_and_replaying_does(rt: HostRuntime) {
 
     let hog = all_memory(&rt);
     let record = close(&rt, event, hands).expect(&rt, "a record");
-    let refused = record.replays(rt.alloc());
     drop(hog);
-    assert!(rt; refused.is_err());
     assert_eq!(rt; record.entries().len(), SOME + 2);
     assert_eq!(rt; record.replays(rt.alloc()), Ok(true));
 }
