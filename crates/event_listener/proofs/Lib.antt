@@ -10,4 +10,5 @@ pub mod SameCallLemmas
 pub mod ReplayLemmas
 pub mod RecordingLemmas
 pub mod ClosingLemmas
+pub mod HandLemmas
 pub mod RecordedRunLemmas

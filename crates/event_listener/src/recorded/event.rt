@@ -51,7 +51,7 @@ impl<T: Copy + Eq> Model for RecordedEvent<T> {
 }
 
 impl<T: Copy + Eq> RecordedEvent<T> {
-    /// An event with so many hands, which have the numbers from 0 on, in order, and no notes.
+    /// An event with so many hands, which have the numbers from 0 on, in order, and no notes. It owns each of them.
     ///
     /// Returns [`RecordError::Memory`] where memory for the hands is refused; the identity is used up then. It returns
     /// no other error. The call allocates the hands, and does not wait.
@@ -62,6 +62,7 @@ impl<T: Copy + Eq> RecordedEvent<T> {
     ) -> Result<(Self, Vec<Hand<T>>), RecordError>
         ensures event { IfOk result (λ made. made.0 ≡ record { number = id; hands = hands }) }
         ensures hands { IfOk result (λ made. made.1.items ≡ new_hands id hands) }
+        ensures owned { IfOk result (λ made. All (λ hand. Owns made.0 hand) made.1.items) }
         ensures memory { IfErr result (λ error. error ≡ RecordError.Memory) }
     {
         let made = new_hands(hands, id.number(), alloc)?;
