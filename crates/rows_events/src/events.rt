@@ -1,11 +1,10 @@
 //! The rows over one event without tags.
 use event_listener::IntoNotification;
-use futures::task::Poll::{Pending, Ready};
 use std::sync::Wait;
 use std::time::Clock;
-use worked_rows::{Difference, EventCalls, Harness, Hook, OnUntaggedEvent, Row, UntaggedCalls};
-
-type Reply = Result<(), Difference>;
+use worked_rows::EventAnswer::{Count, Dropped, Finished, Pending, Tag, Told};
+use worked_rows::EventCall::{Discard, IsNotified, Poll, Release, TotalListeners};
+use worked_rows::{EventCalls, Form, Harness, Hook, OnUntaggedEvent, Row, UntaggedCalls};
 
 /// A row over one event without tags.
 #[derive(Clone, Copy)]
@@ -68,17 +67,17 @@ impl Row for EventRow {
         Some(row)
     }
 
-    fn run<R, H>(self, harness: &mut Harness<'_, R, H>) -> Reply
+    fn run<R, H>(self, harness: &mut Harness<'_, R, H>)
     where
         R: Wait + Clock + Clone,
         H: Hook,
     {
-        harness.on_each_kind_untagged(self)
+        harness.on_each_kind_untagged(self);
     }
 }
 
 impl OnUntaggedEvent for EventRow {
-    fn make<E: UntaggedCalls>(self, event: &mut E) -> Reply {
+    fn make<E: UntaggedCalls>(self, event: &mut E) {
         match self {
             EventRow::DefaultCountsTheTold => default_counts_the_told(event),
             EventRow::KindsMixed => kinds_mixed(event),
@@ -100,160 +99,160 @@ impl OnUntaggedEvent for EventRow {
     }
 }
 
-fn default_counts_the_told<E: EventCalls<()>>(event: &mut E) -> Reply {
-    let first = event.listen()?;
-    let second = event.listen()?;
-    let third = event.listen()?;
-    event.poll(first, Pending)?;
-    event.poll(second, Pending)?;
-    event.poll(third, Pending)?;
-    event.notify(2, 2)?;
-    event.notify(1, 0)?;
-    event.poll(first, Ready(()))?;
-    event.poll(second, Ready(()))?;
-    event.poll(third, Pending)
+fn default_counts_the_told<E: EventCalls<()>>(event: &mut E) {
+    let first = event.listen();
+    let second = event.listen();
+    let third = event.listen();
+    event.make(Poll(first), Pending);
+    event.make(Poll(second), Pending);
+    event.make(Poll(third), Pending);
+    event.notify(2, 2);
+    event.notify(1, 0);
+    event.make(Poll(first), Tag(()));
+    event.make(Poll(second), Tag(()));
+    event.make(Poll(third), Pending);
 }
 
-fn kinds_mixed<E: UntaggedCalls>(event: &mut E) -> Reply {
-    let first = event.listen()?;
-    let second = event.listen()?;
-    let third = event.listen()?;
-    event.notify_additional(1, 1)?;
-    event.notify(1, 0)?;
-    event.notify_additional(1, 1)?;
-    event.poll(first, Ready(()))?;
-    event.poll(second, Ready(()))?;
-    event.poll(third, Pending)
+fn kinds_mixed<E: UntaggedCalls>(event: &mut E) {
+    let first = event.listen();
+    let second = event.listen();
+    let third = event.listen();
+    event.notify_in(Form::Additional, 1, 1);
+    event.notify(1, 0);
+    event.notify_in(Form::Additional, 1, 1);
+    event.make(Poll(first), Tag(()));
+    event.make(Poll(second), Tag(()));
+    event.make(Poll(third), Pending);
 }
 
-fn default_is_lost<E: EventCalls<()>>(event: &mut E) -> Reply {
-    let first = event.listen()?;
-    let second = event.listen()?;
-    let third = event.listen()?;
-    event.notify(2, 2)?;
-    event.release(first)?;
-    event.poll(second, Ready(()))?;
-    event.poll(third, Pending)
+fn default_is_lost<E: EventCalls<()>>(event: &mut E) {
+    let first = event.listen();
+    let second = event.listen();
+    let third = event.listen();
+    event.notify(2, 2);
+    event.make(Release(first), Dropped);
+    event.make(Poll(second), Tag(()));
+    event.make(Poll(third), Pending);
 }
 
-fn additional_is_passed_on<E: UntaggedCalls>(event: &mut E) -> Reply {
-    let first = event.listen()?;
-    let second = event.listen()?;
-    let third = event.listen()?;
-    let fourth = event.listen()?;
-    event.notify_additional(1, 1)?;
-    event.notify(2, 1)?;
-    event.release(first)?;
-    event.poll(second, Ready(()))?;
-    event.poll(third, Ready(()))?;
-    event.poll(fourth, Pending)
+fn additional_is_passed_on<E: UntaggedCalls>(event: &mut E) {
+    let first = event.listen();
+    let second = event.listen();
+    let third = event.listen();
+    let fourth = event.listen();
+    event.notify_in(Form::Additional, 1, 1);
+    event.notify(2, 1);
+    event.make(Release(first), Dropped);
+    event.make(Poll(second), Tag(()));
+    event.make(Poll(third), Tag(()));
+    event.make(Poll(fourth), Pending);
 }
 
-fn not_kept<E: EventCalls<()>>(event: &mut E) -> Reply {
-    event.notify(1, 0)?;
-    let first = event.listen()?;
-    event.poll(first, Pending)
+fn not_kept<E: EventCalls<()>>(event: &mut E) {
+    event.notify(1, 0);
+    let first = event.listen();
+    event.make(Poll(first), Pending);
 }
 
-fn not_notified_without_listeners<E: EventCalls<()>>(event: &mut E) -> Reply {
-    let first = event.listen()?;
-    event.release(first)?;
-    event.is_notified(false)
+fn not_notified_without_listeners<E: EventCalls<()>>(event: &mut E) {
+    let first = event.listen();
+    event.make(Release(first), Dropped);
+    event.make(IsNotified, Told(false));
 }
 
-fn finished_listener<E: EventCalls<()>>(event: &mut E) -> Reply {
-    let first = event.listen()?;
-    event.notify(1, 1)?;
-    event.poll(first, Ready(()))?;
-    event.poll_finished(first)?;
-    event.discard(first, false)
+fn finished_listener<E: EventCalls<()>>(event: &mut E) {
+    let first = event.listen();
+    event.notify(1, 1);
+    event.make(Poll(first), Tag(()));
+    event.make(Poll(first), Finished);
+    event.make(Discard(first), Told(false));
 }
 
-fn greatest_count<E: UntaggedCalls>(event: &mut E) -> Reply {
-    event.listen()?;
-    event.listen()?;
-    event.listen()?;
-    event.notify_additional(1, 1)?;
-    event.notify(usize::MAX, 2)
+fn greatest_count<E: UntaggedCalls>(event: &mut E) {
+    event.listen();
+    event.listen();
+    event.listen();
+    event.notify_in(Form::Additional, 1, 1);
+    event.notify(usize::MAX, 2);
 }
 
-fn one_after_another<E: EventCalls<()>>(event: &mut E) -> Reply {
-    let first = event.listen()?;
-    let second = event.listen()?;
-    event.poll(first, Pending)?;
-    event.poll(second, Pending)?;
-    event.notify(1, 1)?;
-    event.poll(first, Ready(()))?;
-    event.poll(second, Pending)?;
-    event.notify(1, 1)?;
-    event.poll(second, Ready(()))
+fn one_after_another<E: EventCalls<()>>(event: &mut E) {
+    let first = event.listen();
+    let second = event.listen();
+    event.make(Poll(first), Pending);
+    event.make(Poll(second), Pending);
+    event.notify(1, 1);
+    event.make(Poll(first), Tag(()));
+    event.make(Poll(second), Pending);
+    event.notify(1, 1);
+    event.make(Poll(second), Tag(()));
 }
 
-fn waiting_listener_leaves<E: EventCalls<()>>(event: &mut E) -> Reply {
-    let first = event.listen()?;
-    let second = event.listen()?;
-    let third = event.listen()?;
-    event.notify(1, 1)?;
-    event.release(third)?;
-    event.poll(first, Ready(()))?;
-    event.poll(second, Pending)
+fn waiting_listener_leaves<E: EventCalls<()>>(event: &mut E) {
+    let first = event.listen();
+    let second = event.listen();
+    let third = event.listen();
+    event.notify(1, 1);
+    event.make(Release(third), Dropped);
+    event.make(Poll(first), Tag(()));
+    event.make(Poll(second), Pending);
 }
 
-fn discard_passes_nothing_on<E: EventCalls<()>>(event: &mut E) -> Reply {
-    let first = event.listen()?;
-    let second = event.listen()?;
-    event.notify(1, 1)?;
-    event.discard(first, true)?;
-    event.discard(second, false)
+fn discard_passes_nothing_on<E: EventCalls<()>>(event: &mut E) {
+    let first = event.listen();
+    let second = event.listen();
+    event.notify(1, 1);
+    event.make(Discard(first), Told(true));
+    event.make(Discard(second), Told(false));
 }
 
-fn passed_to_a_newcomer<E: EventCalls<()>>(event: &mut E) -> Reply {
-    let first = event.listen()?;
-    event.notify(1, 1)?;
-    let second = event.listen()?;
-    event.release(first)?;
-    event.poll(second, Ready(()))
+fn passed_to_a_newcomer<E: EventCalls<()>>(event: &mut E) {
+    let first = event.listen();
+    event.notify(1, 1);
+    let second = event.listen();
+    event.make(Release(first), Dropped);
+    event.make(Poll(second), Tag(()));
 }
 
-fn totals<E: EventCalls<()>>(event: &mut E) -> Reply {
-    event.total_listeners(0)?;
-    let first = event.listen()?;
-    event.total_listeners(1)?;
-    let second = event.listen()?;
-    event.total_listeners(2)?;
-    event.release(first)?;
-    event.release(second)?;
-    event.total_listeners(0)
+fn totals<E: EventCalls<()>>(event: &mut E) {
+    event.make(TotalListeners, Count(0));
+    let first = event.listen();
+    event.make(TotalListeners, Count(1));
+    let second = event.listen();
+    event.make(TotalListeners, Count(2));
+    event.make(Release(first), Dropped);
+    event.make(Release(second), Dropped);
+    event.make(TotalListeners, Count(0));
 }
 
-fn notified_once_told<E: EventCalls<()>>(event: &mut E) -> Reply {
-    event.listen()?;
-    event.is_notified(false)?;
-    event.notify(1, 1)?;
-    event.is_notified(true)
+fn notified_once_told<E: EventCalls<()>>(event: &mut E) {
+    event.listen();
+    event.make(IsNotified, Told(false));
+    event.notify(1, 1);
+    event.make(IsNotified, Told(true));
 }
 
-fn relaxed_is_the_same<E: UntaggedCalls>(event: &mut E) -> Reply {
-    let first = event.listen()?;
-    let second = event.listen()?;
-    let third = event.listen()?;
-    event.notify(1.relaxed(), 1)?;
-    event.notify(1.relaxed(), 0)?;
-    event.notify_additional_relaxed(1, 1)?;
-    event.notify_relaxed(2, 0)?;
-    event.notify_relaxed(9, 1)?;
-    event.notify(1.additional().relaxed(), 0)?;
-    event.poll(first, Ready(()))?;
-    event.poll(second, Ready(()))?;
-    event.poll(third, Ready(()))
+fn relaxed_is_the_same<E: UntaggedCalls>(event: &mut E) {
+    let first = event.listen();
+    let second = event.listen();
+    let third = event.listen();
+    event.notify(1.relaxed(), 1);
+    event.notify(1.relaxed(), 0);
+    event.notify_in(Form::AdditionalRelaxed, 1, 1);
+    event.notify_in(Form::Relaxed, 2, 0);
+    event.notify_in(Form::Relaxed, 9, 1);
+    event.notify(1.additional().relaxed(), 0);
+    event.make(Poll(first), Tag(()));
+    event.make(Poll(second), Tag(()));
+    event.make(Poll(third), Tag(()));
 }
 
-fn default_is_passed_on<E: EventCalls<()>>(event: &mut E) -> Reply {
-    let first = event.listen()?;
-    let second = event.listen()?;
-    let third = event.listen()?;
-    event.notify(1, 1)?;
-    event.release(first)?;
-    event.poll(second, Ready(()))?;
-    event.poll(third, Pending)
+fn default_is_passed_on<E: EventCalls<()>>(event: &mut E) {
+    let first = event.listen();
+    let second = event.listen();
+    let third = event.listen();
+    event.notify(1, 1);
+    event.make(Release(first), Dropped);
+    event.make(Poll(second), Tag(()));
+    event.make(Poll(third), Pending);
 }

@@ -2,10 +2,9 @@
 use event_listener::{Event, IdsUsedUp};
 use std::sync::Wait;
 use std::time::Clock;
-use test_support::{Borrowing, Sharing};
-use worked_rows::{Difference, EventCalls, Harness, Hook, OnEvent, Row, same};
-
-type Reply = Result<(), Difference>;
+use worked_rows::EventAnswer::Same;
+use worked_rows::EventCall::SameEvent;
+use worked_rows::{EventCalls, Harness, Hook, OnEvent, Refusal, Row};
 
 /// A row over identities.
 #[derive(Clone, Copy)]
@@ -25,7 +24,7 @@ impl Row for IdentityRow {
         }
     }
 
-    fn run<R, H>(self, harness: &mut Harness<'_, R, H>) -> Reply
+    fn run<R, H>(self, harness: &mut Harness<'_, R, H>)
     where
         R: Wait + Clock + Clone,
         H: Hook,
@@ -37,26 +36,28 @@ impl Row for IdentityRow {
     }
 }
 
-fn identities_end<R: Wait, H: Hook>(harness: &mut Harness<'_, R, H>) -> Reply {
+fn identities_end<R: Wait, H: Hook>(harness: &mut Harness<'_, R, H>) {
     let mut ids = harness.identities(u64::MAX - 1);
-    let last = harness.identity(&mut ids)?;
-    same(last.number(), 18446744073709551614)?;
-    same(harness.identity(&mut ids).err(), Some(IdsUsedUp))
+    let last = harness.identity(&mut ids).map_err(Refusal::Identity);
+    if let Some(last) = harness.answer(last) {
+        harness.compare(last.number(), 18446744073709551614);
+        let none = harness.identity(&mut ids).err();
+        harness.compare(none, Some(IdsUsedUp));
+    }
 }
 
-fn events_are_told_apart<R, H>(harness: &mut Harness<'_, R, H>) -> Reply
+fn events_are_told_apart<R, H>(harness: &mut Harness<'_, R, H>)
 where
     R: Wait + Clock + Clone,
     H: Hook,
 {
     let mut ids = harness.identities(0);
-    let (event, other) = (harness.event_of(&mut ids)?, harness.event_of(&mut ids)?);
-    let row = ToldApart {
-        event: &event,
-        other: &other,
-    };
-    harness.on::<Sharing, (), _>(&event, row)?;
-    harness.on::<Borrowing, (), _>(&event, row)
+    if let Some(event) = harness.event_of(&mut ids) {
+        if let Some(other) = harness.event_of(&mut ids) {
+            let (event, other) = (&event, &other);
+            harness.on_one_event(event, ToldApart { event, other });
+        }
+    }
 }
 
 // Listeners of one event, asked of that event and of another of the same source.
@@ -67,11 +68,11 @@ struct ToldApart<'ev> {
 }
 
 impl<'ev> OnEvent<()> for ToldApart<'ev> {
-    fn make<E: EventCalls<()>>(self, calls: &mut E) -> Reply {
-        let first = calls.listen()?;
-        let second = calls.listen()?;
-        calls.listens_to(first, self.event, true)?;
-        calls.listens_to(first, self.other, false)?;
-        calls.same_event(first, second, true)
+    fn make<E: EventCalls<()>>(self, calls: &mut E) {
+        let first = calls.listen();
+        let second = calls.listen();
+        calls.listens_to(first, self.event, true);
+        calls.listens_to(first, self.other, false);
+        calls.make(SameEvent(first, second), Same(true));
     }
 }

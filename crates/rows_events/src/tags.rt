@@ -1,11 +1,10 @@
 //! The rows over an event with tags.
 use event_listener::{IntoNotification, IntoTagged};
-use futures::task::Poll::Ready;
 use std::sync::Wait;
 use std::time::Clock;
-use worked_rows::{Difference, EventCalls, Harness, Hook, OnEvent, Row, same};
-
-type Reply = Result<(), Difference>;
+use worked_rows::EventAnswer::{Dropped, Tag};
+use worked_rows::EventCall::{Poll, Release};
+use worked_rows::{EventCalls, Harness, Hook, OnEvent, Row};
 
 /// A row over an event with tags.
 #[derive(Clone, Copy)]
@@ -28,17 +27,17 @@ impl Row for TagRow {
         }
     }
 
-    fn run<R, H>(self, harness: &mut Harness<'_, R, H>) -> Reply
+    fn run<R, H>(self, harness: &mut Harness<'_, R, H>)
     where
         R: Wait + Clock + Clone,
         H: Hook,
     {
-        harness.on_each_kind(self)
+        harness.on_each_kind(self);
     }
 }
 
 impl OnEvent<u32> for TagRow {
-    fn make<E: EventCalls<u32>>(self, event: &mut E) -> Reply {
+    fn make<E: EventCalls<u32>>(self, event: &mut E) {
         match self {
             TagRow::DefaultTagIsLost => default_tag_is_lost(event),
             TagRow::TagMovesOn => tag_moves_on(event),
@@ -47,27 +46,27 @@ impl OnEvent<u32> for TagRow {
     }
 }
 
-fn default_tag_is_lost<E: EventCalls<u32>>(event: &mut E) -> Reply {
-    let first = event.listen()?;
-    let second = event.listen()?;
-    event.notify(1.tag(7u32), 1)?;
-    event.notify(1.additional().tag(8u32), 1)?;
-    event.release(first)?;
-    event.poll(second, Ready(8))
+fn default_tag_is_lost<E: EventCalls<u32>>(event: &mut E) {
+    let first = event.listen();
+    let second = event.listen();
+    event.notify(1.tag(7u32), 1);
+    event.notify(1.additional().tag(8u32), 1);
+    event.make(Release(first), Dropped);
+    event.make(Poll(second), Tag(8));
 }
 
-fn tag_moves_on<E: EventCalls<u32>>(event: &mut E) -> Reply {
-    let first = event.listen()?;
-    let second = event.listen()?;
-    event.notify(1.additional().tag(7u32), 1)?;
-    event.release(first)?;
-    event.poll(second, Ready(7))
+fn tag_moves_on<E: EventCalls<u32>>(event: &mut E) {
+    let first = event.listen();
+    let second = event.listen();
+    event.notify(1.additional().tag(7u32), 1);
+    event.make(Release(first), Dropped);
+    event.make(Poll(second), Tag(7));
 }
 
-fn tags_by_a_function<E: EventCalls<u32>>(event: &mut E) -> Reply {
-    let first = event.listen()?;
-    let second = event.listen()?;
-    let third = event.listen()?;
+fn tags_by_a_function<E: EventCalls<u32>>(event: &mut E) {
+    let first = event.listen();
+    let second = event.listen();
+    let third = event.listen();
     let mut calls = 0u32;
     event.notify(
         5.additional().tag_with(|| {
@@ -75,9 +74,11 @@ fn tags_by_a_function<E: EventCalls<u32>>(event: &mut E) -> Reply {
             calls.wrapping_add(9)
         }),
         3,
-    )?;
-    event.poll(first, Ready(10))?;
-    event.poll(second, Ready(11))?;
-    event.poll(third, Ready(12))?;
-    same(calls, 3)
+    );
+    event.make(Poll(first), Tag(10));
+    event.make(Poll(second), Tag(11));
+    event.make(Poll(third), Tag(12));
+    if calls != 3 {
+        event.differs();
+    }
 }

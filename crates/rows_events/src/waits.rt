@@ -1,10 +1,10 @@
 //! The rows whose listeners wait. Each listener was told before, or its limit has passed, so no thread parks.
 use event_listener::{IntoNotification, IntoTagged};
 use std::sync::Wait;
-use std::time::{Clock, Duration};
-use worked_rows::{Difference, EventCalls, Harness, Hook, OnEvent, Row};
-
-type Reply = Result<(), Difference>;
+use std::time::{Clock, Duration, Instant};
+use worked_rows::EventAnswer::{Count, NoTag, Tag};
+use worked_rows::EventCall::TotalListeners;
+use worked_rows::{EventCall, EventCalls, Harness, Hook, Limit, OnEvent, Row};
 
 /// A row whose listeners wait.
 #[derive(Clone, Copy)]
@@ -27,32 +27,37 @@ impl Row for WaitRow {
         }
     }
 
-    fn run<R, H>(self, harness: &mut Harness<'_, R, H>) -> Reply
+    fn run<R, H>(self, harness: &mut Harness<'_, R, H>)
     where
         R: Wait + Clock + Clone,
         H: Hook,
     {
         match self {
             WaitRow::WaitsGiveTheirTags => harness.on_each_kind(GiveTheirTags),
-            WaitRow::PastDeadline => harness.on_each_kind(PastDeadline),
+            WaitRow::PastDeadline => {
+                if let Some(past) = harness.now() {
+                    harness.on_each_kind(PastDeadline { past });
+                }
+            }
             WaitRow::LeastAndGreatestTimeout => harness.on_each_kind(LeastAndGreatestTimeout),
         }
     }
 }
 
 #[derive(Clone, Copy)]
-struct PastDeadline;
+struct PastDeadline {
+    past: Instant,
+}
 
 impl OnEvent<u32> for PastDeadline {
-    fn make<E: EventCalls<u32>>(self, event: &mut E) -> Reply {
-        let past = event.now()?;
-        let told = event.listen()?;
-        event.notify(1.tag(7u32), 1)?;
-        event.wait_deadline(told, past, Some(7))?;
-        let untold = event.listen()?;
-        event.total_listeners(1)?;
-        event.wait_deadline(untold, past, None)?;
-        event.total_listeners(0)
+    fn make<E: EventCalls<u32>>(self, event: &mut E) {
+        let told = event.listen();
+        event.notify(1.tag(7u32), 1);
+        event.make(EventCall::Wait(told, Limit::Deadline(self.past)), Tag(7));
+        let untold = event.listen();
+        event.make(TotalListeners, Count(1));
+        event.make(EventCall::Wait(untold, Limit::Deadline(self.past)), NoTag);
+        event.make(TotalListeners, Count(0));
     }
 }
 
@@ -60,14 +65,17 @@ impl OnEvent<u32> for PastDeadline {
 struct LeastAndGreatestTimeout;
 
 impl OnEvent<u32> for LeastAndGreatestTimeout {
-    fn make<E: EventCalls<u32>>(self, event: &mut E) -> Reply {
-        let told = event.listen()?;
-        event.notify(1.tag(7u32), 1)?;
-        event.wait_timeout(told, Duration::MAX, Some(7))?;
-        let untold = event.listen()?;
-        event.total_listeners(1)?;
-        event.wait_timeout(untold, Duration::ZERO, None)?;
-        event.total_listeners(0)
+    fn make<E: EventCalls<u32>>(self, event: &mut E) {
+        let told = event.listen();
+        event.notify(1.tag(7u32), 1);
+        event.make(EventCall::Wait(told, Limit::Timeout(Duration::MAX)), Tag(7));
+        let untold = event.listen();
+        event.make(TotalListeners, Count(1));
+        event.make(
+            EventCall::Wait(untold, Limit::Timeout(Duration::ZERO)),
+            NoTag,
+        );
+        event.make(TotalListeners, Count(0));
     }
 }
 
@@ -76,12 +84,12 @@ impl OnEvent<u32> for LeastAndGreatestTimeout {
 struct GiveTheirTags;
 
 impl OnEvent<bool> for GiveTheirTags {
-    fn make<E: EventCalls<bool>>(self, event: &mut E) -> Reply {
-        let first = event.listen()?;
-        let second = event.listen()?;
-        event.notify(1.additional().tag(true), 1)?;
-        event.notify(1.additional().tag(false), 1)?;
-        event.wait(first, true)?;
-        event.wait(second, false)
+    fn make<E: EventCalls<bool>>(self, event: &mut E) {
+        let first = event.listen();
+        let second = event.listen();
+        event.notify(1.additional().tag(true), 1);
+        event.notify(1.additional().tag(false), 1);
+        event.make(EventCall::Wait(first, Limit::Endless), Tag(true));
+        event.make(EventCall::Wait(second, Limit::Endless), Tag(false));
     }
 }

@@ -1,76 +1,127 @@
-use event_queue::{IntoNotification, Key, ListenError, RegisterResult, State, WakeSink};
-use std::alloc::Global;
-use worked_rows::{Difference, DropsTasks, Hook, HookedList, same};
+//! The calls of a row on a queue without tags, whose tasks are numbers.
+use event_queue::{IntoNotification, Key, List, ListenError, Reply, Woken};
+use std::sync::Wait;
+use worked_rows::{Difference, Harness, Hook, Refusal, Subject, Wakers};
 
-type Reply = Result<(), Difference>;
-
-/// The calls of a row on a queue without tags, whose tasks are numbers. Each call takes the answer that it must give,
-/// and returns an error where it gives another or is refused.
-#[derive(Drop)]
-pub struct QueueCalls<'h, H> {
-    queue: HookedList<(), u32>,
-    hook: &'h mut H,
+/// A call of a row on its queue.
+#[derive(Clone, Copy)]
+pub enum QueueCall {
+    /// Inserts a listener.
+    Insert,
+    /// Registers a task for the listener of that key.
+    Register(Key, u32),
+    /// Removes the listener of that key, and propagates nothing.
+    Remove(Key),
+    /// Notifies so many by a default notification.
+    Notify(usize),
+    /// Asks how many listeners there are.
+    TotalListeners,
+    /// Asks whether the listener of that key is told, which is answered by `IsNotified`.
+    IsTold(Key),
 }
 
-impl<'h, H: Hook> QueueCalls<'h, H> {
-    /// Calls on an empty queue.
-    pub fn new(hook: &'h mut H, alloc: Global) -> Self {
-        let queue = HookedList::new(hook, alloc);
-        QueueCalls { queue, hook }
+/// The calls of a row on its queue. Each takes the answer that it must give. The row ends at the first that gives
+/// another or is refused.
+pub trait QueueCalls {
+    /// Inserts a listener, which gets that serial.
+    fn insert(&mut self, serial: u64) -> Key;
+
+    /// Makes a call.
+    fn make(&mut self, call: QueueCall, answer: Reply<(), u32>);
+
+    /// Looks at the tasks that were woken, and at how many came after those that the sink has room for.
+    fn woken(&mut self, tasks: &[u32], missed: usize);
+}
+
+/// A queue with the sink of its tasks.
+#[derive(Drop)]
+pub struct Queue {
+    list: List<(), u32>,
+    woken: Woken<u32>,
+}
+
+impl Subject for Queue {
+    type Call = QueueCall;
+
+    type Answer = Reply<(), u32>;
+
+    type Shape = [usize; 3];
+
+    fn make(&mut self, call: QueueCall, _wakers: &mut Wakers) -> Result<Reply<(), u32>, Refusal> {
+        Ok(match call {
+            QueueCall::Insert => match self.list.insert() {
+                Err(ListenError::Memory) => return Err(Refusal::Listen(ListenError::Memory)),
+                reply => Reply::Inserted(reply),
+            },
+            QueueCall::Register(key, task) => Reply::Registered(self.list.register(key, task)),
+            QueueCall::Remove(key) => {
+                Reply::Removed(self.list.remove(key, false, &mut self.woken))
+            }
+            QueueCall::Notify(count) => {
+                let mut n = count.into_notification();
+                Reply::Notified(self.list.notify(&mut n, &mut self.woken))
+            }
+            QueueCall::TotalListeners => Reply::TotalListeners(self.list.total_listeners()),
+            QueueCall::IsTold(key) => Reply::IsNotified(self.list.is_told(key)),
+        })
     }
 
-    /// Calls on an empty queue whose first listener gets the serial `first`.
-    pub fn starting_at(hook: &'h mut H, alloc: Global, first: u64) -> Self {
-        let queue = HookedList::starting_at(hook, alloc, first);
-        QueueCalls { queue, hook }
+    fn takes_memory(&self, call: QueueCall) -> bool {
+        matches!(call, QueueCall::Insert) && self.list.spare() == 0
     }
 
-    /// Inserts a listener.
-    pub fn insert(&mut self) -> Result<Key, Difference> {
-        Ok(self.queue.insert(self.hook)?)
+    fn shape(&self) -> [usize; 3] {
+        [
+            self.list.listeners_notified(),
+            self.list.total_listeners(),
+            self.list.spare(),
+        ]
+    }
+}
+
+/// What makes the calls of a row on its queue.
+#[derive(Drop)]
+pub struct QueueHarness<'h, 'a, R, H> {
+    harness: &'h mut Harness<'a, R, H>,
+    queue: Queue,
+}
+
+impl<'h, 'a, R: Wait, H: Hook> QueueHarness<'h, 'a, R, H> {
+    /// Calls on an empty queue whose first listener gets that serial, or 0.
+    pub fn new(harness: &'h mut Harness<'a, R, H>, first: Option<u64>, woken: Woken<u32>) -> Self {
+        let alloc = harness.alloc();
+        harness.hook().before(false);
+        let list = match first {
+            Some(first) => List::starting_at(alloc, first),
+            None => List::new(alloc),
+        };
+        harness.hook().after();
+        let queue = Queue { list, woken };
+        QueueHarness { harness, queue }
+    }
+}
+
+impl<'h, 'a, R: Wait, H: Hook> QueueCalls for QueueHarness<'h, 'a, R, H> {
+    fn insert(&mut self, serial: u64) -> Key {
+        match self.harness.ask(&mut self.queue, QueueCall::Insert) {
+            Some(Reply::Inserted(Ok(key))) => {
+                self.harness.compare(key.serial(), serial);
+                key
+            }
+            _ => {
+                self.harness.end(Difference::Answer);
+                Key { slot: 0, serial }
+            }
+        }
     }
 
-    /// Inserts a listener and has it store that task.
-    pub fn insert_with_task(&mut self, task: u32) -> Result<Key, Difference> {
-        let key = self.insert()?;
-        self.register(key, task, RegisterResult::Registered)?;
-        Ok(key)
+    fn make(&mut self, call: QueueCall, answer: Reply<(), u32>) {
+        self.harness.make(&mut self.queue, call, answer);
     }
 
-    /// Asks for a listener where serials are used up.
-    pub fn insert_refused(&mut self) -> Reply {
-        same(
-            self.queue.insert(self.hook),
-            Err(ListenError::SerialsUsedUp),
-        )
-    }
-
-    /// Registers a task for the listener of that key.
-    pub fn register(&mut self, key: Key, task: u32, answer: RegisterResult<()>) -> Reply {
-        same(self.queue.register(self.hook, key, task), answer)
-    }
-
-    /// Removes the listener of that key, which waits without a task, and propagates nothing.
-    pub fn remove_created(&mut self, key: Key) -> Reply {
-        let answer = self.queue.remove(self.hook, key, false, &mut DropsTasks);
-        same(answer, Some(State::Created))
-    }
-
-    /// Notifies so many by a default notification.
-    pub fn notify<S: WakeSink<u32>>(&mut self, count: usize, sink: &mut S, told: usize) -> Reply {
-        let answer = self
-            .queue
-            .notify(self.hook, &mut count.into_notification(), sink)?;
-        same(answer, told)
-    }
-
-    /// Asks how many listeners there are.
-    pub fn total_listeners(&mut self, answer: usize) -> Reply {
-        same(self.queue.total_listeners(self.hook), answer)
-    }
-
-    /// Asks whether the listener of that key is told.
-    pub fn is_told(&mut self, key: Key, answer: bool) -> Reply {
-        same(self.queue.is_told(self.hook, key), answer)
+    fn woken(&mut self, tasks: &[u32], missed: usize) {
+        if self.queue.woken.tasks() != tasks || self.queue.woken.missed() != missed {
+            self.harness.end(Difference::Answer);
+        }
     }
 }

@@ -2,15 +2,18 @@
 #![tactic(auto)]
 
 mod calls;
-mod notifications;
+mod integers;
+mod programs;
 mod queue;
+mod run;
 mod runs;
-mod wakes;
+mod sink;
 
-use calls::QueueCalls;
+use calls::{QueueCalls, QueueHarness};
+use sink::woken_with_room;
 use std::sync::Wait;
 use std::time::Clock;
-use worked_rows::{Difference, Harness, Hook, Row, woken_with_room};
+use worked_rows::{Harness, Hook, Row};
 
 /// A row over a queue, or over the numbers that notify it.
 #[derive(Clone, Copy)]
@@ -58,36 +61,52 @@ impl Row for QueueRow {
         Some(row)
     }
 
-    fn run<R, H>(self, harness: &mut Harness<'_, R, H>) -> Result<(), Difference>
+    fn run<R, H>(self, harness: &mut Harness<'_, R, H>)
     where
         R: Wait + Clock + Clone,
         H: Hook,
     {
-        let alloc = harness.alloc();
-        let hook = harness.hook();
         match self {
-            QueueRow::WakesInOrder => {
-                let mut woken = woken_with_room(hook, alloc, 3)?;
-                wakes::in_order(&mut QueueCalls::new(hook, alloc), &mut woken)
-            }
-            QueueRow::RefusedTag => runs::refused_tag(alloc, hook),
-            QueueRow::LastSerial => {
-                queue::last_serial(&mut QueueCalls::starting_at(hook, alloc, u64::MAX - 1))
-            }
-            QueueRow::StaleKey => queue::stale_key(&mut QueueCalls::new(hook, alloc)),
-            QueueRow::Totals => queue::totals(&mut QueueCalls::new(hook, alloc)),
-            QueueRow::IntegersThatFit => notifications::integers_that_fit(hook),
-            QueueRow::LastTask => {
-                let mut woken = woken_with_room(hook, alloc, 2)?;
-                wakes::last_task(&mut QueueCalls::new(hook, alloc), &mut woken)
-            }
-            QueueRow::MissedTasks => {
-                let mut woken = woken_with_room(hook, alloc, 1)?;
-                wakes::missed_tasks(&mut QueueCalls::new(hook, alloc), &mut woken)
-            }
-            QueueRow::TagsRunOut => runs::tags_run_out(alloc, hook),
-            QueueRow::CountsAtTheirEnds => runs::counts_at_their_ends(alloc, hook),
-            QueueRow::CountsTheTold => queue::counts_the_told(&mut QueueCalls::new(hook, alloc)),
+            QueueRow::RefusedTag => runs::refused_tag(harness),
+            QueueRow::IntegersThatFit => integers::integers_that_fit(harness),
+            QueueRow::TagsRunOut => runs::tags_run_out(harness),
+            QueueRow::CountsAtTheirEnds => runs::counts_at_their_ends(harness),
+            QueueRow::LastSerial => self.run_on_queue(harness, Some(u64::MAX - 1), 0),
+            QueueRow::WakesInOrder => self.run_on_queue(harness, None, 3),
+            QueueRow::LastTask => self.run_on_queue(harness, None, 2),
+            QueueRow::MissedTasks => self.run_on_queue(harness, None, 1),
+            QueueRow::StaleKey => self.run_on_queue(harness, None, 0),
+            QueueRow::Totals => self.run_on_queue(harness, None, 0),
+            QueueRow::CountsTheTold => self.run_on_queue(harness, None, 0),
+        }
+    }
+}
+
+impl QueueRow {
+    // Makes the calls of the row on a queue whose first listener gets that serial, or 0, and whose sink has room for so
+    // many tasks.
+    fn run_on_queue<R, H>(self, harness: &mut Harness<'_, R, H>, first: Option<u64>, room: usize)
+    where
+        R: Wait,
+        H: Hook,
+    {
+        if let Some(woken) = woken_with_room(harness, room) {
+            let mut queue = QueueHarness::new(harness, first, woken);
+            self.make(&mut queue);
+        }
+    }
+
+    // A row that makes no calls on one queue has none here.
+    fn make<C: QueueCalls>(self, queue: &mut C) {
+        match self {
+            QueueRow::WakesInOrder => queue::in_order(queue),
+            QueueRow::LastSerial => queue::last_serial(queue),
+            QueueRow::StaleKey => queue::stale_key(queue),
+            QueueRow::Totals => queue::totals(queue),
+            QueueRow::LastTask => queue::last_task(queue),
+            QueueRow::MissedTasks => queue::missed_tasks(queue),
+            QueueRow::CountsTheTold => queue::counts_the_told(queue),
+            _ => {}
         }
     }
 }

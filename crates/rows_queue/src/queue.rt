@@ -1,53 +1,89 @@
-//! Rows over a queue alone.
+//! Rows over a queue and the tasks that it wakes.
+use crate::calls::QueueCall::{Insert, IsTold, Notify, Register, Remove, TotalListeners};
 use crate::calls::QueueCalls;
 use event_queue::RegisterResult::{NeverInserted, Notified, Registered};
-use worked_rows::{Difference, DropsTasks, Hook, same};
+use event_queue::{ListenError, Reply, State};
 
-type Reply = Result<(), Difference>;
+// What removes a listener that waits without a task.
+const CREATED: Reply<(), u32> = Reply::Removed(Some(State::Created));
+
+const STORED: Reply<(), u32> = Reply::Registered(Registered);
+
+const TOLD: Reply<(), u32> = Reply::Registered(Notified(()));
 
 /// Takes a queue whose next serial is the last one.
-pub fn last_serial<H: Hook>(queue: &mut QueueCalls<'_, H>) -> Reply {
-    let last = queue.insert()?;
-    same(last.serial(), 18_446_744_073_709_551_614)?;
-    queue.insert_refused()?;
-    queue.total_listeners(1)
+pub fn last_serial<C: QueueCalls>(queue: &mut C) {
+    queue.insert(18_446_744_073_709_551_614);
+    queue.make(Insert, Reply::Inserted(Err(ListenError::SerialsUsedUp)));
+    queue.make(TotalListeners, Reply::TotalListeners(1));
 }
 
-pub fn stale_key<H: Hook>(queue: &mut QueueCalls<'_, H>) -> Reply {
-    let first = queue.insert()?;
-    same(first.serial(), 0)?;
-    queue.remove_created(first)?;
-    let second = queue.insert()?;
-    same(second.serial(), 1)?;
-    queue.register(first, 1, NeverInserted)?;
+pub fn stale_key<C: QueueCalls>(queue: &mut C) {
+    let first = queue.insert(0);
+    queue.make(Remove(first), CREATED);
+    let second = queue.insert(1);
+    queue.make(Register(first, 1), Reply::Registered(NeverInserted));
     // The second listener still waits, and no task is stored.
-    queue.total_listeners(1)?;
-    queue.is_told(second, false)?;
-    queue.remove_created(second)
+    queue.make(TotalListeners, Reply::TotalListeners(1));
+    queue.make(IsTold(second), Reply::IsNotified(false));
+    queue.make(Remove(second), CREATED);
 }
 
-pub fn totals<H: Hook>(queue: &mut QueueCalls<'_, H>) -> Reply {
-    let first = queue.insert()?;
-    let second = queue.insert()?;
-    queue.insert()?;
-    queue.total_listeners(3)?;
-    queue.remove_created(second)?;
-    queue.total_listeners(2)?;
-    queue.remove_created(first)?;
-    queue.total_listeners(1)
+pub fn totals<C: QueueCalls>(queue: &mut C) {
+    let first = queue.insert(0);
+    let second = queue.insert(1);
+    queue.insert(2);
+    queue.make(TotalListeners, Reply::TotalListeners(3));
+    queue.make(Remove(second), CREATED);
+    queue.make(TotalListeners, Reply::TotalListeners(2));
+    queue.make(Remove(first), CREATED);
+    queue.make(TotalListeners, Reply::TotalListeners(1));
 }
 
-pub fn counts_the_told<H: Hook>(queue: &mut QueueCalls<'_, H>) -> Reply {
-    let first = queue.insert()?;
-    let second = queue.insert()?;
-    let third = queue.insert()?;
-    same([first.serial(), second.serial(), third.serial()], [0, 1, 2])?;
-    queue.register(first, 1, Registered)?;
-    queue.register(second, 2, Registered)?;
-    queue.register(third, 3, Registered)?;
-    queue.notify(2, &mut DropsTasks, 2)?;
-    queue.notify(1, &mut DropsTasks, 0)?;
-    queue.register(first, 4, Notified(()))?;
-    queue.register(second, 5, Notified(()))?;
-    queue.register(third, 6, Registered)
+pub fn counts_the_told<C: QueueCalls>(queue: &mut C) {
+    let first = queue.insert(0);
+    let second = queue.insert(1);
+    let third = queue.insert(2);
+    queue.make(Register(first, 1), STORED);
+    queue.make(Register(second, 2), STORED);
+    queue.make(Register(third, 3), STORED);
+    queue.make(Notify(2), Reply::Notified(Ok(2)));
+    queue.make(Notify(1), Reply::Notified(Ok(0)));
+    queue.make(Register(first, 4), TOLD);
+    queue.make(Register(second, 5), TOLD);
+    queue.make(Register(third, 6), STORED);
+}
+
+/// Takes a sink with room for three tasks.
+pub fn in_order<C: QueueCalls>(queue: &mut C) {
+    let first = queue.insert(0);
+    queue.make(Register(first, 1), STORED);
+    let second = queue.insert(1);
+    queue.make(Register(second, 2), STORED);
+    let third = queue.insert(2);
+    queue.make(Register(third, 3), STORED);
+    queue.make(Notify(usize::MAX), Reply::Notified(Ok(3)));
+    queue.woken([1, 2, 3].as_slice(), 0);
+    queue.make(Register(first, 1), TOLD);
+    queue.make(Register(second, 2), TOLD);
+    queue.make(Register(third, 3), TOLD);
+}
+
+/// Takes a sink with room for two tasks.
+pub fn last_task<C: QueueCalls>(queue: &mut C) {
+    let key = queue.insert(0);
+    queue.make(Register(key, 1), STORED);
+    queue.make(Register(key, 2), STORED);
+    queue.make(Notify(1), Reply::Notified(Ok(1)));
+    queue.woken([2].as_slice(), 0);
+}
+
+/// Takes a sink with room for one task.
+pub fn missed_tasks<C: QueueCalls>(queue: &mut C) {
+    let first = queue.insert(0);
+    queue.make(Register(first, 1), STORED);
+    let second = queue.insert(1);
+    queue.make(Register(second, 2), STORED);
+    queue.make(Notify(2), Reply::Notified(Ok(2)));
+    queue.woken([1].as_slice(), 1);
 }

@@ -1,12 +1,10 @@
 //! Rows over a recorded event.
-use crate::calls::{OnRecordedEvent, RecordedCalls, ask, close, new_event, record_of};
-use crate::subject::{Answer, HandCall};
-use event_listener::{CloseError, Entry, Former, Record, RecordedCall, RecordedReply};
+use crate::calls::{OnRecordedEvent, RecordedCalls, close, new_event, record_of, replay};
+use crate::subject::{Answer, Entries, HandCall};
+use event_listener::{CloseError, Entry, Former, RecordedCall, RecordedReply};
 use std::sync::Wait;
 use std::time::Clock;
-use worked_rows::{Difference, Harness, Hook, same};
-
-type Reply = Result<(), Difference>;
+use worked_rows::{Difference, Harness, Hook};
 
 #[derive(Clone, Copy)]
 struct ReadByAnotherHand;
@@ -29,47 +27,48 @@ impl OnRecordedEvent for ReadByAnotherHand {
     }
 }
 
-pub fn read_by_another_hand<R, H>(harness: &mut Harness<'_, R, H>) -> Reply
+pub fn read_by_another_hand<R, H>(harness: &mut Harness<'_, R, H>)
 where
     R: Wait + Clock + Clone,
     H: Hook,
 {
-    let record = record_of(harness, ReadByAnotherHand)?;
-    let [listened, notified, counted, dropped] = record.entries() else {
-        return Err(Difference::Answer);
+    let Some(record) = record_of(harness, ReadByAnotherHand) else {
+        return;
     };
-    let hands = [listened.hand, notified.hand, counted.hand, dropped.hand];
-    same(hands, [Some(0), Some(0), Some(1), None])?;
-    same(*dropped, drop_of_the_told(*listened)?)?;
-    replays(harness, &record)
+    match record.entries() {
+        [listened, notified, counted, dropped] => {
+            let hands = [listened.hand, notified.hand, counted.hand, dropped.hand];
+            harness.compare(hands, [Some(0), Some(0), Some(1), None]);
+            harness.compare(Some(*dropped), drop_of_the_told(*listened));
+        }
+        _ => harness.end(Difference::Answer),
+    }
+    replay(harness, Entries::Recorded(&record), true);
 }
 
 // The entry of the drop of the listener that came by this entry, which was told and had nobody to pass that on to.
-fn drop_of_the_told(listened: Entry<u8>) -> Result<Entry<u8>, Difference> {
-    let RecordedReply::Listened(Ok(key)) = listened.reply else {
-        return Err(Difference::Answer);
-    };
-    Ok(Entry {
-        hand: None,
-        call: RecordedCall::Remove {
-            key,
-            propagate: true,
-        },
-        reply: RecordedReply::Removed(Some(Former::NotifiedTaken)),
-    })
+fn drop_of_the_told(listened: Entry<u8>) -> Option<Entry<u8>> {
+    match listened.reply {
+        RecordedReply::Listened(Ok(key)) => Some(Entry {
+            hand: None,
+            call: RecordedCall::Remove {
+                key,
+                propagate: true,
+            },
+            reply: RecordedReply::Removed(Some(Former::NotifiedTaken)),
+        }),
+        _ => None,
+    }
 }
 
-fn replays<R: Wait, H: Hook>(harness: &mut Harness<'_, R, H>, record: &Record<u8>) -> Reply {
-    let alloc = harness.alloc();
-    same(ask(harness, || record.replays(alloc))?, true)
-}
-
-pub fn hand_missing<R: Wait, H: Hook>(harness: &mut Harness<'_, R, H>) -> Reply {
-    let (event, mut hands) = new_event(harness, 2)?;
-    // The hand with the greatest number goes.
-    drop(hands.pop());
-    let reply = close(harness, event, hands)?;
-    same(reply.err(), Some(CloseError::HandsMissing))
+pub fn hand_missing<R: Wait, H: Hook>(harness: &mut Harness<'_, R, H>) {
+    if let Some((event, mut hands)) = new_event(harness, 2) {
+        // The hand with the greatest number goes.
+        drop(hands.pop());
+        if let Some(reply) = close(harness, event, hands) {
+            harness.compare(reply.err(), Some(CloseError::HandsMissing));
+        }
+    }
 }
 
 #[derive(Clone, Copy)]
@@ -93,17 +92,21 @@ impl OnRecordedEvent for FinishedListener {
     }
 }
 
-pub fn finished_listener<R, H>(harness: &mut Harness<'_, R, H>) -> Reply
+pub fn finished_listener<R, H>(harness: &mut Harness<'_, R, H>)
 where
     R: Wait + Clock + Clone,
     H: Hook,
 {
-    let record = record_of(harness, FinishedListener)?;
-    let [listened, notified, polled, discarded] = record.entries() else {
-        return Err(Difference::Answer);
+    let Some(record) = record_of(harness, FinishedListener) else {
+        return;
     };
-    let hands = [listened.hand, notified.hand, polled.hand, discarded.hand];
-    same(hands, [Some(0); 4])?;
-    same(discarded.reply, RecordedReply::Removed(None))?;
-    replays(harness, &record)
+    match record.entries() {
+        [listened, notified, polled, discarded] => {
+            let hands = [listened.hand, notified.hand, polled.hand, discarded.hand];
+            harness.compare(hands, [Some(0); 4]);
+            harness.compare(discarded.reply, RecordedReply::Removed(None));
+        }
+        _ => harness.end(Difference::Answer),
+    }
+    replay(harness, Entries::Recorded(&record), true);
 }

@@ -8,7 +8,7 @@ mod written;
 
 use std::sync::Wait;
 use std::time::Clock;
-use worked_rows::{Difference, Harness, Hook, Row};
+use worked_rows::{Harness, Hook, Row};
 
 /// A row over a recorded event, or over a record.
 #[derive(Clone, Copy)]
@@ -34,7 +34,7 @@ impl Row for RecordedRow {
         }
     }
 
-    fn run<R, H>(self, harness: &mut Harness<'_, R, H>) -> Result<(), Difference>
+    fn run<R, H>(self, harness: &mut Harness<'_, R, H>)
     where
         R: Wait + Clock + Clone,
         H: Hook,

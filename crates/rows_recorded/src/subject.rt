@@ -3,12 +3,14 @@ ghost use Rattle.std.specs.Prelude.{◌≡◌};
 ghost use Rattle.event_listener.specs.Noting.{Owns};
 
 use event_listener::{
-    Hand, RecordError, RecordedEvent, RecordedListener, RecordedPollError, WaitError,
+    Entry, Hand, Note, Record, RecordError, RecordedEvent, RecordedListener, RecordedPollError,
+    WaitError, replays,
 };
-use futures::task::{Poll, Waker};
+use futures::task::Poll;
 use std::alloc::Global;
 use std::sync::Wait;
 use std::time::Clock;
+use worked_rows::{Refusal, Subject, Wakers};
 
 /// A call that a hand makes. A row has one listener.
 #[derive(Clone, Copy, PartialEq, Eq)]
@@ -34,26 +36,18 @@ pub enum Answer {
     Pending,
     Finished,
     Discarded(bool),
+    Released,
 }
 
+/// A call of a row: by the hand of that number, or the drop of the row's listener.
+#[derive(Clone, Copy)]
+pub enum RowCall {
+    By(usize, HandCall),
+    Release,
+}
+
+// There is no answer where the hand is not one of the event's, or where the row has no listener.
 type Reply = Result<Option<Answer>, RecordError>;
-
-/// A recorded event with the one listener of the row. Its calls are made with nothing round them.
-pub trait Subject<R> {
-    /// Makes the call by that hand. There is no answer where the hand is not one of the event's, where the row has no
-    /// listener, or where a poll has no waker.
-    fn make(
-        &mut self,
-        rt: &R,
-        alloc: Global,
-        hand: &mut Hand<u8>,
-        call: HandCall,
-        waker: Option<Waker>,
-    ) -> Reply;
-
-    /// Drops the listener. Answers whether there was one.
-    fn release(&mut self) -> bool;
-}
 
 // A listener, and the event that it listens to.
 #[derive(Drop)]
@@ -63,37 +57,35 @@ struct OwnListener<'ev, R: Wait + Clock + Clone> {
     ghost of_event: { listener.event ≡ event.now },
 }
 
-/// The event, and its listener while there is one.
+// The event, and its listener while there is one.
 #[derive(Drop)]
-pub struct RecordedSubject<'ev, R: Wait + Clock + Clone> {
+struct OnEvent<'ev, R: Wait + Clock + Clone> {
+    rt: &'ev R,
+    alloc: Global,
     event: &'ev RecordedEvent<u8>,
     listener: Option<OwnListener<'ev, R>>,
 }
 
-impl<'ev, R: Wait + Clock + Clone> RecordedSubject<'ev, R> {
-    pub fn new(event: &'ev RecordedEvent<u8>) -> Self {
-        RecordedSubject {
-            event,
-            listener: None,
-        }
-    }
-
-    fn listen(&mut self, rt: &R, alloc: Global, hand: &mut Hand<u8>) -> Reply
+impl<'ev, R: Wait + Clock + Clone> OnEvent<'ev, R> {
+    fn listen(&mut self, hand: &mut Hand<u8>) -> Reply
         requires { Owns self.old.event.now hand.old }
     {
         let event = self.event;
-        let listener = event.listen(rt, alloc, hand)?;
+        let listener = event.listen(self.rt, self.alloc, hand)?;
         self.listener = Some(OwnListener { event, listener });
         Ok(Some(Answer::Listener))
     }
 
-    fn poll(&mut self, hand: &mut Hand<u8>, waker: Option<Waker>) -> Reply {
-        let (Some(own), Some(waker)) = (self.listener.as_mut(), waker) else {
+    fn poll(&mut self, hand: &mut Hand<u8>, wakers: &mut Wakers) -> Reply {
+        let Some(own) = self.listener.as_mut() else {
             return Ok(None);
         };
         if !own.event.owns(hand) {
             return Ok(None);
         }
+        let Ok(waker) = wakers.take() else {
+            return Ok(None);
+        };
         match own.listener.poll(hand, waker) {
             Ok(Poll::Ready(tag)) => Ok(Some(Answer::Ready(tag))),
             Ok(Poll::Pending) => Ok(Some(Answer::Pending)),
@@ -119,41 +111,135 @@ impl<'ev, R: Wait + Clock + Clone> RecordedSubject<'ev, R> {
             }
         }
     }
-}
 
-impl<'ev, R: Wait + Clock + Clone> Subject<R> for RecordedSubject<'ev, R> {
-    fn make(
-        &mut self,
-        rt: &R,
-        alloc: Global,
-        hand: &mut Hand<u8>,
-        call: HandCall,
-        waker: Option<Waker>,
-    ) -> Reply {
+    fn make(&mut self, hand: &mut Hand<u8>, call: HandCall, wakers: &mut Wakers) -> Reply {
         if !self.event.owns(hand) {
             return Ok(None);
         }
         match call {
-            HandCall::Listen => self.listen(rt, alloc, hand),
+            HandCall::Listen => self.listen(hand),
             HandCall::Notify {
                 count,
                 additional,
                 tag,
             } => {
-                let told = self.event.notify(rt, hand, count, additional, tag)?;
+                let told = self.event.notify(self.rt, hand, count, additional, tag)?;
                 Ok(Some(Answer::Notified(told)))
             }
             HandCall::TotalListeners => {
-                let total = self.event.total_listeners(rt, hand)?;
+                let total = self.event.total_listeners(self.rt, hand)?;
                 Ok(Some(Answer::TotalListeners(total)))
             }
-            HandCall::Poll => self.poll(hand, waker),
+            HandCall::Poll => self.poll(hand, wakers),
             HandCall::Discard => self.discard(hand),
         }
     }
+}
 
-    fn release(&mut self) -> bool {
-        let listener = self.listener.take();
-        listener.is_some()
+/// A recorded event with its hands, and the one listener of the row.
+#[derive(Drop)]
+pub struct RecordedSubject<'ev, R: Wait + Clock + Clone> {
+    on: OnEvent<'ev, R>,
+    pub hands: Vec<Hand<u8>>,
+}
+
+impl<'ev, R: Wait + Clock + Clone> RecordedSubject<'ev, R> {
+    pub fn new(
+        rt: &'ev R,
+        alloc: Global,
+        event: &'ev RecordedEvent<u8>,
+        hands: Vec<Hand<u8>>,
+    ) -> Self {
+        let on = OnEvent {
+            rt,
+            alloc,
+            event,
+            listener: None,
+        };
+        RecordedSubject { on, hands }
     }
+}
+
+impl<'ev, R: Wait + Clock + Clone> Subject for RecordedSubject<'ev, R> {
+    type Call = RowCall;
+
+    type Answer = Option<Answer>;
+
+    type Shape = (Notes, Notes);
+
+    fn make(&mut self, call: RowCall, wakers: &mut Wakers) -> Result<Option<Answer>, Refusal> {
+        match call {
+            RowCall::By(hand, call) => {
+                let Some(hand) = self.hands.get_mut(hand) else {
+                    return Ok(None);
+                };
+                self.on.make(hand, call, wakers).map_err(Refusal::Record)
+            }
+            RowCall::Release => {
+                let listener = self.on.listener.take();
+                if listener.is_some() {
+                    Ok(Some(Answer::Released))
+                } else {
+                    Ok(None)
+                }
+            }
+        }
+    }
+
+    fn takes_memory(&self, call: RowCall) -> bool {
+        matches!(call, RowCall::By(_, _))
+    }
+
+    fn shape(&self) -> (Notes, Notes) {
+        (
+            notes_by_now(self.hands.get(0)),
+            notes_by_now(self.hands.get(1)),
+        )
+    }
+}
+
+// How many notes a hand has, and the last of them. No row has more than two hands.
+type Notes = (usize, Option<Note<u8>>);
+
+fn notes_by_now(hand: Option<&Hand<u8>>) -> Notes {
+    match hand {
+        Some(hand) => (hand.notes().len(), hand.notes().last().copied()),
+        None => (0, None),
+    }
+}
+
+/// Entries of which it is asked whether they replay.
+#[derive(Clone, Copy)]
+pub enum Entries<'r> {
+    Recorded(&'r Record<u8>),
+    Written(&'r [Entry<u8>]),
+}
+
+/// A replay of entries.
+#[derive(Drop)]
+pub struct Replay<'r> {
+    pub alloc: Global,
+    pub entries: Entries<'r>,
+}
+
+impl<'r> Subject for Replay<'r> {
+    type Call = ();
+
+    type Answer = bool;
+
+    type Shape = ();
+
+    fn make(&mut self, _call: (), _wakers: &mut Wakers) -> Result<bool, Refusal> {
+        let reply = match self.entries {
+            Entries::Recorded(record) => record.replays(self.alloc),
+            Entries::Written(entries) => replays(self.alloc, entries),
+        };
+        reply.map_err(|_| Refusal::Memory)
+    }
+
+    fn takes_memory(&self, _call: ()) -> bool {
+        true
+    }
+
+    fn shape(&self) {}
 }

@@ -1,21 +1,20 @@
 //! The row over records that were written by hand.
-use crate::calls::ask;
-use event_listener::{Entry, Key, ListenError, RecordedCall, RecordedReply, replays};
+use crate::calls::replay;
+use crate::subject::Entries;
+use event_listener::{Entry, Key, ListenError, RecordedCall, RecordedReply};
 use std::sync::Wait;
-use worked_rows::{Difference, Harness, Hook, same};
+use worked_rows::{Harness, Hook};
 
-type Reply = Result<(), Difference>;
-
-pub fn written_records<R: Wait, H: Hook>(harness: &mut Harness<'_, R, H>) -> Reply {
+pub fn written_records<R: Wait, H: Hook>(harness: &mut Harness<'_, R, H>) {
     let listened = entry(RecordedCall::Listen, RecordedReply::Listened(Ok(FIRST)));
     let notified = entry(ONE_BY_DEFAULT, RecordedReply::Notified(1));
     let nobody_told = entry(ONE_BY_DEFAULT, RecordedReply::Notified(0));
     let refused = RecordedReply::Listened(Err(ListenError::Memory));
-    written(harness, &[], true)?;
-    written(harness, &[listened], true)?;
-    written(harness, &[listened, notified], true)?;
-    written(harness, &[listened, nobody_told], false)?;
-    written(harness, &[entry(RecordedCall::Listen, refused)], false)
+    written(harness, &[], true);
+    written(harness, &[listened], true);
+    written(harness, &[listened, notified], true);
+    written(harness, &[listened, nobody_told], false);
+    written(harness, &[entry(RecordedCall::Listen, refused)], false);
 }
 
 const FIRST: Key = Key { slot: 0, serial: 0 };
@@ -35,11 +34,11 @@ fn entry(call: RecordedCall<u8>, reply: RecordedReply<u8>) -> Entry<u8> {
     }
 }
 
-fn written<R, H>(harness: &mut Harness<'_, R, H>, entries: &[Entry<u8>], answer: bool) -> Reply
+// Asks whether entries that were written by hand replay.
+fn written<R, H>(harness: &mut Harness<'_, R, H>, entries: &[Entry<u8>], answer: bool)
 where
     R: Wait,
     H: Hook,
 {
-    let alloc = harness.alloc();
-    same(ask(harness, || replays(alloc, entries))?, answer)
+    replay(harness, Entries::Written(entries), answer);
 }

@@ -1,22 +1,23 @@
 use crate::difference::{Difference, Refusal};
-use crate::event_harness::{EventHarness, OnEvent, OnUntaggedEvent};
 use crate::hook::Hook;
-use crate::listeners::Listeners;
+use crate::subject::Subject;
 use crate::wakers::Wakers;
 use event_listener::{Event, EventId, EventIds, IdsUsedUp};
-use futures::task::Waker;
 use std::alloc::Global;
 use std::sync::Wait;
-use std::time::Clock;
-use test_support::{Borrowing, ListenerKind, Sharing};
+use std::time::{Clock, Instant};
 
-/// What the rows make their calls by. Each call takes the hook that comes round it.
+/// What a row makes its calls by, with the hook round each. It compares the answers with those of the row.
+///
+/// The row ends at the first answer that differs and at the first refusal, which the harness keeps: from then on `make`
+/// and `ask` do nothing, and no later difference counts. So a row is a list of calls without a way out.
 #[derive(Drop)]
 pub struct Harness<'a, R, H> {
     rt: &'a R,
     alloc: Global,
     hook: &'a mut H,
     wakers: Wakers,
+    difference: Option<Difference>,
 }
 
 impl<'a, R: Wait, H: Hook> Harness<'a, R, H> {
@@ -27,10 +28,16 @@ impl<'a, R: Wait, H: Hook> Harness<'a, R, H> {
             alloc,
             hook,
             wakers,
+            difference: None,
         }
     }
 
-    /// What a row that has no event makes its queue with.
+    /// The runtime value that the calls of the row take.
+    pub fn rt(&self) -> &'a R {
+        self.rt
+    }
+
+    /// The allocator that the calls of the row take.
     pub fn alloc(&self) -> Global {
         self.alloc
     }
@@ -38,6 +45,86 @@ impl<'a, R: Wait, H: Hook> Harness<'a, R, H> {
     /// The hook that comes round each call.
     pub fn hook(&mut self) -> &mut H {
         &mut *self.hook
+    }
+
+    /// Whether the row has ended.
+    pub fn has_ended(&self) -> bool {
+        self.difference.is_some()
+    }
+
+    /// Why the row does not hold.
+    pub(crate) fn difference(&self) -> Option<Difference> {
+        self.difference
+    }
+
+    /// Ends the row, if it has not ended.
+    pub fn end(&mut self, difference: Difference) {
+        if self.difference.is_none() {
+            self.difference = Some(difference);
+        }
+    }
+
+    /// Compares an answer with the one that the row says.
+    pub fn compare<A: PartialEq + Drop>(&mut self, answer: A, expected: A) {
+        if answer != expected {
+            self.end(Difference::Answer);
+        }
+    }
+
+    /// The answer of a call that was not refused. A refusal ends the row.
+    pub fn answer<A: Drop>(&mut self, reply: Result<A, Refusal>) -> Option<A> {
+        match reply {
+            Ok(answer) => Some(answer),
+            Err(refusal) => {
+                self.end(Difference::Refused(refusal));
+                None
+            }
+        }
+    }
+
+    /// Makes a call, and compares its answer with the one that the row says.
+    pub fn make<S: Subject>(&mut self, subject: &mut S, call: S::Call, expected: S::Answer) {
+        if let Some(answer) = self.ask(subject, call) {
+            self.compare(answer, expected);
+        }
+    }
+
+    /// Makes a call, and gives its answer. There is none where the row has ended.
+    ///
+    /// Where memory is refused, the hook is told whether the subject is as it was, and may have the call made again.
+    pub fn ask<S: Subject>(&mut self, subject: &mut S, call: S::Call) -> Option<S::Answer> {
+        if self.has_ended() {
+            return None;
+        }
+        let reply = self.make_again(subject, call);
+        self.answer(reply)
+    }
+
+    fn make_again<S>(&mut self, subject: &mut S, call: S::Call) -> Result<S::Answer, Refusal>
+    where
+        S: Subject,
+    {
+        let before = subject.shape();
+        match self.make_once(subject, call) {
+            Err(refusal) if refusal.is_of_memory() => {
+                if self.hook.refused(subject.shape() == before) {
+                    self.make_once(subject, call)
+                } else {
+                    Err(refusal)
+                }
+            }
+            reply => reply,
+        }
+    }
+
+    fn make_once<S>(&mut self, subject: &mut S, call: S::Call) -> Result<S::Answer, Refusal>
+    where
+        S: Subject,
+    {
+        self.hook.before(subject.takes_memory(call));
+        let reply = subject.make(call, &mut self.wakers);
+        self.hook.after();
+        reply
     }
 
     /// A new source of identities.
@@ -56,87 +143,21 @@ impl<'a, R: Wait, H: Hook> Harness<'a, R, H> {
         reply
     }
 
-    /// A new event, the only one of its source.
-    pub fn event<T>(&mut self) -> Result<Event<T>, Difference> {
-        let mut ids = self.identities(0);
-        self.event_of(&mut ids)
-    }
-
-    /// A new event of this source.
-    pub fn event_of<T>(&mut self, ids: &mut EventIds) -> Result<Event<T>, Difference> {
-        let id = self.identity(ids)?;
+    /// A new event of this source. Where the source has no identity left, the row ends.
+    pub fn event_of<T>(&mut self, ids: &mut EventIds) -> Option<Event<T>> {
+        let id = self.identity(ids).map_err(Refusal::Identity);
+        let id = self.answer(id)?;
         self.hook.before(false);
         let event = Event::with_tag(id);
         self.hook.after();
-        Ok(event)
+        Some(event)
     }
 
-    /// Makes the row with listeners that share their event, and then, on another event, with listeners that borrow it.
-    pub fn on_each_kind<T, F>(&mut self, row: F) -> Result<(), Difference>
+    /// The present moment.
+    pub fn now(&mut self) -> Option<Instant>
     where
-        T: PartialEq + Drop,
-        F: OnEvent<T>,
-        R: Clock + Clone,
-    {
-        let (one, other) = (self.event()?, self.event()?);
-        self.on::<Sharing, T, F>(&one, row)?;
-        self.on::<Borrowing, T, F>(&other, row)
-    }
-
-    /// Makes the row on this event, with listeners of the kind `K`.
-    pub fn on<'ev, K, T, F>(&mut self, event: &'ev Event<T>, row: F) -> Result<(), Difference>
-    where
-        K: ListenerKind<'ev, T, R>,
-        T: PartialEq + Drop,
-        F: OnEvent<T>,
         R: Clock,
     {
-        let mut listeners = Listeners::new();
-        let mut calls = EventHarness::<K, K::Listener, T, R, H>::new(self, event, &mut listeners);
-        row.make(&mut calls)
-    }
-
-    /// Makes the row as [`on_each_kind`](Harness::on_each_kind), on events whose notifications take no tag.
-    pub fn on_each_kind_untagged<F>(&mut self, row: F) -> Result<(), Difference>
-    where
-        F: OnUntaggedEvent,
-        R: Clock + Clone,
-    {
-        let (one, other) = (self.event()?, self.event()?);
-        self.on_untagged::<Sharing, F>(&one, row)?;
-        self.on_untagged::<Borrowing, F>(&other, row)
-    }
-
-    fn on_untagged<'ev, K, F>(&mut self, event: &'ev Event<()>, row: F) -> Result<(), Difference>
-    where
-        K: ListenerKind<'ev, (), R>,
-        F: OnUntaggedEvent,
-        R: Clock,
-    {
-        let mut listeners = Listeners::new();
-        let mut calls = EventHarness::<K, K::Listener, (), R, H>::new(self, event, &mut listeners);
-        row.make(&mut calls)
-    }
-
-    /// The runtime value that the calls of the row take.
-    pub fn rt(&self) -> &'a R {
-        self.rt
-    }
-
-    pub(crate) fn before(&mut self, takes_memory: bool) {
-        self.hook.before(takes_memory);
-    }
-
-    pub(crate) fn after(&mut self) {
-        self.hook.after();
-    }
-
-    pub(crate) fn refused(&mut self, stands: bool) -> bool {
-        self.hook.refused(stands)
-    }
-
-    /// A waker of the task that the row runs in. It takes no memory.
-    pub fn waker(&mut self) -> Result<Waker, Difference> {
-        self.wakers.take().ok_or(Difference::Refused(Refusal::Task))
+        self.answer(Instant::now(self.rt).map_err(|_| Refusal::Clock))
     }
 }

@@ -1,5 +1,3 @@
-use std::alloc::AllocError;
-
 /// What a driver does round each call that a row makes.
 ///
 /// A driver can take all memory in `before` and give it back in `after`, and so refuse memory during that call alone.
@@ -30,20 +28,4 @@ impl Hook for Undisturbed {
     fn refused(&mut self, _stands: bool) -> bool {
         false
     }
-}
-
-/// Builds what a row hands to a call. Where memory for it is refused, the hook may have it built again.
-pub fn with_memory<B: Drop, H: Hook, F: Fn() -> Result<B, AllocError>>(
-    hook: &mut H,
-    build: F,
-) -> Result<B, AllocError>
-where
-    F: Drop,
-    requires { F.IsAlwaysCallable build }
-{
-    let built = build();
-    if built.is_err() && hook.refused(true) {
-        return build();
-    }
-    built
 }

@@ -9,23 +9,26 @@
 #![tactic(auto)]
 
 mod difference;
+mod event_calls;
 mod event_harness;
+mod event_subject;
 mod harness;
 mod hook;
-mod hooked_list;
 mod listeners;
 mod report;
 mod row;
-mod sink;
+mod subject;
 mod task;
 mod wakers;
 
-pub use difference::{Difference, Refusal, same};
-pub use event_harness::{EventCalls, OnEvent, OnUntaggedEvent, UntaggedCalls};
+pub use difference::{Difference, Refusal};
+pub use event_calls::{
+    EventAnswer, EventCall, EventCalls, Form, OnEvent, OnUntaggedEvent, UntaggedCalls,
+};
 pub use harness::Harness;
 pub use hook::{Hook, Undisturbed};
-pub use hooked_list::{HookedList, woken_with_room};
-pub use listeners::ListenerIndex;
+pub use listeners::{Limit, ListenerIndex};
 pub use report::print_rows;
 pub use row::Row;
-pub use sink::DropsTasks;
+pub use subject::Subject;
+pub use wakers::Wakers;

@@ -25,8 +25,8 @@ where
             continue;
         };
         match run_in_task(rt, alloc, hook, row) {
-            Ok(()) => println!(rt; "row {number} ok")?,
-            Err(difference) => {
+            None => println!(rt; "row {number} ok")?,
+            Some(difference) => {
                 none_differs = false;
                 println!(rt; "row {number} differs")?;
                 if let Difference::Refused(refusal) = difference {

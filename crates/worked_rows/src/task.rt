@@ -21,17 +21,18 @@ struct RowTask<'a, F, R, H> {
 }
 
 impl<'a, F: Row, R: Wait + Clock + Clone, H: Hook> Future for RowTask<'a, F, R, H> {
-    type Output = Result<(), Difference>;
+    type Output = Option<Difference>;
 
-    fn poll(&mut self, cx: &mut Context<'_>) -> Poll<Result<(), Difference>> {
+    fn poll(&mut self, cx: &mut Context<'_>) -> Poll<Option<Difference>> {
         let wakers = Wakers::of(cx);
         let mut harness = Harness::new(self.rt, self.alloc, &mut *self.hook, wakers);
-        Poll::Ready(self.row.run(&mut harness))
+        self.row.run(&mut harness);
+        Poll::Ready(harness.difference())
     }
 }
 
-/// Runs a row in a task of its own, of which its polls get their wakers.
-pub fn run_in_task<F, R, H>(rt: &R, alloc: Global, hook: &mut H, row: F) -> Result<(), Difference>
+/// Runs a row in a task of its own, of which its polls get their wakers. Answers why the row does not hold.
+pub fn run_in_task<F, R, H>(rt: &R, alloc: Global, hook: &mut H, row: F) -> Option<Difference>
 where
     F: Row,
     R: Wait + Clock + Clone + RandomSource + AllocGlobal,
@@ -44,7 +45,7 @@ where
         hook,
     };
     match block_on(rt, task) {
-        Ok(reply) => reply,
-        Err(_) => Err(Difference::Refused(Refusal::Task)),
+        Ok(difference) => difference,
+        Err(_) => Some(Difference::Refused(Refusal::Task)),
     }
 }

@@ -1,5 +1,6 @@
 ghost use Rattle.futures.specs.Task.{Keeps};
 
+use crate::difference::Refusal;
 use futures::task::{Context, Poll, Source, Waker};
 
 /// Wakers of one task: more than any row polls. They take no memory.
@@ -10,7 +11,7 @@ pub struct Wakers {
 
 impl Wakers {
     /// Wakers of the task that this is a poll of.
-    pub fn of(cx: &mut Context<'_>) -> Self
+    pub(crate) fn of(cx: &mut Context<'_>) -> Self
         ensures { Keeps cx.old cx.new }
     {
         let left = [
@@ -34,14 +35,14 @@ impl Wakers {
         Wakers { left }
     }
 
-    /// One that was not taken yet.
-    pub fn take(&mut self) -> Option<Waker> {
+    /// One that was not taken yet. Where none is left, there was no waker of the task.
+    pub fn take(&mut self) -> Result<Waker, Refusal> {
         for waker in self.left.iter_mut() {
             if let Some(waker) = waker.take() {
-                return Some(waker);
+                return Ok(waker);
             }
         }
-        None
+        Err(Refusal::Task)
     }
 }
 

@@ -1,0 +1,21 @@
+use event_queue::Woken;
+use std::alloc::AllocError;
+use std::sync::Wait;
+use worked_rows::{Harness, Hook, Refusal};
+
+/// A sink with room for so many tasks, made again where memory was refused and is back. None is made once the row has
+/// ended.
+pub fn woken_with_room<R: Wait, H: Hook>(
+    harness: &mut Harness<'_, R, H>,
+    room: usize,
+) -> Option<Woken<u32>> {
+    if harness.has_ended() {
+        return None;
+    }
+    let alloc = harness.alloc();
+    let mut woken = Woken::with_room(alloc, room);
+    if woken.is_err() && harness.hook().refused(true) {
+        woken = Woken::with_room(alloc, room);
+    }
+    harness.answer(woken.map_err(|_: AllocError| Refusal::Memory))
+}
