@@ -1,6 +1,8 @@
 //! Waits that end at their limits by the clocks of their listeners.
 use crate::clocks::SlowClock;
-use crate::support::{Runtime, WaitClock, elapsed, listen, new_event, now};
+use crate::support::{
+    Runtime, WaitClock, check, elapsed, listen, new_event, nobody_is_left, now, waits,
+};
 use event_listener::Event;
 use std::cell::Cell;
 use std::time::Duration;
@@ -20,47 +22,45 @@ where
 {
     let listener = listen::<K, _, C, R>(rt, clock, event);
     let start = now(rt, clock);
-    let found = wait.make(clock, listener, short()).expect(rt, "a wait");
-    assert_eq!(rt; found, None);
-    assert!(rt; elapsed(rt, clock, start) >= short());
-    assert_eq!(rt; event.total_listeners(rt), 0);
+    waits(rt, clock, listener, wait, short(), None);
+    let taken = elapsed(rt, clock, start);
+    check(rt, (wait, taken), taken >= short(), true);
+    nobody_is_left(rt, event);
+}
+
+fn each_kind_ends_at_its_limit<C: WaitClock, R: Runtime>(rt: &R, clock: &C, wait: WaitCall) {
+    let event = new_event(rt);
+    ends_at_its_limit::<Sharing, _, _>(rt, clock, &event, wait);
+    ends_at_its_limit::<Borrowing, _, _>(rt, clock, &event, wait);
 }
 
 #[test]
 fn a_wait_ends_no_earlier_than_its_limit(rt: HostRuntime) {
-    let event = new_event(&rt);
     for wait in TIMED_WAITS {
-        ends_at_its_limit::<Sharing, _, _>(&rt, &rt, &event, wait);
-        ends_at_its_limit::<Borrowing, _, _>(&rt, &rt, &event, wait);
+        each_kind_ends_at_its_limit(&rt, &rt, wait);
     }
 }
 
 // The thread parks by the system's clock, and so wakes when half of its time is over.
 #[test]
 fn a_park_that_ends_early_does_not_end_a_wait(rt: HostRuntime) {
-    let event = new_event(&rt);
     let slow = SlowClock { rt: &rt };
     for wait in TIMED_WAITS {
-        ends_at_its_limit::<Sharing, _, _>(&rt, &slow, &event, wait);
-        ends_at_its_limit::<Borrowing, _, _>(&rt, &slow, &event, wait);
+        each_kind_ends_at_its_limit(&rt, &slow, wait);
     }
 }
 
-// One that looked at the time again and again would read its clock thousands of times.
+// A wait that looked at the time again and again would read its clock thousands of times.
+fn parks<R: Runtime + Clone>(rt: &R, wait: WaitCall) {
+    let reads = Cell::new(0);
+    let counted = CountedClock { rt, reads: &reads };
+    each_kind_ends_at_its_limit(rt, &counted, wait);
+    check(rt, (wait, reads.get()), reads.get() < 50, true);
+}
+
 #[test]
 fn a_timed_wait_parks(rt: HostRuntime) {
-    let event = new_event(&rt);
-    let reads = Cell::new(0);
-    let counted = CountedClock {
-        rt: &rt,
-        reads: &reads,
-    };
     for wait in TIMED_WAITS {
-        reads.set(0);
-        ends_at_its_limit::<Sharing, _, _>(&rt, &counted, &event, wait);
-        assert!(rt; reads.get() < 50, "{wait:?} of a sharing listener");
-        reads.set(0);
-        ends_at_its_limit::<Borrowing, _, _>(&rt, &counted, &event, wait);
-        assert!(rt; reads.get() < 50, "{wait:?} of a borrowing listener");
+        parks(&rt, wait);
     }
 }

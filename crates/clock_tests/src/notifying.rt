@@ -1,23 +1,12 @@
 //! Waits of a listener whose clock notifies.
 use crate::clocks::NotifyingClock;
-use crate::support::{Runtime, WaitClock, after, elapsed, listen, new_event, now};
+use crate::support::{
+    Runtime, WaitClock, check, elapsed, listen, new_event, nobody_is_left, now, waits,
+};
 use event_listener::{Event, Listener};
 use std::cell::Cell;
 use std::time::Duration;
-use test_support::{Borrowing, ListenerKind, Sharing, WaitCall, answered};
-
-// What a wait of the listener answers that has no time left.
-fn wait_with_no_time<L: Listener<u32> + Drop, R: Runtime>(
-    rt: &R,
-    listener: L,
-    wait: WaitCall,
-) -> Option<u32> {
-    let reply = match wait {
-        WaitCall::Deadline => listener.wait_deadline(now(rt, rt)),
-        _ => listener.wait_timeout(Duration::ZERO),
-    };
-    answered(reply).expect(rt, "a wait")
-}
+use test_support::{Borrowing, ListenerKind, Sharing, WaitCall};
 
 // The clock notifies once the wait has looked for its tag for the last time. The tag is given all the same, and nothing
 // is passed on to the listener behind.
@@ -29,9 +18,9 @@ where
 {
     let listener = listen::<K, _, C, R>(rt, notifying, event);
     let behind = listen::<K, _, C, R>(rt, notifying, event);
-    assert_eq!(rt; wait_with_no_time(rt, listener, wait), Some(7));
-    assert!(rt; !behind.discard());
-    assert_eq!(rt; event.total_listeners(rt), 0);
+    waits(rt, rt, listener, wait, Duration::ZERO, Some(7));
+    check(rt, "told behind", behind.discard(), false);
+    nobody_is_left(rt, event);
 }
 
 // The reading that notifies comes after the wait last registered, and before the listener leaves at its deadline. A
@@ -61,11 +50,12 @@ where
     R: Runtime,
 {
     let start = now(rt, rt);
-    let deadline = after(rt, Duration::from_secs(20));
+    let limit = Duration::from_secs(20);
     let listener = listen::<K, _, C, R>(rt, notifying, event);
-    assert_eq!(rt; answered(listener.wait_deadline(deadline)), Ok(Some(7)));
-    assert!(rt; elapsed(rt, rt, start) < Duration::from_secs(10));
-    assert_eq!(rt; event.total_listeners(rt), 0);
+    waits(rt, rt, listener, WaitCall::Deadline, limit, Some(7));
+    let taken = elapsed(rt, rt, start);
+    check(rt, taken, taken < Duration::from_secs(10), true);
+    nobody_is_left(rt, event);
 }
 
 // The first reading comes before the thread parks, and the second as it does.

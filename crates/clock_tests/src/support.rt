@@ -1,10 +1,11 @@
-//! What the tests share: the calls that have to succeed. Each ends the test where it does not.
-use event_listener::{Event, EventIds};
+//! What ends a test, and the calls that have to succeed.
+use event_listener::{Event, EventIds, Listener};
 use std::alloc::AllocGlobal;
+use std::fmt::Debug;
 use std::process::Abort;
 use std::sync::Wait;
 use std::time::{Clock, Duration, Instant};
-use test_support::{ListenerKind, deadline_after};
+use test_support::{ListenerKind, WaitCall};
 
 /// What the tests ask of the runtime value of the test.
 pub trait Runtime: Abort + AllocGlobal + Wait + Clock {}
@@ -46,7 +47,35 @@ pub fn elapsed<C: Clock, R: Abort>(rt: &R, clock: &C, start: Instant) -> Duratio
     start.elapsed(clock).expect(rt, "the time")
 }
 
-/// The moment so long after the present one.
-pub fn after<R: Runtime>(rt: &R, limit: Duration) -> Instant {
-    deadline_after(rt, limit).expect(rt, "a moment")
+/// The answer is the expected one. Where it is not, the message has both, and what was asked.
+pub fn check<A, V, R>(rt: &R, asked: A, answer: V, expected: V)
+where
+    A: Debug + Drop,
+    V: PartialEq + Debug + Drop,
+    R: Abort,
+{
+    assert_eq!(rt; answer, expected, "{asked:?}");
+}
+
+/// This wait, with this limit from now on by that clock if it has one, gives that tag, or none.
+pub fn waits<T, L, C, R>(
+    rt: &R,
+    clock: &C,
+    listener: L,
+    wait: WaitCall,
+    limit: Duration,
+    expected: Option<T>,
+)
+where
+    T: PartialEq + Debug + Drop,
+    L: Listener<T> + Drop,
+    C: Clock,
+    R: Abort,
+{
+    check(rt, wait, wait.make(clock, listener, limit), Ok(expected));
+}
+
+/// Nobody stands in the queue of the event.
+pub fn nobody_is_left<T, R: Abort + Wait>(rt: &R, event: &Event<T>) {
+    check(rt, "listeners", event.total_listeners(rt), 0);
 }

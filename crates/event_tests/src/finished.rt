@@ -1,16 +1,17 @@
 //! Listeners that gave their tag, and listeners without their event.
 use crate::support::{
-    Case, Runtime, Subject, Trial, assert_same, new_event, share, with_each_kind,
+    Case, Runtime, Trial, assert_counts, assert_same, assert_woken, discard, new_event, notify,
+    poll_finished, poll_told, share, waker, with_each_kind,
 };
 use event_listener::{Event, IntoNotification, IntoTagged, Listener};
 use futures::task::Poll;
 use test_support::any_waker;
 
 // A listener that gave its tag to a poll.
-fn finished<S: Subject<Tag = u32>>(trial: &Trial<S>) -> S::Listener {
+fn finished<S: Trial<Tag = u32>>(trial: &S) -> S::Listener {
     let mut listener = trial.listen();
-    trial.tell(1.tag(7), 1);
-    trial.poll_told(&mut listener, 7);
+    notify(trial, 1.tag(7), Ok(1));
+    poll_told(trial, &mut listener, 7);
     listener
 }
 
@@ -20,22 +21,22 @@ struct NotInQueue;
 impl Case for NotInQueue {
     type Tag = u32;
 
-    fn run<S: Subject<Tag = u32>>(trial: &Trial<S>) {
+    fn run<S: Trial<Tag = u32>>(trial: &S) {
         let mut polled = finished(trial);
         let discarded = finished(trial);
         let dropped = finished(trial);
         let told = trial.listen();
         let waiting = trial.listen();
-        trial.tell(1.tag(8), 1);
+        notify(trial, 1.tag(8), Ok(1));
 
         let task = trial.task();
-        trial.poll_finished(&mut polled, trial.waker(&task));
-        trial.assert_woken(&task);
-        trial.discard_untold(discarded);
+        poll_finished(trial, &mut polled, waker(trial, &task));
+        assert_woken(trial, &task, true);
+        discard(trial, discarded, false);
         drop(dropped);
-        trial.assert_counts(2, true);
-        trial.discard_told(told);
-        trial.discard_untold(waiting);
+        assert_counts(trial, 2, true);
+        discard(trial, told, true);
+        discard(trial, waiting, false);
     }
 }
 
@@ -44,11 +45,11 @@ fn a_finished_listener_is_not_in_the_queue(rt: HostRuntime) {
     with_each_kind::<NotInQueue, _>(&rt);
 }
 
-fn outlive<L, R>(rt: &R, event: Event<u32>, first: L, mut second: L, mut third: L)
-where
-    L: Listener<u32> + Drop,
-    R: Runtime,
-{
+// The event is dropped while three listeners stand in its queue.
+fn outlive<R: Runtime>(rt: &R, event: Event<u32>) {
+    let first = share(rt, &event);
+    let mut second = share(rt, &event);
+    let mut third = share(rt, &event);
     assert_same(rt, event.notify(rt, 1.tag(7)), Ok(1), "how many are told");
     drop(event);
     let polled = third.poll(any_waker(rt).expect(rt, "a waker"));
@@ -61,7 +62,5 @@ where
 
 #[test]
 fn listeners_that_share_the_queue_outlive_their_event(rt: HostRuntime) {
-    let event = new_event(&rt);
-    let (first, second, third) = (share(&rt, &event), share(&rt, &event), share(&rt, &event));
-    outlive(&rt, event, first, second, third);
+    outlive(&rt, new_event(&rt));
 }

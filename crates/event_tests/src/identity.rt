@@ -1,15 +1,18 @@
 //! Which listeners and events belong together.
-use crate::support::{assert_same, borrow, new_event, share};
+use crate::support::{Runtime, assert_same, listen, new_event};
 use event_listener::{Event, EventIds, Listener};
-use std::process::Abort;
+use test_support::{Borrowing, ListenerKind, Sharing};
 
 // Events are told apart by their numbers, so one of another source may be taken for the first.
-fn known_by_number<L, R>(rt: &R, events: [&Event<()>; 3], listener: L, apart: L, of_namesake: L)
+fn known_by_number<'ev, K, R>(rt: &R, events: [&'ev Event<()>; 3])
 where
-    L: Listener<()> + Drop,
-    R: Abort,
+    K: ListenerKind<'ev, (), R>,
+    R: Runtime,
 {
     let [event, other, namesake] = events;
+    let listener = listen::<K, (), R>(rt, event);
+    let apart = listen::<K, (), R>(rt, other);
+    let of_namesake = listen::<K, (), R>(rt, namesake);
     let listens = [
         listener.listens_to(event),
         listener.listens_to(other),
@@ -30,21 +33,6 @@ fn listeners_know_their_event_by_its_number(rt: HostRuntime) {
     let event = Event::new(ids.next().expect(&rt, "an identity"));
     let other = Event::new(ids.next().expect(&rt, "an identity"));
     let namesake = new_event(&rt);
-    let events = [&event, &other, &namesake];
-    let listener = share(&rt, &event);
-    known_by_number(
-        &rt,
-        events,
-        listener,
-        share(&rt, &other),
-        share(&rt, &namesake),
-    );
-    let listener = borrow(&rt, &event);
-    known_by_number(
-        &rt,
-        events,
-        listener,
-        borrow(&rt, &other),
-        borrow(&rt, &namesake),
-    );
+    known_by_number::<Sharing, _>(&rt, [&event, &other, &namesake]);
+    known_by_number::<Borrowing, _>(&rt, [&event, &other, &namesake]);
 }

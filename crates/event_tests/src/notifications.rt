@@ -1,10 +1,12 @@
 //! How many listeners a notification tells, and which.
 use crate::support::{
-    Case, Runtime, Subject, Trial, assert_same, borrow, new_event, share, with_each_kind,
+    Case, Runtime, Trial, assert_counts, assert_same, listen, new_event, poll_waiting, waker,
+    with_each_kind,
 };
 use event_listener::{Event, Listener};
 use std::process::Abort;
 use std::sync::Wait;
+use test_support::{Borrowing, ListenerKind, Sharing};
 
 // The calls that notify without tags.
 #[derive(Clone, Copy)]
@@ -43,9 +45,9 @@ impl Call {
 }
 
 // Notifies three listeners of so many. Answers how many were told, and which.
-fn told_of_three<S>(trial: &Trial<S>, call: Call, n: usize) -> (usize, [bool; 3])
+fn told_of_three<S>(trial: &S, call: Call, n: usize) -> (usize, [bool; 3])
 where
-    S: Subject<Tag = ()>,
+    S: Trial<Tag = ()>,
 {
     let first = trial.listen();
     let second = trial.listen();
@@ -59,12 +61,12 @@ struct TellsAsMany;
 impl Case for TellsAsMany {
     type Tag = ();
 
-    fn run<S: Subject<Tag = ()>>(trial: &Trial<S>) {
+    fn run<S: Trial<Tag = ()>>(trial: &S) {
         for call in ALL {
             let told = told_of_three(trial, call, 2);
-            trial.assert_same(told, (2, [true, true, false]), call.name());
+            assert_same(trial.rt(), told, (2, [true, true, false]), call.name());
             let told = told_of_three(trial, call, 9);
-            trial.assert_same(told, (3, [true, true, true]), call.name());
+            assert_same(trial.rt(), told, (3, [true, true, true]), call.name());
         }
     }
 }
@@ -79,14 +81,15 @@ struct KeepsNothing;
 impl Case for KeepsNothing {
     type Tag = ();
 
-    fn run<S: Subject<Tag = ()>>(trial: &Trial<S>) {
+    fn run<S: Trial<Tag = ()>>(trial: &S) {
         for call in ALL {
             let told = call.on(trial.rt(), trial.event(), 2);
-            trial.assert_same(told, 0, call.name());
+            assert_same(trial.rt(), told, 0, call.name());
         }
-        trial.assert_counts(0, false);
+        assert_counts(trial, 0, false);
         let task = trial.task();
-        trial.poll_waiting(&mut trial.listen(), trial.waker(&task));
+        let mut listener = trial.listen();
+        poll_waiting(trial, &mut listener, waker(trial, &task));
     }
 }
 
@@ -95,12 +98,16 @@ fn a_notification_before_the_first_listener_is_not_kept(rt: HostRuntime) {
     with_each_kind::<KeepsNothing, _>(&rt);
 }
 
-fn one_queue<One, Other, R>(rt: &R, event: &Event<()>, first: One, second: Other, third: One)
+// Listeners of one kind, with one of another between them.
+fn one_queue<'ev, K, Between, R>(rt: &R, event: &'ev Event<()>)
 where
-    One: Listener<()> + Drop,
-    Other: Listener<()> + Drop,
+    K: ListenerKind<'ev, (), R>,
+    Between: ListenerKind<'ev, (), R>,
     R: Runtime,
 {
+    let first = listen::<K, (), R>(rt, event);
+    let second = listen::<Between, (), R>(rt, event);
+    let third = listen::<K, (), R>(rt, event);
     assert_same(rt, event.notify_additional(rt, 2), 2, "how many are told");
     let told = [first.discard(), second.discard(), third.discard()];
     assert_same(rt, told, [true, true, false], "which are told");
@@ -109,8 +116,6 @@ where
 #[test]
 fn both_kinds_of_listeners_stand_in_one_queue(rt: HostRuntime) {
     let event = new_event(&rt);
-    let (first, second, third) = (share(&rt, &event), borrow(&rt, &event), share(&rt, &event));
-    one_queue(&rt, &event, first, second, third);
-    let (first, second, third) = (borrow(&rt, &event), share(&rt, &event), borrow(&rt, &event));
-    one_queue(&rt, &event, first, second, third);
+    one_queue::<Sharing, Borrowing, _>(&rt, &event);
+    one_queue::<Borrowing, Sharing, _>(&rt, &event);
 }

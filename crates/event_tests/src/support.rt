@@ -1,7 +1,6 @@
-//! What the tests share: cases, which run with each kind of listener, and the trials on which they make their calls.
+//! What the tests share: cases, which run with each kind of listener, and the calls that they make.
 use event_listener::{
-    Event, EventIds, EventListener, IntoNotification, Listener, NeverInserted, StackListener,
-    StackSlot,
+    Event, EventIds, EventListener, IntoNotification, Listener, NeverInserted, NotifyError,
 };
 use futures::task::{Poll, Waker};
 use futures::test::MockTask;
@@ -29,14 +28,13 @@ pub fn share<T: Drop, R: Runtime>(rt: &R, event: &Event<T>) -> EventListener<T, 
     event.listen(rt, rt.alloc()).expect(rt, "a listener")
 }
 
-/// A new listener that borrows its event.
-pub fn borrow<'ev, T, R>(rt: &R, event: &'ev Event<T>) -> StackListener<'ev, T, R>
+/// A new listener of this kind.
+pub fn listen<'ev, K, T, R>(rt: &R, event: &'ev Event<T>) -> K::Listener
 where
-    T: Drop + 'ev,
+    K: ListenerKind<'ev, T, R>,
     R: Runtime,
 {
-    let slot = StackSlot::new(rt, rt.alloc(), event).expect(rt, "a slot");
-    slot.listen(rt).expect(rt, "a listener")
+    K::listen(rt, rt.alloc(), event).expect(rt, "a listener")
 }
 
 /// Ends the test where the answer is not the expected one. The text says what was asked.
@@ -54,14 +52,16 @@ pub trait Case {
     type Tag: Drop;
 
     /// Makes its calls on a new event.
-    fn run<S: Subject<Tag = Self::Tag>>(trial: &Trial<S>);
+    fn run<S: Trial<Tag = Self::Tag>>(trial: &S);
 }
 
 /// Runs a case with each kind of listener. Only here are the kinds named, since each place that names them is slow to
 /// prove.
 pub fn with_each_kind<C: Case, R: Runtime>(rt: &R) {
-    with_kind::<Sharing, C, R>(rt, &new_event(rt));
-    with_kind::<Borrowing, C, R>(rt, &new_event(rt));
+    let event = new_event(rt);
+    with_kind::<Sharing, C, R>(rt, &event);
+    let event = new_event(rt);
+    with_kind::<Borrowing, C, R>(rt, &event);
 }
 
 fn with_kind<'ev, K, C, R>(rt: &'ev R, event: &'ev Event<C::Tag>)
@@ -71,13 +71,13 @@ where
     R: Runtime,
 {
     let kind: PhantomData<K> = PhantomData;
-    let subject = KindSubject { rt, event, kind };
-    C::run(&Trial { subject });
+    let trial = KindTrial { rt, event, kind };
+    C::run(&trial);
 }
 
-/// An event, a kind of listeners, and what the runtime value gives to tests. A case asks it for no more than this, since
-/// each bound of a case makes it slower to prove.
-pub trait Subject {
+/// What a case makes its calls on: an event, a kind of listeners, and what the runtime value gives to tests. A case
+/// asks for no more than this, since each bound of a case makes it slower to prove.
+pub trait Trial {
     /// The tags of the event.
     type Tag: Drop;
 
@@ -108,13 +108,13 @@ pub trait Subject {
 
 // An event, with one kind of listeners.
 #[derive(Drop)]
-struct KindSubject<'ev, K, T, R> {
+struct KindTrial<'ev, K, T, R> {
     rt: &'ev R,
     event: &'ev Event<T>,
     kind: PhantomData<K>,
 }
 
-impl<'ev, K, T, R> Subject for KindSubject<'ev, K, T, R>
+impl<'ev, K, T, R> Trial for KindTrial<'ev, K, T, R>
 where
     K: ListenerKind<'ev, T, R>,
     T: Drop,
@@ -135,8 +135,7 @@ where
     }
 
     fn listen(&self) -> K::Listener {
-        let listener = K::listen(self.rt, self.rt.alloc(), self.event);
-        listener.expect(self.rt, "a listener")
+        listen::<K, T, R>(self.rt, self.event)
     }
 
     fn task(&self) -> MockTask {
@@ -152,119 +151,84 @@ where
     }
 }
 
-/// The calls of a case. Each ends the test where it does not answer as it is said to.
-#[derive(Drop)]
-pub struct Trial<S> {
-    subject: S,
+/// A waker of this task.
+pub fn waker<S: Trial>(trial: &S, task: &MockTask) -> Waker {
+    waker_of(task).expect(trial.rt(), "a waker")
 }
 
-impl<S: Subject> Trial<S> {
-    /// The runtime value.
-    pub fn rt(&self) -> &S::Runtime {
-        self.subject.rt()
-    }
+/// A new task of this order, and a waker of it.
+pub fn task_of<S: Trial>(trial: &S, order: &WakeOrder) -> (usize, Waker) {
+    order.task(trial.rt()).expect(trial.rt(), "a task")
+}
 
-    /// The event.
-    pub fn event(&self) -> &Event<S::Tag> {
-        self.subject.event()
-    }
+/// Notifies the event, which gives this answer.
+pub fn notify<S, N>(trial: &S, notification: N, answer: Result<usize, NotifyError>)
+where
+    S: Trial,
+    N: IntoNotification<Tag = S::Tag>,
+    N::Notify: Drop,
+    requires fits { N.fits notification }
+    requires can_tag { N.Notify.can_tag (N.meaning notification) }
+{
+    let told = trial.event().notify(trial.rt(), notification);
+    assert_same(trial.rt(), told, answer, "how many are told");
+}
 
-    /// A new listener of the event.
-    pub fn listen(&self) -> S::Listener {
-        self.subject.listen()
-    }
+/// Polls a listener that waits.
+pub fn poll_waiting<S: Trial>(trial: &S, listener: &mut S::Listener, waker: Waker) {
+    let polled = listener
+        .poll(waker)
+        .expect(trial.rt(), "it is in the queue");
+    assert_same(trial.rt(), polled.is_pending(), true, "whether it waits");
+}
 
-    /// A new task, which is not woken.
-    pub fn task(&self) -> MockTask {
-        self.subject.task()
-    }
+/// Polls a listener that is told, which gives this tag.
+pub fn poll_told<S: Trial>(trial: &S, listener: &mut S::Listener, tag: S::Tag)
+where
+    S::Tag: PartialEq + Debug,
+{
+    let polled = listener.poll(waker(trial, &trial.task()));
+    assert_same(trial.rt(), polled, Ok(Poll::Ready(tag)), "its tag");
+}
 
-    /// A waker of this task.
-    pub fn waker(&self, task: &MockTask) -> Waker {
-        waker_of(task).expect(self.rt(), "a waker")
-    }
+/// Polls a listener that is finished.
+pub fn poll_finished<S: Trial>(trial: &S, listener: &mut S::Listener, waker: Waker) {
+    let refusal = listener.poll(waker).err();
+    assert_same(trial.rt(), refusal, Some(NeverInserted), "its refusal");
+}
 
-    /// An order of wakes, with no task.
-    pub fn order(&self) -> WakeOrder {
-        self.subject.order()
-    }
+/// Discards a listener. Whether it is told.
+pub fn discard<S: Trial>(trial: &S, listener: S::Listener, is_told: bool) {
+    assert_same(
+        trial.rt(),
+        listener.discard(),
+        is_told,
+        "whether it is told",
+    );
+}
 
-    /// A new task of this order, and a waker of it.
-    pub fn task_of(&self, order: &WakeOrder) -> (usize, Waker) {
-        order.task(self.rt()).expect(self.rt(), "a task")
-    }
+/// So many listeners are in the queue, and whether some of them are told.
+pub fn assert_counts<S: Trial>(trial: &S, total: usize, is_notified: bool) {
+    let event = trial.event();
+    let counts = (
+        event.total_listeners(trial.rt()),
+        event.is_notified(trial.rt()),
+    );
+    assert_same(
+        trial.rt(),
+        counts,
+        (total, is_notified),
+        "how many listeners, and whether some are told",
+    );
+}
 
-    /// A text of its own.
-    pub fn text(&self, text: &str) -> String {
-        self.subject.text(text)
-    }
+/// Whether this task is woken.
+pub fn assert_woken<S: Trial>(trial: &S, task: &MockTask, expected: bool) {
+    assert_same(trial.rt(), task.is_woken(), expected, "whether it is woken");
+}
 
-    /// Notifies the event, which tells so many.
-    pub fn tell<N: IntoNotification<Tag = S::Tag>>(&self, notification: N, told: usize)
-    where
-        N::Notify: Drop,
-        requires fits { N.fits notification }
-        requires can_tag { N.Notify.can_tag (N.meaning notification) }
-    {
-        let answer = self.event().notify(self.rt(), notification);
-        self.assert_same(answer, Ok(told), "how many are told");
-    }
-
-    /// Polls a listener that waits.
-    pub fn poll_waiting(&self, listener: &mut S::Listener, waker: Waker) {
-        let polled = listener.poll(waker).expect(self.rt(), "it is in the queue");
-        self.assert_same(polled.is_pending(), true, "whether it waits");
-    }
-
-    /// Polls a listener that is told, which gives this tag.
-    pub fn poll_told(&self, listener: &mut S::Listener, tag: S::Tag)
-    where
-        S::Tag: PartialEq + Debug,
-    {
-        let polled = listener.poll(self.waker(&self.task()));
-        self.assert_same(polled, Ok(Poll::Ready(tag)), "its tag");
-    }
-
-    /// Polls a listener that is finished.
-    pub fn poll_finished(&self, listener: &mut S::Listener, waker: Waker) {
-        let refusal = listener.poll(waker).err();
-        self.assert_same(refusal, Some(NeverInserted), "its refusal");
-    }
-
-    /// Discards a listener that is told.
-    pub fn discard_told(&self, listener: S::Listener) {
-        self.assert_same(listener.discard(), true, "whether it is told");
-    }
-
-    /// Discards a listener that waits or is finished.
-    pub fn discard_untold(&self, listener: S::Listener) {
-        self.assert_same(listener.discard(), false, "whether it is told");
-    }
-
-    /// So many listeners are in the queue, and whether some of them are told.
-    pub fn assert_counts(&self, total: usize, is_notified: bool) {
-        let (rt, event) = (self.rt(), self.event());
-        self.assert_same(event.total_listeners(rt), total, "how many listeners");
-        self.assert_same(event.is_notified(rt), is_notified, "whether some are told");
-    }
-
-    /// This task is woken.
-    pub fn assert_woken(&self, task: &MockTask) {
-        self.assert_same(task.is_woken(), true, "whether it is woken");
-    }
-
-    /// This task is not woken.
-    pub fn assert_asleep(&self, task: &MockTask) {
-        self.assert_same(task.is_woken(), false, "whether it is woken");
-    }
-
-    /// The task of this order that is woken next.
-    pub fn assert_next(&self, order: &WakeOrder, task: usize) {
-        self.assert_same(order.next(self.rt()), Some(task), "who is woken next");
-    }
-
-    /// The answer is the expected one. The text says what was asked.
-    pub fn assert_same<A: PartialEq + Debug + Drop>(&self, answer: A, expected: A, what: &str) {
-        assert_same(self.rt(), answer, expected, what);
-    }
+/// The task of this order that is woken next.
+pub fn assert_next<S: Trial>(trial: &S, order: &WakeOrder, task: usize) {
+    let next = order.next(trial.rt());
+    assert_same(trial.rt(), next, Some(task), "who is woken next");
 }

@@ -1,5 +1,7 @@
 //! Tags that are refused, and tags that own memory.
-use crate::support::{Case, Subject, Trial, with_each_kind};
+use crate::support::{
+    Case, Trial, assert_counts, assert_same, discard, notify, poll_told, with_each_kind,
+};
 use event_listener::{IntoNotification, IntoTagged, NotifyError};
 use std::alloc::AllocError;
 use std::cell::Cell;
@@ -30,16 +32,16 @@ struct RefusedTag;
 impl Case for RefusedTag {
     type Tag = Counted;
 
-    fn run<S: Subject<Tag = Counted>>(trial: &Trial<S>) {
+    fn run<S: Trial<Tag = Counted>>(trial: &S) {
         let first = trial.listen();
         let second = trial.listen();
         let third = trial.listen();
-        let refusal = trial.event().notify(trial.rt(), 3.tag(Counted::new(2)));
-        trial.assert_same(refusal, Err(NotifyError { told: 2 }), "the refusal");
-        trial.assert_counts(3, true);
-        trial.discard_told(first);
-        trial.discard_told(second);
-        trial.discard_untold(third);
+        let notification = 3.tag(Counted::new(2));
+        notify(trial, notification, Err(NotifyError { told: 2 }));
+        assert_counts(trial, 3, true);
+        discard(trial, first, true);
+        discard(trial, second, true);
+        discard(trial, third, false);
     }
 }
 
@@ -52,7 +54,8 @@ fn a_refused_tag_skips_nobody(rt: HostRuntime) {
 fn the_refusal_says_how_many_were_told(rt: HostRuntime) {
     let refusal = NotifyError { told: 2 };
     let text = format!(in rt.alloc(); "{refusal}").expect(&rt, "a text");
-    assert_eq!(rt; text.as_str(), "a tag was refused after 2 listeners");
+    let expected = "a tag was refused after 2 listeners";
+    assert_same(&rt, text.as_str(), expected, "its text");
 }
 
 struct OwningTag;
@@ -60,12 +63,13 @@ struct OwningTag;
 impl Case for OwningTag {
     type Tag = String;
 
-    fn run<S: Subject<Tag = String>>(trial: &Trial<S>) {
+    fn run<S: Trial<Tag = String>>(trial: &S) {
         let mut first = trial.listen();
         let mut second = trial.listen();
-        trial.tell(2.tag(trial.text("go")), 2);
-        trial.poll_told(&mut first, trial.text("go"));
-        trial.poll_told(&mut second, trial.text("go"));
+        let notification = 2.tag(trial.text("go"));
+        notify(trial, notification, Ok(2));
+        poll_told(trial, &mut first, trial.text("go"));
+        poll_told(trial, &mut second, trial.text("go"));
     }
 }
 

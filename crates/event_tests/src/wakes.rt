@@ -2,7 +2,10 @@
 //!
 //! A waker wakes its task when it is dropped, too. So these tests show that a call gives each task up before it returns,
 //! and in which order, but not that it wakes one: those of `parking_tests`, in which threads wait, show that.
-use crate::support::{Case, Subject, Trial, with_each_kind};
+use crate::support::{
+    Case, Trial, assert_counts, assert_next, assert_woken, discard, notify, poll_told,
+    poll_waiting, task_of, waker, with_each_kind,
+};
 use event_listener::{IntoNotification, IntoTagged};
 
 struct WakesInOrder;
@@ -10,22 +13,22 @@ struct WakesInOrder;
 impl Case for WakesInOrder {
     type Tag = ();
 
-    fn run<S: Subject<Tag = ()>>(trial: &Trial<S>) {
+    fn run<S: Trial<Tag = ()>>(trial: &S) {
         let order = trial.order();
-        let (one, first_waker) = trial.task_of(&order);
-        let (two, second_waker) = trial.task_of(&order);
-        let (after, last_waker) = trial.task_of(&order);
+        let (one, first_waker) = task_of(trial, &order);
+        let (two, second_waker) = task_of(trial, &order);
+        let (after, last_waker) = task_of(trial, &order);
         let mut first = trial.listen();
         let mut second = trial.listen();
-        trial.poll_waiting(&mut first, first_waker);
-        trial.poll_waiting(&mut second, second_waker);
+        poll_waiting(trial, &mut first, first_waker);
+        poll_waiting(trial, &mut second, second_waker);
 
-        trial.tell(2.additional(), 2);
+        notify(trial, 2.additional(), Ok(2));
         last_waker.wake();
         // Where a task is kept, the last one comes too early.
-        trial.assert_next(&order, one);
-        trial.assert_next(&order, two);
-        trial.assert_next(&order, after);
+        assert_next(trial, &order, one);
+        assert_next(trial, &order, two);
+        assert_next(trial, &order, after);
     }
 }
 
@@ -39,17 +42,17 @@ struct DropPassesOn;
 impl Case for DropPassesOn {
     type Tag = u32;
 
-    fn run<S: Subject<Tag = u32>>(trial: &Trial<S>) {
+    fn run<S: Trial<Tag = u32>>(trial: &S) {
         let task = trial.task();
         let told = trial.listen();
         let mut waiting = trial.listen();
-        trial.poll_waiting(&mut waiting, trial.waker(&task));
-        trial.tell(1.tag(7), 1);
-        trial.assert_asleep(&task);
+        poll_waiting(trial, &mut waiting, waker(trial, &task));
+        notify(trial, 1.tag(7), Ok(1));
+        assert_woken(trial, &task, false);
         drop(told);
-        trial.assert_woken(&task);
-        trial.assert_counts(1, true);
-        trial.poll_told(&mut waiting, 7);
+        assert_woken(trial, &task, true);
+        assert_counts(trial, 1, true);
+        poll_told(trial, &mut waiting, 7);
     }
 }
 
@@ -63,17 +66,17 @@ struct DiscardPassesNothingOn;
 impl Case for DiscardPassesNothingOn {
     type Tag = u32;
 
-    fn run<S: Subject<Tag = u32>>(trial: &Trial<S>) {
+    fn run<S: Trial<Tag = u32>>(trial: &S) {
         let task = trial.task();
         let told = trial.listen();
         let mut waiting = trial.listen();
-        trial.poll_waiting(&mut waiting, trial.waker(&task));
-        trial.tell(1.tag(7), 1);
-        trial.discard_told(told);
-        trial.assert_asleep(&task);
-        trial.assert_counts(1, false);
-        trial.discard_untold(waiting);
-        trial.assert_counts(0, false);
+        poll_waiting(trial, &mut waiting, waker(trial, &task));
+        notify(trial, 1.tag(7), Ok(1));
+        discard(trial, told, true);
+        assert_woken(trial, &task, false);
+        assert_counts(trial, 1, false);
+        discard(trial, waiting, false);
+        assert_counts(trial, 0, false);
     }
 }
 
@@ -87,19 +90,19 @@ struct ReplacedWakerWakes;
 impl Case for ReplacedWakerWakes {
     type Tag = ();
 
-    fn run<S: Subject<Tag = ()>>(trial: &Trial<S>) {
+    fn run<S: Trial<Tag = ()>>(trial: &S) {
         let one = trial.task();
         let other = trial.task();
         let mut listener = trial.listen();
-        trial.poll_waiting(&mut listener, trial.waker(&one));
-        trial.assert_asleep(&one);
-        trial.poll_waiting(&mut listener, trial.waker(&other));
-        trial.assert_woken(&one);
-        trial.assert_asleep(&other);
+        poll_waiting(trial, &mut listener, waker(trial, &one));
+        assert_woken(trial, &one, false);
+        poll_waiting(trial, &mut listener, waker(trial, &other));
+        assert_woken(trial, &one, true);
+        assert_woken(trial, &other, false);
 
         // A task that polls again is woken by its own waker of the poll before.
-        trial.poll_waiting(&mut listener, trial.waker(&other));
-        trial.assert_woken(&other);
+        poll_waiting(trial, &mut listener, waker(trial, &other));
+        assert_woken(trial, &other, true);
     }
 }
 

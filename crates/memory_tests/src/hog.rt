@@ -1,70 +1,77 @@
 //! Whether a `Hog` takes all memory.
-use std::alloc::{AllocError, Global};
+use crate::support::{all_memory, check};
+use std::alloc::AllocGlobal;
+use std::process::Abort;
 use std::sync::Arc;
-use std::test::Fail;
-use test_support::Hog;
 
 const SIZES: [usize; 7] = [1, 8, 16, 24, 64, 1 << 10, 64 << 10];
 
-fn is_granted(alloc: Global, size: usize) -> bool {
-    Vec::<u8>::with_capacity(alloc, size).is_ok()
+fn block<R: Abort + AllocGlobal>(rt: &R, size: usize) -> Vec<u8> {
+    Vec::with_capacity(rt.alloc(), size).expect(rt, "a block")
+}
+
+// Whether a block of so many bytes is granted.
+fn is_granted<R: Abort + AllocGlobal>(rt: &R, size: usize, expected: bool) {
+    let is_granted = Vec::<u8>::with_capacity(rt.alloc(), size).is_ok();
+    check(rt, size, is_granted, expected);
+}
+
+// Whether a share is granted.
+fn is_share_granted<R: Abort + AllocGlobal>(rt: &R, expected: bool) {
+    let is_granted = Arc::new(rt.alloc(), 7u64).is_ok();
+    check(rt, "a share", is_granted, expected);
+}
+
+// Whether blocks of all sizes and a share are granted.
+fn are_granted<R: Abort + AllocGlobal>(rt: &R, expected: bool) {
+    for size in SIZES {
+        is_granted(rt, size, expected);
+    }
+    is_share_granted(rt, expected);
 }
 
 // A vector with no room left.
-fn full_vector(alloc: Global) -> Result<Vec<u64>, AllocError> {
-    let mut full = Vec::with_capacity(alloc, 8)?;
+fn full_vector<R: Abort + AllocGlobal>(rt: &R) -> Vec<u64> {
+    let mut full = Vec::with_capacity(rt.alloc(), 8).expect(rt, "a vector");
     for number in 0..8 {
-        full.push(number)?;
+        full.push(number).expect(rt, "room");
     }
-    Ok(full)
+    full
 }
 
 #[test]
-fn requests_are_refused_while_the_hog_is_held(rt: HostRuntime) -> Result<(), Fail> {
-    let alloc = rt.alloc();
-    let mut full = full_vector(alloc)?;
+fn requests_are_refused_while_the_hog_is_held(rt: HostRuntime) {
+    let mut full = full_vector(&rt);
     // It takes all a second time too.
     for _ in 0..2 {
-        let hog = Hog::new(alloc)?;
-        for size in SIZES {
-            assert!(rt; !is_granted(alloc, size), "{size} bytes");
-        }
-        assert!(rt; Arc::new(alloc, 7u64).is_err());
-        assert!(rt; full.push(8).is_err());
-
+        let hog = all_memory(&rt);
+        are_granted(&rt, false);
+        check(&rt, "room in a vector", full.push(8).is_ok(), false);
         drop(hog);
-        for size in SIZES {
-            assert!(rt; is_granted(alloc, size), "{size} bytes");
-        }
-        assert!(rt; Arc::new(alloc, 7u64).is_ok());
+        are_granted(&rt, true);
     }
-    assert!(rt; full.push(8).is_ok());
-    Ok(())
+    check(&rt, "room in a vector", full.push(8).is_ok(), true);
 }
 
 #[test]
-fn no_hole_in_the_heap_is_left(rt: HostRuntime) -> Result<(), Fail> {
-    let alloc = rt.alloc();
-    let mut kept: Vec<Vec<u8>> = Vec::new(alloc);
-    let mut freed: Vec<Vec<u8>> = Vec::new(alloc);
+fn no_hole_in_the_heap_is_left(rt: HostRuntime) {
+    let mut kept: Vec<Vec<u8>> = Vec::new(rt.alloc());
+    let mut freed: Vec<Vec<u8>> = Vec::new(rt.alloc());
     for size in 1..3000 {
-        kept.push(Vec::with_capacity(alloc, size)?)?;
-        freed.push(Vec::with_capacity(alloc, size)?)?;
+        kept.push(block(&rt, size)).expect(&rt, "room");
+        freed.push(block(&rt, size)).expect(&rt, "room");
     }
     drop(freed);
-    let _hog = Hog::new(alloc)?;
+    let _hog = all_memory(&rt);
     for size in 1..3000 {
-        assert!(rt; !is_granted(alloc, size), "{size} bytes");
+        is_granted(&rt, size, false);
     }
-    Ok(())
 }
 
 #[test]
-fn what_was_freed_under_the_hog_is_granted_again(rt: HostRuntime) -> Result<(), Fail> {
-    let alloc = rt.alloc();
-    let share = Arc::new(alloc, 7u64)?;
-    let _hog = Hog::new(alloc)?;
+fn what_was_freed_under_the_hog_is_granted_again(rt: HostRuntime) {
+    let share = Arc::new(rt.alloc(), 7u64).expect(&rt, "a share");
+    let _hog = all_memory(&rt);
     drop(share);
-    assert!(rt; Arc::new(alloc, 7u64).is_ok());
-    Ok(())
+    is_share_granted(&rt, true);
 }

@@ -1,8 +1,8 @@
 //! Waits that are refused memory for what the thread parks on.
-use crate::support::{Runtime, all_memory, listen, new_event, poll};
-use event_listener::{Event, IntoNotification, IntoTagged, Listener, WaitError};
+use crate::support::{Case, Runtime, Trial, all_memory, check, listen, poll, with_each_kind};
+use event_listener::{IntoNotification, IntoTagged, Listener, WaitError};
 use std::time::{Duration, Instant};
-use test_support::{Borrowing, ListenerKind, Sharing, any_waker};
+use test_support::{answered, any_waker};
 
 // The calls that wait.
 #[derive(Clone, Copy, Debug)]
@@ -43,74 +43,77 @@ where
 
 // The listener that comes back still stands in the queue, so that a notification reaches it and the same call gives the
 // tag.
-fn handed_back<'ev, K, R>(rt: &R, event: &'ev Event<u32>, call: Call)
-where
-    K: ListenerKind<'ev, u32, R>,
-    R: Runtime,
-{
-    let listener = refused(rt, call, listen::<K, _, R>(rt, event));
-    assert_eq!(rt; event.total_listeners(rt), 1, "{call:?}");
-    assert_eq!(rt; event.notify(rt, 1.tag(7)), Ok(1), "{call:?}");
-    assert!(rt; matches!(call.on(listener), Ok(Some(7))), "{call:?}");
+fn handed_back<S: Trial<Tag = u32>>(trial: &S, call: Call) {
+    let (rt, event) = (trial.rt(), trial.event());
+    let listener = refused(rt, call, listen(trial));
+    check(rt, call, event.total_listeners(rt), 1);
+    check(rt, call, event.notify(rt, 1.tag(7)), Ok(1));
+    check(rt, call, answered(call.on(listener)), Ok(Some(7)));
+}
+
+struct HandedBack;
+
+impl Case for HandedBack {
+    type Tag = u32;
+
+    fn run<S: Trial<Tag = u32>>(trial: &S) {
+        let past = Instant::now(trial.rt()).expect(trial.rt(), "the time");
+        handed_back(trial, Call::Wait);
+        handed_back(trial, Call::Timeout(Duration::MAX));
+        handed_back(trial, Call::Timeout(Duration::ZERO));
+        handed_back(trial, Call::Deadline(past));
+    }
 }
 
 #[test]
 fn a_refused_wait_hands_the_listener_back(rt: HostRuntime) {
-    let event = new_event(&rt);
-    let past = Instant::now(&rt).expect(&rt, "the time");
-    let calls = [
-        Call::Wait,
-        Call::Timeout(Duration::MAX),
-        Call::Timeout(Duration::ZERO),
-        Call::Deadline(past),
-    ];
-    for call in calls {
-        handed_back::<Sharing, _>(&rt, &event, call);
-        handed_back::<Borrowing, _>(&rt, &event, call);
-    }
+    with_each_kind::<HandedBack, _>(&rt);
 }
 
-fn stays_told<'ev, K, R>(rt: &R, event: &'ev Event<u32>)
-where
-    K: ListenerKind<'ev, u32, R>,
-    R: Runtime,
-{
-    let waker = any_waker(rt).expect(rt, "a waker");
-    let told = listen::<K, _, R>(rt, event);
-    let mut waiting = listen::<K, _, R>(rt, event);
-    assert_eq!(rt; event.notify(rt, 1.tag(7)), Ok(1));
-    let told = refused(rt, Call::Wait, told);
-    let left = (event.total_listeners(rt), event.is_notified(rt));
-    assert_eq!(rt; left, (2, true));
+struct StaysTold;
 
-    // One that comes back passes its notification on where it is dropped.
-    drop(told);
-    assert_eq!(rt; poll(rt, &mut waiting, waker), Some(7));
+impl Case for StaysTold {
+    type Tag = u32;
+
+    fn run<S: Trial<Tag = u32>>(trial: &S) {
+        let (rt, event) = (trial.rt(), trial.event());
+        let waker = any_waker(rt).expect(rt, "a waker");
+        let told = listen(trial);
+        let mut waiting = listen(trial);
+        check(rt, "told", event.notify(rt, 1.tag(7)), Ok(1));
+        let told = refused(rt, Call::Wait, told);
+        let left = (event.total_listeners(rt), event.is_notified(rt));
+        check(rt, "listeners, whether some are told", left, (2, true));
+
+        // One that comes back passes its notification on where it is dropped.
+        drop(told);
+        check(rt, "its tag", poll(rt, &mut waiting, waker), Some(7));
+    }
 }
 
 #[test]
 fn a_told_listener_stays_told_when_its_wait_is_refused(rt: HostRuntime) {
-    let event = new_event(&rt);
-    stays_told::<Sharing, _>(&rt, &event);
-    stays_told::<Borrowing, _>(&rt, &event);
+    with_each_kind::<StaysTold, _>(&rt);
 }
 
-fn finished<'ev, K, R>(rt: &R, event: &'ev Event<u32>)
-where
-    K: ListenerKind<'ev, u32, R>,
-    R: Runtime,
-{
-    let waker = any_waker(rt).expect(rt, "a waker");
-    let mut listener = listen::<K, _, R>(rt, event);
-    assert_eq!(rt; event.notify(rt, 1.tag(7)), Ok(1));
-    assert_eq!(rt; poll(rt, &mut listener, waker), Some(7));
-    let listener = refused(rt, Call::Wait, listener);
-    assert!(rt; matches!(listener.wait(), Err(WaitError::NeverInserted)));
+struct FinishedListener;
+
+impl Case for FinishedListener {
+    type Tag = u32;
+
+    fn run<S: Trial<Tag = u32>>(trial: &S) {
+        let (rt, event) = (trial.rt(), trial.event());
+        let waker = any_waker(rt).expect(rt, "a waker");
+        let mut listener = listen(trial);
+        check(rt, "told", event.notify(rt, 1.tag(7)), Ok(1));
+        check(rt, "its tag", poll(rt, &mut listener, waker), Some(7));
+        let listener = refused(rt, Call::Wait, listener);
+        let refusal = Err("listener is not in the queue");
+        check(rt, "a second wait", answered(listener.wait()), refusal);
+    }
 }
 
 #[test]
 fn memory_is_refused_before_a_finished_listener_is(rt: HostRuntime) {
-    let event = new_event(&rt);
-    finished::<Sharing, _>(&rt, &event);
-    finished::<Borrowing, _>(&rt, &event);
+    with_each_kind::<FinishedListener, _>(&rt);
 }

@@ -1,6 +1,7 @@
-//! What the tests share: the calls that have to succeed. Each ends the test where it does not.
+//! What ends a test, and the calls that have to succeed.
 use event_listener::{Event, EventIds};
 use std::alloc::AllocGlobal;
+use std::fmt::Debug;
 use std::process::Abort;
 use std::sync::Wait;
 use std::time::Clock;
@@ -10,6 +11,16 @@ use test_support::ListenerKind;
 pub trait Runtime: Abort + AllocGlobal + Wait + Clock + Clone {}
 
 impl<R: Abort + AllocGlobal + Wait + Clock + Clone> Runtime for R {}
+
+/// The answer is the expected one. Where it is not, the message has both, and what was asked.
+pub fn check<A, V, R>(rt: &R, asked: A, answer: V, expected: V)
+where
+    A: Debug + Drop,
+    V: PartialEq + Debug + Drop,
+    R: Abort,
+{
+    assert_eq!(rt; answer, expected, "{asked:?}");
+}
 
 /// A new event, the only one of its source.
 pub fn new_event<T, R: Abort>(rt: &R) -> Event<T> {

@@ -1,5 +1,5 @@
 //! Threads that park, and what wakes them.
-use crate::support::{Runtime, listen, new_event};
+use crate::support::{Runtime, check, listen, new_event};
 use event_listener::{Event, IntoTagged, Listener};
 use std::process::Abort;
 use std::sync::Wait;
@@ -24,16 +24,16 @@ fn soon() -> Duration {
 
 // Tells so many listeners, each with the tag 7.
 fn tell<R: Abort + Wait>(rt: &R, event: &Event<u32>, n: usize) {
-    assert_eq!(rt; event.notify(rt, n.tag(7u32)), Ok(n));
+    check(rt, "notify", event.notify(rt, n.tag(7u32)), Ok(n));
 }
 
 fn nobody_is_left<R: Abort + Wait>(rt: &R, event: &Event<u32>) {
-    assert_eq!(rt; event.total_listeners(rt), 0);
+    check(rt, "listeners", event.total_listeners(rt), 0);
 }
 
 // The listener is told, with the tag 7.
 fn is_told<L: Listener<u32> + Drop, R: Abort + Clock>(rt: &R, listener: L, wait: WaitCall) {
-    assert_eq!(rt; wait.make(rt, listener, limit()), Ok(Some(7)));
+    check(rt, wait, wait.make(rt, listener, limit()), Ok(Some(7)));
 }
 
 fn processor_time<R: Abort + CpuClock>(rt: &R) -> Duration {
@@ -49,12 +49,12 @@ where
     let before = processor_time(rt);
     is_told(rt, listener, wait);
     let used = processor_time(rt).saturating_sub(before);
-    assert!(rt; used < a_while() / 4);
+    check(rt, (wait, used), used < a_while() / 4, true);
 }
 
 fn ends_soon<R: Abort + Clock>(rt: &R, start: Instant) {
     let elapsed = start.elapsed(rt).expect(rt, "the time");
-    assert!(rt; elapsed < soon());
+    check(rt, elapsed, elapsed < soon(), true);
 }
 
 // A thread waits on the listener until another one makes this call, which comes once it is parked.
@@ -87,22 +87,26 @@ where
     nobody_is_left(rt, event);
 }
 
+fn each_kind_is_woken<R>(rt: &R, wait: WaitCall)
+where
+    R: Runtime + CpuClock + Threads + Sync,
+{
+    let event = new_event(rt);
+    is_woken_by_a_notification::<Sharing, R>(rt, &event, wait);
+    is_woken_by_a_notification::<Borrowing, R>(rt, &event, wait);
+}
+
 #[test]
 fn a_notification_wakes_a_thread_in_a_timed_wait(rt: HostRuntime) {
-    let event = new_event(&rt);
     for wait in TIMED_WAITS {
-        is_woken_by_a_notification::<Sharing, _>(&rt, &event, wait);
-        is_woken_by_a_notification::<Borrowing, _>(&rt, &event, wait);
+        each_kind_is_woken(&rt, wait);
     }
 }
 
 #[test]
 fn a_notification_wakes_a_thread_in_a_wait_without_a_limit(rt: HostRuntime) {
-    let event = new_event(&rt);
-    for wait in [WaitCall::UntilTold, WaitCall::GreatestTimeout] {
-        is_woken_by_a_notification::<Sharing, _>(&rt, &event, wait);
-        is_woken_by_a_notification::<Borrowing, _>(&rt, &event, wait);
-    }
+    each_kind_is_woken(&rt, WaitCall::UntilTold);
+    each_kind_is_woken(&rt, WaitCall::GreatestTimeout);
 }
 
 // A thread that waits on the second listener is woken by the drop of the first, which was told.

@@ -3,9 +3,10 @@ ghost use Rattle.std.specs.Prelude.{◌<◌};
 
 use event_queue::{Call, Key, List, RegisterResult, Reply, State, TagList, Woken};
 use plain_queue::PlainQueue;
-use std::alloc::{AllocError, Global};
+use std::alloc::AllocGlobal;
+use std::fmt::Debug;
 use std::mem;
-use std::test::Fail;
+use std::process::Abort;
 
 const LISTS: u64 = 500;
 
@@ -89,39 +90,47 @@ fn draw(draws: &mut Draws, listeners: u32, number: u32) -> Drawn {
     }
 }
 
-fn draw_list(alloc: Global, seed: u64) -> Result<Vec<Drawn>, AllocError> {
+fn draw_list<R: Abort + AllocGlobal>(rt: &R, seed: u64) -> Vec<Drawn> {
     let mut draws = Draws { state: seed };
     let mut listeners: u32 = 0;
-    let mut list = Vec::new(alloc);
+    let mut list = Vec::new(rt.alloc());
     for number in 0..CALLS {
         let drawn = draw(&mut draws, listeners, number);
-        if matches!(drawn, Drawn::Insert) {
-            listeners = listeners.saturating_add(1);
-        }
-        list.push(drawn)?;
+        listeners = listeners.saturating_add(u32::from(matches!(drawn, Drawn::Insert)));
+        list.push(drawn).expect(rt, "room for a call");
     }
-    Ok(list)
+    list
 }
 
-// The call with the keys that a queue gave. A listener that it did not insert has a key that no queue gives.
-fn with_keys(alloc: Global, drawn: Drawn, keys: &[Key]) -> Result<Call<u32, u32>, AllocError> {
-    let key_of = |listener: usize| {
-        keys.get(listener).copied().unwrap_or(Key {
-            slot: 0,
-            serial: u64::MAX,
-        })
-    };
-    Ok(match drawn {
+// The key that a queue gave to this listener. One that it did not insert has a key that no queue gives.
+fn key_of(keys: &[Key], listener: usize) -> Key {
+    keys.get(listener).copied().unwrap_or(Key {
+        slot: 0,
+        serial: u64::MAX,
+    })
+}
+
+fn first_tags<R: Abort + AllocGlobal>(rt: &R, tags: [u32; 3], given: usize) -> Vec<u32> {
+    let first = tags.iter().take(given).copied();
+    first.collect(rt.alloc()).expect(rt, "room for tags")
+}
+
+// The call with the keys that a queue gave.
+fn with_keys<R>(rt: &R, drawn: Drawn, keys: &[Key]) -> Call<u32, u32>
+where
+    R: Abort + AllocGlobal,
+{
+    match drawn {
         Drawn::Insert => Call::Insert,
         Drawn::Register { listener, task } => Call::Register {
-            key: key_of(listener),
+            key: key_of(keys, listener),
             task,
         },
         Drawn::Remove {
             listener,
             propagate,
         } => Call::Remove {
-            key: key_of(listener),
+            key: key_of(keys, listener),
             propagate,
         },
         Drawn::Notify {
@@ -132,45 +141,38 @@ fn with_keys(alloc: Global, drawn: Drawn, keys: &[Key]) -> Result<Call<u32, u32>
         } => Call::Notify {
             count,
             additional,
-            tags: tags.iter().take(given).copied().collect(alloc)?,
+            tags: first_tags(rt, tags, given),
         },
         Drawn::TotalListeners => Call::TotalListeners,
         Drawn::IsNotified => Call::IsNotified,
-    })
+    }
+}
+
+// What the calls on a queue answered, and the tasks that they woke.
+#[derive(Drop)]
+struct Outcome {
+    replies: Vec<Reply<u32, u32>>,
+    woken: Woken<u32>,
 }
 
 // A queue that makes calls one after another, for the comparison.
 trait Runs {
-    fn run_calls(
-        &mut self,
-        calls: Vec<Call<u32, u32>>,
-        replies: &mut Vec<Reply<u32, u32>>,
-        woken: &mut Woken<u32>,
-    ) -> Result<(), AllocError>;
+    fn run_calls<R: Abort>(&mut self, rt: &R, calls: Vec<Call<u32, u32>>, outcome: &mut Outcome);
 }
 
 impl Runs for List<u32, u32> {
-    fn run_calls(
-        &mut self,
-        calls: Vec<Call<u32, u32>>,
-        replies: &mut Vec<Reply<u32, u32>>,
-        woken: &mut Woken<u32>,
-    ) -> Result<(), AllocError> {
-        self.run(calls, replies, woken)
+    fn run_calls<R: Abort>(&mut self, rt: &R, calls: Vec<Call<u32, u32>>, outcome: &mut Outcome) {
+        let run = self.run(calls, &mut outcome.replies, &mut outcome.woken);
+        run.expect(rt, "room for replies");
     }
 }
 
 impl Runs for PlainQueue<u32, u32> {
-    fn run_calls(
-        &mut self,
-        calls: Vec<Call<u32, u32>>,
-        replies: &mut Vec<Reply<u32, u32>>,
-        woken: &mut Woken<u32>,
-    ) -> Result<(), AllocError> {
+    fn run_calls<R: Abort>(&mut self, rt: &R, calls: Vec<Call<u32, u32>>, outcome: &mut Outcome) {
         for call in calls {
-            replies.push(make(self, call, woken))?;
+            let reply = make(self, call, &mut outcome.woken);
+            outcome.replies.push(reply).expect(rt, "room for a reply");
         }
-        Ok(())
     }
 }
 
@@ -201,40 +203,55 @@ fn make(
     }
 }
 
-#[derive(Drop)]
-struct Outcome {
-    replies: Vec<Reply<u32, u32>>,
-    woken: Woken<u32>,
+// The key of the listener that was inserted last, if the last call did so.
+fn last_inserted(replies: &[Reply<u32, u32>]) -> Option<Key> {
+    match replies.last() {
+        Some(Reply::Inserted(Ok(key))) => Some(*key),
+        _ => None,
+    }
+}
+
+// The removal of each listener.
+fn removals<R: Abort>(rt: &R, keys: &[Key], calls: &mut Vec<Call<u32, u32>>) {
+    for key in keys {
+        let removal = Call::Remove {
+            key: *key,
+            propagate: false,
+        };
+        calls.push(removal).expect(rt, "room for a removal");
+    }
 }
 
 // Runs the calls, up to each insertion at once, since only its reply has the key that later calls name. At the end
 // each listener is removed, so that the replies say who was left, and in which state.
-fn run_drawn<Q: Runs>(alloc: Global, queue: &mut Q, list: &[Drawn]) -> Result<Outcome, AllocError> {
-    let mut replies = Vec::new(alloc);
-    let mut woken = Woken::with_room(alloc, ROOM)?;
-    let mut keys: Vec<Key> = Vec::new(alloc);
-    let mut calls = Vec::new(alloc);
+fn run_drawn<Q, R>(rt: &R, queue: &mut Q, list: &[Drawn]) -> Outcome
+where
+    Q: Runs,
+    R: Abort + AllocGlobal,
+{
+    let mut outcome = Outcome {
+        replies: Vec::new(rt.alloc()),
+        woken: Woken::with_room(rt.alloc(), ROOM).expect(rt, "room for tasks"),
+    };
+    let mut keys: Vec<Key> = Vec::new(rt.alloc());
+    let mut calls = Vec::new(rt.alloc());
     for drawn in list {
-        calls.push(with_keys(alloc, *drawn, keys.as_slice())?)?;
+        let call = with_keys(rt, *drawn, keys.as_slice());
+        calls.push(call).expect(rt, "room for a call");
         if matches!(drawn, Drawn::Insert) {
-            let run = mem::replace(&mut calls, Vec::new(alloc));
-            queue.run_calls(run, &mut replies, &mut woken)?;
-            if let Some(Reply::Inserted(Ok(key))) = replies.last() {
-                keys.push(*key)?;
+            let run = mem::replace(&mut calls, Vec::new(rt.alloc()));
+            queue.run_calls(rt, run, &mut outcome);
+            if let Some(key) = last_inserted(outcome.replies.as_slice()) {
+                keys.push(key).expect(rt, "room for a key");
             }
         }
     }
-    for key in &keys {
-        calls.push(Call::Remove {
-            key: *key,
-            propagate: false,
-        })?;
-    }
-    queue.run_calls(calls, &mut replies, &mut woken)?;
-    for reply in replies.iter_mut() {
+    removals(rt, keys.as_slice(), &mut calls);
+    queue.run_calls(rt, calls, &mut outcome);
+    for reply in outcome.replies.iter_mut() {
         forget_slot(reply);
     }
-    Ok(Outcome { replies, woken })
+    outcome
 }
 
 // The slot of a new listener is the queue's own choice.
@@ -267,32 +284,62 @@ fn kind(reply: &Reply<u32, u32>) -> usize
     }
 }
 
+// Notes the kinds of these replies.
+fn meet(met: &mut [bool; KINDS], replies: &[Reply<u32, u32>]) {
+    for reply in replies {
+        met[kind(reply)] = true;
+    }
+}
+
+// The answer is the expected one. Where it is not, the message has both, and what was asked. The assertion stands here
+// once, in a generic function, and is proved once.
+fn check<A, R>(rt: &R, seed: u64, asked: &str, answer: A, expected: A)
+where
+    A: PartialEq + Debug + Drop,
+    R: Abort,
+{
+    assert_eq!(rt; answer, expected, "{asked} of list {seed}");
+}
+
+// Both queues answer the same list of calls in the same way, and are empty then. Answers the replies.
+fn compare<R>(rt: &R, seed: u64) -> Vec<Reply<u32, u32>>
+where
+    R: Abort + AllocGlobal,
+{
+    // One list in five uses its serials up.
+    let first = if seed % 5 == 0 { u64::MAX - 7 } else { 0 };
+    let list = draw_list(rt, seed);
+    let mut queue = List::starting_at(rt.alloc(), first);
+    let mut plain = PlainQueue::starting_at(rt.alloc(), first);
+    let Outcome { replies, woken } = run_drawn(rt, &mut queue, list.as_slice());
+    let expected = run_drawn(rt, &mut plain, list.as_slice());
+    check(
+        rt,
+        seed,
+        "replies",
+        replies.as_slice(),
+        expected.replies.as_slice(),
+    );
+    check(
+        rt,
+        seed,
+        "woken tasks",
+        woken.tasks(),
+        expected.woken.tasks(),
+    );
+    check(rt, seed, "missed tasks", woken.missed(), 0);
+    check(rt, seed, "listeners", queue.total_listeners(), 0);
+    check(rt, seed, "plain listeners", plain.total_listeners(), 0);
+    replies
+}
+
 #[test]
-fn queue_and_plain_program_answer_the_same(rt: HostRuntime) -> Result<(), Fail> {
-    let alloc = rt.alloc();
+fn queue_and_plain_program_answer_the_same(rt: HostRuntime) {
     let mut met = [false; KINDS];
     for seed in 0..LISTS {
-        // One list in five uses its serials up.
-        let first = if seed % 5 == 0 { u64::MAX - 7 } else { 0 };
-        let list = draw_list(alloc, seed)?;
-        let mut queue = List::starting_at(alloc, first);
-        let mut plain = PlainQueue::starting_at(alloc, first);
-        let queued = run_drawn(alloc, &mut queue, list.as_slice())?;
-        let expected = run_drawn(alloc, &mut plain, list.as_slice())?;
-        assert_eq!(rt;
-            queued.replies.as_slice(),
-            expected.replies.as_slice(),
-            "list {seed}"
-        );
-        assert_eq!(rt; queued.woken.tasks(), expected.woken.tasks(), "list {seed}");
-        assert_eq!(rt; queued.woken.missed(), 0);
-        assert_eq!(rt; queue.total_listeners(), 0);
-        assert_eq!(rt; plain.total_listeners(), 0);
-        for reply in &queued.replies {
-            met[kind(reply)] = true;
-        }
+        let replies = compare(&rt, seed);
+        meet(&mut met, replies.as_slice());
     }
     // A kind that no list brings about would be compared nowhere.
     assert_eq!(rt; met, [true; KINDS]);
-    Ok(())
 }

@@ -2,6 +2,8 @@
 //! notifications with tags.
 #![tactic(auto)]
 
+#[cfg(test)]
+mod checks;
 pub mod shared;
 pub mod tagged;
 pub mod turnstile;

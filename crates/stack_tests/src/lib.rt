@@ -4,4 +4,6 @@
 #[cfg(test)]
 mod stack;
 #[cfg(test)]
+mod support;
+#[cfg(test)]
 mod texts;

@@ -1,16 +1,16 @@
 //! Listeners that borrow their event, and the macro that makes them.
-use event_listener::{
-    Event, EventIds, EventListener, IntoTagged, ListenError, Listener, StackListener, StackSlot,
-    listener,
+use crate::support::{
+    Runtime, check, counts, new_event, new_slot, refused, shared, stacked, takes, tells, waits,
 };
-use futures::task::Poll;
+use event_listener::{
+    Event, EventListener, IntoTagged, ListenError, Listener, StackListener, StackSlot, listener,
+};
 use std::alloc::{AllocError, Global};
 use std::cell::Cell;
 use std::io;
 use std::sync::Wait;
-use std::test::Fail;
 use std::time::{Clock, Duration};
-use test_support::{Unshared, any_waker};
+use test_support::Unshared;
 
 // An error of the tests' own, that a refused listening turns into.
 #[derive(Debug, Drop, PartialEq, Eq)]
@@ -39,29 +39,47 @@ fn told_of_two<R: Wait + Clock + Clone>(
 }
 
 #[test]
-fn two_listeners_in_one_body(rt: HostRuntime) -> Result<(), Fail> {
-    let event = Event::new(EventIds::new().next()?);
+fn two_listeners_in_one_body(rt: HostRuntime) {
+    let event = new_event(&rt);
     let told = told_of_two(&rt, rt.alloc(), &event);
-    assert_eq!(rt; told, Ok((2, true, false)));
-    assert_eq!(rt; event.total_listeners(&rt), 0);
+    check(
+        &rt,
+        "how many, and which are told",
+        told,
+        Ok((2, true, false)),
+    );
+    counts(&rt, &event, 0);
 
     // The refusal of the macro's calls is the function's own error.
     let unshared = Unshared { rt: &rt };
     let refused = told_of_two(&unshared, rt.alloc(), &event);
-    assert_eq!(rt; refused, Err(Stopped::Listening(ListenError::Memory)));
+    let refusal = Stopped::Listening(ListenError::Memory);
+    check(&rt, "the refusal", refused, Err(refusal));
+}
+
+// The first listener is told and gives its tag. The second waits on.
+fn only_the_first_is_told<L, R>(rt: &R, event: &Event<u8>, first: &mut L, second: &mut L)
+where
+    L: Listener<u8>,
+    R: Runtime,
+{
+    tells(rt, event, 1.tag(7), 1);
+    takes(rt, first, 7);
+    waits(rt, second);
+    refused(rt, first);
+}
+
+// The macro is handed an event, and each of its listeners is polled by the name that it got.
+fn polled_by_name<R: Runtime>(rt: &R, event: &Event<u8>) -> Result<(), ListenError> {
+    listener!(rt, rt.alloc(); *event => first);
+    listener!(rt, rt.alloc(); *event => mut second);
+    only_the_first_is_told(rt, event, &mut first, &mut second);
     Ok(())
 }
 
 #[test]
-fn the_macro_takes_an_event_and_a_name_that_is_polled(rt: HostRuntime) -> Result<(), Fail> {
-    let event: Event<u8> = Event::with_tag(EventIds::new().next()?);
-    listener!(&rt, rt.alloc(); event => first);
-    listener!(&rt, rt.alloc(); event => mut second);
-    assert_eq!(rt; event.notify(&rt, 1.tag(7))?, 1);
-    assert!(rt; matches!(first.poll(any_waker(&rt)?)?, Poll::Ready(7)));
-    assert!(rt; second.poll(any_waker(&rt)?)?.is_pending());
-    assert!(rt; first.poll(any_waker(&rt)?).is_err());
-    Ok(())
+fn the_macro_takes_an_event_and_a_name_that_is_polled(rt: HostRuntime) {
+    polled_by_name(&rt, &new_event(&rt)).expect(&rt, "listeners");
 }
 
 // Its variables have the names of those in the macro's own body, and the macro is handed one of them.
@@ -77,31 +95,26 @@ fn beside_its_own_names<R: Wait + Clock + Clone>(
 }
 
 #[test]
-fn the_macro_leaves_the_variables_of_its_function(rt: HostRuntime) -> Result<(), Fail> {
-    let event = Event::new(EventIds::new().next()?);
-    let left = beside_its_own_names(&rt, rt.alloc(), &event)?;
-    assert_eq!(rt; left, (7, 1, true));
-    Ok(())
+fn the_macro_leaves_the_variables_of_its_function(rt: HostRuntime) {
+    let left = beside_its_own_names(&rt, rt.alloc(), &new_event(&rt));
+    check(&rt, "what is left", left, Ok((7, 1, true)));
 }
 
 #[test]
-fn a_slot_changes_nothing_until_it_listens(rt: HostRuntime) -> Result<(), Fail> {
-    let event = Event::new(EventIds::new().next()?);
-    let (slot, unused) = (
-        StackSlot::new(&rt, rt.alloc(), &event)?,
-        StackSlot::new(&rt, rt.alloc(), &event)?,
-    );
-    assert_eq!(rt; event.total_listeners(&rt), 0);
-    assert_eq!(rt; event.notify(&rt, 1)?, 0);
-    let mut listener = slot.listen(&rt)?;
+fn a_slot_changes_nothing_until_it_listens(rt: HostRuntime) {
+    let event = new_event(&rt);
+    let slot = new_slot(&rt, &event);
+    let unused = new_slot(&rt, &event);
+    counts(&rt, &event, 0);
+    tells(&rt, &event, 1, 0);
+    let mut listener = stacked(&rt, slot);
     drop(unused);
-    assert_eq!(rt; event.total_listeners(&rt), 1);
-    assert!(rt; listener.poll(any_waker(&rt)?)?.is_pending());
-    Ok(())
+    counts(&rt, &event, 1);
+    waits(&rt, &mut listener);
 }
 
 // The slot ends here, and the listener goes on.
-fn listen<'ev, R: Wait + Clock + Clone>(
+fn made<'ev, R: Wait + Clock + Clone>(
     rt: &R,
     alloc: Global,
     event: &'ev Event<()>,
@@ -110,23 +123,27 @@ fn listen<'ev, R: Wait + Clock + Clone>(
     Ok(made)
 }
 
+/// A listener that the macro made.
+pub fn listen<'ev, R: Runtime>(rt: &R, event: &'ev Event<()>) -> StackListener<'ev, (), R> {
+    made(rt, rt.alloc(), event).expect(rt, "a listener")
+}
+
 fn discarded<R: Wait + Clock + Clone>(listener: StackListener<'_, (), R>) -> bool {
     listener.discard()
 }
 
 #[test]
-fn a_stack_listener_may_move_while_its_event_lives(rt: HostRuntime) -> Result<(), Fail> {
-    let event = Event::new(EventIds::new().next()?);
-    let first = listen(&rt, rt.alloc(), &event)?;
-    let second = listen(&rt, rt.alloc(), &event)?;
+fn a_stack_listener_may_move_while_its_event_lives(rt: HostRuntime) {
+    let event = new_event(&rt);
+    let first = listen(&rt, &event);
+    let second = listen(&rt, &event);
     let moved = (second, first);
-    assert_eq!(rt; event.total_listeners(&rt), 2);
-    assert_eq!(rt; event.notify(&rt, 1)?, 1);
+    counts(&rt, &event, 2);
+    tells(&rt, &event, 1, 1);
     let (waiting, told) = moved;
-    assert!(rt; !discarded(waiting));
-    assert!(rt; discarded(told));
-    assert_eq!(rt; event.total_listeners(&rt), 0);
-    Ok(())
+    check(&rt, "whether the second is told", discarded(waiting), false);
+    check(&rt, "whether the first is told", discarded(told), true);
+    counts(&rt, &event, 0);
 }
 
 // A runtime value that counts how often it is cloned.
@@ -178,24 +195,22 @@ fn evaluations<R: Wait + Clock + Clone>(
 }
 
 #[test]
-fn the_macro_evaluates_each_of_its_expressions_once(rt: HostRuntime) -> Result<(), Fail> {
-    let event = Event::new(EventIds::new().next()?);
-    assert_eq!(rt; evaluations(&rt, rt.alloc(), &event)?, [1, 1, 1, 1]);
-    Ok(())
+fn the_macro_evaluates_each_of_its_expressions_once(rt: HostRuntime) {
+    let times = evaluations(&rt, rt.alloc(), &new_event(&rt));
+    check(&rt, "how often each is evaluated", times, Ok([1, 1, 1, 1]));
 }
 
 fn is_shared_by_threads<T: Send + Sync>(_: &T) {}
 
 // A cell may be sent and not shared, and tags need no more.
 #[test]
-fn tags_that_may_be_sent_are_enough(rt: HostRuntime) -> Result<(), Fail> {
-    let event: Event<Cell<u8>> = Event::with_tag(EventIds::new().next()?);
-    let slot: StackSlot<'_, Cell<u8>> = StackSlot::new(&rt, rt.alloc(), &event)?;
+fn tags_that_may_be_sent_are_enough(rt: HostRuntime) {
+    let event: Event<Cell<u8>> = new_event(&rt);
+    let slot: StackSlot<'_, Cell<u8>> = new_slot(&rt, &event);
     is_shared_by_threads(&event);
     is_shared_by_threads(&slot);
-    let stacked: StackListener<'_, Cell<u8>, HostRuntime> = slot.listen(&rt)?;
-    let shared: EventListener<Cell<u8>, HostRuntime> = event.listen(&rt, rt.alloc())?;
+    let stacked: StackListener<'_, Cell<u8>, HostRuntime> = stacked(&rt, slot);
+    let shared: EventListener<Cell<u8>, HostRuntime> = shared(&rt, &event);
     is_shared_by_threads(&stacked);
     is_shared_by_threads(&shared);
-    Ok(())
 }

@@ -1,95 +1,72 @@
 //! What events, slots, listeners and refusals show of themselves.
-use event_listener::{Event, EventIds, Listener, StackSlot, listener};
-use std::test::Fail;
-use test_support::any_waker;
+use crate::stack::listen;
+use crate::support::{
+    new_event, new_slot, reads, refused, shared, shows, shows_over_lines, stacked, takes, tells,
+};
+use event_listener::{Event, EventIds};
 
 // A tag that shows nothing of itself.
 #[derive(Drop)]
 struct Silent;
 
 #[test]
-fn an_event_shows_its_counts(rt: HostRuntime) -> Result<(), Fail> {
-    let alloc = rt.alloc();
-    let event = Event::new(EventIds::new().next()?);
-    assert_eq!(rt;
-        format!(in alloc; "{event:?}")?.as_str(),
-        "Event(<uninitialized>)"
+fn an_event_shows_its_counts(rt: HostRuntime) {
+    let event = new_event(&rt);
+    shows(&rt, &event, "Event(<uninitialized>)");
+    let slot = new_slot(&rt, &event);
+    shows(
+        &rt,
+        &event,
+        "Event { listeners_notified: 0, listeners_total: 0 }",
     );
-    let slot = StackSlot::new(&rt, alloc, &event)?;
-    assert_eq!(rt;
-        format!(in alloc; "{event:?}")?.as_str(),
-        "Event { listeners_notified: 0, listeners_total: 0 }"
+    let _first = stacked(&rt, slot);
+    let _second = shared(&rt, &event);
+    let _third = listen(&rt, &event);
+    tells(&rt, &event, 2, 2);
+    shows(
+        &rt,
+        &event,
+        "Event { listeners_notified: 2, listeners_total: 3 }",
     );
-    let _first = slot.listen(&rt)?;
-    let _second = event.listen(&rt, alloc)?;
-    listener!(&rt, alloc; event => _third);
-    assert_eq!(rt; event.notify(&rt, 2)?, 2);
-    assert_eq!(rt;
-        format!(in alloc; "{event:?}")?.as_str(),
-        "Event { listeners_notified: 2, listeners_total: 3 }"
-    );
-    Ok(())
 }
 
 #[test]
-fn over_several_lines(rt: HostRuntime) -> Result<(), Fail> {
-    let alloc = rt.alloc();
-    let event = Event::new(EventIds::new().next()?);
-    assert_eq!(rt;
-        format!(in alloc; "{event:#?}")?.as_str(),
-        "Event(\n    <uninitialized>,\n)"
+fn over_several_lines(rt: HostRuntime) {
+    let event: Event<()> = new_event(&rt);
+    shows_over_lines(&rt, &event, "Event(\n    <uninitialized>,\n)");
+    let _kept = shared(&rt, &event);
+    shows_over_lines(
+        &rt,
+        &event,
+        "Event {\n    listeners_notified: 0,\n    listeners_total: 1,\n}",
     );
-    let _kept = event.listen(&rt, alloc)?;
-    assert_eq!(rt;
-        format!(in alloc; "{event:#?}")?.as_str(),
-        "Event {\n    listeners_notified: 0,\n    listeners_total: 1,\n}"
-    );
-    Ok(())
 }
 
 #[test]
-fn slots_and_listeners_show_their_names(rt: HostRuntime) -> Result<(), Fail> {
-    let alloc = rt.alloc();
-    let event: Event<Silent> = Event::with_tag(EventIds::new().next()?);
-    let shared = event.listen(&rt, alloc)?;
-    assert_eq!(rt;
-        format!(in alloc; "{shared:?}")?.as_str(),
-        "EventListener { .. }"
+fn slots_and_listeners_show_their_names(rt: HostRuntime) {
+    let event: Event<Silent> = new_event(&rt);
+    let shared = shared(&rt, &event);
+    shows(&rt, &shared, "EventListener { .. }");
+    let slot = new_slot(&rt, &event);
+    shows(&rt, &slot, "StackSlot { .. }");
+    let stacked = stacked(&rt, slot);
+    shows(&rt, &stacked, "StackListener { .. }");
+    shows(
+        &rt,
+        &event,
+        "Event { listeners_notified: 0, listeners_total: 2 }",
     );
-    let slot = StackSlot::new(&rt, alloc, &event)?;
-    assert_eq!(rt; format!(in alloc; "{slot:?}")?.as_str(), "StackSlot { .. }");
-    let stacked = slot.listen(&rt)?;
-    assert_eq!(rt;
-        format!(in alloc; "{stacked:?}")?.as_str(),
-        "StackListener { .. }"
-    );
-    assert_eq!(rt;
-        format!(in alloc; "{event:?}")?.as_str(),
-        "Event { listeners_notified: 0, listeners_total: 2 }"
-    );
-    Ok(())
 }
 
 #[test]
-fn refusals_say_what_was_refused(rt: HostRuntime) -> Result<(), Fail> {
-    let alloc = rt.alloc();
-    let used_up = EventIds::starting_at(u64::MAX)
-        .next()
-        .expect_err(&rt, "an identity was given");
-    assert_eq!(rt;
-        format!(in alloc; "{used_up}")?.as_str(),
-        "event identities are used up"
-    );
-    let event = Event::new(EventIds::new().next()?);
-    let mut finished = event.listen(&rt, alloc)?;
+fn refusals_say_what_was_refused(rt: HostRuntime) {
+    let mut ids = EventIds::starting_at(u64::MAX);
+    let used_up = ids.next().expect_err(&rt, "an identity was given");
+    reads(&rt, used_up, "event identities are used up");
+    let event = new_event(&rt);
+    let mut finished = shared(&rt, &event);
     event.notify_additional(&rt, 1);
-    assert!(rt; finished.poll(any_waker(&rt)?)?.is_ready());
-    let absent = finished
-        .poll(any_waker(&rt)?)
-        .expect_err(&rt, "the listener is in the queue");
-    assert_eq!(rt;
-        format!(in alloc; "{absent}")?.as_str(),
-        "listener is not in the queue"
-    );
-    Ok(())
+    takes(&rt, &mut finished, ());
+    let absent = refused(&rt, &mut finished);
+    reads(&rt, absent, "listener is not in the queue");
 }

@@ -1,26 +1,35 @@
 use super::*;
-use std::alloc::AllocError;
+use crate::checks::{check, new_id, reads};
+use std::alloc::{AllocError, AllocGlobal};
 use std::process::Abort;
+use std::thread::Threads;
 use std::time::Duration;
 use std::{io, thread};
 
 const ROUNDS: u32 = 1_000;
 
-// A new flag, the only one of its source.
-fn new_flag<R: Abort>(rt: &R) -> Flag {
-    Flag::new(EventIds::new().next().expect(rt, "an identity"))
+// Nobody listens to the flag.
+fn nobody_listens<R: Abort + Wait>(rt: &R, flag: &Flag) {
+    check(rt, "listeners", flag.set.total_listeners(rt), 0);
 }
 
 // The two race. Whichever comes first, the wait ends and leaves no listener.
+fn wait_and_set<R>(rt: &R, flag: &Flag)
+where
+    R: Abort + AllocGlobal + Wait + Clock + Clone + Threads + Sync,
+{
+    check(rt, "a new flag", flag.is_set(), false);
+    let (waited, ()) = thread::join(rt, || flag.wait(rt, rt.alloc()), || flag.set(rt));
+    check(rt, "the wait", waited, Ok(()));
+    check(rt, "the flag", flag.is_set(), true);
+    nobody_listens(rt, flag);
+}
+
 #[test]
 fn one_thread_waits_and_another_sets(rt: HostRuntime) {
     for _ in 0..ROUNDS {
-        let flag = new_flag(&rt);
-        assert!(rt; !flag.is_set());
-        let (waited, ()) = thread::join(&rt, || flag.wait(&rt, rt.alloc()), || flag.set(&rt));
-        assert_eq!(rt; waited, Ok(()));
-        assert!(rt; flag.is_set());
-        assert_eq!(rt; flag.set.total_listeners(&rt), 0);
+        let flag = Flag::new(new_id(&rt));
+        wait_and_set(&rt, &flag);
     }
 }
 
@@ -57,29 +66,28 @@ impl<'a, R: Clock> Clock for SetsWhenCloned<'a, R> {
 // Were there no second look, the wait would never end: nobody tells the listener.
 #[test]
 fn a_flag_set_between_the_first_look_and_the_queue_is_seen(rt: HostRuntime) {
-    let flag = new_flag(&rt);
+    let flag = Flag::new(new_id(&rt));
     let late = SetsWhenCloned {
         rt: &rt,
         flag: &flag,
     };
-    assert_eq!(rt; flag.wait(&late, rt.alloc()), Ok(()));
-    assert_eq!(rt; flag.set.total_listeners(&rt), 0);
+    check(&rt, "the wait", flag.wait(&late, rt.alloc()), Ok(()));
+    nobody_listens(&rt, &flag);
 }
 
 #[test]
 fn each_flag_of_a_pair_is_set_alone(rt: HostRuntime) {
-    let (first, second) = pair(&mut EventIds::new()).expect(&rt, "two identities");
+    let mut ids = EventIds::new();
+    let (first, second) = pair(&mut ids).expect(&rt, "two identities");
     first.set(&rt);
-    assert_eq!(rt; [first.is_set(), second.is_set()], [true, false]);
-    assert_eq!(rt; first.wait(&rt, rt.alloc()), Ok(()));
+    let are_set = [first.is_set(), second.is_set()];
+    check(&rt, "which are set", are_set, [true, false]);
+    check(&rt, "the wait", first.wait(&rt, rt.alloc()), Ok(()));
 }
 
 #[test]
 fn texts_of_the_refusals(rt: HostRuntime) {
-    let listen = FlagError::from(ListenError::SerialsUsedUp);
-    let text = format!(in rt.alloc(); "{listen}").expect(&rt, "a text");
-    assert_eq!(rt; text.as_str(), "serial numbers are used up");
-    let wait = FlagError::Memory;
-    let text = format!(in rt.alloc(); "{wait}").expect(&rt, "a text");
-    assert_eq!(rt; text.as_str(), "no memory for a parker");
+    let refusal = FlagError::from(ListenError::SerialsUsedUp);
+    reads(&rt, refusal, "serial numbers are used up");
+    reads(&rt, FlagError::Memory, "no memory for a parker");
 }

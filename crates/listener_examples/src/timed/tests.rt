@@ -1,35 +1,32 @@
 use super::*;
-use event_listener::{Event, EventIds, EventListener, IntoTagged, NeverInserted};
+use crate::checks::{check, listen, new_id};
+use event_listener::{Event, IntoTagged, NeverInserted};
 use futures::task::{Poll, Waker};
-use std::alloc::AllocGlobal;
 use std::cell::Cell;
 use std::io;
 use std::process::Abort;
 use std::sync::Wait;
 
-// A new event, the only one of its source.
-fn new_event<R: Abort>(rt: &R) -> Event<u32> {
-    Event::with_tag(EventIds::new().next().expect(rt, "an identity"))
-}
-
-fn listen<R>(rt: &R, event: &Event<u32>) -> EventListener<u32, R>
-where
-    R: Abort + AllocGlobal + Wait + Clock + Clone,
-{
-    event.listen(rt, rt.alloc()).expect(rt, "a listener")
-}
-
 // Tells one listener, with tag 7.
 fn notify<R: Abort + Wait>(rt: &R, event: &Event<u32>) {
-    assert_eq!(rt; event.notify(rt, 1.tag(7u32)), Ok(1));
+    check(rt, "told", event.notify(rt, 1.tag(7u32)), Ok(1));
 }
 
-// What the wait gave, which was not refused.
-fn answered<L: Drop, R: Abort>(rt: &R, answer: Result<Option<u32>, WaitError<L>>) -> Option<u32> {
+// The wait is not refused, and gives this.
+fn gives<L, R>(rt: &R, answer: Result<Option<u32>, WaitError<L>>, expected: Option<u32>)
+where
+    L: Drop,
+    R: Abort,
+{
     match answer {
-        Ok(tag) => tag,
+        Ok(tag) => check(rt, "the tag", tag, expected),
         Err(_) => panic!(rt; "the wait was refused"),
     }
+}
+
+// Nobody listens.
+fn nobody_listens<R: Abort + Wait>(rt: &R, event: &Event<u32>) {
+    check(rt, "listeners", event.total_listeners(rt), 0);
 }
 
 // The listener that came back from a wait that was refused memory.
@@ -46,20 +43,19 @@ fn now<R: Abort, C: Clock>(rt: &R, clock: &C) -> Instant {
 
 #[test]
 fn a_listener_gives_its_tag_or_none_at_its_limit(rt: HostRuntime) {
-    let event = new_event(&rt);
+    let event = Event::with_tag(new_id(&rt));
     let told = listen(&rt, &event);
     let untold = listen(&rt, &event);
     notify(&rt, &event);
     // It was told before, so it gets its tag, however short the limit is.
-    let tag = answered(&rt, tag_within(&rt, told, Duration::ZERO));
-    assert_eq!(rt; tag, Some(7));
+    gives(&rt, tag_within(&rt, told, Duration::ZERO), Some(7));
 
     let limit = Duration::from_millis(50);
     let start = now(&rt, &rt);
-    let tag = answered(&rt, tag_within(&rt, untold, limit));
-    assert_eq!(rt; tag, None);
-    assert!(rt; start.elapsed(&rt).expect(&rt, "a time") >= limit);
-    assert_eq!(rt; event.total_listeners(&rt), 0);
+    gives(&rt, tag_within(&rt, untold, limit), None);
+    let waited = start.elapsed(&rt).expect(&rt, "a time");
+    check(&rt, "whether the limit has passed", waited >= limit, true);
+    nobody_listens(&rt, &event);
 }
 
 // A clock that can't be read.
@@ -78,15 +74,14 @@ impl Clock for NoClock {
 
 #[test]
 fn a_clock_that_cant_be_read_is_a_passed_deadline(rt: HostRuntime) {
-    let event = new_event(&rt);
+    let event = Event::with_tag(new_id(&rt));
     let told = listen(&rt, &event);
     let untold = listen(&rt, &event);
     notify(&rt, &event);
-    let tag = answered(&rt, tag_within(&NoClock, told, Duration::MAX));
-    assert_eq!(rt; tag, Some(7));
-    let tag = answered(&rt, tag_within(&NoClock, untold, Duration::MAX));
-    assert_eq!(rt; tag, None);
-    assert_eq!(rt; event.total_listeners(&rt), 0);
+    let clock = NoClock;
+    gives(&rt, tag_within(&clock, told, Duration::MAX), Some(7));
+    gives(&rt, tag_within(&clock, untold, Duration::MAX), None);
+    nobody_listens(&rt, &event);
 }
 
 // A clock that is one second later each time it is read.
@@ -116,7 +111,7 @@ impl Clock for Ticking {
 }
 
 // How a listener was asked to wait last.
-#[derive(Clone, Copy, PartialEq, Eq)]
+#[derive(Clone, Copy, Debug, PartialEq, Eq)]
 enum Asked {
     Nothing,
     Wait,
@@ -152,6 +147,12 @@ impl Notes {
 struct Refusing<'a, L: Drop> {
     listener: L,
     notes: &'a Notes,
+}
+
+impl<'a, L: Drop> Refusing<'a, L> {
+    fn new(listener: L, notes: &'a Notes) -> Self {
+        Refusing { listener, notes }
+    }
 }
 
 impl<'a, T, L: Listener<T> + Drop> Listener<T> for Refusing<'a, L> {
@@ -221,52 +222,48 @@ impl<'a, T, L: Listener<T> + Drop> Listener<T> for Refusing<'a, L> {
     }
 }
 
+// All refusals were met, and the last wait was asked for so.
+fn was_asked<R: Abort>(rt: &R, notes: &Notes, asked: Asked) {
+    check(rt, "refusals left", notes.refusals.get(), 0);
+    check(rt, "the last wait", notes.asked.get(), asked);
+}
+
 // The clock is read once, so the second wait has the deadline of the first, and not a limit of its own.
 #[test]
 fn a_refused_wait_is_tried_again_against_the_same_deadline(rt: HostRuntime) {
-    let event = new_event(&rt);
+    let event = Event::with_tag(new_id(&rt));
     let notes = Notes::new(1);
-    let listener = Refusing {
-        listener: listen(&rt, &event),
-        notes: &notes,
-    };
+    let listener = Refusing::new(listen(&rt, &event), &notes);
     notify(&rt, &event);
 
     let limit = Duration::from_secs(10);
-    let start = now(&rt, &Ticking::new());
-    let tag = answered(&rt, tag_within(&Ticking::new(), listener, limit));
-    assert_eq!(rt; tag, Some(7));
-    assert_eq!(rt; notes.refusals.get(), 0);
+    let clock = Ticking::new();
+    let start = now(&rt, &clock);
     let deadline = start.checked_add(limit).expect(&rt, "a moment");
-    assert!(rt; notes.asked.get() == Asked::Deadline(deadline));
+    let clock = Ticking::new();
+    gives(&rt, tag_within(&clock, listener, limit), Some(7));
+    was_asked(&rt, &notes, Asked::Deadline(deadline));
 }
 
 #[test]
 fn a_listener_comes_back_after_two_refusals(rt: HostRuntime) {
-    let event = new_event(&rt);
+    let event = Event::with_tag(new_id(&rt));
     let notes = Notes::new(2);
-    let listener = Refusing {
-        listener: listen(&rt, &event),
-        notes: &notes,
-    };
+    let listener = Refusing::new(listen(&rt, &event), &notes);
     notify(&rt, &event);
-    let back = returned(&rt, tag_by(listener, now(&rt, &rt)));
-    assert_eq!(rt; notes.refusals.get(), 0);
-    assert_eq!(rt; event.total_listeners(&rt), 1);
-    let tag = answered(&rt, back.wait_timeout(Duration::ZERO));
-    assert_eq!(rt; tag, Some(7));
+    let deadline = now(&rt, &rt);
+    let back = returned(&rt, tag_by(listener, deadline));
+    was_asked(&rt, &notes, Asked::Deadline(deadline));
+    check(&rt, "listeners", event.total_listeners(&rt), 1);
+    gives(&rt, back.wait_timeout(Duration::ZERO), Some(7));
 }
 
 #[test]
 fn a_limit_too_long_to_be_represented_is_none(rt: HostRuntime) {
-    let event = new_event(&rt);
+    let event = Event::with_tag(new_id(&rt));
     let notes = Notes::new(0);
-    let listener = Refusing {
-        listener: listen(&rt, &event),
-        notes: &notes,
-    };
+    let listener = Refusing::new(listen(&rt, &event), &notes);
     notify(&rt, &event);
-    let tag = answered(&rt, tag_within(&rt, listener, Duration::MAX));
-    assert_eq!(rt; tag, Some(7));
-    assert!(rt; notes.asked.get() == Asked::Wait);
+    gives(&rt, tag_within(&rt, listener, Duration::MAX), Some(7));
+    was_asked(&rt, &notes, Asked::Wait);
 }

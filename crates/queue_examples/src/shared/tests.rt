@@ -1,4 +1,5 @@
 use super::*;
+use crate::checks::check;
 use std::alloc::AllocGlobal;
 use std::process::Abort;
 use std::thread;
@@ -11,6 +12,14 @@ fn join<R: Abort + Wait>(rt: &R, shared: &SharedTurnstile, visitor: u64) -> Key 
     shared.join(rt, visitor).expect(rt, "a ticket")
 }
 
+fn admit<R>(rt: &R, shared: &SharedTurnstile, n: usize) -> Woken<u64>
+where
+    R: Abort + AllocGlobal + Wait,
+{
+    let admitted = shared.admit(rt, rt.alloc(), n);
+    admitted.expect(rt, "room for the numbers")
+}
+
 // The visitors of both admissions, sorted.
 fn sorted<R>(rt: &R, first: Woken<u64>, second: Woken<u64>) -> Vec<u64>
 where
@@ -21,6 +30,12 @@ where
     seen.extend_from_slice(second.tasks()).expect(rt, "room");
     seen.sort().expect(rt, "room to sort");
     seen
+}
+
+// The visitors from 0 on.
+fn visitors<R: Abort + AllocGlobal>(rt: &R, n: u64) -> Vec<u64> {
+    let visitors = (0..n).collect(rt.alloc());
+    visitors.expect(rt, "room for the visitors")
 }
 
 #[test]
@@ -38,10 +53,8 @@ fn each_visitor_is_admitted_once(rt: HostRuntime) {
     let first = first.expect(&rt, "room for the numbers");
     let second = second.expect(&rt, "room for the numbers");
     let seen = sorted(&rt, first, second);
-    assert_eq!(rt; seen.len(), 100);
-    for (number, visitor) in seen.iter().enumerate() {
-        assert_eq!(rt; *visitor, number as u64);
-    }
+    let all = visitors(&rt, 100);
+    check(&rt, "admitted", seen.as_slice(), all.as_slice());
 }
 
 #[test]
@@ -49,11 +62,9 @@ fn each_call_is_one_of_the_line(rt: HostRuntime) {
     let shared = new_turnstile(&rt, 0);
     let first = join(&rt, &shared, 10);
     let second = join(&rt, &shared, 20);
-    let admitted = shared
-        .admit(&rt, rt.alloc(), 1)
-        .expect(&rt, "room for the number");
-    assert_eq!(rt; admitted.tasks(), [10].as_slice());
-    assert_eq!(rt; shared.leave(&rt, first), Some(20));
-    assert!(rt; shared.enter(&rt, second, 20));
-    assert!(rt; !shared.enter(&rt, second, 20));
+    let admitted = admit(&rt, &shared, 1);
+    check(&rt, "admitted", admitted.tasks(), &[10]);
+    check(&rt, "leave", shared.leave(&rt, first), Some(20));
+    check(&rt, "enter", shared.enter(&rt, second, 20), true);
+    check(&rt, "a second time", shared.enter(&rt, second, 20), false);
 }

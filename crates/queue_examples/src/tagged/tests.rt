@@ -1,6 +1,8 @@
 use super::*;
+use crate::checks::check;
 use event_queue::{Key, RegisterResult};
 use std::alloc::AllocGlobal;
+use std::fmt::Debug;
 use std::process::Abort;
 
 fn room_for_two<R: Abort + AllocGlobal>(rt: &R) -> Woken<u64> {
@@ -11,28 +13,44 @@ fn insert<T: Drop, R: Abort>(rt: &R, line: &mut List<T, u64>) -> Key {
     line.insert().expect(rt, "a listener")
 }
 
-// Whoever has this key is called, with the text.
-fn gets_the_text<R: Abort>(rt: &R, line: &mut List<String, u64>, key: Key) {
-    let RegisterResult::Notified(text) = line.register(key, 0) else {
-        panic!(rt; "nobody was called");
-    };
-    assert_eq!(rt; text.as_str(), "gate 7");
+fn text<R: Abort + AllocGlobal>(rt: &R, text: &str) -> String {
+    String::from_str(rt.alloc(), text).expect(rt, "a text")
+}
+
+// The registration of this key answers so.
+fn registers<T, R>(rt: &R, line: &mut List<T, u64>, key: Key, expected: RegisterResult<T>)
+where
+    T: PartialEq + Debug + Drop,
+    R: Abort,
+{
+    check(rt, "register", line.register(key, 20), expected);
+}
+
+// So many are called to the desk.
+fn calls<R: Abort>(
+    rt: &R,
+    line: &mut List<u32, u64>,
+    desk: u32,
+    called: &mut Woken<u64>,
+    n: usize,
+) {
+    check(rt, "called", call_to_desk(line, desk, called), n);
 }
 
 #[test]
 fn the_first_who_waits_gets_the_desk(rt: HostRuntime) {
     let mut line = List::new(rt.alloc());
     let mut called = room_for_two(&rt);
-    assert_eq!(rt; call_to_desk(&mut line, 3, &mut called), 0);
+    calls(&rt, &mut line, 3, &mut called, 0);
     let first = insert(&rt, &mut line);
     let second = insert(&rt, &mut line);
-    assert!(rt; line.register(second, 20) == RegisterResult::Registered);
-    assert_eq!(rt; call_to_desk(&mut line, 4, &mut called), 1);
-    assert_eq!(rt; call_to_desk(&mut line, 5, &mut called), 1);
+    registers(&rt, &mut line, second, RegisterResult::Registered);
+    calls(&rt, &mut line, 4, &mut called, 1);
+    calls(&rt, &mut line, 5, &mut called, 1);
     // The first stored no number.
-    assert_eq!(rt; called.tasks(), [20].as_slice());
-    assert!(rt; line.register(first, 10) == RegisterResult::Notified(4));
-    assert!(rt; line.register(second, 20) == RegisterResult::Notified(5));
+    check(&rt, "numbers", called.tasks(), &[20]);
+    registers(&rt, &mut line, first, RegisterResult::Notified(4));
+    registers(&rt, &mut line, second, RegisterResult::Notified(5));
 }
 
 #[test]
@@ -41,8 +59,10 @@ fn each_who_is_called_gets_the_text(rt: HostRuntime) {
     let mut called = room_for_two(&rt);
     let first = insert(&rt, &mut line);
     let second = insert(&rt, &mut line);
-    let text = String::from_str(rt.alloc(), "gate 7").expect(&rt, "a text");
-    assert_eq!(rt; announce(&mut line, 5, text, &mut called), Ok(2));
-    gets_the_text(&rt, &mut line, first);
-    gets_the_text(&rt, &mut line, second);
+    let told = announce(&mut line, 5, text(&rt, "gate 7"), &mut called);
+    check(&rt, "called", told, Ok(2));
+    let gate = RegisterResult::Notified(text(&rt, "gate 7"));
+    registers(&rt, &mut line, first, gate);
+    let gate = RegisterResult::Notified(text(&rt, "gate 7"));
+    registers(&rt, &mut line, second, gate);
 }

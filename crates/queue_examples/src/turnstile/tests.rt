@@ -1,4 +1,5 @@
 use super::*;
+use crate::checks::check;
 use std::alloc::AllocGlobal;
 use std::process::Abort;
 
@@ -15,10 +16,22 @@ fn admits<R>(rt: &R, turnstile: &mut Turnstile, n: usize, visitors: &[u64])
 where
     R: Abort + AllocGlobal,
 {
-    let admitted = turnstile
-        .admit(rt.alloc(), n)
-        .expect(rt, "room for the numbers");
-    assert_eq!(rt; admitted.tasks(), visitors);
+    let admitted = turnstile.admit(rt.alloc(), n);
+    let admitted = admitted.expect(rt, "room for the numbers");
+    check(rt, "admitted", admitted.tasks(), visitors);
+}
+
+// Whether the visitor enters.
+fn enters<R>(rt: &R, turnstile: &mut Turnstile, ticket: Key, visitor: u64, expected: bool)
+where
+    R: Abort,
+{
+    check(rt, "enter", turnstile.enter(ticket, visitor), expected);
+}
+
+// Whoever leaves is followed by this one.
+fn leaves<R: Abort>(rt: &R, turnstile: &mut Turnstile, ticket: Key, next: Option<u64>) {
+    check(rt, "leave", turnstile.leave(ticket), next);
 }
 
 #[test]
@@ -41,11 +54,11 @@ fn who_is_admitted_enters_once(rt: HostRuntime) {
     let mut turnstile = new_turnstile(&rt, 2);
     let first = join(&rt, &mut turnstile, 10);
     let second = join(&rt, &mut turnstile, 20);
-    assert!(rt; !turnstile.enter(first, 10));
+    enters(&rt, &mut turnstile, first, 10, false);
     admits(&rt, &mut turnstile, 1, &[10]);
-    assert!(rt; !turnstile.enter(second, 25));
-    assert!(rt; turnstile.enter(first, 10));
-    assert!(rt; !turnstile.enter(first, 10));
+    enters(&rt, &mut turnstile, second, 25, false);
+    enters(&rt, &mut turnstile, first, 10, true);
+    enters(&rt, &mut turnstile, first, 10, false);
     // The second one is admitted under the number that it gave last.
     admits(&rt, &mut turnstile, 1, &[25]);
 }
@@ -58,20 +71,22 @@ fn who_leaves_passes_its_admission_on(rt: HostRuntime) {
     let third = join(&rt, &mut turnstile, 30);
     admits(&rt, &mut turnstile, 1, &[10]);
     // The second waits, so nobody is admitted in its place.
-    assert_eq!(rt; turnstile.leave(second), None);
-    assert_eq!(rt; turnstile.leave(first), Some(30));
-    assert_eq!(rt; turnstile.leave(first), None);
-    assert!(rt; turnstile.enter(third, 30));
+    leaves(&rt, &mut turnstile, second, None);
+    leaves(&rt, &mut turnstile, first, Some(30));
+    leaves(&rt, &mut turnstile, first, None);
+    enters(&rt, &mut turnstile, third, 30, true);
 }
 
 #[test]
 fn a_refusal_leaves_the_line_as_it_was(rt: HostRuntime) {
-    assert!(rt; Turnstile::with_room(rt.alloc(), usize::MAX).is_err());
+    let is_refused = Turnstile::with_room(rt.alloc(), usize::MAX).is_err();
+    check(&rt, "too much room", is_refused, true);
     // The last serial is given out, and then there is none.
     let mut turnstile = Turnstile {
         line: List::starting_at(rt.alloc(), u64::MAX - 1),
     };
     join(&rt, &mut turnstile, 10);
-    assert_eq!(rt; turnstile.join(20), Err(ListenError::SerialsUsedUp));
+    let refused = turnstile.join(20);
+    check(&rt, "join", refused, Err(ListenError::SerialsUsedUp));
     admits(&rt, &mut turnstile, 2, &[10]);
 }
