@@ -1,81 +1,51 @@
 use event_listener::{
-    Entry, Former, Key, ListenError, RecordedCall, RecordedReply, RegisterResult, replays,
+    Entry, Former, Key, ListenError, Note, RecordedCall, RecordedReply, RegisterResult, replays,
+};
+use recorded_support::lines::{
+    asked as is_notified, counted as total, listened, notified, registered, removed,
 };
 use std::alloc::AllocGlobal;
 use std::process::Abort;
 use std::test::Fail;
 
-type Step = Entry<u8>;
-
 fn key(slot: usize, serial: u64) -> Key {
     Key { slot, serial }
 }
 
-fn step(call: RecordedCall<u8>, reply: RecordedReply<u8>) -> Step {
-    Entry {
-        hand: Some(0),
-        call,
-        reply,
+fn listening_refused(refusal: ListenError) -> Note<u8> {
+    Note {
+        call: RecordedCall::Listen,
+        reply: RecordedReply::Listened(Err(refusal)),
     }
 }
 
-fn listened(key: Key) -> Step {
-    step(RecordedCall::Listen, RecordedReply::Listened(Ok(key)))
+fn entry(hand: Option<usize>, note: Note<u8>) -> Entry<u8> {
+    let Note { call, reply } = note;
+    Entry { hand, call, reply }
 }
 
-fn listening_refused(refusal: ListenError) -> Step {
-    step(RecordedCall::Listen, RecordedReply::Listened(Err(refusal)))
-}
-
-fn registered(key: Key, answer: RegisterResult<u8>) -> Step {
-    step(
-        RecordedCall::Register { key },
-        RecordedReply::Registered(answer),
-    )
-}
-
-fn removed(key: Key, propagate: bool, answer: Option<Former<u8>>) -> Step {
-    step(
-        RecordedCall::Remove { key, propagate },
-        RecordedReply::Removed(answer),
-    )
-}
-
-fn notified(count: usize, additional: bool, tag: u8, told: usize) -> Step {
-    step(
-        RecordedCall::Notify {
-            count,
-            additional,
-            tag,
-        },
-        RecordedReply::Notified(told),
-    )
-}
-
-fn total(listeners: usize) -> Step {
-    step(
-        RecordedCall::TotalListeners,
-        RecordedReply::TotalListeners(listeners),
-    )
-}
-
-fn is_notified(told: bool) -> Step {
-    step(RecordedCall::IsNotified, RecordedReply::IsNotified(told))
-}
-
-// Records that are compared as they come.
+// Records that are compared as they come. All calls are those of the first hand.
 #[derive(Drop)]
 struct Records<'r, R: Abort + AllocGlobal> {
     rt: &'r R,
 }
 
 impl<'r, R: Abort + AllocGlobal> Records<'r, R> {
-    fn replays(&self, entries: &[Step]) {
-        assert_eq!(self.rt; replays(self.rt.alloc(), entries), Ok(true));
+    fn replays(&self, notes: &[Note<u8>]) {
+        self.check(notes, true);
     }
 
-    fn differs(&self, entries: &[Step]) {
-        assert_eq!(self.rt; replays(self.rt.alloc(), entries), Ok(false));
+    fn differs(&self, notes: &[Note<u8>]) {
+        self.check(notes, false);
+    }
+
+    fn check(&self, notes: &[Note<u8>], expected: bool) {
+        let rt = self.rt;
+        let mut entries = Vec::new(rt.alloc());
+        for note in notes {
+            entries.push(entry(Some(0), *note)).expect(rt, "room");
+        }
+        assert_eq!(rt; replays(rt.alloc(), entries.as_slice()), Ok(expected));
     }
 }
 
@@ -239,9 +209,8 @@ fn a_removal_passes_an_additional_notification_on(rt: HostRuntime) {
 
 #[test]
 fn whose_call_it_was_is_not_looked_at(rt: HostRuntime) -> Result<(), Fail> {
-    let entry = listened(key(0, 0));
     for hand in [None, Some(0), Some(usize::MAX)] {
-        let entries = [Entry { hand, ..entry }];
+        let entries = [entry(hand, listened(key(0, 0)))];
         assert_eq!(rt; replays(rt.alloc(), &entries), Ok(true));
     }
     Ok(())

@@ -1,17 +1,11 @@
-//! Tests of recorded events and of the state under their lock, by their public calls: what no clause says.
+//! Tests of recorded events by their public calls: what no clause says.
 #![tactic(auto)]
 
 #[cfg(test)]
-mod closing;
-#[cfg(test)]
-mod lines;
-#[cfg(test)]
-mod mirror;
+mod checks;
 #[cfg(test)]
 mod refused;
 #[cfg(test)]
+mod script;
+#[cfg(test)]
 mod steps;
-#[cfg(test)]
-mod support;
-#[cfg(test)]
-mod texts;

@@ -2,11 +2,15 @@
 //!
 //! A call is refused in three ways: its note has no room, its entry has none, or the queue has none for a listener. In
 //! each a later call shows that the others had room, and the record that nothing was done.
-use crate::support::{Calls, On, Runtime, close, first_id, new_event};
-use event_listener::{Hand, RecordError, RecordedEvent, RecordedPollError, WaitError};
+use crate::checks::{Runtime, check, close, new_event};
+use crate::script::{Script, Steps, made, record_of};
+use event_listener::{EventIds, Hand, RecordError, RecordedEvent};
 use futures::task::Poll;
 use futures::test::MockTask;
-use test_support::{Hog, any_waker, waker_of};
+use recorded_support::{Calls, On, Refusal, close_and_count};
+use std::fmt::Debug;
+use std::process::Abort;
+use test_support::{Hog, waker_of};
 
 fn all_memory<R: Runtime>(rt: &R) -> Hog {
     Hog::new(rt.alloc()).expect(rt, "all memory")
@@ -23,93 +27,87 @@ fn ask<C: Calls, R: Runtime>(rt: &R, calls: &C, hand: &mut Hand<u32>, times: usi
 }
 
 // What the calls on an event are refused, by this hand.
-fn refusals<C: Calls>(calls: &C, hand: &mut Hand<u32>) -> [Option<RecordError>; 4] {
-    [
-        calls.listen(hand).err(),
-        calls.notify(hand, 1, true, 9).err(),
-        calls.is_notified(hand).err(),
-        calls.total_listeners(hand).err(),
-    ]
+fn refusals<C: Calls>(calls: &C, hand: &mut Hand<u32>) -> [Option<Refusal>; 4] {
+    let listened = calls.listen(hand).err();
+    let notified = calls.notify(hand, 1, true, 9).err();
+    let asked = calls.is_notified(hand).err();
+    let counted = calls.total_listeners(hand).err();
+    [listened, notified, asked, counted]
 }
 
-const MEMORY: Option<RecordError> = Some(RecordError::Memory);
+const MEMORY: Option<Refusal> = Some(Refusal::Memory);
 
 #[test]
 fn a_new_event_is_refused(rt: HostRuntime) {
-    let id = first_id(&rt);
+    let id = EventIds::new().next().expect(&rt, "an identity");
     let hog = all_memory(&rt);
     let refused = RecordedEvent::<u32>::new(rt.alloc(), id, 1);
     drop(hog);
-    assert_eq!(rt; refused.err(), MEMORY);
+    check(&rt, "new", refused.err(), Some(RecordError::Memory));
     let (event, hands) = new_event(&rt, 1);
-    assert!(rt; close(&rt, event, hands).is_ok());
+    check(&rt, "close", close_and_count(event, hands), Some(Ok(0)));
 }
 
-// The listener that a refused call hands back.
-fn handed_back<A: Drop, L: Drop, R: Runtime>(rt: &R, answer: Result<A, WaitError<L>>) -> L {
-    match answer {
-        Err(WaitError::Memory(listener)) => listener,
-        _ => panic!(rt; "no memory was refused"),
-    }
+// The listener that a call hands back that was refused memory.
+fn handed_back<A, L, R>(
+    rt: &R,
+    asked: &str,
+    (answer, listener): (Result<A, Refusal>, Option<L>),
+) -> L
+where
+    A: PartialEq + Debug + Drop,
+    L: Drop,
+    R: Abort,
+{
+    check(rt, asked, answer, Err(Refusal::Memory));
+    listener.expect(rt, "the listener")
 }
+
+struct NoRoomForNotes;
 
 // Makes 3 listeners, of which one is told and one leaves, and asks so often. So all but the notes of the other hand has
 // room for more.
-fn no_room_for_notes<C: Calls, R: Runtime>(
-    rt: &R,
-    calls: &C,
-    first: &mut Hand<u32>,
-    other: &mut Hand<u32>,
-) {
-    let told = calls.listen(first).expect(rt, "a listener");
-    let mut waiting = calls.listen(first).expect(rt, "a listener");
-    drop(calls.listen(first).expect(rt, "a listener"));
-    assert_eq!(rt; calls.notify(first, 1, false, 7), Ok(1));
-    ask(rt, calls, first, SOME);
-    let waker = any_waker(rt).expect(rt, "a waker");
+impl Script for NoRoomForNotes {
+    fn make<C: Calls, R: Runtime>(steps: &mut Steps<'_, C, R>) {
+        let rt = steps.rt;
+        let told = steps.listen();
+        let mut waiting = steps.listen();
+        drop(steps.listen());
+        steps.notify(1, false, 7, 1);
+        ask(rt, &steps.calls, &mut steps.first, SOME);
+        let waker = steps.waker();
 
-    let hog = all_memory(rt);
-    let refused = refusals(calls, other);
-    let polled = calls.poll(other, &mut waiting, waker);
-    let discarded = calls.discard(other, waiting);
-    let waited = calls.wait(other, told);
-    let room = (calls.listen(first).is_ok(), calls.is_notified(first));
-    drop(hog);
+        let hog = all_memory(rt);
+        let refused = refusals(&steps.calls, &mut steps.other);
+        let polled = steps.calls.poll(&mut steps.other, &mut waiting, waker);
+        let discarded = steps.calls.discard(&mut steps.other, waiting);
+        let waited = steps.calls.wait(&mut steps.other, told);
+        let listened = steps.calls.listen(&mut steps.first).err();
+        let asked = steps.calls.is_notified(&mut steps.first);
+        drop(hog);
 
-    assert_eq!(rt; refused, [MEMORY; 4]);
-    assert_eq!(rt; polled, Err(RecordedPollError::Memory));
-    assert_eq!(rt; room, (true, Ok(true)));
-    assert!(rt; other.notes().is_empty());
-    let mut waiting = handed_back(rt, discarded);
-    let told = handed_back(rt, waited);
+        check(rt, "refusals", refused, [MEMORY; 4]);
+        check(rt, "poll", polled, Err(Refusal::Memory));
+        check(rt, "room to listen", listened, None);
+        check(rt, "room to ask", asked, Ok(true));
+        check(rt, "notes", steps.other.notes().len(), 0);
+        let mut waiting = handed_back(rt, "discard", discarded);
+        let told = handed_back(rt, "wait", waited);
 
-    let waker = any_waker(rt).expect(rt, "a waker");
-    assert_eq!(rt; calls.total_listeners(other), Ok(2));
-    assert_eq!(rt; calls.poll(other, &mut waiting, waker), Ok(Poll::Pending));
-    assert!(rt; matches!(calls.wait(other, told), Ok(7)));
-    assert!(rt; matches!(calls.discard(other, waiting), Ok(false)));
-    assert_eq!(rt; refusals(calls, other), [None; 4]);
+        steps.total(2);
+        steps.poll(&mut waiting, Ok(Poll::Pending));
+        steps.wait(told, 7);
+        steps.discard(waiting, false);
+        let granted = refusals(&steps.calls, &mut steps.other);
+        check(rt, "refusals", granted, [None; 4]);
+    }
 }
 
 #[test]
 fn nothing_is_done_where_the_note_has_no_room(rt: HostRuntime) {
-    let (event, mut hands) = new_event(&rt, 2);
-    let mut other = hands.pop().expect(&rt, "a hand");
-    let mut first = hands.pop().expect(&rt, "a hand");
-    no_room_for_notes(
-        &rt,
-        &On {
-            rt: &rt,
-            event: &event,
-        },
-        &mut first,
-        &mut other,
-    );
-    hands.push(first).expect(&rt, "room");
-    hands.push(other).expect(&rt, "room");
-    let record = close(&rt, event, hands).expect(&rt, "a record");
+    let record = record_of::<NoRoomForNotes, _>(&rt);
     // Five entries and the questions before all memory was taken, three by the hand that had room, and then nine.
-    assert_eq!(rt; record.entries().len(), SOME + 17);
+    check(&rt, "entries", record.entries().len(), SOME + 17);
 }
 
 // The hand has room, since it can note a call on the other event, but the record of the one has none.
@@ -119,9 +117,22 @@ fn no_room_for_entries<C: Calls, R: Runtime>(rt: &R, one: &C, other: &C, hand: &
     let refused = refusals(one, hand);
     let room = other.is_notified(hand);
     drop(hog);
-    assert_eq!(rt; refused, [MEMORY; 4]);
-    assert_eq!(rt; room, Ok(false));
-    assert_eq!(rt; hand.notes().len(), SOME + 1);
+    check(rt, "refusals", refused, [MEMORY; 4]);
+    check(rt, "room", room, Ok(false));
+    check(rt, "notes", hand.notes().len(), SOME + 1);
+}
+
+// By the first of the hands.
+fn no_room_in_record<R: Runtime>(
+    rt: &R,
+    one: &RecordedEvent<u32>,
+    other: &RecordedEvent<u32>,
+    hands: &mut [Hand<u32>],
+) {
+    let hand = hands.first_mut().expect(rt, "a hand");
+    let one = On { rt, event: one };
+    let other = On { rt, event: other };
+    no_room_for_entries(rt, &one, &other, hand);
 }
 
 #[test]
@@ -129,113 +140,102 @@ fn nothing_is_done_where_the_record_has_no_room(rt: HostRuntime) {
     // Both events have one number, so they may have each other's hands.
     let (one, hands_of_one) = new_event(&rt, 1);
     let (other, mut hands) = new_event(&rt, 1);
-    let calls = On {
-        rt: &rt,
-        event: &one,
-    };
-    let hand = hands.first_mut().expect(&rt, "a hand");
-    no_room_for_entries(
-        &rt,
-        &calls,
-        &On {
-            rt: &rt,
-            event: &other,
-        },
-        hand,
-    );
-    let record = close(&rt, one, hands_of_one).expect(&rt, "a record");
-    assert!(rt; record.entries().is_empty());
-    let record = close(&rt, other, hands).expect(&rt, "a record");
-    assert_eq!(rt; record.entries().len(), SOME + 1);
+    no_room_in_record(&rt, &one, &other, hands.as_mut_slice());
+    let entries = close_and_count(one, hands_of_one);
+    check(&rt, "entries of the one", entries, Some(Ok(0)));
+    let entries = close_and_count(other, hands);
+    check(&rt, "entries of the other", entries, Some(Ok(SOME + 1)));
 }
 
+struct NoRoomInTheQueue;
+
 // Notes and record have room for more, since two calls succeed, but nobody has listened yet.
-fn no_room_in_the_queue<C: Calls, R: Runtime>(rt: &R, calls: &C, hand: &mut Hand<u32>) {
-    ask(rt, calls, hand, SOME);
-    let hog = all_memory(rt);
-    let refused = calls.listen(hand).err();
-    let room = (calls.total_listeners(hand), calls.total_listeners(hand));
-    drop(hog);
-    assert_eq!(rt; refused, MEMORY);
-    assert_eq!(rt; room, (Ok(0), Ok(0)));
-    let listener = calls.listen(hand).expect(rt, "a listener");
-    assert!(rt; matches!(calls.discard(hand, listener), Ok(false)));
+impl Script for NoRoomInTheQueue {
+    fn make<C: Calls, R: Runtime>(steps: &mut Steps<'_, C, R>) {
+        let rt = steps.rt;
+        ask(rt, &steps.calls, &mut steps.first, SOME);
+        let hog = all_memory(rt);
+        let refused = steps.calls.listen(&mut steps.first).err();
+        let counted = steps.calls.total_listeners(&mut steps.first);
+        let counted_again = steps.calls.total_listeners(&mut steps.first);
+        drop(hog);
+        check(rt, "listen", refused, MEMORY);
+        check(rt, "room to note", counted, Ok(0));
+        check(rt, "room to record", counted_again, Ok(0));
+        let listener = steps.listen();
+        steps.discard(listener, false);
+    }
 }
 
 #[test]
 fn nothing_is_done_where_the_queue_has_no_room(rt: HostRuntime) {
-    let (event, mut hands) = new_event(&rt, 1);
-    let hand = hands.first_mut().expect(&rt, "a hand");
-    no_room_in_the_queue(
-        &rt,
-        &On {
-            rt: &rt,
-            event: &event,
-        },
-        hand,
-    );
-    let record = close(&rt, event, hands).expect(&rt, "a record");
-    assert_eq!(rt; record.entries().len(), SOME + 4);
+    let record = record_of::<NoRoomInTheQueue, _>(&rt);
+    check(&rt, "entries", record.entries().len(), SOME + 4);
 }
 
 const LISTENERS: usize = 20;
 
-// Drops as many listeners as there are, of which the first is told and a task waits for the second.
-fn drops<C: Calls, R: Runtime>(rt: &R, calls: &C, hand: &mut Hand<u32>) {
-    let task = MockTask::new(rt).expect(rt, "a task");
-    let waker = waker_of(&task).expect(rt, "a waker");
-    let mut listeners = Vec::with_capacity(rt.alloc(), LISTENERS).expect(rt, "room");
-    let told = calls.listen(hand).expect(rt, "a listener");
-    let mut next = calls.listen(hand).expect(rt, "a listener");
-    assert_eq!(rt; calls.poll(hand, &mut next, waker), Ok(Poll::Pending));
-    assert_eq!(rt; calls.notify(hand, 1, false, 7), Ok(1));
-    for _ in 2..LISTENERS {
-        let listener = calls.listen(hand).expect(rt, "a listener");
-        listeners.push(listener).expect(rt, "room");
+// Appends so many listeners.
+fn listen_times<C: Calls, R: Runtime>(
+    steps: &mut Steps<'_, C, R>,
+    listeners: &mut Vec<C::Listener>,
+    times: usize,
+) {
+    for _ in 0..times {
+        let listener = steps.listen();
+        listeners.push(listener).expect(steps.rt, "room");
     }
+}
 
-    let hog = all_memory(rt);
-    drop(told);
-    let is_woken = task.is_woken();
-    drop(next);
-    for _ in 2..LISTENERS {
-        drop(listeners.pop());
+struct Drops;
+
+// Drops as many listeners as there are, of which the first is told and a task waits for the second.
+impl Script for Drops {
+    fn make<C: Calls, R: Runtime>(steps: &mut Steps<'_, C, R>) {
+        let rt = steps.rt;
+        let task = MockTask::new(rt).expect(rt, "a task");
+        let waker = waker_of(&task).expect(rt, "a waker");
+        let mut listeners = Vec::with_capacity(rt.alloc(), LISTENERS).expect(rt, "room");
+        let told = steps.listen();
+        let mut next = steps.listen();
+        let polled = steps.calls.poll(&mut steps.first, &mut next, waker);
+        check(rt, "poll", polled, Ok(Poll::Pending));
+        steps.notify(1, false, 7, 1);
+        listen_times(steps, &mut listeners, LISTENERS - 2);
+
+        let hog = all_memory(rt);
+        drop(told);
+        let is_woken = task.is_woken();
+        drop(next);
+        listeners.clear();
+        drop(hog);
+        check(rt, "whether the task is woken", is_woken, true);
     }
-    drop(hog);
-    assert!(rt; is_woken);
 }
 
 #[test]
 fn drops_take_no_memory(rt: HostRuntime) {
-    let (event, mut hands) = new_event(&rt, 1);
-    let hand = hands.first_mut().expect(&rt, "a hand");
-    drops(
-        &rt,
-        &On {
-            rt: &rt,
-            event: &event,
-        },
-        hand,
-    );
-    let record = close(&rt, event, hands).expect(&rt, "a record");
+    let record = record_of::<Drops, _>(&rt);
     // A listening and a drop for each, a poll and a notification.
-    assert_eq!(rt; record.entries().len(), 2 * LISTENERS + 2);
+    check(&rt, "entries", record.entries().len(), 2 * LISTENERS + 2);
+}
+
+struct VisitAndQuestions;
+
+impl Script for VisitAndQuestions {
+    fn make<C: Calls, R: Runtime>(steps: &mut Steps<'_, C, R>) {
+        drop(steps.listen());
+        ask(steps.rt, &steps.calls, &mut steps.first, SOME);
+    }
 }
 
 #[test]
 fn closing_takes_no_memory(rt: HostRuntime) {
-    let (event, mut hands) = new_event(&rt, 2);
-    let hand = hands.first_mut().expect(&rt, "a hand");
-    let calls = On {
-        rt: &rt,
-        event: &event,
-    };
-    drop(calls.listen(hand).expect(&rt, "a listener"));
-    ask(&rt, &calls, hand, SOME);
-
+    let (event, hands) = made::<VisitAndQuestions, _>(&rt);
     let hog = all_memory(&rt);
-    let record = close(&rt, event, hands).expect(&rt, "a record");
+    let record = close(&rt, event, hands);
     drop(hog);
-    assert_eq!(rt; record.entries().len(), SOME + 2);
-    assert_eq!(rt; record.replays(rt.alloc()), Ok(true));
+    let record = record.expect(&rt, "a record");
+    check(&rt, "entries", record.entries().len(), SOME + 2);
+    check(&rt, "replays", record.replays(rt.alloc()), Ok(true));
 }

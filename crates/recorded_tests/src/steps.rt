@@ -1,107 +1,84 @@
 //! What stands in the record of polls, discards and drops.
-use crate::lines::{Line, asked, counted, listened, notified, registered, removed};
-use crate::support::{Calls, On, Runtime, close, new_event};
-use event_listener::{
-    Entry, Former, Hand, Key, Record, RecordedPollError, RecordedReply, RegisterResult,
-};
+use crate::checks::{Runtime, check};
+use crate::script::{Script, Steps, record_of};
+use event_listener::{Entry, Former, Key, Note, RecordedReply, RegisterResult};
 use futures::task::Poll;
-use test_support::any_waker;
+use recorded_support::{Calls, Refusal, lines};
+use std::process::Abort;
 
-// The calls on one event, by its two hands. Each ends the test where its answer is another.
+// The entries of a record, read one after another. Each call ends the test where the next entry is another.
 #[derive(Drop)]
-struct Steps<'a, C, R> {
+struct Reader<'a, R> {
     rt: &'a R,
-    calls: C,
-    first: Hand<u32>,
-    other: Hand<u32>,
+    entries: &'a [Entry<u32>],
+    // How many were read.
+    place: usize,
 }
 
-type Polled = Result<Poll<u32>, RecordedPollError>;
-
-impl<'a, C: Calls, R: Runtime> Steps<'a, C, R> {
-    // By the first hand.
-    fn listen(&mut self) -> C::Listener {
-        let listener = self.calls.listen(&mut self.first);
-        listener.expect(self.rt, "a listener")
-    }
-
-    // By the other hand.
-    fn poll(&mut self, listener: &mut C::Listener, answer: Polled) {
-        let waker = any_waker(self.rt).expect(self.rt, "a waker");
-        let polled = self.calls.poll(&mut self.other, listener, waker);
-        assert_eq!(self.rt; polled, answer);
-    }
-
-    // By the first hand.
-    fn notify(&mut self, count: usize, additional: bool, tag: u32, answer: usize) {
-        let told = self.calls.notify(&mut self.first, count, additional, tag);
-        assert_eq!(self.rt; told, Ok(answer));
-    }
-
-    // By the other hand.
-    fn discard(&mut self, listener: C::Listener, answer: bool) {
-        let told = self.calls.discard(&mut self.other, listener);
-        assert!(self.rt; matches!(told, Ok(was_told) if was_told == answer));
-    }
-
-    // The first hand asks how many listeners there are, and the other whether one is told.
-    fn ask(&mut self, total: usize, is_notified: bool) {
-        let answer = self.calls.total_listeners(&mut self.first);
-        assert_eq!(self.rt; answer, Ok(total));
-        let answer = self.calls.is_notified(&mut self.other);
-        assert_eq!(self.rt; answer, Ok(is_notified));
+// The key that a listening got.
+fn key_of(entry: Option<&Entry<u32>>) -> Option<Key> {
+    match entry?.reply {
+        RecordedReply::Listened(Ok(key)) => Some(key),
+        _ => None,
     }
 }
 
-// Steps on one event.
-trait Script {
-    fn make<C: Calls, R: Runtime>(steps: &mut Steps<'_, C, R>);
-}
+impl<'a, R: Abort> Reader<'a, R> {
+    fn new(rt: &'a R, entries: &'a [Entry<u32>]) -> Self {
+        Reader {
+            rt,
+            entries,
+            place: 0,
+        }
+    }
 
-// Makes the steps on a new event, and closes it.
-fn record_of<S: Script, R: Runtime>(rt: &R) -> Record<u32> {
-    let (event, hands) = new_event(rt, 2);
-    let hands = make::<S, _, R>(rt, On { rt, event: &event }, hands);
-    close(rt, event, hands).expect(rt, "a record")
-}
+    // The next entry is that of this hand, or of nobody, with this call and reply.
+    fn has(&mut self, hand: Option<usize>, note: Note<u32>) {
+        let Note { call, reply } = note;
+        let entry = self.entries.get(self.place).copied();
+        let expected = Entry { hand, call, reply };
+        check(self.rt, self.place, entry, Some(expected));
+        self.place = self.place.saturating_add(1);
+    }
 
-// Makes the steps, and answers the hands.
-fn make<S: Script, C: Calls + Drop, R: Runtime>(
-    rt: &R,
-    calls: C,
-    mut hands: Vec<Hand<u32>>,
-) -> Vec<Hand<u32>> {
-    let other = hands.pop().expect(rt, "the other hand");
-    let first = hands.pop().expect(rt, "the first hand");
-    let mut steps = Steps {
-        rt,
-        calls,
-        first,
-        other,
-    };
-    S::make(&mut steps);
-    hands.push(steps.first).expect(rt, "room");
-    hands.push(steps.other).expect(rt, "room");
-    hands
-}
+    // The first hand listened, and got a key with this serial. A queue chooses its slots.
+    fn listened(&mut self, serial: u64) -> Key {
+        let key = key_of(self.entries.get(self.place));
+        let key = key.expect(self.rt, "a listener");
+        check(self.rt, "serial", key.serial(), serial);
+        self.has(FIRST, lines::listened(key));
+        key
+    }
 
-// The key of the listener with that serial. A queue chooses its slots.
-fn key<R: Runtime>(rt: &R, record: &Record<u32>, serial: u64) -> Key {
-    let mut keys = record
-        .entries()
-        .iter()
-        .filter_map(|entry| match entry.reply {
-            RecordedReply::Listened(Ok(key)) if key.serial() == serial => Some(key),
-            _ => None,
-        });
-    keys.next().expect(rt, "a listener of that serial")
-}
+    // The other hand polled.
+    fn polled(&mut self, key: Key, answer: RegisterResult<u32>) {
+        self.has(OTHER, lines::registered(key, answer));
+    }
 
-// The record is these lines, each by the hand of that number or by nobody.
-fn is_record<R: Runtime>(rt: &R, record: &Record<u32>, lines: &[(Option<usize>, Line)]) {
-    assert_eq!(rt; record.entries().len(), lines.len());
-    for (entry, (hand, (call, reply))) in record.entries().iter().zip(lines.iter().copied()) {
-        assert_eq!(rt; *entry, Entry { hand, call, reply });
+    // The other hand discarded a listener.
+    fn discarded(&mut self, key: Key, answer: Option<Former<u32>>) {
+        self.has(OTHER, lines::removed(key, false, answer));
+    }
+
+    // A listener was dropped, which is nobody's call.
+    fn dropped(&mut self, key: Key, answer: Former<u32>) {
+        self.has(None, lines::removed(key, true, Some(answer)));
+    }
+
+    // The first hand notified.
+    fn notified(&mut self, count: usize, additional: bool, tag: u32, told: usize) {
+        self.has(FIRST, lines::notified(count, additional, tag, told));
+    }
+
+    // The first hand asked how many listeners there were, and the other whether one was told.
+    fn asked(&mut self, total: usize, is_notified: bool) {
+        self.has(FIRST, lines::counted(total));
+        self.has(OTHER, lines::asked(is_notified));
+    }
+
+    // There are no more entries.
+    fn ends(&self) {
+        check(self.rt, "entries", self.entries.len(), self.place);
     }
 }
 
@@ -109,7 +86,6 @@ const FIRST: Option<usize> = Some(0);
 
 const OTHER: Option<usize> = Some(1);
 
-#[derive(Drop)]
 struct FinishedListeners;
 
 impl Script for FinishedListeners {
@@ -118,10 +94,10 @@ impl Script for FinishedListeners {
         let mut dropped = steps.listen();
         steps.notify(2, true, 7, 2);
         steps.poll(&mut discarded, Ok(Poll::Ready(7)));
-        steps.poll(&mut discarded, Err(RecordedPollError::NeverInserted));
+        steps.poll(&mut discarded, Err(Refusal::NeverInserted));
         steps.discard(discarded, false);
         steps.poll(&mut dropped, Ok(Poll::Ready(7)));
-        steps.poll(&mut dropped, Err(RecordedPollError::NeverInserted));
+        steps.poll(&mut dropped, Err(Refusal::NeverInserted));
         drop(dropped);
         steps.ask(0, false);
     }
@@ -130,23 +106,19 @@ impl Script for FinishedListeners {
 #[test]
 fn calls_on_a_finished_listener_are_recorded_but_not_its_drop(rt: HostRuntime) {
     let record = record_of::<FinishedListeners, _>(&rt);
-    let (discarded, dropped) = (key(&rt, &record, 0), key(&rt, &record, 1));
-    let lines = [
-        (FIRST, listened(discarded)),
-        (FIRST, listened(dropped)),
-        (FIRST, notified(2, true, 7, 2)),
-        (OTHER, registered(discarded, RegisterResult::Notified(7))),
-        (OTHER, registered(discarded, RegisterResult::NeverInserted)),
-        (OTHER, removed(discarded, false, None)),
-        (OTHER, registered(dropped, RegisterResult::Notified(7))),
-        (OTHER, registered(dropped, RegisterResult::NeverInserted)),
-        (FIRST, counted(0)),
-        (OTHER, asked(false)),
-    ];
-    is_record(&rt, &record, &lines);
+    let mut reader = Reader::new(&rt, record.entries());
+    let discarded = reader.listened(0);
+    let dropped = reader.listened(1);
+    reader.notified(2, true, 7, 2);
+    reader.polled(discarded, RegisterResult::Notified(7));
+    reader.polled(discarded, RegisterResult::NeverInserted);
+    reader.discarded(discarded, None);
+    reader.polled(dropped, RegisterResult::Notified(7));
+    reader.polled(dropped, RegisterResult::NeverInserted);
+    reader.asked(0, false);
+    reader.ends();
 }
 
-#[derive(Drop)]
 struct WaitingListeners;
 
 impl Script for WaitingListeners {
@@ -166,25 +138,19 @@ impl Script for WaitingListeners {
 #[test]
 fn the_drop_of_a_waiting_listener_is_the_call_of_nobody(rt: HostRuntime) {
     let record = record_of::<WaitingListeners, _>(&rt);
-    let unpolled = key(&rt, &record, 0);
-    let (polled, discarded) = (key(&rt, &record, 1), key(&rt, &record, 2));
-    let lines = [
-        (FIRST, listened(unpolled)),
-        (FIRST, listened(polled)),
-        (FIRST, listened(discarded)),
-        (OTHER, registered(polled, RegisterResult::Registered)),
-        (None, removed(unpolled, true, Some(Former::Created))),
-        (FIRST, counted(2)),
-        (OTHER, asked(false)),
-        (None, removed(polled, true, Some(Former::Task))),
-        (OTHER, removed(discarded, false, Some(Former::Created))),
-        (FIRST, counted(0)),
-        (OTHER, asked(false)),
-    ];
-    is_record(&rt, &record, &lines);
+    let mut reader = Reader::new(&rt, record.entries());
+    let unpolled = reader.listened(0);
+    let polled = reader.listened(1);
+    let discarded = reader.listened(2);
+    reader.polled(polled, RegisterResult::Registered);
+    reader.dropped(unpolled, Former::Created);
+    reader.asked(2, false);
+    reader.dropped(polled, Former::Task);
+    reader.discarded(discarded, Some(Former::Created));
+    reader.asked(0, false);
+    reader.ends();
 }
 
-#[derive(Drop)]
 struct ToldListeners;
 
 impl Script for ToldListeners {
@@ -206,22 +172,18 @@ impl Script for ToldListeners {
 #[test]
 fn the_drop_of_a_told_listener_passes_on_and_a_discard_does_not(rt: HostRuntime) {
     let record = record_of::<ToldListeners, _>(&rt);
-    let dropped = key(&rt, &record, 0);
-    let (discarded, waiting) = (key(&rt, &record, 1), key(&rt, &record, 2));
+    let mut reader = Reader::new(&rt, record.entries());
+    let dropped = reader.listened(0);
+    let discarded = reader.listened(1);
+    let waiting = reader.listened(2);
     let (additional, tag) = (false, 7);
     let told = Some(Former::Notified { additional, tag });
-    let lines = [
-        (FIRST, listened(dropped)),
-        (FIRST, listened(discarded)),
-        (FIRST, listened(waiting)),
-        (FIRST, notified(1, false, 7, 1)),
-        (None, removed(dropped, true, Some(Former::NotifiedTaken))),
-        (FIRST, counted(2)),
-        (OTHER, asked(true)),
-        (OTHER, removed(discarded, false, told)),
-        (OTHER, registered(waiting, RegisterResult::Registered)),
-        (FIRST, notified(3, false, 8, 1)),
-        (OTHER, registered(waiting, RegisterResult::Notified(8))),
-    ];
-    is_record(&rt, &record, &lines);
+    reader.notified(1, false, 7, 1);
+    reader.dropped(dropped, Former::NotifiedTaken);
+    reader.asked(2, true);
+    reader.discarded(discarded, told);
+    reader.polled(waiting, RegisterResult::Registered);
+    reader.notified(3, false, 8, 1);
+    reader.polled(waiting, RegisterResult::Notified(8));
+    reader.ends();
 }

@@ -1,15 +1,10 @@
-//! Tests of waiting on recorded listeners: what no clause says of the end of a wait, of a thread that parks, and of many
-//! threads on one event.
+//! Tests of waiting on recorded listeners: what no clause says of the end of a wait.
 #![tactic(auto)]
 
 #[cfg(test)]
 mod limits;
 #[cfg(test)]
-mod many_threads;
-#[cfg(test)]
 mod notifying;
-#[cfg(test)]
-mod parking;
 #[cfg(test)]
 mod support;
 #[cfg(test)]

@@ -1,10 +1,8 @@
 //! Waits that end at their limits.
-use crate::support::{
-    Runtime, Waiter, close_with, elapsed, first_key, listened, new_event_of_two, now, registered,
-    removed,
-};
-use event_listener::{EventIds, Former, RegisterResult};
-use std::time::Duration;
+use crate::support::{Runtime, check, close, first_key, listen, new_event_of_two, noted, waits};
+use event_listener::{Former, Hand, RegisterResult};
+use recorded_waiters::{Waiter, listened, registered, removed};
+use std::time::{Duration, Instant};
 use test_support::{NoClock, TIMED_WAITS, WaitCall};
 
 fn short() -> Duration {
@@ -16,26 +14,41 @@ fn soon() -> Duration {
     Duration::from_millis(87)
 }
 
-// Whether a wait of 50 milliseconds on which nobody is told parked once, and ended well before twice its time. It ends
-// no earlier than its limit in any case.
-fn parks_once<R: Runtime>(rt: &R, wait: WaitCall) -> bool {
-    let (event, waiting, telling) = new_event_of_two(rt, &mut EventIds::new());
-    let waiter = Waiter::listen(rt, rt, &event, waiting);
-    let start = now(rt);
-    let (answer, waiting) = waiter.wait(rt, wait, short());
-    let taken = elapsed(rt, start);
-    assert_eq!(rt; answer, Ok(None));
-    assert!(rt; taken >= short());
-    let key = first_key(rt, &waiting);
+// A wait of 50 milliseconds ends with nobody told, no earlier than its limit. Gives the hand, and whether it ended well
+// before twice its time.
+fn ends_at_its_limit<R: Runtime>(
+    rt: &R,
+    waiter: Waiter<'_, R>,
+    wait: WaitCall,
+) -> (Hand<u32>, bool) {
+    let start = Instant::now(rt).expect(rt, "the time");
+    let hand = waits(rt, waiter, wait, short(), Ok(None));
+    let taken = start.elapsed(rt).expect(rt, "the time");
+    check(rt, (wait, taken), taken >= short(), true);
+    (hand, taken < soon())
+}
+
+// Whether the hand noted that its listener parked once.
+fn parked_once<R: Runtime>(rt: &R, hand: &Hand<u32>) -> bool {
+    let key = first_key(rt, hand);
     let notes = [
         listened(key),
         registered(key, RegisterResult::Registered),
         registered(key, RegisterResult::Registered),
         removed(key, Some(Former::Task)),
     ];
-    let parked = waiting.notes() == notes.as_slice();
-    close_with(rt, event, waiting, telling);
-    parked && taken < soon()
+    hand.notes() == notes.as_slice()
+}
+
+// Whether a wait of 50 milliseconds on which nobody is told parked once, and ended well before twice its time. It ends
+// no earlier than its limit in any case.
+fn parks_once<R: Runtime>(rt: &R, wait: WaitCall) -> bool {
+    let (event, waiting, telling) = new_event_of_two(rt);
+    let waiter = listen(rt, rt, &event, waiting);
+    let (waiting, ended_soon) = ends_at_its_limit(rt, waiter, wait);
+    let parked = parked_once(rt, &waiting);
+    close(rt, event, waiting, telling);
+    parked && ended_soon
 }
 
 // One of several waits does. The others may be late, since the machine may be busy.
@@ -60,18 +73,17 @@ fn a_timed_wait_parks_until_its_limit(rt: HostRuntime) {
 
 // A listener whose clock can't be read finds its time over at once, whatever its limit.
 fn ends_at_once<R: Runtime>(rt: &R, wait: WaitCall) {
-    let (event, waiting, telling) = new_event_of_two(rt, &mut EventIds::new());
-    let waiter = Waiter::listen(rt, &NoClock { rt }, &event, waiting);
-    let (answer, waiting) = waiter.wait(rt, wait, Duration::from_secs(3600));
-    assert_eq!(rt; answer, Ok(None), "{wait:?}");
+    let (event, waiting, telling) = new_event_of_two(rt);
+    let waiter = listen(rt, &NoClock { rt }, &event, waiting);
+    let waiting = waits(rt, waiter, wait, Duration::from_secs(3600), Ok(None));
     let key = first_key(rt, &waiting);
     let notes = [
         listened(key),
         registered(key, RegisterResult::Registered),
         removed(key, Some(Former::Task)),
     ];
-    assert_eq!(rt; waiting.notes(), notes.as_slice(), "{wait:?}");
-    close_with(rt, event, waiting, telling);
+    noted(rt, wait, &waiting, notes.as_slice());
+    close(rt, event, waiting, telling);
 }
 
 #[test]

@@ -1,17 +1,16 @@
 //! Waits of a listener whose clock notifies.
-use crate::support::{
-    Runtime, Waiter, close_with, elapsed, first_key, listened, new_event_of_two, now, registered,
-    removed,
-};
-use event_listener::{EventIds, Former, Hand, Key, Note, RecordedEvent, RegisterResult};
+use crate::support::{Runtime, check, close, first_key, listen, new_event_of_two, noted, waits};
+use event_listener::{Former, Hand, Key, Note, RecordedEvent, RegisterResult};
+use recorded_waiters::{listened, notify_one, registered, removed};
+use std::alloc::AllocError;
 use std::cell::Cell;
 use std::io;
 use std::sync::Wait;
-use std::time::{Clock, Duration};
+use std::time::{Clock, Duration, Instant};
 use test_support::{TIMED_WAITS, WaitCall};
 
 // A runtime that notifies the event of one, with the tag 7, at each reading of its clock but the first few.
-#[derive(Clone, Copy)]
+#[derive(Drop)]
 struct NotifyingClock<'a, R> {
     rt: &'a R,
     event: &'a RecordedEvent<u32>,
@@ -26,10 +25,20 @@ impl<'a, R: Wait> NotifyingClock<'a, R> {
         let Some(mut hand) = self.hand.take() else {
             return;
         };
-        if self.event.owns(&hand) {
-            let _ = self.event.notify(self.rt, &mut hand, 1, false, 7);
-        }
+        let _ = notify_one(self.rt, self.event, &mut hand, false, 7);
         self.hand.set(Some(hand));
+    }
+}
+
+// Written by hand, since what a derive writes is dear to prove.
+impl<'a, R> Clone for NotifyingClock<'a, R> {
+    fn clone(&self) -> Result<Self, AllocError> {
+        Ok(NotifyingClock {
+            rt: self.rt,
+            event: self.event,
+            hand: self.hand,
+            others: self.others,
+        })
     }
 }
 
@@ -58,10 +67,27 @@ fn readings_before(wait: WaitCall) -> u32 {
     }
 }
 
+// The key of the listener of this hand, and the last note of its wait, which was told and noted one registration before.
+fn last_note<R: Runtime>(rt: &R, wait: WaitCall, hand: &Hand<u32>) -> (Key, Note<u32>) {
+    let key = first_key(rt, hand);
+    let last = *hand.notes().last().expect(rt, "a note");
+    let notes = [
+        listened(key),
+        registered(key, RegisterResult::Registered),
+        last,
+    ];
+    noted(rt, wait, hand, notes.as_slice());
+    (key, last)
+}
+
 // Has a listener wait whose clock notifies after so many more readings, and gives its key and the last note of the wait.
-// The wait is told, and has noted only one registration before.
-fn last_note<R: Runtime>(rt: &R, wait: WaitCall, limit: Duration, more: u32) -> (Key, Note<u32>) {
-    let (event, waiting, telling) = new_event_of_two(rt, &mut EventIds::new());
+fn is_told_by_its_clock<R: Runtime>(
+    rt: &R,
+    wait: WaitCall,
+    limit: Duration,
+    more: u32,
+) -> (Key, Note<u32>) {
+    let (event, waiting, telling) = new_event_of_two(rt);
     let hand = Cell::new(Some(telling));
     let others = Cell::new(readings_before(wait).saturating_add(more));
     let clock = NotifyingClock {
@@ -70,49 +96,41 @@ fn last_note<R: Runtime>(rt: &R, wait: WaitCall, limit: Duration, more: u32) -> 
         hand: &hand,
         others: &others,
     };
-    let waiter = Waiter::listen(rt, &clock, &event, waiting);
-    let (answer, waiting) = waiter.wait(rt, wait, limit);
-    assert_eq!(rt; answer, Ok(Some(7)), "{wait:?}");
-    let key = first_key(rt, &waiting);
-    let last = *waiting.notes().last().expect(rt, "a note");
-    let notes = [
-        listened(key),
-        registered(key, RegisterResult::Registered),
-        last,
-    ];
-    assert_eq!(rt; waiting.notes(), notes.as_slice(), "{wait:?}");
+    let waiter = listen(rt, &clock, &event, waiting);
+    let waiting = waits(rt, waiter, wait, limit, Ok(Some(7)));
+    let told = last_note(rt, wait, &waiting);
     let telling = hand.take().expect(rt, "the hand that notifies");
-    close_with(rt, event, waiting, telling);
-    (key, last)
+    close(rt, event, waiting, telling);
+    told
 }
 
 // The reading that notifies comes after the wait last registered, and before the listener leaves at its deadline.
 #[test]
 fn a_tag_that_came_before_the_removal_at_a_deadline_is_given(rt: HostRuntime) {
+    let told = Former::Notified {
+        additional: false,
+        tag: 7,
+    };
     for wait in TIMED_WAITS {
-        let (key, last) = last_note(&rt, wait, Duration::ZERO, 0);
-        let told = Former::Notified {
-            additional: false,
-            tag: 7,
-        };
-        assert_eq!(rt; last, removed(key, Some(told)), "{wait:?}");
+        let (key, last) = is_told_by_its_clock(&rt, wait, Duration::ZERO, 0);
+        check(&rt, wait, last, removed(key, Some(told)));
     }
 }
 
-// Before the thread parks there is one reading, and one more as it does. No lock is held at either, and the thread does
-// not sleep through.
+// The thread does not sleep through, where the clock notifies after so many more readings.
+fn does_not_sleep_through<R: Runtime>(rt: &R, wait: WaitCall, more: u32) {
+    let start = Instant::now(rt).expect(rt, "the time");
+    let (key, last) = is_told_by_its_clock(rt, wait, Duration::from_secs(20), more);
+    check(rt, wait, last, registered(key, RegisterResult::Notified(7)));
+    let taken = start.elapsed(rt).expect(rt, "the time");
+    check(rt, (wait, taken), taken < Duration::from_secs(10), true);
+}
+
+// Before the thread parks there is one reading, and one more as it does. No lock is held at either.
 #[test]
 fn a_clock_may_notify_as_a_thread_parks(rt: HostRuntime) {
     for wait in TIMED_WAITS {
-        for more in [0, 1] {
-            let start = now(&rt);
-            let (key, last) = last_note(&rt, wait, Duration::from_secs(20), more);
-            assert_eq!(rt;
-                last,
-                registered(key, RegisterResult::Notified(7)),
-                "{wait:?}"
-            );
-            assert!(rt; elapsed(&rt, start) < Duration::from_secs(10), "{wait:?}");
-        }
+        does_not_sleep_through(&rt, wait, 0);
+        does_not_sleep_through(&rt, wait, 1);
     }
 }

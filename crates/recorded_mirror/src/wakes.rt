@@ -1,7 +1,8 @@
 //! The tasks of polls, in the order in which they are woken or let go.
-use super::Seen;
-use crate::support::Runtime;
+use crate::seen::Seen;
+use crate::subjects::Runtime;
 use futures::task::Waker;
+use std::process::Abort;
 use test_support::WakeOrder;
 
 // More than the tasks that there are at once: one for each poll of a list, and one that marks the end.
@@ -20,10 +21,14 @@ pub struct Wakes<'a, R> {
 
 impl<'a, R: Runtime> Wakes<'a, R> {
     pub fn new(rt: &'a R) -> Self {
+        let order = WakeOrder::new(rt);
+        let order = order.expect(rt, "an order");
+        let names = vec![in rt.alloc(); u32::MAX; ROOM];
+        let names = names.expect(rt, "names");
         Wakes {
             rt,
-            order: WakeOrder::new(rt).expect(rt, "an order"),
-            names: vec![in rt.alloc(); u32::MAX; ROOM].expect(rt, "names"),
+            order,
+            names,
             mark: None,
         }
     }
@@ -50,8 +55,12 @@ impl<'a, R: Runtime> Wakes<'a, R> {
             if task == last {
                 return;
             }
-            let name = self.names.get(task).copied().expect(self.rt, "a name");
-            seen.push(Seen::Woke(name)).expect(self.rt, "room");
+            note(self.rt, self.names.get(task), seen);
         }
     }
+}
+
+fn note<R: Abort>(rt: &R, name: Option<&u32>, seen: &mut Vec<Seen>) {
+    let name = *name.expect(rt, "a name");
+    seen.push(Seen::Woke(name)).expect(rt, "room");
 }

@@ -1,11 +1,11 @@
 //! The texts of the refusals.
-use crate::support::Runtime;
+use crate::checks::{Runtime, check};
 use event_listener::{CloseError, RecordError, RecordedPollError};
 use std::fmt::Display;
 
 fn says<E: Display + Drop, R: Runtime>(rt: &R, refusal: E, text: &str) {
     let said = format!(in rt.alloc(); "{refusal}").expect(rt, "a text");
-    assert_eq!(rt; said.as_str(), text);
+    check(rt, "the text", said.as_str(), text);
 }
 
 #[test]

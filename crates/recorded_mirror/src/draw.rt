@@ -1,7 +1,8 @@
 //! Lists of calls, drawn by a fixed rule.
 ghost use Rattle.std.specs.Prelude.{◌<◌, ◌≤◌};
 
-use std::alloc::{AllocError, Global};
+use std::alloc::AllocGlobal;
+use std::process::Abort;
 
 pub const CALLS: u32 = 50;
 
@@ -73,23 +74,28 @@ fn draw(draws: &mut Draws, listeners: u32, number: u32) -> Drawn {
     }
 }
 
+// How many listeners were not given up after the call, where so many were not before it.
+fn left_after(drawn: Drawn, listeners: u32) -> u32 {
+    match drawn {
+        Drawn::Listen => listeners.saturating_add(1),
+        Drawn::Discard { .. } | Drawn::Drop { .. } => listeners.saturating_sub(1),
+        _ => listeners,
+    }
+}
+
 /// A list of calls. After those that are drawn come discards of all listeners that are left, in order of listening, so
 /// that their answers say which were told.
-pub fn draw_list(alloc: Global, seed: u64) -> Result<Vec<Drawn>, AllocError> {
+pub fn draw_list<R: Abort + AllocGlobal>(rt: &R, seed: u64) -> Vec<Drawn> {
     let mut draws = Draws { state: seed };
     let mut listeners: u32 = 0;
-    let mut list = Vec::new(alloc);
+    let mut list = Vec::new(rt.alloc());
     for number in 0..CALLS {
         let drawn = draw(&mut draws, listeners, number);
-        listeners = match drawn {
-            Drawn::Listen => listeners.saturating_add(1),
-            Drawn::Discard { .. } | Drawn::Drop { .. } => listeners.saturating_sub(1),
-            _ => listeners,
-        };
-        list.push(drawn)?;
+        listeners = left_after(drawn, listeners);
+        list.push(drawn).expect(rt, "room");
     }
     for _ in 0..listeners {
-        list.push(Drawn::Discard { place: 0 })?;
+        list.push(Drawn::Discard { place: 0 }).expect(rt, "room");
     }
-    Ok(list)
+    list
 }

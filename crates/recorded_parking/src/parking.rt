@@ -1,13 +1,11 @@
 //! Threads that park in a wait until they are woken.
-use crate::support::{
-    Refusal, SharedRuntime, Waiter, close_with, elapsed, first_key, new_event_of_two, now, tell,
-};
-use event_listener::{
-    Entry, EventIds, Former, Hand, Key, RecordedCall, RecordedEvent, RecordedReply,
-};
+use crate::support::{Runtime, check, close, listen, new_event_of_two};
+use event_listener::{Entry, Former, Hand, Key, RecordedCall, RecordedEvent, RecordedReply};
+use recorded_waiters::{Waiter, first_key, notify_one};
+use std::fmt::Debug;
 use std::sync::atomic::{AtomicUsize, Ordering};
 use std::thread;
-use std::time::Duration;
+use std::time::{Duration, Instant};
 use test_support::WaitCall;
 
 // Long enough for the other thread to park meanwhile. A thread that isn't parked yet needs nobody to wake it.
@@ -25,50 +23,71 @@ fn soon() -> Duration {
     Duration::from_secs(10)
 }
 
-// What a wait answered and the hand, and the processor time that its thread used meanwhile.
-fn measured<R: SharedRuntime>(
+// Notifies one listener with the tag 7. One has to be waiting, and none told.
+fn tell<R: Runtime>(rt: &R, event: &RecordedEvent<u32>, hand: &mut Hand<u32>) {
+    check(rt, "notify", notify_one(rt, event, hand, false, 7), Ok(1));
+}
+
+// The wait gives the tag 7. Gives the hand.
+fn is_told<A: Debug + Drop, R: Runtime>(
     rt: &R,
+    asked: A,
     waiter: Waiter<'_, R>,
     wait: WaitCall,
-) -> (Result<Option<u32>, Refusal>, Hand<u32>, Duration) {
-    let before = rt.thread_cpu_time().expect(rt, "the processor time");
+) -> Hand<u32> {
     let (answer, hand) = waiter.wait(rt, wait, limit());
-    let after = rt.thread_cpu_time().expect(rt, "the processor time");
-    (answer, hand, after.saturating_sub(before))
+    check(rt, asked, answer, Ok(Some(7)));
+    hand
+}
+
+fn processor_time<R: Runtime>(rt: &R) -> Duration {
+    rt.thread_cpu_time().expect(rt, "the processor time")
+}
+
+// The wait gives the tag 7, and its thread parks until then. One that looked again and again would use most of the time,
+// and note each look. Gives the hand.
+fn parks<R: Runtime>(rt: &R, waiter: Waiter<'_, R>, wait: WaitCall) -> Hand<u32> {
+    let before = processor_time(rt);
+    let hand = is_told(rt, wait, waiter, wait);
+    let used = processor_time(rt).saturating_sub(before);
+    check(rt, (wait, used), used < a_while() / 4, true);
+    check(rt, hand.notes(), hand.notes().len() < 10, true);
+    hand
+}
+
+fn ends_soon<R: Runtime>(rt: &R, start: Instant) {
+    let taken = start.elapsed(rt).expect(rt, "the time");
+    check(rt, taken, taken < soon(), true);
 }
 
 // Has a thread wait, and `wake` called meanwhile: the thread parks until then, and is told and woken soon. Gives the
 // hand that waited, and what `wake` answered.
 fn is_woken_by<R, W, X>(rt: &R, waiter: Waiter<'_, R>, wait: WaitCall, wake: W) -> (Hand<u32>, X)
 where
-    R: SharedRuntime,
+    R: Runtime,
     W: FnOnce() -> X,
     X: Drop,
     requires { W.pre wake }
 {
-    let start = now(rt);
-    let ((answer, hand, used), woke) = thread::join(
+    let start = Instant::now(rt).expect(rt, "the time");
+    let woken = thread::join(
         rt,
-        || measured(rt, waiter, wait),
+        || parks(rt, waiter, wait),
         || {
             rt.sleep(a_while());
             wake()
         },
     );
-    assert!(rt; elapsed(rt, start) < soon());
-    assert_eq!(rt; answer, Ok(Some(7)));
-    // A thread that looked again and again would have used most of the time, and noted each look.
-    assert!(rt; used < a_while() / 4);
-    assert!(rt; hand.notes().len() < 10);
-    (hand, woke)
+    ends_soon(rt, start);
+    woken
 }
 
 // A thread in this wait is woken by a notification that another hand makes.
-fn is_woken_by_a_notification<R: SharedRuntime>(rt: &R, wait: WaitCall) {
-    let (event, waiting, mut telling) = new_event_of_two(rt, &mut EventIds::new());
-    let waiter = Waiter::listen(rt, rt, &event, waiting);
-    let (waiting, ()) = is_woken_by(rt, waiter, wait, || tell(rt, &event, &mut telling, 7));
-    close_with(rt, event, waiting, telling);
+fn is_woken_by_a_notification<R: Runtime>(rt: &R, wait: WaitCall) {
+    let (event, waiting, mut telling) = new_event_of_two(rt);
+    let waiter = listen(rt, &event, waiting);
+    let (waiting, ()) = is_woken_by(rt, waiter, wait, || tell(rt, &event, &mut telling));
+    close(rt, event, waiting, telling);
 }
 
 #[test]
@@ -96,15 +115,16 @@ fn drop_that_passes_on(key: Key) -> Entry<u32> {
 }
 
 // A thread in this wait is woken by the drop of another listener, which was told before it listened.
-fn is_woken_by_a_drop<R: SharedRuntime>(rt: &R, wait: WaitCall) {
-    let (event, dropping, mut waiting) = new_event_of_two(rt, &mut EventIds::new());
-    let told = Waiter::listen(rt, rt, &event, dropping);
-    tell(rt, &event, &mut waiting, 7);
-    let waiter = Waiter::listen(rt, rt, &event, waiting);
+fn is_woken_by_a_drop<R: Runtime>(rt: &R, wait: WaitCall) {
+    let (event, dropping, mut waiting) = new_event_of_two(rt);
+    let told = listen(rt, &event, dropping);
+    tell(rt, &event, &mut waiting);
+    let waiter = listen(rt, &event, waiting);
     let (waiting, dropping) = is_woken_by(rt, waiter, wait, || told.drop_listener());
-    let drop = drop_that_passes_on(first_key(rt, &dropping));
-    let record = close_with(rt, event, dropping, waiting);
-    assert!(rt; record.entries().contains(&drop));
+    let key = first_key(&dropping).expect(rt, "a listening");
+    let record = close(rt, event, dropping, waiting);
+    let has_drop = record.entries().contains(&drop_that_passes_on(key));
+    check(rt, record.entries(), has_drop, true);
 }
 
 #[test]
@@ -116,7 +136,7 @@ fn the_drop_of_a_told_listener_wakes_a_parked_thread(rt: HostRuntime) {
 const ROUNDS: usize = 5_000;
 
 // Waits in each round, and shows the other thread in which round it listens. Gives the hand.
-fn wait_in_each_round<R: SharedRuntime>(
+fn wait_in_each_round<R: Runtime>(
     rt: &R,
     event: &RecordedEvent<u32>,
     mut hand: Hand<u32>,
@@ -124,18 +144,16 @@ fn wait_in_each_round<R: SharedRuntime>(
     listening: &AtomicUsize,
 ) -> Hand<u32> {
     for round in 1..=ROUNDS {
-        let waiter = Waiter::listen(rt, rt, event, hand);
+        let waiter = listen(rt, event, hand);
         listening.store(round, Ordering::SeqCst);
-        let (answer, left) = waiter.wait(rt, wait, limit());
-        assert_eq!(rt; answer, Ok(Some(7)), "{wait:?} in round {round}");
-        hand = left;
+        hand = is_told(rt, (wait, round), waiter, wait);
     }
     hand
 }
 
 // Returns as soon as the other thread listens in this round. One that sleeps in the round before never does, and ends the
 // test.
-fn see_it_listen<R: SharedRuntime>(rt: &R, listening: &AtomicUsize, round: usize) {
+fn see_it_listen<R: Runtime>(rt: &R, listening: &AtomicUsize, round: usize) {
     for _ in 0..10_000 {
         if listening.load(Ordering::SeqCst) == round {
             return;
@@ -151,7 +169,7 @@ fn see_it_listen<R: SharedRuntime>(rt: &R, listening: &AtomicUsize, round: usize
 }
 
 // Notifies in each round, a little later after the other thread listened than in the round before.
-fn tell_in_each_round<R: SharedRuntime>(
+fn tell_in_each_round<R: Runtime>(
     rt: &R,
     event: &RecordedEvent<u32>,
     hand: &mut Hand<u32>,
@@ -162,20 +180,20 @@ fn tell_in_each_round<R: SharedRuntime>(
         for _ in 0..round % 500 {
             listening.load(Ordering::SeqCst);
         }
-        tell(rt, event, hand, 7);
+        tell(rt, event, hand);
     }
 }
 
 // A thread that waits again and again is woken each time, at whatever moment of its wait it is told.
-fn is_woken_at_any_moment<R: SharedRuntime>(rt: &R, wait: WaitCall) {
-    let (event, waiting, mut telling) = new_event_of_two(rt, &mut EventIds::new());
+fn is_woken_at_any_moment<R: Runtime>(rt: &R, wait: WaitCall) {
+    let (event, waiting, mut telling) = new_event_of_two(rt);
     let listening = AtomicUsize::new(0);
     let (waiting, ()) = thread::join(
         rt,
         || wait_in_each_round(rt, &event, waiting, wait, &listening),
         || tell_in_each_round(rt, &event, &mut telling, &listening),
     );
-    close_with(rt, event, waiting, telling);
+    close(rt, event, waiting, telling);
 }
 
 #[test]

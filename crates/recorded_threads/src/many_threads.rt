@@ -1,12 +1,11 @@
 //! Many threads on one event, and two threads on two.
-use crate::support::{
-    Runtime, SharedRuntime, Waiter, close, close_with, new_event, new_event_of_two, tells_one_more,
-};
+use crate::support::{Runtime, SharedRuntime, check, close, close_with, listen, new_event_of_two};
 use event_listener::{Entry, EventIds, Hand, RecordedEvent};
 use futures::task::Poll;
+use recorded_waiters::{Waiter, new_event, notify_one};
 use std::thread;
 use std::time::Duration;
-use test_support::WaitCall;
+use test_support::{WaitCall, any_waker};
 
 const HANDS: usize = 8;
 
@@ -24,7 +23,8 @@ type Ended = (Hand<u32>, bool);
 
 // Polls the listener and drops it. One that gave its tag to the poll has left the queue before.
 fn poll_and_drop<R: Runtime>(rt: &R, mut waiter: Waiter<'_, R>) -> Ended {
-    let stands = waiter.poll(rt) == Poll::Pending;
+    let waker = any_waker(rt).expect(rt, "a waker");
+    let stands = waiter.poll(waker).expect(rt, "a poll") == Poll::Pending;
     (waiter.drop_listener(), stands)
 }
 
@@ -35,8 +35,24 @@ fn notify_and_drop<R: Runtime>(
     mut waiter: Waiter<'_, R>,
     additional: bool,
 ) -> Ended {
-    waiter.notify(rt, event, additional);
+    let tag = u32::try_from(waiter.number()).expect(rt, "a tag");
+    let told = waiter.notify(rt, event, additional, tag);
+    check(rt, told, told.expect(rt, "a notification") <= 1, true);
     (waiter.drop_listener(), true)
+}
+
+// Discards the listener.
+fn discard<R: Runtime>(rt: &R, waiter: Waiter<'_, R>) -> Ended {
+    let (answer, hand) = waiter.discard();
+    answer.expect(rt, "an answer");
+    (hand, false)
+}
+
+// Waits for a millisecond.
+fn wait_briefly<R: Runtime>(rt: &R, waiter: Waiter<'_, R>) -> Ended {
+    let (answer, hand) = waiter.wait(rt, WaitCall::Timeout, Duration::from_millis(1));
+    answer.expect(rt, "a wait");
+    (hand, false)
 }
 
 // One round: a thread listens, and does one of four things with its listener.
@@ -47,15 +63,11 @@ fn play_round<R: Runtime>(
     round: usize,
 ) -> Ended {
     let what = hand.number().wrapping_add(round) % 4;
-    let waiter = Waiter::listen(rt, rt, event, hand);
+    let waiter = listen(rt, event, hand);
     match what {
         0 => poll_and_drop(rt, waiter),
-        1 => (waiter.discard(rt), false),
-        2 => {
-            let (answer, hand) = waiter.wait(rt, WaitCall::Timeout, Duration::from_millis(1));
-            answer.expect(rt, "a wait");
-            (hand, false)
-        }
+        1 => discard(rt, waiter),
+        2 => wait_briefly(rt, waiter),
         _ => notify_and_drop(rt, event, waiter, round % 2 == 1),
     }
 }
@@ -103,17 +115,32 @@ fn count_entries(entries: &[Entry<u32>]) -> (usize, usize) {
     (of_hands, entries.len().saturating_sub(of_hands))
 }
 
+// The hands had so many notes and so many dropped listeners. Each round has two calls or more, and every fourth one drops
+// a listener that stands in the queue.
+fn played_all_rounds<R: Runtime>(rt: &R, notes: usize, dropped: usize) {
+    check(rt, ("notes", notes), notes >= 2 * HANDS * ROUNDS, true);
+    check(
+        rt,
+        ("dropped", dropped),
+        dropped >= HANDS * ROUNDS / 4,
+        true,
+    );
+}
+
 // Each hand makes all its rounds in a thread of its own.
 fn all_play<R: SharedRuntime>(rt: &R) {
-    let (event, hands) = new_event(rt, &mut EventIds::new(), HANDS);
+    let (event, hands) = new_event(rt.alloc(), &mut EventIds::new(), HANDS).expect(rt, "an event");
     let played = thread::map_vec(rt, hands, &|hand| play(rt, &event, hand));
     let (hands, dropped) = gather(rt, played.expect(rt, "room for what was played"));
     let notes = count_notes(hands.as_slice());
     let record = close(rt, event, hands);
-    assert_eq!(rt; count_entries(record.entries()), (notes, dropped));
-    // Each round has two calls or more, and every fourth one drops a listener that stands in the queue.
-    assert!(rt; notes >= 2 * HANDS * ROUNDS);
-    assert!(rt; dropped >= HANDS * ROUNDS / 4);
+    check(
+        rt,
+        "entries",
+        count_entries(record.entries()),
+        (notes, dropped),
+    );
+    played_all_rounds(rt, notes, dropped);
 }
 
 #[test]
@@ -135,7 +162,8 @@ fn tell_once_it_listens<R: Runtime>(
     tag: u32,
 ) {
     for _ in 0..LOOKS {
-        if tells_one_more(rt, event, hand, tag) {
+        let told = notify_one(rt, event, hand, true, tag);
+        if told.expect(rt, "a notification") == 1 {
             return;
         }
         rt.sleep(Duration::from_micros(100));
@@ -152,10 +180,10 @@ fn meet<R: Runtime>(
     tags: (u32, u32),
 ) -> Hands {
     let (waiting, mut telling) = hands;
-    let waiter = Waiter::listen(rt, rt, own, waiting);
+    let waiter = listen(rt, own, waiting);
     tell_once_it_listens(rt, other, &mut telling, tags.0);
     let (answer, waiting) = waiter.wait(rt, WaitCall::Timeout, Duration::from_secs(10));
-    assert_eq!(rt; answer, Ok(Some(tags.1)));
+    check(rt, "the other's tag", answer, Ok(Some(tags.1)));
     (waiting, telling)
 }
 

@@ -1,0 +1,45 @@
+//! What ends a test. Each assertion stands here once, in a generic function, and is proved once.
+use event_listener::{CloseError, Hand, RecordedEvent};
+use recorded_support::close_and_count;
+use std::alloc::AllocGlobal;
+use std::fmt::Debug;
+use std::process::Abort;
+use std::sync::Wait;
+use std::time::Clock;
+
+/// What the tests ask of a runtime value.
+pub trait Runtime: Abort + AllocGlobal + Wait + Clock + Clone {}
+
+impl<R: Abort + AllocGlobal + Wait + Clock + Clone> Runtime for R {}
+
+/// The answer is the expected one. Where it is not, the message has both, and what was asked.
+pub fn check<A, V, R>(rt: &R, asked: A, answer: V, expected: V)
+where
+    A: Debug + Drop,
+    V: PartialEq + Debug + Drop,
+    R: Abort,
+{
+    assert_eq!(rt; answer, expected, "{asked:?}");
+}
+
+/// A new event with so many hands. All events that this makes have one number.
+pub fn new_event<R: Runtime>(rt: &R, hands: usize) -> (RecordedEvent<u32>, Vec<Hand<u32>>) {
+    let made = recorded_support::new_event(rt.alloc(), hands);
+    made.expect(rt, "an event")
+}
+
+/// Closing the event gives a record of so many entries, or this refusal. All hands are the event's.
+pub fn closes<A, R>(
+    rt: &R,
+    asked: A,
+    event: RecordedEvent<u32>,
+    hands: Vec<Hand<u32>>,
+    expected: Result<usize, CloseError>,
+)
+where
+    A: Debug + Drop,
+    R: Abort,
+{
+    let answer = close_and_count(event, hands);
+    check(rt, asked, answer, Some(expected));
+}

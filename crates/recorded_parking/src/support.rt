@@ -1,0 +1,50 @@
+//! What ends a test, and the calls that have to succeed.
+use event_listener::{EventIds, Hand, Record, RecordedEvent};
+use recorded_waiters::{self, Waiter};
+use std::alloc::AllocGlobal;
+use std::fmt::Debug;
+use std::process::Abort;
+use std::sync::Wait;
+use std::thread::Threads;
+use std::time::{Clock, CpuClock};
+
+/// What the tests ask of a runtime value, which two threads use.
+pub trait Runtime: Abort + AllocGlobal + Wait + Clock + CpuClock + Threads + Clone + Send + Sync {}
+
+impl<R: Abort + AllocGlobal + Wait + Clock + CpuClock + Threads + Clone + Send + Sync> Runtime
+    for R {}
+
+/// The answer is the expected one. Where it is not, the message has both, and what was asked.
+pub fn check<A, V, R>(rt: &R, asked: A, answer: V, expected: V)
+where
+    A: Debug + Drop,
+    V: PartialEq + Debug + Drop,
+    R: Abort,
+{
+    assert_eq!(rt; answer, expected, "{asked:?}");
+}
+
+/// A new event with two hands.
+pub fn new_event_of_two<R: Runtime>(rt: &R) -> (RecordedEvent<u32>, Hand<u32>, Hand<u32>) {
+    recorded_waiters::new_event_of_two(rt.alloc(), &mut EventIds::new()).expect(rt, "an event")
+}
+
+/// A new listener of this hand.
+pub fn listen<'ev, R: Runtime>(
+    rt: &R,
+    event: &'ev RecordedEvent<u32>,
+    hand: Hand<u32>,
+) -> Waiter<'ev, R> {
+    Waiter::listen(rt, rt.alloc(), event, hand).expect(rt, "a listener")
+}
+
+/// Closes an event of two hands. The record has to agree with the notes of the hands, and to replay.
+pub fn close<R: Runtime>(
+    rt: &R,
+    event: RecordedEvent<u32>,
+    one: Hand<u32>,
+    other: Hand<u32>,
+) -> Record<u32> {
+    let hands = Vec::from_array(rt.alloc(), [one, other]).expect(rt, "room for two");
+    recorded_waiters::close(rt.alloc(), event, hands).expect(rt, "a record")
+}
