@@ -1,9 +1,10 @@
 use rows_events::{EventRow, IdentityRow, TagRow, WaitRow};
 use rows_queue::QueueRow;
 use rows_recorded::RecordedRow;
+use rows_worlds::{FlagRow, MutexRow};
 use std::sync::Wait;
 use std::time::Clock;
-use worked_rows::{Difference, Harness, Hook, Row};
+use worked_rows::{Harness, Hook, Row};
 
 /// A row of any family.
 #[derive(Clone, Copy)]
@@ -14,6 +15,8 @@ pub enum AnyRow {
     Tag(TagRow),
     Wait(WaitRow),
     Recorded(RecordedRow),
+    Mutex(MutexRow),
+    Flag(FlagRow),
 }
 
 impl Row for AnyRow {
@@ -36,10 +39,16 @@ impl Row for AnyRow {
         if let Some(row) = RecordedRow::numbered(number) {
             return Some(AnyRow::Recorded(row));
         }
+        if let Some(row) = MutexRow::numbered(number) {
+            return Some(AnyRow::Mutex(row));
+        }
+        if let Some(row) = FlagRow::numbered(number) {
+            return Some(AnyRow::Flag(row));
+        }
         None
     }
 
-    fn run<R, H>(self, harness: &mut Harness<'_, R, H>) -> Result<(), Difference>
+    fn run<R, H>(self, harness: &mut Harness<'_, R, H>)
     where
         R: Wait + Clock + Clone,
         H: Hook,
@@ -51,6 +60,8 @@ impl Row for AnyRow {
             AnyRow::Tag(row) => row.run(harness),
             AnyRow::Wait(row) => row.run(harness),
             AnyRow::Recorded(row) => row.run(harness),
+            AnyRow::Mutex(row) => row.run(harness),
+            AnyRow::Flag(row) => row.run(harness),
         }
     }
 }

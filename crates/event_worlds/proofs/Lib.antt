@@ -1,0 +1,15 @@
+pub mod KeyLemmas
+pub mod ClientLemmas
+pub mod LineLemmas
+pub mod JoinLemmas
+pub mod NotifyLemmas
+pub mod StepLemmas
+pub mod PlaceLemmas
+pub mod StandingLemmas
+pub mod MutexParts
+pub mod MutexSteps
+pub mod MutexSafetyLemmas
+pub mod MutexMoves
+pub mod FlagSteps
+pub mod FlagMoves
+pub mod FlagSafetyLemmas

@@ -1,0 +1,119 @@
+-- What one step changes of each part of the mutex world's invariant: the holder, and who is on its way.
+use Rattle.std.proofs.Common.{◌≡◌, ◌≢◌, ℕ, ◌+◌, ◌<◌, ◌≤◌, ◌⊎◌, Bool, true, false, cond, eqb, List, [], ◌∷◌, length, set, slice_get, Option, Some, None, is_none, refl, sym, ap, ◌∙◌, subst, arith, inl, inr, eq-eqb, ne_eqb, eqb-true}
+use Rattle.std.proofs.lemmas.Bool.{cases_Bool, cases_eq}
+use Rattle.std.specs.Map.{keys_of}
+use Rattle.event_worlds.specs.declared.world.place.Place.{Place}
+use Rattle.event_worlds.specs.declared.world.place.Place.TheVariants.{Idle, First, ToListen, Second, Ending, ToRegister, Parked, Holding, Releasing}
+use Rattle.event_worlds.specs.ClientTable.{is_listening}
+use Rattle.event_worlds.specs.Line.{Line}
+use Rattle.event_worlds.specs.Standing.{times, standing, Fits, FitsAt, AllFit, number}
+use Rattle.event_worlds.specs.MutexInvariant.{is_parked, is_inside, is_past_second, is_on_its_way, is_inside_at, is_holder}
+use Rattle.event_worlds.proofs.PlaceLemmas.{slice_get-set, slice_get-set_other, number-set, number-at, number-found}
+
+-- the holder
+
+pub held : (client : ℕ) (holder : Option ℕ) → is_holder client holder ≡ true → holder ≡ None → ⊥
+held client None holds free = absurd (cc)
+held client (Some other) holds free = absurd (cc)
+
+pub free_is : (holder : Option ℕ) → is_none holder ≡ true → holder ≡ None
+free_is None free = refl
+free_is (Some client) free = absurd (cc)
+
+pub not_free_is : (holder : Option ℕ) → is_none holder ≡ false → holder ≡ None → ⊥
+not_free_is None taken free = absurd (cc)
+not_free_is (Some client) taken free = absurd (cc)
+
+only_holder : (client other : ℕ) (holder : Option ℕ) → is_holder client holder ≡ true → other ≢ client → is_holder other holder ≡ false
+only_holder client other None holds differs = absurd (cc)
+only_holder client other (Some holder) holds differs =
+    ne_eqb other holder (λ same. differs (same ∙ sym (eqb-true client holder holds)))
+
+-- the holder is who is inside
+abbrev pub HolderFits : Option ℕ → List Place → Type 0
+HolderFits holder places = (client : ℕ) → is_holder client holder ≡ is_inside_at (slice_get places client)
+
+module _ (places : List Place) (client : ℕ) (p q : Place) (at : slice_get places client ≡ Some p) where
+  here : is_inside_at (slice_get (set places client q) client) ≡ is_inside q
+  here = ap is_inside_at (slice_get-set places client p q at)
+
+  there : (other : ℕ) → other ≢ client → is_inside_at (slice_get (set places client q) other) ≡ is_inside_at (slice_get places other)
+  there other differs = ap is_inside_at (slice_get-set_other places client other q differs)
+
+  was : is_inside_at (slice_get places client) ≡ is_inside p
+  was = ap is_inside_at at
+
+  at_all : (new : Option ℕ) → is_holder client new ≡ is_inside q → ((other : ℕ) → other ≢ client → is_holder other new ≡ is_inside_at (slice_get places other)) → HolderFits new (set places client q)
+  at_all new mine others other =
+      elim (cases_eq other client) [
+        | inl is ↦
+            subst (λ (x : ℕ). is_holder x new ≡ is_inside_at (slice_get (set places client q) x)) (sym is) (mine ∙ sym here)
+        | inr differs ↦ others other differs ∙ sym (there other differs)
+      ]
+
+  pub holder-goes : (holder : Option ℕ) → is_inside q ≡ is_inside p → HolderFits holder places → HolderFits holder (set places client q)
+  holder-goes holder same fits =
+      at_all holder (fits client ∙ (was ∙ sym same)) (λ other differs. fits other)
+
+  pub holder-takes : (holder : Option ℕ) → holder ≡ None → is_inside q ≡ true → HolderFits holder places → HolderFits (Some client) (set places client q)
+  holder-takes holder free inside fits =
+      at_all (Some client) (eq-eqb client client refl ∙ sym inside) (λ other differs.
+      ne_eqb other client differs ∙ (sym (ap (is_holder other) free) ∙ fits other))
+
+  pub is_holder-inside : (holder : Option ℕ) → is_inside p ≡ true → HolderFits holder places → is_holder client holder ≡ true
+  is_holder-inside holder inside fits = fits client ∙ (was ∙ inside)
+
+  pub holder-frees : (holder : Option ℕ) → is_inside p ≡ true → is_inside q ≡ false → HolderFits holder places → HolderFits None (set places client q)
+  holder-frees holder inside outside fits =
+      at_all None (sym outside) (λ other differs.
+      sym (only_holder client other holder (is_holder-inside holder inside fits) differs) ∙ fits other)
+
+  -- who is on its way
+
+  -- where somebody was told or on its way, somebody still is
+  pub moving-kept : (told told' : ℕ) → cond (is_past_second q) 1 0 ≤ cond (is_past_second p) 1 0 → cond (is_on_its_way p) 1 0 ≤ cond (is_on_its_way q) 1 0 → told ≤ told' → (0 < number is_past_second places → 0 < told + number is_on_its_way places) → 0 < number is_past_second (set places client q) → 0 < told' + number is_on_its_way (set places client q)
+  moving-kept told told' past way more moving some =
+      let pasts = number-set is_past_second places client p q at in
+      let ways = number-set is_on_its_way places client p q at in
+      let had : 0 < told + number is_on_its_way places = moving (omega arith) in
+      omega arith
+
+  -- the client itself is on its way
+  pub moving-client : (told : ℕ) → is_on_its_way q ≡ true → 0 < told + number is_on_its_way (set places client q)
+  moving-client told way =
+      let some = number-at is_on_its_way (set places client q) client q (slice_get-set places client p q at) way in
+      omega arith
+
+past_listens : (place : Place) → is_past_second place ≡ true → is_listening place ≡ true
+past_listens Idle past = absurd (cc)
+past_listens (First woken) past = absurd (cc)
+past_listens ToListen past = absurd (cc)
+past_listens Second past = absurd (cc)
+past_listens Ending past = absurd (cc)
+past_listens ToRegister past = refl
+past_listens Parked past = refl
+past_listens Holding past = absurd (cc)
+past_listens Releasing past = absurd (cc)
+
+times-le-length : (client : ℕ) (xs : List ℕ) → times client xs ≤ length xs
+times-le-length client [] = omega arith
+times-le-length client (x ∷ xs) =
+    let rest = times-le-length client xs in
+    elim (cases_Bool (eqb client x)) [ inl here ↦ rw here (omega arith) | inr other ↦ rw other (omega arith) ]
+
+-- who listens stands in line
+pub fits-listening : (place : Place) (client : ℕ) (line : Line) → is_listening place ≡ true → Fits (is_listening place) (is_parked place) (standing client line) → times client line.told + times client (keys_of line.waiting) ≡ 1
+fits-listening place client line listens fits =
+    subst (λ (b : Bool). times client line.told + times client (keys_of line.waiting) ≡ cond b 1 0) listens fits.once
+
+-- somebody is told where anybody is in line
+pub moving-someone : (places : List Place) (line : Line) → AllFit is_listening is_parked places line → (0 < length line.told) ⊎ (line.waiting ≡ []) → 0 < number is_past_second places → 0 < length line.told + number is_on_its_way places
+moving-someone places line fit (inl told) some = omega arith
+moving-someone places line fit (inr nobody) some =
+    let (client, place, at, past) = number-found is_past_second places some in
+    let fits : FitsAt is_listening is_parked (Some place) (standing client line) =
+    subst (λ (o : Option Place). FitsAt is_listening is_parked o (standing client line)) at (fit client) in
+    let once = fits-listening place client line (past_listens place past) fits in
+    let none : times client (keys_of line.waiting) ≡ 0 =
+    ap (λ (waiting : List (ℕ × Bool)). times client (keys_of waiting)) nobody in
+    omega (arith, times-le-length client line.told)

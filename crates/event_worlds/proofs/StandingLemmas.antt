@@ -1,0 +1,399 @@
+-- What each change of a line does to how the clients stand in it, and that telling one keeps them fitting their
+-- places, whatever the type of places.
+use Rattle.std.proofs.Common.{◌≡◌, ◌≢◌, ℕ, zero, suc, ◌+◌, ◌-◌, ◌<◌, ◌≤◌, min, ◌⊎◌, Bool, true, false, cond, eqb, List, [], ◌∷◌, ◌++◌, length, set, get_or, slice_get, Option, Some, None, refl, sym, ap, ◌∙◌, subst, arith, inl, inr, eq-eqb, ne_eqb, eqb-true, length-append, length-set, get_or-set_same, get_or-set_other}
+use Rattle.std.proofs.lemmas.Bool.{cases_Bool, cases_eq, or_cases, or_parts}
+use Rattle.std.proofs.lemmas.List.{map-append}
+use Rattle.std.proofs.lemmas.Map.{keys-set_value}
+use Rattle.std.proofs.lemmas.Option.{slice_get_within}
+use Rattle.std.specs.List.{list_any}
+use Rattle.std.specs.Map.{keys_of, remove_entry, set_value}
+use Rattle.event_worlds.specs.Line.{Line, is_told, joined, registered, without, told_left, waiting_left, wake_lost, woken, first_told_of, first_told, tell, notified}
+use Rattle.event_worlds.specs.Standing.{times, times_unregistered, Standing, standing, Fits, FitsAt, AllFit}
+use Rattle.event_worlds.proofs.PlaceLemmas.{one_if, none_if, slice_get-set, slice_get-set_other}
+
+-- a client among clients
+
+pub times-any : (client : ℕ) (xs : List ℕ) → list_any (eqb client) xs ≡ true → 0 < times client xs
+times-any client [] found = absurd (cc)
+times-any client (x ∷ xs) found =
+    elim (or_cases (eqb client x) (list_any (eqb client) xs) found) [
+      | inl here ↦ let one = one_if (eqb client x) here in omega arith
+      | inr later ↦ omega (arith, times-any client xs later)
+    ]
+
+pub times-none : (client : ℕ) (xs : List ℕ) → list_any (eqb client) xs ≡ false → times client xs ≡ 0
+times-none client [] missing = refl
+times-none client (x ∷ xs) missing =
+    let (here, later) = or_parts (eqb client x) (list_any (eqb client) xs) missing in
+    let none = none_if (eqb client x) here in
+    omega (arith, times-none client xs later)
+
+pub times-append : (client : ℕ) (xs ys : List ℕ) → times client (xs ++ ys) ≡ times client xs + times client ys
+times-append client [] ys = omega arith
+times-append client (x ∷ xs) ys = omega (arith, times-append client xs ys)
+
+pub times-without : (client : ℕ) (xs : List ℕ) → 0 < times client xs → times client (without client xs) + 1 ≡ times client xs
+times-without client [] some = absurd (omega arith)
+times-without client (x ∷ xs) some =
+    elim (cases_Bool (eqb client x)) [
+      | inl here ↦ rw here (omega arith)
+      | inr other ↦
+          let none = none_if (eqb client x) other in
+          let rest = times-without client xs (omega arith) in
+          rw other (omega arith)
+    ]
+
+pub times-without_other : (client other : ℕ) (xs : List ℕ) → other ≢ client → times other (without client xs) ≡ times other xs
+times-without_other client other [] differs = refl
+times-without_other client other (x ∷ xs) differs =
+    elim (cases_Bool (eqb client x)) [
+      | inl here ↦
+          let none = none_if (eqb other x) (ne_eqb other x (λ same. differs (same ∙ sym (eqb-true client x here)))) in
+          rw here (omega arith)
+      | inr no_match ↦ rw no_match (omega (arith, times-without_other client other xs differs))
+    ]
+
+pub length-without : (client : ℕ) (xs : List ℕ) → length (without client xs) ≤ length xs
+length-without client [] = omega arith
+length-without client (x ∷ xs) =
+    elim (cases_Bool (eqb client x)) [
+      | inl here ↦ rw here (omega arith)
+      | inr no_match ↦ rw no_match (omega (arith, length-without client xs))
+    ]
+
+-- a client among waiting clients
+
+pub keys-remove_entry : (client : ℕ) (waiting : List (ℕ × Bool)) → keys_of (remove_entry (eqb client) waiting) ≡ without client (keys_of waiting)
+keys-remove_entry client [] = refl
+keys-remove_entry client (first ∷ rest) =
+    elim (cases_Bool (eqb client first.0)) [
+      | inl here ↦ rw here refl
+      | inr no_match ↦ rw no_match (ap (λ keys. first.0 ∷ keys) (keys-remove_entry client rest))
+    ]
+
+none_of-none : (b : Bool) (n : ℕ) → n ≡ 0 → cond b 0 n ≡ 0
+none_of-none true n none = refl
+none_of-none false n none = none
+
+at_most_all : (b : Bool) (n : ℕ) → cond b 0 n ≤ n
+at_most_all true n = omega arith
+at_most_all false n = omega arith
+
+other_key : (client other key : ℕ) → other ≢ client → eqb client key ≡ true → cond {A = ℕ} (eqb other key) 1 0 ≡ 0
+other_key client other key differs here =
+    none_if (eqb other key) (ne_eqb other key (λ same. differs (same ∙ sym (eqb-true client key here))))
+
+pub unregistered-le : (client : ℕ) (waiting : List (ℕ × Bool)) → times_unregistered client waiting ≤ times client (keys_of waiting)
+unregistered-le client [] = omega arith
+unregistered-le client (first ∷ rest) =
+    omega (arith, unregistered-le client rest, at_most_all first.1 (cond (eqb client first.0) 1 0))
+
+pub unregistered-append : (client : ℕ) (xs ys : List (ℕ × Bool)) → times_unregistered client (xs ++ ys) ≡ times_unregistered client xs + times_unregistered client ys
+unregistered-append client [] ys = omega arith
+unregistered-append client (x ∷ xs) ys = omega (arith, unregistered-append client xs ys)
+
+pub unregistered-remove_other : (client other : ℕ) (waiting : List (ℕ × Bool)) → other ≢ client → times_unregistered other (remove_entry (eqb client) waiting) ≡ times_unregistered other waiting
+unregistered-remove_other client other [] differs = refl
+unregistered-remove_other client other (first ∷ rest) differs =
+    elim (cases_Bool (eqb client first.0)) [
+      | inl here ↦
+          let none = none_of-none first.1 (cond (eqb other first.0) 1 0) (other_key client other first.0 differs here) in
+          rw here (omega arith)
+      | inr no_match ↦ rw no_match (omega (arith, unregistered-remove_other client other rest differs))
+    ]
+
+pub unregistered-set_other : (client other : ℕ) (waiting : List (ℕ × Bool)) → other ≢ client → times_unregistered other (set_value (eqb client) waiting true) ≡ times_unregistered other waiting
+unregistered-set_other client other [] differs = refl
+unregistered-set_other client other (first ∷ rest) differs =
+    elim (cases_Bool (eqb client first.0)) [
+      | inl here ↦
+          let none = none_of-none first.1 (cond (eqb other first.0) 1 0) (other_key client other first.0 differs here) in
+          rw here (omega arith)
+      | inr no_match ↦ rw no_match (omega (arith, unregistered-set_other client other rest differs))
+    ]
+
+-- who waits once and registers is not among the unregistered
+pub unregistered-set : (client : ℕ) (waiting : List (ℕ × Bool)) → times client (keys_of waiting) ≤ 1 → times_unregistered client (set_value (eqb client) waiting true) ≡ 0
+unregistered-set client [] once = refl
+unregistered-set client (first ∷ rest) once =
+    elim (cases_Bool (eqb client first.0)) [
+      | inl here ↦
+          let one = one_if (eqb client first.0) here in
+          rw here (omega (arith, unregistered-le client rest))
+      | inr no_match ↦
+          let none = none_if (eqb client first.0) no_match in
+          let still_none = none_of-none first.1 (cond (eqb client first.0) 1 0) none in
+          rw no_match (omega (arith, unregistered-set client rest (omega arith)))
+    ]
+
+keys-joined : (client : ℕ) (waiting : List (ℕ × Bool)) → keys_of (waiting ++ (client, false) ∷ []) ≡ keys_of waiting ++ client ∷ []
+keys-joined client waiting = map-append (λ (e : ℕ × Bool). e.0) waiting ((client, false) ∷ [])
+
+times-joined : (other client : ℕ) (waiting : List (ℕ × Bool)) → times other (keys_of (waiting ++ (client, false) ∷ [])) ≡ times other (keys_of waiting) + cond (eqb other client) 1 0
+times-joined other client waiting =
+    ap (times other) (keys-joined client waiting) ∙ (times-append other (keys_of waiting) (client ∷ []) ∙ omega arith)
+
+times-told : (other client : ℕ) (told : List ℕ) → times other (told ++ client ∷ []) ≡ times other told + cond (eqb other client) 1 0
+times-told other client told = times-append other told (client ∷ []) ∙ omega arith
+
+-- the other clients stand as they did
+
+pub record IsSame (old new : Standing) : Type 0 where
+  pub told : new.told ≡ old.told
+  pub waiting : new.waiting ≡ old.waiting
+  pub unregistered : new.unregistered ≡ old.unregistered
+  pub awake : new.awake ≡ old.awake
+
+module _ (client other : ℕ) (line : Line) (differs : other ≢ client) where
+  pub same-joined : IsSame (standing other line) (standing other (joined client line))
+  same-joined =
+      let none = none_if (eqb other client) (ne_eqb other client differs) in
+      record {
+        told = refl;
+        waiting = times-joined other client line.waiting ∙ omega arith;
+        unregistered = unregistered-append other line.waiting ((client, false) ∷ []) ∙ omega arith;
+        awake = get_or-set_other line.awake client other false false differs;
+      }
+
+  pub same-registered : IsSame (standing other line) (standing other (registered client line))
+  same-registered = record {
+    told = refl;
+    waiting = ap (times other) (keys-set_value (eqb client) line.waiting true);
+    unregistered = unregistered-set_other client other line.waiting differs;
+    awake = refl;
+  }
+
+  pub same-told_left : IsSame (standing other line) (standing other (told_left client line))
+  same-told_left = record {
+    told = times-without_other client other line.told differs;
+    waiting = refl;
+    unregistered = refl;
+    awake = refl;
+  }
+
+  pub same-waiting_left : IsSame (standing other line) (standing other (waiting_left client line))
+  same-waiting_left = record {
+    told = refl;
+    waiting =
+        ap (times other) (keys-remove_entry client line.waiting)
+        ∙ times-without_other client other (keys_of line.waiting) differs;
+    unregistered = unregistered-remove_other client other line.waiting differs;
+    awake = refl;
+  }
+
+  pub same-wake_lost : IsSame (standing other line) (standing other (wake_lost client line))
+  same-wake_lost = record {
+    told = refl;
+    waiting = refl;
+    unregistered = refl;
+    awake = get_or-set_other line.awake client other false false differs;
+  }
+
+-- the client itself fits its new place
+
+-- who is not parked owes nothing but its count
+unparked : (listens : Bool) (client : Standing) → client.told + client.waiting ≡ cond listens 1 0 → Fits listens false client
+unparked listens client once = record {
+  once = once;
+  registered = λ parks. absurd (cc);
+  awake = λ parks told. absurd (cc);
+}
+
+-- a place where one is not parked asks no more than any other where one listens as well
+pub fits-unparked : (listens parks : Bool) (client : Standing) → Fits listens parks client → Fits listens false client
+fits-unparked listens parks client fits = unparked listens client fits.once
+
+module _ (client : ℕ) (line : Line) (parks : Bool) where
+  pub fits-joined : Fits false parks (standing client line) → Fits true false (standing client (joined client line))
+  fits-joined fits =
+      let one = one_if (eqb client client) (eq-eqb client client refl) in
+      let old : times client line.told + times client (keys_of line.waiting) ≡ 0 = fits.once in
+      let once : times client line.told + times client (keys_of (line.waiting ++ (client, false) ∷ [])) ≡ 1 =
+      omega (arith, times-joined client client line.waiting) in
+      unparked true (standing client (joined client line)) once
+
+  pub fits-registered : Fits true parks (standing client line) → is_told client line ≡ false → Fits true true (standing client (registered client line))
+  fits-registered fits untold =
+      let none = times-none client line.told untold in
+      let old : times client line.told + times client (keys_of line.waiting) ≡ 1 = fits.once in
+      let keys = ap (times client) (keys-set_value (eqb client) line.waiting true) in
+      let once : times client line.told + times client (keys_of (set_value (eqb client) line.waiting true)) ≡ 1 =
+      omega arith in
+      record {
+        once = once;
+        registered = λ _. unregistered-set client line.waiting (omega arith);
+        awake = λ _ (told : 0 < times client line.told). absurd (omega arith);
+      }
+
+  pub fits-told_left : Fits true parks (standing client line) → is_told client line ≡ true → Fits false false (standing client (told_left client line))
+  fits-told_left fits told =
+      let some = times-any client line.told told in
+      let old : times client line.told + times client (keys_of line.waiting) ≡ 1 = fits.once in
+      let left = times-without client line.told some in
+      let once : times client (without client line.told) + times client (keys_of line.waiting) ≡ 0 = omega arith in
+      unparked false (standing client (told_left client line)) once
+
+  pub fits-waiting_left : Fits true parks (standing client line) → is_told client line ≡ false → Fits false false (standing client (waiting_left client line))
+  fits-waiting_left fits untold =
+      let none = times-none client line.told untold in
+      let old : times client line.told + times client (keys_of line.waiting) ≡ 1 = fits.once in
+      let keys = ap (times client) (keys-remove_entry client line.waiting) in
+      let left = times-without client (keys_of line.waiting) (omega arith) in
+      let once : times client line.told + times client (keys_of (remove_entry (eqb client) line.waiting)) ≡ 0 =
+      omega arith in
+      unparked false (standing client (waiting_left client line)) once
+
+  pub fits-wake_lost : Fits true parks (standing client line) → Fits true false (standing client (wake_lost client line))
+  fits-wake_lost fits = unparked true (standing client (wake_lost client line)) fits.once
+
+-- who is told, of the others
+
+woken-other : (r : Bool) (client other : ℕ) (awake : List Bool) → other ≢ client → get_or (woken client r awake) other false ≡ get_or awake other false
+woken-other true client other awake differs = get_or-set_other awake client other true false differs
+woken-other false client other awake differs = refl
+
+woken-first : (r : Bool) (client : ℕ) (awake : List Bool) (n : ℕ) → client < length awake → cond r 0 1 + n ≡ 0 → get_or (woken client r awake) client false ≡ true
+woken-first true client awake n within all = get_or-set_same awake client true false within
+woken-first false client awake n within all = absurd (omega arith)
+
+length-woken : (r : Bool) (client : ℕ) (awake : List Bool) → length (woken client r awake) ≡ length awake
+length-woken true client awake = length-set awake client true
+length-woken false client awake = refl
+
+module _ (first : ℕ × Bool) (rest : List (ℕ × Bool)) (told : List ℕ) (awake : List Bool) (next : ℕ) where
+  abbrev before : Line
+  before = record { told = told; waiting = first ∷ rest; awake = awake; next = next }
+
+  same-first_told : (other : ℕ) → other ≢ first.0 → IsSame (standing other before) (standing other (first_told_of (first ∷ rest) before))
+  same-first_told other differs =
+      let none = none_if (eqb other first.0) (ne_eqb other first.0 differs) in
+      let still_none = none_of-none first.1 (cond (eqb other first.0) 1 0) none in
+      let told_same : times other (told ++ first.0 ∷ []) ≡ times other told =
+      omega (arith, times-told other first.0 told) in
+      let waiting_same : times other (keys_of rest) ≡ cond (eqb other first.0) 1 0 + times other (keys_of rest) =
+      omega arith in
+      let unregistered_same : times_unregistered other rest ≡ cond first.1 0 (cond (eqb other first.0) 1 0) + times_unregistered other rest =
+      omega arith in
+      record {
+        told = told_same;
+        waiting = waiting_same;
+        unregistered = unregistered_same;
+        awake = woken-other first.1 first.0 other awake differs;
+      }
+
+  fits-first_told : (listens parks : Bool) → first.0 < length awake → Fits listens parks (standing first.0 before) → Fits listens parks (standing first.0 (first_told_of (first ∷ rest) before))
+  fits-first_told listens parks within fits =
+      let one = one_if (eqb first.0 first.0) (eq-eqb first.0 first.0 refl) in
+      let old : times first.0 told + (cond (eqb first.0 first.0) 1 0 + times first.0 (keys_of rest)) ≡ cond listens 1 0 =
+      fits.once in
+      let once : times first.0 (told ++ first.0 ∷ []) + times first.0 (keys_of rest) ≡ cond listens 1 0 =
+      omega (arith, times-told first.0 first.0 told) in
+      let all : parks ≡ true → cond first.1 0 1 + times_unregistered first.0 rest ≡ 0 =
+      λ parked. subst (λ (k : ℕ). cond first.1 0 k + times_unregistered first.0 rest ≡ 0) one (fits.registered parked) in
+      let none : parks ≡ true → times_unregistered first.0 rest ≡ 0 = λ parked. omega (arith, all parked) in
+      record {
+        once = once;
+        registered = none;
+        awake = λ parked _. woken-first first.1 first.0 awake (times_unregistered first.0 rest) within (all parked);
+      }
+
+  -- nobody waits where nobody stands in line
+  nobody-first_told : Fits false false (standing first.0 before) → ⊥
+  nobody-first_told fits =
+      let one = one_if (eqb first.0 first.0) (eq-eqb first.0 first.0 refl) in
+      let old : times first.0 told + (cond (eqb first.0 first.0) 1 0 + times first.0 (keys_of rest)) ≡ 0 = fits.once in
+      omega arith
+
+module _ {P : Type 0} (listens parks : P → Bool) where
+  fits-same : (place : Option P) (old new : Standing) → IsSame old new → FitsAt listens parks place old → FitsAt listens parks place new
+  fits-same None old new same fits = unparked false new (omega (arith, fits.once, same.told, same.waiting))
+  fits-same (Some place) old new same fits = record {
+    once = omega (arith, fits.once, same.told, same.waiting);
+    registered = λ parked. same.unregistered ∙ fits.registered parked;
+    awake = λ parked told. same.awake ∙ fits.awake parked (omega (arith, same.told));
+  }
+
+  -- one client goes to another place, and the others stand as they did
+  pub fit-changed : (places : List P) (client : ℕ) (p q : P) (old new : Line) → slice_get places client ≡ Some p → AllFit listens parks places old → ((other : ℕ) → other ≢ client → IsSame (standing other old) (standing other new)) → Fits (listens q) (parks q) (standing client new) → AllFit listens parks (set places client q) new
+  fit-changed places client p q old new at fit same fits other =
+      elim (cases_eq other client) [
+        | inl is ↦
+            let here : FitsAt listens parks (slice_get (set places client q) client) (standing client new) =
+            subst (λ (o : Option P). FitsAt listens parks o (standing client new)) (sym (slice_get-set places client p q at)) fits in
+            subst (λ (x : ℕ). FitsAt listens parks (slice_get (set places client q) x) (standing x new)) (sym is) here
+        | inr differs ↦
+            subst (λ (o : Option P). FitsAt listens parks o (standing other new)) (sym (slice_get-set_other places client other q differs)) (fits-same (slice_get places other) (standing other old) (standing other new) (same other differs) (fit other))
+      ]
+
+  -- the first waiting client is told
+
+  tells_first : (place : Option P) (first : ℕ × Bool) (rest : List (ℕ × Bool)) (told : List ℕ) (awake : List Bool) (next : ℕ) → ((p : P) → place ≡ Some p → first.0 < length awake) → FitsAt listens parks place (standing first.0 (before first rest told awake next)) → FitsAt listens parks place (standing first.0 (first_told_of (first ∷ rest) (before first rest told awake next)))
+  tells_first None first rest told awake next within fits = absurd (nobody-first_told first rest told awake next fits)
+  tells_first (Some p) first rest told awake next within fits =
+      fits-first_told first rest told awake next (listens p) (parks p) (within p refl) fits
+
+  fit-first_told_of : (places : List P) (waiting : List (ℕ × Bool)) (told : List ℕ) (awake : List Bool) (next : ℕ) → length awake ≡ length places → AllFit listens parks places (record { told = told; waiting = waiting; awake = awake; next = next }) → AllFit listens parks places (first_told_of waiting (record { told = told; waiting = waiting; awake = awake; next = next }))
+  fit-first_told_of places [] told awake next flags fit other = fit other
+  fit-first_told_of places (first ∷ rest) told awake next flags fit other =
+      elim (cases_eq other first.0) [
+        | inl is ↦
+            subst
+            (λ (x : ℕ). FitsAt listens parks (slice_get places x) (standing x (first_told_of (first ∷ rest) (before first rest told awake next))))
+            (sym is)
+            (tells_first (slice_get places first.0) first rest told awake next (λ p at. omega (arith, slice_get_within places first.0 p at)) (fit first.0))
+        | inr differs ↦
+            fits-same (slice_get places other) (standing other (before first rest told awake next)) (standing other (first_told_of (first ∷ rest) (before first rest told awake next))) (same-first_told first rest told awake next other differs) (fit other)
+      ]
+
+-- how many are told, and how many flags there are
+
+first_told_of-lengths : (waiting : List (ℕ × Bool)) (line : Line) → (length (first_told_of waiting line).awake ≡ length line.awake) × (length line.told ≤ length (first_told_of waiting line).told) × (length (first_told_of waiting line).told ≤ length line.told + 1)
+first_told_of-lengths [] line = (refl, omega arith, omega arith)
+first_told_of-lengths (first ∷ rest) line = (
+  length-woken first.1 first.0 line.awake,
+  omega (arith, length-append line.told (first.0 ∷ [])),
+  omega (arith, length-append line.told (first.0 ∷ [])),
+)
+
+pub tell-lengths : (count : ℕ) (line : Line) → (length (tell count line).awake ≡ length line.awake) × (length line.told ≤ length (tell count line).told) × (length (tell count line).told ≤ length line.told + count)
+tell-lengths zero line = (refl, omega arith, omega arith)
+tell-lengths (suc count) line =
+    let (flags, more, one) = first_told_of-lengths line.waiting line in
+    let (flags', more', rest) = tell-lengths count (first_told line) in
+    (flags' ∙ flags, omega arith, omega arith)
+
+pub notified-flags : (count : ℕ) (line : Line) → length (notified count line).awake ≡ length line.awake
+notified-flags count line = (tell-lengths (min (count - length line.told) (length line.waiting)) line).0
+
+-- a notification of one leaves at most one told where there was at most one
+pub notified-one_told : (line : Line) → length line.told ≤ 1 → length (notified 1 line).told ≤ 1
+notified-one_told line one =
+    let (flags, more, rest) = tell-lengths (min (1 - length line.told) (length line.waiting)) line in
+    omega arith
+
+-- after a notification of one somebody is told, or nobody waits
+notified-someone_of : (told : List ℕ) (waiting : List (ℕ × Bool)) (awake : List Bool) (next : ℕ) → let line : Line = record { told = told; waiting = waiting; awake = awake; next = next } in (0 < length (notified 1 line).told) ⊎ ((notified 1 line).waiting ≡ [])
+notified-someone_of [] [] awake next = inr refl
+notified-someone_of [] (first ∷ rest) awake next =
+    let line : Line = record { told = []; waiting = first ∷ rest; awake = awake; next = next } in
+    let one : min 1 (length (first ∷ rest)) ≡ 1 = omega arith in
+    inl (subst (λ (count : ℕ). 0 < length (tell count line).told) (sym one) (omega arith))
+notified-someone_of (client ∷ told) waiting awake next =
+    let line : Line = record { told = client ∷ told; waiting = waiting; awake = awake; next = next } in
+    let (flags, more, rest) = tell-lengths (min (1 - length line.told) (length line.waiting)) line in
+    inl (omega arith)
+
+pub notified-someone : (line : Line) → (0 < length (notified 1 line).told) ⊎ ((notified 1 line).waiting ≡ [])
+notified-someone line = notified-someone_of line.told line.waiting line.awake line.next
+
+module _ {P : Type 0} (listens parks : P → Bool) where
+  -- telling any number of clients keeps all fitting
+  pub fit-tell : (count : ℕ) (places : List P) (line : Line) → length line.awake ≡ length places → AllFit listens parks places line → AllFit listens parks places (tell count line)
+  fit-tell zero places line flags fit = fit
+  fit-tell (suc count) places line flags fit =
+      let lengths = first_told_of-lengths line.waiting line in
+      fit-tell count places (first_told line) (lengths.0 ∙ flags) (fit-first_told_of listens parks places line.waiting line.told line.awake line.next flags fit)
+
+  pub fit-notified : (count : ℕ) (places : List P) (line : Line) → length line.awake ≡ length places → AllFit listens parks places line → AllFit listens parks places (notified count line)
+  fit-notified count places line flags fit =
+      fit-tell (min (count - length line.told) (length line.waiting)) places line flags fit

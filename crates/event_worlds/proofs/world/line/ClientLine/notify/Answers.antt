@@ -1,0 +1,14 @@
+use Rattle.std.proofs.Common.{ℕ, ap, ◌∙◌}
+use Rattle.event_worlds.specs.Line.{notified}
+use Rattle.event_worlds.proofs.StepLemmas.{GivesUnit, notifies-now}
+use Rattle.event_worlds.proofs.world.line.ClientLine.notify.Goals as goal
+
+pub invariant_of-self : goal.invariant_of-self
+invariant_of-self c =
+    let changed = notifies-now c.self.inside.list c.self.inside.keys.items c.self.inside.wakes c.self.invariant c.args.self.now c.self.view_is GivesUnit c.into_notification-notification.result c.into_notification-notification.result c.notify-told.new.n c.notify-told.result c.notify-told.new.self c.notify-told.new.sink c.notify-told.ensures.step (c.notify-told.ensures.unrefused (λ before after refused. absurd (cc))) c.notify-told.ensures.wakes in
+    changed.tied
+
+pub returns-clause-changed : goal.returns-clause-changed
+returns-clause-changed c =
+    let changed = notifies-now c.self.inside.list c.self.inside.keys.items c.self.inside.wakes c.self.invariant c.args.self.now c.self.view_is GivesUnit c.into_notification-notification.result c.into_notification-notification.result c.notify-told.new.n c.notify-told.result c.notify-told.new.self c.notify-told.new.sink c.notify-told.ensures.step (c.notify-told.ensures.unrefused (λ before after refused. absurd (cc))) c.notify-told.ensures.wakes in
+    changed.is ∙ ap (λ (n : ℕ). notified n c.args.self.now) c.into_notification-notification.ensures

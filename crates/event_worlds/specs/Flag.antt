@@ -1,0 +1,96 @@
+-- The flag world: clients that wait until a flag is set, setters that set it, and the tables of their steps.
+use Rattle.std.specs.Prelude.{ℕ, ◌+◌, ◌-◌, ◌^◌, Bool, true, false, nat_lt, if◌then◌else◌, List, [], ◌∷◌, length, replicate, slice_get, slice_set, Option, Some, None, is_some, unwrap_or, option_and_then, option_map}
+use Rattle.event_worlds.specs.declared.world.acts.Act.{Act}
+use Rattle.event_worlds.specs.declared.world.acts.Act.TheVariants.{Go}
+use Rattle.event_worlds.specs.declared.world.acts.Step.{Step}
+use Rattle.event_worlds.specs.declared.world.flag.FlagPlace.{FlagPlace}
+use Rattle.event_worlds.specs.declared.world.flag.FlagPlace.TheVariants.{Check1, ToListen, Check2, Dropping, ToRegister, Parked, Done}
+use Rattle.event_worlds.specs.declared.world.flag.SetterPlace.{SetterPlace}
+use Rattle.event_worlds.specs.declared.world.flag.SetterPlace.TheVariants.{ToSet, ToNotify, Done as IsDone}
+use Rattle.event_worlds.specs.Line.{Line, empty_line, is_told, has_wake, has_serial_left, joined, registered, told_left, wake_lost, notified, dropped}
+
+-- whether the flag is set; the place of each client, by its number; the place of each setter; who is told, who
+-- waits and who has a wake-up
+pub record FlagState : Type 0 where
+  pub flag : Bool
+  pub places : List FlagPlace
+  pub setters : List SetterPlace
+  pub line : Line
+
+-- the flag is not set, and nobody is in line
+abbrev pub start : ℕ → ℕ → ℕ → FlagState
+start clients setters first = record {
+  flag = false;
+  places = replicate clients Check1;
+  setters = replicate setters ToSet;
+  line = empty_line clients first;
+}
+
+-- the table of a client: from this place, with the flag set or not, where it goes, and the line then; none where
+-- it has no step
+abbrev pub from : FlagPlace → ℕ → Bool → Line → Option (FlagPlace × Line)
+from Check1 client flag line = Some (if flag then (Done, line) else (ToListen, line))
+from ToListen client flag line =
+    Some (if has_serial_left line then (Check2, joined client line) else (Done, line))
+from Check2 client flag line = Some (if flag then (Dropping, line) else (ToRegister, line))
+from Dropping client flag line = Some (Done, dropped client line)
+from ToRegister client flag line =
+    Some (if is_told client line
+    then (Check1, told_left client line)
+    else (Parked, registered client line))
+from Parked client flag line =
+    if has_wake client line then Some (ToRegister, wake_lost client line) else None
+from Done client flag line = None
+
+-- the state once this client has gone there, and the line is this
+abbrev pub goes : ℕ → FlagState → FlagPlace × Line → FlagState
+goes client state to = record state { places = slice_set state.places client to.0; line = to.1 }
+
+-- as many as a notification can be for
+abbrev pub everybody : ℕ
+everybody = 2 ^ 64 - 1
+
+-- the table of a setter: from this place, with the flag set or not, where it goes, and the flag and the line then
+abbrev pub from_setter : SetterPlace → Bool → Line → Option (SetterPlace × Bool × Line)
+from_setter ToSet flag line = Some (ToNotify, true, line)
+from_setter ToNotify flag line = Some (IsDone, flag, notified everybody line)
+from_setter IsDone flag line = None
+
+-- the state once this setter has gone there, and the flag and the line are these
+abbrev pub setter_goes : ℕ → FlagState → SetterPlace × Bool × Line → FlagState
+setter_goes setter state to =
+    record state { flag = to.1; setters = slice_set state.setters setter to.0; line = to.2 }
+
+-- the state after the step of a client, and of a setter
+abbrev pub next_of_client : ℕ → FlagState → Option FlagState
+next_of_client client state =
+    option_and_then (λ place. option_map (goes client state) (from place client state.flag state.line)) (slice_get state.places client)
+
+abbrev pub next_of_setter : ℕ → FlagState → Option FlagState
+next_of_setter setter state =
+    option_and_then (λ place. option_map (setter_goes setter state) (from_setter place state.flag state.line)) (slice_get state.setters setter)
+
+-- the state after this act of this actor, or none where it is no step; the numbers after the clients' are the
+-- setters'
+abbrev pub next : ℕ → Act → FlagState → Option FlagState
+next actor Go state =
+    if nat_lt actor (length state.places)
+    then next_of_client actor state
+    else next_of_setter (actor - length state.places) state
+next actor _ state = None
+
+-- the state after this act of this actor, where what is no step changes nothing
+abbrev pub after : ℕ → Act → FlagState → FlagState
+after actor act state = unwrap_or (next actor act state) state
+
+-- the state after a schedule
+abbrev pub after_all : List Step → FlagState → FlagState
+after_all [] state = state
+after_all (step ∷ steps) state = after_all steps (after step.client step.act state)
+
+-- how many steps of a schedule are steps of the tables
+abbrev pub taken : List Step → FlagState → ℕ
+taken [] state = 0
+taken (step ∷ steps) state =
+    (if is_some (next step.client step.act state) then 1 else 0)
+    + taken steps (after step.client step.act state)

@@ -1,0 +1,40 @@
+-- What holds of the flag world after every schedule.
+use Rattle.std.specs.Prelude.{◌≡◌, ◌↔◌, ◌⊎◌, ℕ, Bool, true, false, slice_get, Some, IsTrue, IsSomeAnd}
+use Rattle.event_worlds.specs.declared.world.flag.FlagPlace.{FlagPlace}
+use Rattle.event_worlds.specs.declared.world.flag.FlagPlace.TheVariants.{Check2, Dropping, ToRegister, Parked}
+use Rattle.event_worlds.specs.declared.world.flag.SetterPlace.TheVariants.{ToNotify}
+use Rattle.event_worlds.specs.Line.{is_told, is_waiting, has_wake}
+use Rattle.event_worlds.specs.Flag.{FlagState}
+
+-- this client is at this place
+abbrev pub IsAt : ℕ → FlagPlace → FlagState → Type 0
+IsAt client place state = slice_get state.places client ≡ Some place
+
+-- no setter is at `ToNotify`
+abbrev pub NoSetterNotifies : FlagState → Type 0
+NoSetterNotifies state = (setter : ℕ) → ¬ (slice_get state.setters setter ≡ Some ToNotify)
+
+-- if the flag is set and no setter is at `ToNotify`, each client at `ToRegister` or `Parked` is told, and has its
+-- wake-up if it is `Parked`
+abbrev pub IsSafe : FlagState → Type 0
+IsSafe state =
+    state.flag ≡ true
+    → NoSetterNotifies state
+    → (client : ℕ)
+    → IsAt client ToRegister state ⊎ IsAt client Parked state
+    → IsTrue (is_told client state.line) × (IsAt client Parked state → IsTrue (has_wake client state.line))
+
+-- a client at this place has a listener
+abbrev pub is_listening : FlagPlace → Bool
+is_listening Check2 = true
+is_listening Dropping = true
+is_listening ToRegister = true
+is_listening Parked = true
+is_listening _ = false
+
+-- the clients told or waiting are exactly those at listening places
+abbrev pub InLineAreListening : FlagState → Type 0
+InLineAreListening state =
+    (client : ℕ)
+    → (IsTrue (is_told client state.line) ⊎ IsTrue (is_waiting client state.line))
+    ↔ IsSomeAnd (slice_get state.places client) (λ place. IsTrue (is_listening place))

@@ -1,0 +1,11 @@
+pub mod ClientTable
+pub mod Line
+pub mod LineKeys
+pub mod Standing
+pub mod Mutex
+pub mod MutexSafety
+pub mod MutexInvariant
+pub mod MutexMove
+pub mod Flag
+pub mod FlagSafety
+pub mod FlagInvariant

@@ -1,0 +1,8 @@
+//! What worlds are made of: the places of a client, the acts of a schedule, and the line in which clients stand.
+
+pub mod acts;
+pub mod flag;
+mod line;
+pub mod mutex;
+pub mod place;
+mod wakes;

@@ -1,0 +1,344 @@
+ghost use Rattle.std.specs.Prelude.{◌≡◌, ◌<◌, is_some, unwrap_or, if◌then◌else◌, length, slice_get, Some, IfOk, IsFalse};
+ghost use Rattle.event_worlds.specs.declared.world.flag.FlagPlace.TheVariants.{Check1, Check2, Done, Parked};
+ghost use Rattle.event_worlds.specs.declared.world.acts.Act.TheVariants.{Go};
+ghost use Rattle.event_worlds.specs.Line.{IsLine, is_told, is_in_line, has_wake, has_serial_left, joined, registered, told_left};
+ghost use Rattle.event_worlds.specs.Flag.{start, next, next_of_setter, after, after_all, taken};
+ghost use Rattle.event_worlds.specs.FlagInvariant.{IsSound, MayBeAt, Moves, SetterMoves};
+ghost use Rattle.event_worlds.specs.FlagSafety.{IsSafe, InLineAreListening};
+
+use super::acts::{Act, Step};
+use super::line::ClientLine;
+use std::alloc::{AllocError, Global};
+use std::marker::Model;
+
+/// Where a client that waits for a flag is.
+#[derive(Clone, Copy, Debug, PartialEq, Eq)]
+pub enum FlagPlace {
+    /// It is about to look at the flag, with no listener.
+    Check1,
+    /// It found the flag not set, and is about to listen.
+    ToListen,
+    /// It listens, and is about to look again.
+    Check2,
+    /// Its second look found the flag set, and its listener is still to be dropped.
+    Dropping,
+    /// Its second look found the flag not set, or it woke: it is about to register.
+    ToRegister,
+    /// It has registered, and waits for its wake-up.
+    Parked,
+    /// It waits no longer: the flag was set, or listening was refused.
+    Done,
+}
+
+/// Where a setter is.
+#[derive(Clone, Copy, Debug, PartialEq, Eq)]
+pub enum SetterPlace {
+    /// It is about to set the flag.
+    ToSet,
+    /// It has set the flag, and is about to notify all.
+    ToNotify,
+    /// It has notified.
+    Done,
+}
+
+/// A flag with its clients, the line in which they wait for it, and those who set it.
+///
+/// A client looks at the flag, listens, looks again, and waits until it is told; whoever sets the flag then notifies
+/// all. Each step is one call of [`step`](FlagWorld::step). Whatever the schedule, no wake-up is lost.
+#[derive(Drop)]
+pub struct FlagWorld {
+    flag: bool,
+    places: Vec<FlagPlace>,
+    setters: Vec<SetterPlace>,
+    line: ClientLine,
+}
+
+impl Model for FlagWorld {
+    ghost use Rattle.event_worlds.specs.Flag.{FlagState};
+    ghost use Rattle.event_worlds.specs.FlagInvariant.{IsSound};
+
+    ghost Value = { FlagState };
+
+    ghost view = { λ world. record { flag = world.flag; places = world.places.items; setters = world.setters.items; line = world.line } };
+
+    ghost invariant = { λ world. IsSound (record { flag = world.flag; places = world.places.items; setters = world.setters.items; line = world.line }) };
+}
+
+// Where a setter goes, and whether the flag is set then.
+#[derive(Clone, Copy)]
+struct SetterMove {
+    place: SetterPlace,
+    flag: bool,
+}
+
+impl FlagWorld {
+    /// A flag that is not set, so many clients, none of whom has looked at it, and so many setters. The first client
+    /// that listens gets the serial 0.
+    ///
+    /// The call allocates room for all clients, and returns an error where that is refused. No later call allocates.
+    pub fn new(alloc: Global, clients: usize, setters: usize) -> Result<Self, AllocError>
+        ensures start { IfOk result (λ world. world ≡ start clients setters 0) }
+        ensures safe { IfOk result IsSafe }
+        ensures in_line_are_those_listening { IfOk result InLineAreListening }
+    {
+        Self::make(alloc, clients, setters, 0)
+    }
+
+    /// The same with a line whose first listener gets the serial `first`. No listener gets `u64::MAX`, so a world that
+    /// starts late has fewer listeners.
+    pub fn starting_at(
+        alloc: Global,
+        clients: usize,
+        setters: usize,
+        first: u64,
+    ) -> Result<Self, AllocError>
+        ensures start { IfOk result (λ world. world ≡ start clients setters first) }
+        ensures safe { IfOk result IsSafe }
+        ensures in_line_are_those_listening { IfOk result InLineAreListening }
+    {
+        Self::make(alloc, clients, setters, first)
+    }
+
+    fn make(alloc: Global, clients: usize, setters: usize, first: u64) -> Result<Self, AllocError>
+        ensures start { IfOk result (λ world. world ≡ start clients setters first) }
+        ensures sound { IfOk result IsSound }
+    {
+        let places = vec![in alloc; FlagPlace::Check1; clients]?;
+        let setters = vec![in alloc; SetterPlace::ToSet; setters]?;
+        let line = ClientLine::new(alloc, clients, first)?;
+        Ok(FlagWorld {
+            flag: false,
+            places,
+            setters,
+            line,
+        })
+    }
+
+    /// Makes a step of one actor, and returns whether it was one: an act that the tables of steps have at the place of
+    /// that actor. The numbers below [`clients`](FlagWorld::clients) are the clients', and the next ones the setters'.
+    /// Any other act, and any number that nobody has, changes nothing.
+    pub fn step(&mut self, actor: usize, act: Act) -> bool
+        ensures step { self.new ≡ after actor act self.old }
+        ensures answer { result ≡ is_some (next actor act self.old) }
+        ensures safe { IsSafe self.new }
+        ensures in_line_are_those_listening { InLineAreListening self.new }
+    {
+        self.take_step(actor, act)
+    }
+
+    fn take_step(&mut self, actor: usize, act: Act) -> bool
+        ensures step { self.new ≡ after actor act self.old }
+        ensures answer { result ≡ is_some (next actor act self.old) }
+        ensures sound { IsSound self.new }
+    {
+        let clients = self.places.len();
+        match act {
+            Act::Go => {
+                if actor < clients {
+                    self.client_goes(actor)
+                } else {
+                    self.setter_goes(actor - clients)
+                }
+            }
+            Act::Poll => false,
+            Act::TimeOut => false,
+            Act::Cancel => false,
+        }
+    }
+
+    fn client_goes(&mut self, client: usize) -> bool
+        requires client { client < length self.old.places }
+        ensures step { self.new ≡ after client Go self.old }
+        ensures answer { result ≡ is_some (next client Go self.old) }
+        ensures sound { IsSound self.new }
+    {
+        let place = self.places[client];
+        match moves(place, client, self.flag, &mut self.line) {
+            Some(place) => {
+                self.places[client] = place;
+                true
+            }
+            None => false,
+        }
+    }
+
+    fn setter_goes(&mut self, setter: usize) -> bool
+        ensures step { self.new ≡ unwrap_or (next_of_setter setter self.old) self.old }
+        ensures answer { result ≡ is_some (next_of_setter setter self.old) }
+        ensures sound { IsSound self.new }
+    {
+        let _line = &self.line;
+        if setter >= self.setters.len() {
+            return false;
+        }
+        let place = self.setters[setter];
+        match setter_moves(place, self.flag, &mut self.line) {
+            Some(made) => {
+                self.flag = made.flag;
+                self.setters[setter] = made.place;
+                true
+            }
+            None => false,
+        }
+    }
+
+    /// Makes the steps of a schedule, one after another, and returns how many were steps of the tables. The client of
+    /// a step is its actor.
+    pub fn run(&mut self, steps: &[Step]) -> usize
+        ensures state { self.new ≡ after_all steps.now self.old }
+        ensures taken { result ≡ taken steps.now self.old }
+        ensures safe { IsSafe self.new }
+        ensures in_line_are_those_listening { InLineAreListening self.new }
+    {
+        self.is_sound();
+        let mut taken = 0;
+        for step in steps {
+            taken += usize::from(self.take_step(step.client, step.act));
+        }
+        taken
+    }
+
+    // What the type keeps, for code that reads none of its fields.
+    fn is_sound(&self)
+        ensures { IsSound self.now }
+    {
+        let _line = &self.line;
+    }
+
+    /// Whether the flag is set.
+    pub fn flag(&self) -> bool
+        ensures value { result ≡ self.now.flag }
+    {
+        self.flag
+    }
+
+    /// How many clients there are.
+    pub fn clients(&self) -> usize
+        ensures value { result ≡ length self.now.places }
+    {
+        self.places.len()
+    }
+
+    /// How many setters there are.
+    pub fn setters(&self) -> usize
+        ensures value { result ≡ length self.now.setters }
+    {
+        self.setters.len()
+    }
+
+    /// Where a client is.
+    pub fn place(&self, client: usize) -> FlagPlace
+        requires client { client < length self.now.places }
+        ensures value { slice_get self.now.places client ≡ Some result }
+    {
+        self.places[client]
+    }
+
+    /// Where a setter is, by its number among the setters.
+    pub fn setter(&self, setter: usize) -> SetterPlace
+        requires setter { setter < length self.now.setters }
+        ensures value { slice_get self.now.setters setter ≡ Some result }
+    {
+        self.setters[setter]
+    }
+
+    /// Whether a client is told: it was notified, and has not left the line.
+    pub fn is_told(&self, client: usize) -> bool
+        requires client { client < length self.now.places }
+        ensures value { result ≡ is_told client self.now.line }
+    {
+        self.line.is_told(client)
+    }
+
+    /// Whether a client has a wake-up.
+    pub fn has_wake(&self, client: usize) -> bool
+        requires client { client < length self.now.places }
+        ensures value { result ≡ has_wake client self.now.line }
+    {
+        self.line.has_wake(client)
+    }
+}
+
+// The table of a client: where it goes from this place, if it has a step. The line changes with it.
+fn moves(place: FlagPlace, client: usize, flag: bool, line: &mut ClientLine) -> Option<FlagPlace>
+    requires client { client < length line.old.awake }
+    requires may_be_at { MayBeAt place client line.old }
+    ensures moves { Moves place client flag line.old result line.new }
+    ensures line { IsLine line.old → IsLine line.new }
+{
+    match place {
+        FlagPlace::Check1 => Some(if flag {
+            FlagPlace::Done
+        } else {
+            FlagPlace::ToListen
+        }),
+        FlagPlace::ToListen => Some(listens(client, line)),
+        FlagPlace::Check2 => Some(if flag {
+            FlagPlace::Dropping
+        } else {
+            FlagPlace::ToRegister
+        }),
+        FlagPlace::Dropping => {
+            line.drop_out(client);
+            Some(FlagPlace::Done)
+        }
+        FlagPlace::ToRegister => Some(registers(client, line)),
+        FlagPlace::Parked => {
+            if line.has_wake(client) {
+                line.lose_wake(client);
+                Some(FlagPlace::ToRegister)
+            } else {
+                None
+            }
+        }
+        FlagPlace::Done => None,
+    }
+}
+
+fn listens(client: usize, line: &mut ClientLine) -> FlagPlace
+    requires client { client < length line.old.awake }
+    requires absent { IsFalse (is_in_line client line.old) }
+    ensures place { result ≡ (if has_serial_left line.old then Check2 else Done) }
+    ensures line { line.new ≡ (if has_serial_left line.old then joined client line.old else line.old) }
+    ensures fits { IsLine line.new }
+{
+    if line.join(client) {
+        FlagPlace::Check2
+    } else {
+        FlagPlace::Done
+    }
+}
+
+fn registers(client: usize, line: &mut ClientLine) -> FlagPlace
+    requires client { client < length line.old.awake }
+    ensures place { result ≡ (if is_told client line.old then Check1 else Parked) }
+    ensures line { line.new ≡ (if is_told client line.old then told_left client line.old else registered client line.old) }
+    ensures fits { IsLine line.new }
+{
+    if line.register(client) {
+        FlagPlace::Check1
+    } else {
+        FlagPlace::Parked
+    }
+}
+
+// The table of a setter: where it goes from this place, if it has a step. The line changes with it.
+fn setter_moves(place: SetterPlace, flag: bool, line: &mut ClientLine) -> Option<SetterMove>
+    ensures moves { SetterMoves place flag line.old result line.new }
+    ensures line { IsLine line.old → IsLine line.new }
+{
+    match place {
+        SetterPlace::ToSet => Some(SetterMove {
+            place: SetterPlace::ToNotify,
+            flag: true,
+        }),
+        SetterPlace::ToNotify => {
+            line.notify(usize::MAX);
+            Some(SetterMove {
+                place: SetterPlace::Done,
+                flag,
+            })
+        }
+        SetterPlace::Done => None,
+    }
+}

@@ -1,0 +1,146 @@
+//! The line of a world's clients: a queue of listeners, and the key of each client that stands in it.
+ghost use Rattle.std.specs.Prelude.{◌≡◌, ◌<◌, length, if◌then◌else◌, IsFalse, IfOk};
+ghost use Rattle.event_worlds.specs.Line.{Line, IsLine, empty_line, is_told, is_in_line, has_wake, has_serial_left, joined, registered, told_left, waiting_left, wake_lost, notified, dropped};
+
+use super::wakes::Wakes;
+use event_queue::{IntoNotification, Key, List, RegisterResult};
+use std::alloc::{AllocError, Global};
+use std::marker::Model;
+
+/// A line of clients, by their numbers. After [`new`](ClientLine::new) no call allocates.
+#[derive(Drop)]
+pub(super) struct ClientLine {
+    list: List<(), usize>,
+    keys: Vec<Option<Key>>,
+    wakes: Wakes,
+}
+
+impl Model for ClientLine {
+    ghost use Rattle.event_worlds.specs.Line.{Line};
+    ghost use Rattle.event_worlds.specs.LineKeys.{line_of, IsTied};
+
+    ghost Value = { Line };
+
+    ghost view = { λ line. line_of line.list line.keys.items line.wakes };
+
+    ghost invariant = { λ line. IsTied line.list line.keys.items line.wakes };
+}
+
+impl ClientLine {
+    /// A line of so many clients, in which nobody stands; the first that joins gets the serial `first`. It has room
+    /// for all of them.
+    pub(super) fn new(alloc: Global, clients: usize, first: u64) -> Result<Self, AllocError>
+        ensures empty { IfOk result (λ line. line ≡ empty_line clients first) }
+    {
+        let mut list = List::starting_at(alloc, first);
+        list.reserve(clients)?;
+        Ok(ClientLine {
+            list,
+            keys: vec![in alloc; None; clients]?,
+            wakes: Wakes::new(alloc, clients)?,
+        })
+    }
+
+    /// Whether the client is told.
+    pub(super) fn is_told(&self, client: usize) -> bool
+        requires client { client < length self.now.awake }
+        ensures value { result ≡ is_told client self.now }
+    {
+        match self.keys[client] {
+            Some(key) => self.list.is_told(key),
+            None => false,
+        }
+    }
+
+    /// Whether the client has a wake-up.
+    pub(super) fn has_wake(&self, client: usize) -> bool
+        requires client { client < length self.now.awake }
+        ensures value { result ≡ has_wake client self.now }
+    {
+        self.wakes.has(client)
+    }
+
+    /// The client joins the end of the line, and loses its wake-up. Where the serials are used up it does neither,
+    /// and the answer is `false`.
+    pub(super) fn join(&mut self, client: usize) -> bool
+        requires client { client < length self.old.awake }
+        requires absent { IsFalse (is_in_line client self.old) }
+        ensures answer { result ≡ has_serial_left self.old }
+        ensures changed { self.new ≡ (if has_serial_left self.old then joined client self.old else self.old) }
+        ensures line { IsLine self.new }
+    {
+        let Ok(key) = self.list.insert() else {
+            return false;
+        };
+        self.keys[client] = Some(key);
+        self.wakes.clear(client);
+        true
+    }
+
+    /// A client that is told leaves the line, and one that waits is registered. Returns whether it was told.
+    pub(super) fn register(&mut self, client: usize) -> bool
+        requires client { client < length self.old.awake }
+        ensures answer { result ≡ is_told client self.old }
+        ensures changed { self.new ≡ (if is_told client self.old then told_left client self.old else registered client self.old) }
+        ensures line { IsLine self.new }
+    {
+        let Some(key) = self.keys[client] else {
+            return false;
+        };
+        match self.list.register(key, client) {
+            RegisterResult::Notified(()) => {
+                self.keys[client] = None;
+                true
+            }
+            RegisterResult::Registered => false,
+            RegisterResult::NeverInserted => false,
+        }
+    }
+
+    /// The client leaves the line, and passes nothing on. Returns whether it was told.
+    pub(super) fn leave(&mut self, client: usize) -> bool
+        requires client { client < length self.old.awake }
+        ensures answer { result ≡ is_told client self.old }
+        ensures changed { self.new ≡ (if is_told client self.old then told_left client self.old else waiting_left client self.old) }
+        ensures line { IsLine self.new }
+    {
+        let Some(key) = self.keys[client] else {
+            return false;
+        };
+        let told = self.list.is_told(key);
+        self.keys[client] = None;
+        let _left = self.list.remove(key, false, &mut self.wakes);
+        told
+    }
+
+    /// The client leaves the line. If it was told, its notification is passed on.
+    pub(super) fn drop_out(&mut self, client: usize)
+        requires client { client < length self.old.awake }
+        ensures changed { self.new ≡ dropped client self.old }
+        ensures line { IsLine self.new }
+    {
+        let Some(key) = self.keys[client] else {
+            return;
+        };
+        self.keys[client] = None;
+        let _left = self.list.remove(key, true, &mut self.wakes);
+    }
+
+    /// The client loses its wake-up, if it has one.
+    pub(super) fn lose_wake(&mut self, client: usize)
+        requires client { client < length self.old.awake }
+        ensures changed { self.new ≡ wake_lost client self.old }
+        ensures line { IsLine self.new }
+    {
+        self.wakes.clear(client);
+    }
+
+    /// Notifies the line of so many clients, those told already among them.
+    pub(super) fn notify(&mut self, count: usize)
+        ensures changed { self.new ≡ notified count self.old }
+        ensures line { IsLine self.new }
+    {
+        let mut notification = count.into_notification();
+        let _told = self.list.notify(&mut notification, &mut self.wakes);
+    }
+}

@@ -1,0 +1,11 @@
+//! The worked rows over worlds.
+#![tactic(auto)]
+
+mod flag;
+mod flag_calls;
+mod mutex;
+mod mutex_calls;
+mod worlds;
+
+pub use flag::FlagRow;
+pub use mutex::MutexRow;

@@ -1,0 +1,11 @@
+//! Tests of the worlds by their public calls.
+#![tactic(auto)]
+
+#[cfg(test)]
+mod checks;
+#[cfg(test)]
+mod client_table;
+#[cfg(test)]
+mod flag_steps;
+#[cfg(test)]
+mod mutex_steps;
