@@ -1,0 +1,98 @@
+//! A client of the lock, at the places where it has no listener.
+ghost use Rattle.std.specs.Prelude.{◌≡◌, IsSome, Some, false};
+ghost use Rattle.event_worlds.specs.declared.world.place.News.TheVariants as news;
+ghost use Rattle.event_worlds.specs.declared.world.place.Place.TheVariants as place;
+ghost use Rattle.event_worlds.specs.ClientTable.{place_after};
+
+use event_worlds::{News, Place};
+use std::marker::Model;
+
+/// One client of the lock, by its place. A new one is idle; from then on its place is what
+/// [`Place::after`] says of the one before.
+#[derive(Drop)]
+pub(crate) struct Client {
+    place: Place,
+}
+
+impl Model for Client {
+    ghost use Rattle.event_worlds.specs.declared.world.place.Place.{Place};
+
+    ghost Value = { Place };
+
+    ghost view = { λ client. client.place };
+}
+
+impl Client {
+    fn new() -> Self
+        ensures { result ≡ place.Idle }
+    {
+        Client { place: Place::Idle }
+    }
+
+    /// Goes on by this news.
+    pub(crate) fn hears(&mut self, news: News)
+        requires { IsSome (place_after self.old news) }
+        ensures { place_after self.old news ≡ Some self.new }
+    {
+        match self.place.after(news) {
+            Some(place) => self.place = place,
+            None => unreachable!(),
+        }
+    }
+}
+
+/// A client that is about to try the lock, and has no listener.
+#[derive(Drop)]
+pub(crate) struct Trying {
+    client: Client,
+    ghost got: { place_after client news.Got ≡ Some place.Holding },
+    ghost busy: { place_after client news.Busy ≡ Some place.ToListen },
+}
+
+impl Trying {
+    /// A new client, which wants the lock.
+    pub(crate) fn begin() -> Self {
+        let mut client = Client::new();
+        client.hears(News::Begin);
+        Trying { client }
+    }
+
+    /// A client that registers, and finds that it was told. It has no listener any more.
+    pub(crate) fn told(client: Client) -> Self
+        requires { client ≡ place.ToRegister }
+    {
+        let mut client = client;
+        client.hears(News::Told);
+        Trying { client }
+    }
+
+    pub(crate) fn into_client(self) -> Client
+        ensures got { place_after result news.Got ≡ Some place.Holding }
+        ensures busy { place_after result news.Busy ≡ Some place.ToListen }
+    {
+        let Trying { client } = self;
+        client
+    }
+}
+
+/// A client that has the lock, and no listener.
+#[derive(Drop)]
+pub(crate) struct Holder {
+    client: Client,
+    ghost holds: { client ≡ place.Holding },
+}
+
+impl Holder {
+    pub(crate) fn new(client: Client) -> Self
+        requires { client ≡ place.Holding }
+    {
+        Holder { client }
+    }
+
+    pub(crate) fn into_client(self) -> Client
+        ensures { result ≡ place.Holding }
+    {
+        let Holder { client } = self;
+        client
+    }
+}

@@ -1,0 +1,92 @@
+//! A lock that is polled.
+use crate::client::Trying;
+use crate::error::MutexError;
+use crate::guard::MutexGuard;
+use crate::mutex::{Mutex, Turn};
+use crate::waiting::{Parked, Registered, Waiting};
+use futures::task::{Poll, Waker};
+use std::alloc::Global;
+use std::mem;
+use std::sync::Wait;
+use std::time::Clock;
+
+/// A lock that is polled until it gives its guard. Dropping it before that gives up: if it was told, another one is.
+#[derive(Drop)]
+pub struct PolledLock<'a, T, R: Wait + Clock + Clone> {
+    mutex: &'a Mutex<T>,
+    rt: &'a R,
+    alloc: Global,
+    stage: Stage<R>,
+}
+
+// Where its client is.
+#[derive(Drop)]
+enum Stage<R: Wait + Clock + Clone> {
+    /// Not begun: the lock was not polled yet, or was refused.
+    Idle,
+    /// About to register, at the next poll.
+    Waits(Waiting<R>),
+    /// Parked.
+    Parked(Parked<R>),
+    /// Gone with the guard.
+    Finished,
+}
+
+impl<'a, T, R: Wait + Clock + Clone> PolledLock<'a, T, R> {
+    pub(crate) fn new(mutex: &'a Mutex<T>, rt: &'a R, alloc: Global) -> Self {
+        PolledLock {
+            mutex,
+            rt,
+            alloc,
+            stage: Stage::Idle,
+        }
+    }
+
+    /// Gives the guard if the lock is free; else the task of the waker is woken once it is worth another poll.
+    ///
+    /// A polled lock that gave its guard answers [`MutexError::Finished`] from then on. One that was refused leaves no
+    /// listener, and the next poll begins anew.
+    ///
+    /// The call allocates what listening allocates, and may wait for the lock of the event.
+    pub fn poll(&mut self, waker: Waker) -> Result<Poll<MutexGuard<'a, T, R>>, MutexError> {
+        match mem::replace(&mut self.stage, Stage::Idle) {
+            Stage::Idle => match self.try_twice(Trying::begin())? {
+                Turn::Locked(guard) => Ok(Poll::Ready(guard)),
+                Turn::Waits(waiting) => self.register(waiting, waker),
+            },
+            Stage::Waits(waiting) => self.register(waiting, waker),
+            Stage::Parked(parked) => self.register(parked.wakes(), waker),
+            Stage::Finished => {
+                self.stage = Stage::Finished;
+                Err(MutexError::Finished)
+            }
+        }
+    }
+
+    // Registers, and tries again if it was told.
+    fn register(
+        &mut self,
+        waiting: Waiting<R>,
+        waker: Waker,
+    ) -> Result<Poll<MutexGuard<'a, T, R>>, MutexError> {
+        self.stage = match waiting.register(waker) {
+            Registered::Told(trying) => match self.try_twice(trying)? {
+                Turn::Locked(guard) => return Ok(Poll::Ready(guard)),
+                // The waker was let go when the listener gave its tag, and a waker that is let go wakes its task. So
+                // the lock is polled again, and registers then.
+                Turn::Waits(waiting) => Stage::Waits(waiting),
+            },
+            Registered::Stored(parked) => Stage::Parked(parked),
+        };
+        Ok(Poll::Pending)
+    }
+
+    // A lock that is taken finishes this one.
+    fn try_twice(&mut self, trying: Trying) -> Result<Turn<'a, T, R>, MutexError> {
+        let turn = self.mutex.try_twice(self.rt, self.alloc, trying)?;
+        if let Turn::Locked(_) = &turn {
+            self.stage = Stage::Finished;
+        }
+        Ok(turn)
+    }
+}

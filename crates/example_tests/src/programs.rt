@@ -1,0 +1,30 @@
+//! What the example programs do, many times over.
+use crate::checks::check;
+use crate::support::new_id;
+use example_flag::wait_for_setter;
+use example_mutex::count;
+
+const ROUNDS: u32 = 100;
+
+// Worked row 21.
+#[test]
+fn ten_threads_count_to_ten(rt: HostRuntime) {
+    for _ in 0..ROUNDS {
+        let counted = count(rt, rt.alloc(), new_id(&rt), 10);
+        check(&rt, "the count", counted, Ok(10));
+    }
+}
+
+#[test]
+fn no_threads_count_to_nothing(rt: HostRuntime) {
+    let counted = count(rt, rt.alloc(), new_id(&rt), 0);
+    check(&rt, "the count", counted, Ok(0));
+}
+
+#[test]
+fn a_thread_waits_until_another_one_sets_the_flag(rt: HostRuntime) {
+    for _ in 0..ROUNDS {
+        let waited = wait_for_setter(rt, rt.alloc(), new_id(&rt));
+        check(&rt, "the wait", waited, Ok(()));
+    }
+}

@@ -1,0 +1,86 @@
+//! What the tests share: the calls that have to succeed. Each ends the test where it does not.
+use crate::checks::check;
+use event_listener::{EventId, EventIds};
+use example_mutex::{Mutex, MutexError, MutexGuard, PolledLock};
+use futures::task::{Poll, Waker};
+use futures::test::MockTask;
+use std::alloc::AllocGlobal;
+use std::process::Abort;
+use std::random::RandomSource;
+use std::sync::Wait;
+use std::time::Clock;
+use test_support::waker_of;
+
+/// The first identity of a source.
+pub fn new_id<R: Abort>(rt: &R) -> EventId {
+    EventIds::new().next().expect(rt, "an identity")
+}
+
+/// A free lock round this value.
+pub fn new_mutex<R: Abort>(rt: &R, value: u64) -> Mutex<u64> {
+    Mutex::new(new_id(rt), value)
+}
+
+/// The lock, which is free.
+pub fn hold<'a, R: Abort + Wait>(rt: &'a R, mutex: &'a Mutex<u64>) -> MutexGuard<'a, u64, R> {
+    mutex.try_lock(rt).expect(rt, "the lock")
+}
+
+/// Whether a try finds the lock held.
+pub fn is_held<R: Wait>(rt: &R, mutex: &Mutex<u64>) -> bool {
+    mutex.try_lock(rt).is_none()
+}
+
+/// A task that is not woken.
+pub fn new_task<R: Abort + RandomSource + AllocGlobal>(rt: &R) -> MockTask {
+    MockTask::new(rt).expect(rt, "a task")
+}
+
+// A waker of this task, which begins a poll of it.
+fn new_waker<R: Abort>(rt: &R, task: &MockTask) -> Waker {
+    waker_of(task).expect(rt, "a waker")
+}
+
+/// Since its last poll the task was woken, or was not.
+pub fn check_woken<R: Abort>(rt: &R, task: &MockTask, expected: bool) {
+    check(rt, "whether the task is woken", task.is_woken(), expected);
+}
+
+/// The task polls the lock, and has to wait.
+pub fn waits<H: Abort, R>(host: &H, polled: &mut PolledLock<'_, u64, R>, task: &MockTask)
+where
+    R: Wait + Clock + Clone,
+{
+    let answer = polled.poll(new_waker(host, task));
+    let pending = matches!(answer, Ok(Poll::Pending));
+    check(host, "whether the poll is pending", pending, true);
+}
+
+/// The task polls the lock, and is given it.
+pub fn is_given<'a, H: Abort, R>(
+    host: &H,
+    polled: &mut PolledLock<'a, u64, R>,
+    task: &MockTask,
+) -> MutexGuard<'a, u64, R>
+where
+    R: Wait + Clock + Clone,
+{
+    match polled.poll(new_waker(host, task)) {
+        Ok(Poll::Ready(guard)) => guard,
+        _ => panic!(host; "the poll gives no lock"),
+    }
+}
+
+/// The task polls the lock, and is refused.
+pub fn is_refused<H: Abort, R>(
+    host: &H,
+    polled: &mut PolledLock<'_, u64, R>,
+    task: &MockTask,
+    expected: MutexError,
+)
+where
+    R: Wait + Clock + Clone,
+{
+    let refusal = polled.poll(new_waker(host, task)).err();
+    check(host, "the refusal", refusal, Some(expected));
+}

@@ -1,0 +1,18 @@
+//! One thread waits for a flag, and another sets it. Prints `Done!` once the flag is set.
+#![tactic(auto)]
+
+use event_listener::EventIds;
+use example_flag::wait_for_setter;
+use std::process::ExitCode;
+
+fn main(rt: HostRuntime) -> ExitCode {
+    let id = EventIds::new().next().unwrap();
+    if let Err(error) = wait_for_setter(rt, rt.alloc(), id) {
+        let _ = rt.eprintln(error);
+        return ExitCode::FAILURE;
+    }
+    match rt.println("Done!") {
+        Ok(()) => ExitCode::SUCCESS,
+        Err(_) => ExitCode::FAILURE,
+    }
+}
