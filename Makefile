@@ -9,10 +9,12 @@
 # check     proves every crate, without tests: what an edit changed takes seconds or minutes
 # refused   tries small programs that must not compile, and some that must: a minute or two
 # quoted    compares what the pages for callers quote with the sources: a second
+# explore   shows a run of a world: `make explore RUN='mutex 2: 0 Go 2, 1 Go 5'`, or lines on its input; it proves the
+#           program first, which takes minutes
 # fmt       lays out the files
 # diff      compares the queue with the Rust crate, where what that answers is at hand: `make diff ORACLE=FOLDER`, with
 #           a folder as crates/replies/README.md says
-.PHONY: run test prove vectors check refused quoted fmt diff
+.PHONY: run test prove vectors check refused quoted explore fmt diff
 
 run:
 	@scripts/run
@@ -34,6 +36,9 @@ refused:
 
 quoted:
 	@scripts/quoted
+
+explore:
+	@scripts/explore "$(RUN)"
 
 fmt:
 	@for crate in crates/*/; do (cd "$$crate" && rt fmt) || exit 1; done

@@ -1,0 +1,68 @@
+//! What is shown of any world.
+use event_worlds::Step;
+use std::alloc::{AllocError, Global};
+
+/// Where an actor of a world is.
+#[derive(Clone, Copy, Debug, PartialEq, Eq)]
+pub struct Spot {
+    /// The name of its place.
+    pub place: &'static str,
+    /// How it stands in line.
+    pub standing: Standing,
+    /// Whether it has its wake-up.
+    pub has_wake: bool,
+}
+
+/// How an actor stands in the line of those that listen.
+#[derive(Clone, Copy, Debug, PartialEq, Eq)]
+pub enum Standing {
+    Absent,
+    Waiting,
+    Told,
+}
+
+/// What the actors of a world share.
+#[derive(Clone, Copy, Debug, PartialEq, Eq)]
+pub enum Shared {
+    /// The lock, and who has it.
+    Lock { holder: Option<usize> },
+    /// The flag, and whether it is set.
+    Flag { is_set: bool },
+}
+
+/// A world that is run, and looked at by its public questions alone.
+pub trait Watched: Drop {
+    /// How many actors it has. They are numbered from 0.
+    fn actors(&self) -> usize;
+
+    /// Makes a step, and answers whether it was one.
+    fn make(&mut self, step: Step) -> bool;
+
+    /// Where this actor is, or `None` where there is no such actor.
+    fn spot(&self, actor: usize) -> Option<Spot>;
+
+    /// What the actors share.
+    fn shared(&self) -> Shared;
+
+    /// Whether no wake-up is lost.
+    fn is_safe(&self) -> bool;
+}
+
+/// What a world is made of.
+pub trait Size: Copy {
+    type World: Watched;
+
+    /// A new world of this size.
+    fn world(self, alloc: Global) -> Result<Self::World, AllocError>;
+}
+
+/// How a client stands in line: one that is not told waits where its place is a listening one.
+pub fn how_it_stands(is_told: bool, is_listening: bool) -> Standing {
+    if is_told {
+        Standing::Told
+    } else if is_listening {
+        Standing::Waiting
+    } else {
+        Standing::Absent
+    }
+}
