@@ -1,7 +1,9 @@
-ghost use Rattle.std.specs.Prelude.{◌≡◌, ◌<◌, true, is_some, is_none, if◌then◌else◌, Some, length, slice_get, IfOk, IsFalse};
+ghost use Rattle.std.specs.Prelude.{◌≡◌, ◌<◌, true, is_some, is_none, unwrap_or, if◌then◌else◌, Some, length, slice_get, IfOk, IsFalse, IsSome};
 ghost use Rattle.event_worlds.specs.declared.world.acts.Act.TheVariants.{Go, Poll, TimeOut, Cancel};
 ghost use Rattle.event_worlds.specs.declared.world.place.Place.TheVariants.{Idle, First, Second, Parked};
-ghost use Rattle.event_worlds.specs.Line.{is_told, is_in_line, has_wake, has_serial_left, joined, registered, told_left, waiting_left};
+ghost use Rattle.event_worlds.specs.declared.world.place.News.TheVariants.{Got, Busy, Dropped};
+ghost use Rattle.event_worlds.specs.ClientTable.{place_after};
+ghost use Rattle.event_worlds.specs.Line.{is_told, is_in_line, has_wake, has_serial_left, joined, registered, told_left, waiting_left, dropped};
 ghost use Rattle.event_worlds.specs.Mutex.{start, next, after, after_all, taken};
 ghost use Rattle.event_worlds.specs.MutexInvariant.{IsSound};
 ghost use Rattle.event_worlds.specs.MutexMove.{MayBeAt, Moves};
@@ -9,7 +11,7 @@ ghost use Rattle.event_worlds.specs.MutexSafety.{IsSafe, HolderIsInside, AtMostO
 
 use super::acts::{Act, Step};
 use super::line::ClientLine;
-use super::place::Place;
+use super::place::{News, Place};
 use std::alloc::{AllocError, Global};
 use std::marker::Model;
 
@@ -211,38 +213,48 @@ fn goes(holder: Option<usize>, place: Place, client: usize, line: &mut ClientLin
     ensures moves { Moves holder place client Go line.old result line.new }
 {
     match place {
-        Place::Idle => Some(Move::to(Place::First { woken: false }, holder)),
-        Place::First { .. } => Some(tries(holder, client, Place::Holding, Place::ToListen)),
+        Place::Idle => Some(Move::to(hears(place, News::Begin), holder)),
+        Place::First { .. } => Some(tries(holder, place, client)),
         Place::ToListen => Some(Move::to(listens(client, line), holder)),
-        Place::Second => Some(tries(holder, client, Place::Ending, Place::ToRegister)),
-        Place::Ending => {
-            line.drop_out(client);
-            Some(Move::to(Place::Holding, holder))
-        }
+        Place::Second => Some(tries(holder, place, client)),
+        Place::Ending => Some(Move::to(drops_out(place, client, line), holder)),
         Place::ToRegister => Some(Move::to(registers(client, line), holder)),
         Place::Parked => {
             if line.has_wake(client) {
                 line.lose_wake(client);
-                Some(Move::to(Place::ToRegister, holder))
+                Some(Move::to(hears(place, News::Woke), holder))
             } else {
                 None
             }
         }
-        Place::Holding => Some(Move::to(Place::Releasing, None)),
+        Place::Holding => Some(Move::to(hears(place, News::Freed), None)),
         Place::Releasing => {
             line.notify(1);
-            Some(Move::to(Place::Idle, holder))
+            Some(Move::to(hears(place, News::Notified), holder))
         }
     }
 }
 
+// Where this news takes a client from a place where it may come. No client of the world goes elsewhere.
+fn hears(place: Place, news: News) -> Place
+    requires may_come { IsSome (place_after place news) }
+    ensures { result ≡ unwrap_or (place_after place news) place }
+{
+    match place.after(news) {
+        Some(place) => place,
+        None => unreachable!(),
+    }
+}
+
 // A try of the lock, which takes it if it is free.
-fn tries(holder: Option<usize>, client: usize, got: Place, busy: Place) -> Move
-    ensures { result ≡ (if is_none holder then record { holder = Some client; place = got } else record { holder = holder; place = busy }) }
+fn tries(holder: Option<usize>, place: Place, client: usize) -> Move
+    requires may_get { IsSome (place_after place Got) }
+    requires may_be_busy { IsSome (place_after place Busy) }
+    ensures { result ≡ (if is_none holder then record { holder = Some client; place = unwrap_or (place_after place Got) place } else record { holder = holder; place = unwrap_or (place_after place Busy) place }) }
 {
     match holder {
-        None => Move::to(got, Some(client)),
-        Some(_) => Move::to(busy, holder),
+        None => Move::to(hears(place, News::Got), Some(client)),
+        Some(_) => Move::to(hears(place, News::Busy), holder),
     }
 }
 
@@ -253,9 +265,9 @@ fn listens(client: usize, line: &mut ClientLine) -> Place
     ensures line { line.new ≡ (if has_serial_left line.old then joined client line.old else line.old) }
 {
     if line.join(client) {
-        Place::Second
+        hears(Place::ToListen, News::Listening)
     } else {
-        Place::Idle
+        hears(Place::ToListen, News::Refused)
     }
 }
 
@@ -265,9 +277,9 @@ fn registers(client: usize, line: &mut ClientLine) -> Place
     ensures line { line.new ≡ (if is_told client line.old then told_left client line.old else registered client line.old) }
 {
     if line.register(client) {
-        Place::First { woken: true }
+        hears(Place::ToRegister, News::Told)
     } else {
-        Place::Parked
+        hears(Place::ToRegister, News::Registered)
     }
 }
 
@@ -283,7 +295,7 @@ fn is_polled(
     match place {
         Place::Parked => {
             line.lose_wake(client);
-            Some(Move::to(Place::ToRegister, holder))
+            Some(Move::to(hears(place, News::Woke), holder))
         }
         _ => None,
     }
@@ -310,9 +322,9 @@ fn leaves(client: usize, line: &mut ClientLine) -> Place
     ensures line { line.new ≡ (if is_told client line.old then told_left client line.old else waiting_left client line.old) }
 {
     if line.leave(client) {
-        Place::First { woken: true }
+        hears(Place::Parked, News::Told)
     } else {
-        Place::Idle
+        hears(Place::Parked, News::TimedOut)
     }
 }
 
@@ -326,10 +338,19 @@ fn cancels(
     ensures moves { Moves holder place client Cancel line.old result line.new }
 {
     match place {
-        Place::ToRegister | Place::Parked => {
-            line.drop_out(client);
-            Some(Move::to(Place::Idle, holder))
-        }
+        Place::ToRegister => Some(Move::to(drops_out(place, client, line), holder)),
+        Place::Parked => Some(Move::to(drops_out(place, client, line), holder)),
         _ => None,
     }
+}
+
+// The listener is dropped, which passes its notification on.
+fn drops_out(place: Place, client: usize, line: &mut ClientLine) -> Place
+    requires client { client < length line.old.awake }
+    requires may_drop { IsSome (place_after place Dropped) }
+    ensures place { result ≡ unwrap_or (place_after place Dropped) place }
+    ensures line { line.new ≡ dropped client line.old }
+{
+    line.drop_out(client);
+    hears(place, News::Dropped)
 }
