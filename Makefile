@@ -2,7 +2,8 @@
 # so the next one of the same sources takes seconds; `make test` takes nothing that was kept.
 #
 # run       compiles and runs the worked rows, with every check at run time, and proves nothing: under a minute
-# test      the whole gate: proofs from nothing, edits and programs that must be refused, tests and programs: some 45 minutes
+# test      the whole gate: proofs from nothing, edits and programs that must be refused, tests and programs: some 45 minutes, and an hour where four
+#           processors are two cores
 # prove     proves every crate and its tests, and runs tests and programs, but tries no edits: some 25 minutes with
 #           `make prove JOBS=4`, which works on four crates at a time in 10 GB; without JOBS it chooses one or two
 # vectors   proves and runs the program of the worked rows, and keeps it as crates/vectors/out/vectors: 12 minutes
