@@ -218,60 +218,37 @@ fn second_after<R: Abort + AllocGlobal>(rt: &R, way: &[(usize, usize)], act: Act
     spot_of(&world, 2)
 }
 
+// After this way and client 1's act, client 2 stands there.
+fn leaves_second_at<R: Abort + AllocGlobal>(rt: &R, way: &[(usize, usize)], act: Act, spot: Spot) {
+    check(rt, (way, act), second_after(rt, way, act), Some(spot));
+}
+
 #[test]
-fn what_a_client_that_leaves_passes_on(rt: HostRuntime) {
+fn what_a_told_client_that_leaves_passes_on(rt: HostRuntime) {
     // Both parked, and client 1 is told.
     let way = [(0, 2), (1, 5), (2, 5), (0, 2)];
-    let passed = Some((Place::Parked, true, true, None));
-    let kept = Some((Place::Parked, false, false, None));
-    check(
-        &rt,
-        "cancelled",
-        second_after(&rt, &way, Act::Cancel),
-        passed,
-    );
-    check(
-        &rt,
-        "timed out",
-        second_after(&rt, &way, Act::TimeOut),
-        kept,
-    );
+    let passed = (Place::Parked, true, true, None);
+    let kept = (Place::Parked, false, false, None);
+    leaves_second_at(&rt, &way, Act::Cancel, passed);
+    leaves_second_at(&rt, &way, Act::TimeOut, kept);
 
-    // Client 1 is told before it has registered.
+    // Client 1 is told before it has registered, and is cancelled or takes its tag.
     let way = [(0, 2), (1, 4), (2, 5), (0, 2)];
-    check(
-        &rt,
-        "cancelled",
-        second_after(&rt, &way, Act::Cancel),
-        passed,
-    );
-    check(
-        &rt,
-        "it takes its tag",
-        second_after(&rt, &way, Act::Go),
-        kept,
-    );
+    leaves_second_at(&rt, &way, Act::Cancel, passed);
+    leaves_second_at(&rt, &way, Act::Go, kept);
 
     // Client 1 took the lock with its listener still there.
     let way = [(0, 2), (1, 3), (2, 5), (0, 2), (1, 1)];
-    let passed = Some((Place::Parked, true, true, Some(1)));
-    check(&rt, "ending", second_after(&rt, &way, Act::Go), passed);
+    let passed = (Place::Parked, true, true, Some(1));
+    leaves_second_at(&rt, &way, Act::Go, passed);
+}
 
-    // Nobody is told, and client 1 leaves.
+#[test]
+fn a_waiting_client_that_leaves_passes_nothing_on(rt: HostRuntime) {
     let way = [(0, 2), (1, 5), (2, 5)];
-    let waits = Some((Place::Parked, false, false, Some(0)));
-    check(
-        &rt,
-        "cancelled",
-        second_after(&rt, &way, Act::Cancel),
-        waits,
-    );
-    check(
-        &rt,
-        "timed out",
-        second_after(&rt, &way, Act::TimeOut),
-        waits,
-    );
+    let waits = (Place::Parked, false, false, Some(0));
+    leaves_second_at(&rt, &way, Act::Cancel, waits);
+    leaves_second_at(&rt, &way, Act::TimeOut, waits);
 }
 
 #[test]
