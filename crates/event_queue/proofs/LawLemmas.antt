@@ -27,18 +27,26 @@ module _ {T W : Type 0} where
       lookup-none_is key q.told (none_before key (keys_of q.told) q.waiting task q.next_serial (rises_along q queue) found)
 
   -- the listener that took its tag is gone, and the others keep their order
+  pub took_tag-gone : (key : Key) (old : Queue T W) (tag : T) → IsQueue old → IsSomeAnd (lookup (is_key key) old.told) (λ notice. notice.tag ≡ tag) → IsGone key (told_leaves key old)
+  took_tag-gone key old tag queue told =
+      let found = found_value (lookup (is_key key) old.told) (λ n. n.tag ≡ tag) told in
+      let order = order_of-told_leaves key old found.0 queue found.1 in
+      IsGone-without key (told_leaves key old) (order_of old) order (told_serial key old found.0 queue found.1)
+
+  pub took_tag-order : (key : Key) (old : Queue T W) (tag : T) → IsQueue old → IsSomeAnd (lookup (is_key key) old.told) (λ notice. notice.tag ≡ tag) → order_of (told_leaves key old) ≡ without key (order_of old)
+  took_tag-order key old tag queue told =
+      let found = found_value (lookup (is_key key) old.told) (λ n. n.tag ≡ tag) told in
+      order_of-told_leaves key old found.0 queue found.1
+
   pub Registers-gone : (old : Queue T W) (key : Key) (task : W) (reply : RegisterResult T) (new : Queue T W) → IsQueue old → Registers old key task reply new → OnNotified reply (IsGone key new)
   Registers-gone old key task (Notified tag) new queue step =
-      let found = found_value (lookup (is_key key) old.told) (λ n. n.tag ≡ tag) step.0 in
-      let order = order_of-told_leaves key old found.0 queue found.1 in
-      subst (IsGone key) (sym step.1) (IsGone-without key (told_leaves key old) (order_of old) order (told_serial key old found.0 queue found.1))
+      subst (IsGone key) (sym step.1) (took_tag-gone key old tag queue step.0)
   Registers-gone old key task Registered new queue step = tt
   Registers-gone old key task NeverInserted new queue step = tt
 
   pub Registers-order_without : (old : Queue T W) (key : Key) (task : W) (reply : RegisterResult T) (new : Queue T W) → IsQueue old → Registers old key task reply new → OnNotified reply (order_of new ≡ without key (order_of old))
   Registers-order_without old key task (Notified tag) new queue step =
-      let found = found_value (lookup (is_key key) old.told) (λ n. n.tag ≡ tag) step.0 in
-      ap order_of step.1 ∙ order_of-told_leaves key old found.0 queue found.1
+      ap order_of step.1 ∙ took_tag-order key old tag queue step.0
   Registers-order_without old key task Registered new queue step = tt
   Registers-order_without old key task NeverInserted new queue step = tt
 

@@ -1,11 +1,14 @@
 pub mod Sequence
-pub mod Chain
 pub mod Key
 pub mod Queue
 pub mod Insert
 pub mod Register
+pub mod Exchange
 pub mod Remove
 pub mod Notify
 pub mod Run
 pub mod Woken
 pub mod TagList
+pub mod Ring
+pub mod RingMemory
+pub mod Nodes

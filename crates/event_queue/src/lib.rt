@@ -5,6 +5,7 @@
 #![tactic(auto)]
 
 mod call;
+mod exchange;
 mod key;
 mod laws;
 mod list;
@@ -19,6 +20,7 @@ mod wake;
 mod woken;
 
 pub use call::{Call, Reply};
+pub use exchange::TaskExchange;
 pub use key::Key;
 pub use laws::{equal_keys, woken_keeps_the_first};
 pub use list::List;

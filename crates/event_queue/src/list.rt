@@ -5,10 +5,12 @@ ghost use Rattle.std.specs.Map.{lookup};
 ghost use Rattle.event_queue.specs.Key.{is_key, without};
 ghost use Rattle.event_queue.specs.Queue.{IsQueue, IsGone, IsToldAs, order_of, listeners_of, how_many, after_telling, tasks_of};
 ghost use Rattle.event_queue.specs.Insert.{Inserts};
-ghost use Rattle.event_queue.specs.Register.{Registers, OnNotified, UnlessNotified};
+ghost use Rattle.event_queue.specs.Register.{Registers, OnNotified, UnlessNotified, after_storing};
+ghost use Rattle.event_queue.specs.Exchange.{RegistersWith};
 ghost use Rattle.event_queue.specs.Remove.{Removes, woken_by_removal, woken_by_passing, after_passing};
 ghost use Rattle.event_queue.specs.Notify.{Notifies, NeverRefuses, told_by};
 
+use crate::exchange::TaskExchange;
 use crate::key::Key;
 use crate::node::Chain;
 use crate::notice::Notice;
@@ -46,6 +48,14 @@ impl<T, W> Model for List<T, W> {
       next_serial = list.next_serial;
       spare = list.chain.spare;
     }) };
+}
+
+// What a waiting listener stores in place of this task.
+#[inline(always)]
+fn exchange_stored<W, C, X: TaskExchange<W, C>>(exchange: &X, on: &mut C, stored: Option<W>) -> W
+    ensures { X.exchanged exchange.now on.old stored result on.new }
+{
+    exchange.exchange(on, stored)
 }
 
 impl<T, W> List<T, W> {
@@ -90,6 +100,7 @@ impl<T, W> List<T, W> {
     /// It allocates only where [`spare`](List::spare) is 0, and returns [`ListenError::Memory`] where that is refused.
     /// Where the serials are used up it returns [`ListenError::SerialsUsedUp`] and allocates nothing. Both leave the
     /// queue as it was.
+    #[inline(always)]
     pub fn insert(&mut self) -> Result<Key, ListenError>
         ensures step { Inserts self.old result self.new }
         ensures queue { IsQueue self.new }
@@ -118,6 +129,7 @@ impl<T, W> List<T, W> {
     /// the task, in place of any that it stored before.
     ///
     /// The call drops a task that it doesn't store, and one that it replaces. It allocates nothing.
+    #[inline(always)]
     pub fn register(&mut self, key: Key, task: W) -> RegisterResult<T>
     where
         W: Drop,
@@ -133,6 +145,7 @@ impl<T, W> List<T, W> {
         self.register_step(key, task)
     }
 
+    #[inline(always)]
     fn register_step(&mut self, key: Key, task: W) -> RegisterResult<T>
     where
         W: Drop,
@@ -150,11 +163,77 @@ impl<T, W> List<T, W> {
         }
     }
 
+    /// Registers a listener with a task that is made of the one that it stored: one that was told takes its tag and
+    /// leaves the queue; of one that waits, the stored task, if it has one, is exchanged, and what comes back is stored.
+    ///
+    /// Nothing is exchanged where the listener was told, or where no listener has that key. The call drops no task, and
+    /// allocates and waits only where the exchange does.
+    pub fn register_with<C, X: TaskExchange<W, C>>(
+        &mut self,
+        key: Key,
+        exchange: &X,
+        on: &mut C,
+    ) -> RegisterResult<T>
+        ensures step { RegistersWith (X.exchanged exchange.now) self.old key on.old result self.new on.new }
+        ensures queue { IsQueue self.new }
+
+        // A listener that took its tag is gone; else the order of listening is as it was.
+        ensures gone { OnNotified result (IsGone key self.new) }
+        ensures order_without { OnNotified result (order_of self.new ≡ without key (order_of self.old)) }
+        ensures order_kept { UnlessNotified result (order_of self.new ≡ order_of self.old) }
+        ensures serial { self.new.next_serial ≡ self.old.next_serial }
+    {
+        self.register_with_step(key, exchange, on)
+    }
+
+    fn register_with_step<C, X: TaskExchange<W, C>>(
+        &mut self,
+        key: Key,
+        exchange: &X,
+        on: &mut C,
+    ) -> RegisterResult<T>
+        ensures step { RegistersWith (X.exchanged exchange.now) self.old key on.old result self.new on.new }
+        ensures was_queue { IsQueue self.old }
+        ensures queue { IsQueue self.new }
+    {
+        if let Some(notice) = self.chain.take_before(key) {
+            let Notice { additional: _, tag } = notice;
+            return RegisterResult::Notified(tag);
+        }
+        match self.chain.replace_after(key, None) {
+            Ok(stored) => {
+                let task = exchange_stored(exchange, on, stored);
+                self.store(key, task);
+                RegisterResult::Registered
+            }
+            Err(nothing) => match nothing {
+                None => RegisterResult::NeverInserted,
+                _ => unreachable!(),
+            },
+        }
+    }
+
+    // Stores the task of a waiting listener that has none.
+    fn store(&mut self, key: Key, task: W)
+        requires { lookup (is_key key) self.old.waiting ≡ Some None }
+        ensures stored { self.new ≡ after_storing key task self.old }
+        ensures queue { IsQueue self.new }
+    {
+        match self.chain.replace_after(key, Some(task)) {
+            Ok(former) => match former {
+                None => {}
+                _ => unreachable!(),
+            },
+            Err(_) => unreachable!(),
+        }
+    }
+
     /// Removes a listener from the queue, and returns what it was, or `None` where no listener has that key.
     ///
     /// With `propagate`, the notification of a told listener is propagated: the queue is notified of one, of the same
     /// kind and with the same tag. So a default notification is lost while another listener stays told, and an
     /// additional one only where nobody waits. The call drops a lost tag. It allocates nothing.
+    #[inline(always)]
     pub fn remove<S: WakeSink<W>>(
         &mut self,
         key: Key,
@@ -179,6 +258,7 @@ impl<T, W> List<T, W> {
         self.remove_step(key, propagate, sink)
     }
 
+    #[inline(always)]
     fn remove_step<S: WakeSink<W>>(
         &mut self,
         key: Key,
@@ -207,7 +287,10 @@ impl<T, W> List<T, W> {
         Some(State::Notified { additional, tag })
     }
 
-    // Propagates a notification: notifies one, of that notice's kind and with its tag.
+    // Propagates a notification: notifies one, of that notice's kind and with its tag. It stands apart, so that the drop
+    // of a listener, which stands in many places, is short.
+    #[cold]
+    #[inline(never)]
     fn pass_on<S: WakeSink<W>>(&mut self, notice: Notice<T>, sink: &mut S)
     where
         T: Drop,
@@ -227,6 +310,7 @@ impl<T, W> List<T, W> {
     /// notification is asked for a tag once for each listener told. Where it refuses one, the call returns a
     /// [`NotifyError`]: the listeners told until then stay told, and nobody is skipped. A notification that finds no
     /// listener to tell is not kept. The call allocates nothing, but the notification may where it makes a tag.
+    #[inline(always)]
     pub fn notify<N: Notification<Tag = T>, S: WakeSink<W>>(
         &mut self,
         n: &mut N,
@@ -247,6 +331,7 @@ impl<T, W> List<T, W> {
         self.notify_step(n, sink)
     }
 
+    #[inline(always)]
     fn notify_step<N: Notification<Tag = T>, S: WakeSink<W>>(
         &mut self,
         n: &mut N,
@@ -270,6 +355,7 @@ impl<T, W> List<T, W> {
     }
 
     // How many listeners a notification of that count and kind tells.
+    #[inline(always)]
     fn how_many(&self, count: usize, additional: bool) -> usize
         ensures value { result ≡ how_many count additional self.now }
         ensures queue { IsQueue self.now }
@@ -283,6 +369,7 @@ impl<T, W> List<T, W> {
     }
 
     // Tells the first waiting listener, and wakes its task if it has one.
+    #[inline(always)]
     fn tell_next<S: WakeSink<W>>(&mut self, notice: Notice<T>, sink: &mut S)
         requires { 0 < length self.old.waiting }
         ensures told { self.new ≡ after_telling notice.additional (notice.tag ∷ []) self.old }

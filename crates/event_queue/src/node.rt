@@ -1,263 +1,64 @@
-//! A sequence with a cursor, linked by index in a `Vec`.
-ghost use Rattle.std.specs.Prelude.{◌≡◌, ◌≢◌, ◌+◌, ◌-◌, ◌<◌, ◌≤◌, ◌^◌, ◌↔◌, [], ◌∷◌, ◌++◌, length, All, IsTrue, IsOk, IsSome, OnOk, OnErr, IfOk, IfErr, OnSome, IfSome, IfNone, slice_get, vec_capacity, vec_len};
-ghost use Rattle.std.specs.Option.{option_or};
+//! A sequence with a cursor: nodes on the heap with raw links, and a table that leads from a key to its node.
+ghost use Rattle.std.specs.Prelude.{◌≡◌, ◌≢◌, ◌+◌, ◌<◌, ◌≤◌, ◌^◌, ◌↔◌, [], ◌∷◌, ◌++◌, length, All, IsTrue, IsOk, IsSome, OnOk, OnErr, IfOk, IfErr, OnSome, IfNone};
 ghost use Rattle.std.specs.Map.{lookup, remove_entry, set_value};
 ghost use Rattle.event_queue.specs.Key.{is_key};
-ghost use Rattle.event_queue.specs.Chain.{IsLinkBelow, with_next, with_previous, with_held, without_slot, with_last, relinked, skipping, before_at, after_at, GetsSlot, value_after};
+ghost use Rattle.event_queue.specs.Nodes.{nodes_of, IsLined};
 
 use crate::key::Key;
+use crate::node::line::{Held, Line};
+use crate::node::table::Table;
 use std::alloc::{AllocError, AllocFailed, Global};
 use std::marker::Model;
 use std::mem;
 
+mod line;
+mod ring;
+mod table;
+
 /// Entries in the order in which they were pushed, each under a key that the chain gives it, and a cursor between
 /// two of them: those before it carry an `A`, those after it a `B`.
 ///
-/// An entry that leaves makes its slot spare, and a push takes a spare slot before it allocates.
+/// An entry that leaves makes its node spare, and a push takes a spare node before it allocates.
 #[derive(Drop)]
 pub struct Chain<A, B> {
-    slots: Vec<Slot<A, B>>,
-    ends: Ends,
-}
-
-#[derive(Clone, Copy)]
-struct Ends {
-    // The first and the last entry, and the first after the cursor.
-    first: Option<usize>,
-    last: Option<usize>,
-    cursor: Option<usize>,
-    // The first of the free slots, each of which names the next.
-    free: Option<usize>,
+    // Made with the first node.
+    line: Option<Line<A, B>>,
+    table: Table<A, B>,
     // How many entries are before the cursor, and how many after it.
     before_len: usize,
     after_len: usize,
 }
 
-#[derive(Drop)]
-struct Slot<A, B> {
-    serial: u64,
-    previous: Option<usize>,
-    next: Option<usize>,
-    held: Held<A, B>,
-}
-
-#[derive(Drop)]
-enum Held<A, B> {
-    Before(A),
-    After(B),
-    Nothing,
-}
-
 impl<A, B> Model for Chain<A, B> {
-    ghost use Rattle.std.specs.Prelude.{◌+◌, ◌-◌, vec_capacity};
+    ghost use Rattle.std.specs.Prelude.{length, filter_map};
     ghost use Rattle.event_queue.specs.Sequence.{Sequence};
 
     ghost Value = { Sequence A B };
 
-    ghost use Rattle.event_queue.specs.Chain.{walk, value_before, value_after, IsSound};
+    ghost use Rattle.event_queue.specs.Nodes.{nodes_of, entry_before, entry_after, IsSound};
 
     ghost view = { λ chain. record {
-      before = walk value_before chain.slots.items chain.ends.before_len chain.ends.first;
-      after = walk value_after chain.slots.items chain.ends.after_len chain.ends.cursor;
-      spare = vec_capacity chain.slots - (chain.ends.before_len + chain.ends.after_len);
+      before = filter_map entry_before (nodes_of chain.line);
+      after = filter_map entry_after (nodes_of chain.line);
+      spare = length chain.table.spares.items;
     } };
 
-    ghost invariant = { λ chain. IsSound chain.slots.items chain.ends };
+    ghost invariant = { λ chain. IsSound chain.line chain.table.slots.items chain.table.spares.items chain.before_len chain.after_len };
 }
 
-// Whether the slot that the key names holds the key's entry, before the cursor.
-fn holds_before<A, B>(slots: &[Slot<A, B>], key: Key) -> bool
-    ensures { IsTrue result ↔ IsSome (before_at slots.now key) }
+// Makes the line where there is none.
+fn begin<A, B>(line: &mut Option<Line<A, B>>, alloc: Global) -> Result<(), AllocError>
+    ensures nodes { nodes_of line.new ≡ nodes_of line.old }
+    ensures lined { OnOk result (IsLined line.old line.new) }
+    ensures err { OnErr result (line.new ≡ line.old) }
 {
-    match slots.get(key.slot) {
-        Some(slot) => slot.serial == key.serial && matches!(slot.held, Held::Before(_)),
-        None => false,
+    if line.is_some() {
+        return Ok(());
     }
-}
-
-// Whether the slot that the key names holds the key's entry, after the cursor.
-fn holds_after<A, B>(slots: &[Slot<A, B>], key: Key) -> bool
-    ensures { IsTrue result ↔ IsSome (after_at slots.now key) }
-{
-    match slots.get(key.slot) {
-        Some(slot) => slot.serial == key.serial && matches!(slot.held, Held::After(_)),
-        None => false,
-    }
-}
-
-// Links the slot at that index, if there is one, to the next.
-fn set_next<A, B>(slots: &mut [Slot<A, B>], index: Option<usize>, next: Option<usize>)
-    requires { IsLinkBelow (length slots.old) index }
-    ensures { slots.new ≡ with_next slots.old index next }
-{
-    if let Some(index) = index {
-        slots[index].next = next;
-    }
-}
-
-// Links the slot at that index, if there is one, to the one before it.
-fn set_previous<A, B>(slots: &mut [Slot<A, B>], index: Option<usize>, previous: Option<usize>)
-    requires { IsLinkBelow (length slots.old) index }
-    ensures { slots.new ≡ with_previous slots.old index previous }
-{
-    if let Some(index) = index {
-        slots[index].previous = previous;
-    }
-}
-
-// Puts another payload into a slot, and returns the one that it had.
-fn replace_held<A, B>(slots: &mut [Slot<A, B>], index: usize, held: Held<A, B>) -> Held<A, B>
-    requires { index < length slots.old }
-    ensures former { IfSome (slice_get slots.old index) (λ slot. result ≡ slot.held) }
-    ensures replaced { slots.new ≡ with_held slots.old index held }
-{
-    mem::replace(&mut slots[index].held, held)
-}
-
-// What an end of the chain becomes when an entry leaves that has this neighbour on that side.
-fn relink(neighbour: Option<usize>, next: Option<usize>, end: Option<usize>) -> Option<usize>
-    ensures { result ≡ relinked neighbour next end }
-{
-    match neighbour {
-        Some(_) => end,
-        None => next,
-    }
-}
-
-// What the cursor becomes when the entry at that index leaves.
-fn skip<A, B>(slots: &[Slot<A, B>], cursor: Option<usize>, index: usize) -> Option<usize>
-    requires { index < length slots.now }
-    ensures { IfSome (slice_get slots.now index) (λ slot. result ≡ skipping cursor index slot.next) }
-{
-    match cursor {
-        Some(at) if at == index => slots[index].next,
-        _ => cursor,
-    }
-}
-
-// Takes the entry at that index out of the chain, and leaves its slot free. Its neighbours are linked to one another.
-fn unlink<A, B>(slots: &mut [Slot<A, B>], ends: &mut Ends, index: usize) -> Held<A, B>
-    requires index { index < length slots.old }
-    requires previous { IfSome (slice_get slots.old index) (λ slot. IsLinkBelow (length slots.old) slot.previous) }
-    requires next { IfSome (slice_get slots.old index) (λ slot. IsLinkBelow (length slots.old) slot.next) }
-    ensures held { IfSome (slice_get slots.old index) (λ slot. result ≡ slot.held) }
-    ensures slots { IfSome (slice_get slots.old index) (λ slot. slots.new ≡ without_slot slots.old index slot.previous slot.next ends.old.free) }
-    ensures ends { IfSome (slice_get slots.old index) (λ slot. ends.new ≡ record ends.old {
-      first = relinked slot.previous slot.next ends.old.first;
-      last = relinked slot.next slot.previous ends.old.last;
-      free = Some index;
-    }) }
-{
-    let freed = Slot {
-        serial: 0,
-        previous: None,
-        next: ends.free,
-        held: Held::Nothing,
-    };
-    let Slot {
-        serial: _,
-        previous,
-        next,
-        held,
-    } = mem::replace(&mut slots[index], freed);
-    set_next(slots, previous, next);
-    set_previous(slots, next, previous);
-    ends.first = relink(previous, next, ends.first);
-    ends.last = relink(next, previous, ends.last);
-    ends.free = Some(index);
-    held
-}
-
-// The index of the slot for a newcomer: the first free one, or else a new one, which allocates only where no room is
-// reserved.
-fn get_slot<A, B>(slots: &mut Vec<Slot<A, B>>, free: Option<usize>) -> Result<usize, AllocError>
-    ensures ok { IfOk result (λ index. GetsSlot slots.old.items free index slots.new.items) }
-    ensures err { OnErr result (slots.new.items ≡ slots.old.items) }
-    ensures capacity { OnErr result (vec_capacity slots.new ≡ vec_capacity slots.old) }
-    ensures succeeds { vec_len slots.old < vec_capacity slots.old → IsOk result }
-    ensures in_place { vec_len slots.old < vec_capacity slots.old → vec_capacity slots.new ≡ vec_capacity slots.old }
-    ensures free { IsSome free → IsOk result }
-    ensures free_in_place { IsSome free → vec_capacity slots.new ≡ vec_capacity slots.old }
-{
-    if let Some(index) = free {
-        return Ok(index);
-    }
-    let index = slots.len();
-    if index == slots.capacity() {
-        slots.reserve(1)?;
-    }
-    slots.push_reserved(Slot {
-        serial: 0,
-        previous: None,
-        next: None,
-        held: Held::Nothing,
-    });
-    Ok(index)
-}
-
-// Links the free slot at that index to the end of the chain, with this entry.
-fn link_last<A, B>(slots: &mut [Slot<A, B>], ends: &mut Ends, index: usize, serial: u64, value: B)
-    requires free { IfSome (slice_get slots.old index) (λ slot. slot.held ≡ Held.Nothing) }
-    requires index { index < length slots.old }
-    requires last { IsLinkBelow (length slots.old) ends.old.last }
-    requires fits { ends.old.after_len + 1 < 2 ^ 64 }
-    ensures slots { slots.new ≡ with_last slots.old index ends.old.last serial value }
-    ensures ends { IfSome (slice_get slots.old index) (λ slot. ends.new ≡ record ends.old {
-      first = option_or ends.old.first (Some index);
-      last = Some index;
-      cursor = option_or ends.old.cursor (Some index);
-      free = slot.next;
-      after_len = ends.old.after_len + 1;
-    }) }
-{
-    let slot = Slot {
-        serial,
-        previous: ends.last,
-        next: None,
-        held: Held::After(value),
-    };
-    let Slot {
-        serial: _,
-        previous: _,
-        next: free,
-        held,
-    } = mem::replace(&mut slots[index], slot);
-    match held {
-        Held::Nothing => {}
-        _ => unreachable!(),
-    }
-    set_next(slots, ends.last, Some(index));
-    ends.first = ends.first.or(Some(index));
-    ends.last = Some(index);
-    ends.cursor = ends.cursor.or(Some(index));
-    ends.free = free;
-    ends.after_len += 1;
-}
-
-// Gives the entry at that index, which is after the cursor, the value of one before it. Its key, the value that it
-// had and the index of the next entry are the answer.
-fn move_before_cursor<A, B>(
-    slots: &mut [Slot<A, B>],
-    index: usize,
-    value: A,
-) -> (Key, B, Option<usize>)
-    requires index { index < length slots.old }
-    requires after { IfSome (slice_get slots.old index) (λ slot. IsSome (value_after slot.held)) }
-    ensures slot { result.0.slot ≡ index }
-    ensures serial { IfSome (slice_get slots.old index) (λ slot. result.0.serial ≡ slot.serial) }
-    ensures former { IfSome (slice_get slots.old index) (λ slot. slot.held ≡ Held.After result.1) }
-    ensures next { IfSome (slice_get slots.old index) (λ slot. result.2 ≡ slot.next) }
-    ensures slots { slots.new ≡ with_held slots.old index (Held.Before value) }
-{
-    let slot = &mut slots[index];
-    let key = Key {
-        slot: index,
-        serial: slot.serial,
-    };
-    let next = slot.next;
-    match mem::replace(&mut slot.held, Held::Before(value)) {
-        Held::After(former) => (key, former, next),
-        _ => unreachable!(),
+    let new = Line::new(alloc)?;
+    match mem::replace(line, Some(new)) {
+        None => Ok(()),
+        Some(_) => unreachable!(),
     }
 }
 
@@ -267,15 +68,10 @@ impl<A, B> Chain<A, B> {
         ensures { result ≡ record { before = []; after = []; spare = 0 } }
     {
         Chain {
-            slots: Vec::new(alloc),
-            ends: Ends {
-                first: None,
-                last: None,
-                cursor: None,
-                free: None,
-                before_len: 0,
-                after_len: 0,
-            },
+            line: None,
+            table: Table::new(alloc),
+            before_len: 0,
+            after_len: 0,
         }
     }
 
@@ -284,7 +80,7 @@ impl<A, B> Chain<A, B> {
         ensures value { result ≡ self.now.spare }
         ensures slots_fit { length self.now.before + length self.now.after + self.now.spare < 2 ^ 64 }
     {
-        self.slots.capacity() - (self.ends.before_len + self.ends.after_len)
+        self.table.spare()
     }
 
     /// Makes room for `n` more entries, which allocates where fewer are spare. After a refusal no room is lost.
@@ -295,42 +91,59 @@ impl<A, B> Chain<A, B> {
         ensures succeeds { n ≤ self.old.spare → IsOk result }
         ensures slots_fit { length self.new.before + length self.new.after + self.new.spare < 2 ^ 64 }
     {
-        let free = self.slots.len() - (self.ends.before_len + self.ends.after_len);
-        if n <= free {
+        let spare = self.table.spare();
+        if n <= spare {
             return Ok(());
         }
-        self.slots.reserve(n - free)
+        self.grow(n - spare)
+    }
+
+    // Makes `n` more spare nodes. After a refusal it keeps those that it made.
+    fn grow(&mut self, n: usize) -> Result<(), AllocError>
+        requires { 0 < n }
+        ensures ok { OnOk result (self.new.spare ≡ self.old.spare + n) }
+        ensures err { OnErr result (self.new.spare < self.old.spare + n) }
+        ensures entries { self.new ≡ record self.old { spare = self.new.spare } }
+        ensures kept { self.old.spare ≤ self.new.spare }
+        ensures slots_fit { length self.new.before + length self.new.after + self.new.spare < 2 ^ 64 }
+    {
+        begin(&mut self.line, self.table.allocator())?;
+        self.table.grow(n)
     }
 
     /// How many entries there are.
     pub fn len(&self) -> usize
         ensures { result ≡ length self.now.before + length self.now.after }
     {
-        self.ends.before_len + self.ends.after_len
+        self.before_len + self.after_len
     }
 
     /// How many entries are before the cursor.
     pub fn before_len(&self) -> usize
         ensures { result ≡ length self.now.before }
     {
-        self.ends.before_len
+        self.before_len
     }
 
     /// How many entries are after the cursor.
     pub fn after_len(&self) -> usize
         ensures { result ≡ length self.now.after }
     {
-        self.ends.after_len
+        self.after_len
     }
 
     /// Whether the entry of that key is before the cursor.
     pub fn is_before(&self, key: Key) -> bool
         ensures { IsTrue result ↔ IsSome (lookup (is_key key) self.now.before) }
     {
-        holds_before(self.slots.as_slice(), key)
+        let (Some(line), Some(at)) = (&self.line, self.table.find(key.slot)) else {
+            return false;
+        };
+        line.is_before(at, key.serial)
     }
 
     /// Appends an entry. It allocates only where no slot is spare; where that is refused, the value comes back.
+    #[inline(always)]
     pub fn push_back(&mut self, serial: u64, value: B) -> Result<Key, AllocFailed<B>>
         ensures serial { IfOk result (λ key. key.serial ≡ serial) }
         ensures before { OnOk result (self.new.before ≡ self.old.before) }
@@ -348,34 +161,55 @@ impl<A, B> Chain<A, B> {
         ensures err { OnErr result (self.new ≡ self.old) }
         ensures value_returned { IfErr result (λ failed. failed.value ≡ value) }
     {
-        let Ok(index) = get_slot(&mut self.slots, self.ends.free) else {
+        if self.table.spare() == 0 && self.grow(1).is_err() {
             return Err(AllocFailed { value });
+        }
+        Ok(self.push_spare(serial, value))
+    }
+
+    // Appends an entry on a spare node.
+    #[inline(always)]
+    fn push_spare(&mut self, serial: u64, value: B) -> Key
+        requires { 0 < self.old.spare }
+        ensures serial { result.serial ≡ serial }
+        ensures before { self.new.before ≡ self.old.before }
+        ensures after { self.new.after ≡ self.old.after ++ (result, value) ∷ [] }
+        ensures slot_before { All (λ entry. entry.0.slot ≢ result.slot) self.old.before }
+        ensures slot_after { All (λ entry. entry.0.slot ≢ result.slot) self.old.after }
+        ensures spare { self.new.spare + 1 ≡ self.old.spare }
+        ensures slots_fit { length self.new.before + length self.new.after + self.new.spare < 2 ^ 64 }
+    {
+        let Some(line) = &mut self.line else {
+            unreachable!()
         };
-        link_last(
-            self.slots.as_mut_slice(),
-            &mut self.ends,
-            index,
-            serial,
-            value,
-        );
-        Ok(Key {
-            slot: index,
-            serial,
-        })
+        let Some(node) = self.table.take_spare() else {
+            unreachable!()
+        };
+        let (slot, at) = line.append(node, serial, value, self.after_len == 0);
+        self.table.fill(slot, at);
+        self.after_len += 1;
+        Key { slot, serial }
     }
 
     /// Takes the entry of that key out, if it is before the cursor.
+    #[inline(always)]
     pub fn take_before(&mut self, key: Key) -> Option<A>
         ensures value { result ≡ lookup (is_key key) self.old.before }
         ensures taken { OnSome result (self.new ≡ record self.old { before = remove_entry (is_key key) self.old.before; spare = self.old.spare + 1 }) }
         ensures absent { IfNone result (self.new ≡ self.old) }
     {
-        if !holds_before(self.slots.as_slice(), key) {
+        let at = self.table.find(key.slot)?;
+        let Some(line) = &mut self.line else {
+            unreachable!()
+        };
+        if !line.is_before(at, key.serial) {
             return None;
         }
-        match unlink(self.slots.as_mut_slice(), &mut self.ends, key.slot) {
+        let (node, held) = line.take(at);
+        self.table.give_back(key.slot, node);
+        match held {
             Held::Before(value) => {
-                self.ends.before_len -= 1;
+                self.before_len -= 1;
                 Some(value)
             }
             _ => unreachable!(),
@@ -383,18 +217,25 @@ impl<A, B> Chain<A, B> {
     }
 
     /// Takes the entry of that key out, if it is after the cursor.
+    #[inline(always)]
     pub fn take_after(&mut self, key: Key) -> Option<B>
         ensures value { result ≡ lookup (is_key key) self.old.after }
         ensures taken { OnSome result (self.new ≡ record self.old { after = remove_entry (is_key key) self.old.after; spare = self.old.spare + 1 }) }
         ensures absent { IfNone result (self.new ≡ self.old) }
     {
-        if !holds_after(self.slots.as_slice(), key) {
+        let at = self.table.find(key.slot)?;
+        let Some(line) = &mut self.line else {
+            unreachable!()
+        };
+        if !line.is_after(at, key.serial) {
             return None;
         }
-        self.ends.cursor = skip(self.slots.as_slice(), self.ends.cursor, key.slot);
-        match unlink(self.slots.as_mut_slice(), &mut self.ends, key.slot) {
+        line.skip(at);
+        let (node, held) = line.take(at);
+        self.table.give_back(key.slot, node);
+        match held {
             Held::After(value) => {
-                self.ends.after_len -= 1;
+                self.after_len -= 1;
                 Some(value)
             }
             _ => unreachable!(),
@@ -403,6 +244,7 @@ impl<A, B> Chain<A, B> {
 
     /// Gives the entry of that key another value, if it is after the cursor, and returns the one that it had. Else
     /// the value comes back.
+    #[inline(always)]
     pub fn replace_after(&mut self, key: Key, value: B) -> Result<B, B>
         ensures former { IfOk result (λ former. lookup (is_key key) self.old.after ≡ Some former) }
         ensures replaced { OnOk result (self.new ≡ record self.old { after = set_value (is_key key) self.old.after value }) }
@@ -410,10 +252,16 @@ impl<A, B> Chain<A, B> {
         ensures unchanged { OnErr result (self.new ≡ self.old) }
         ensures value_returned { IfErr result (λ refused. refused ≡ value) }
     {
-        if !holds_after(self.slots.as_slice(), key) {
+        let Some(at) = self.table.find(key.slot) else {
+            return Err(value);
+        };
+        let Some(line) = &mut self.line else {
+            unreachable!()
+        };
+        if !line.is_after(at, key.serial) {
             return Err(value);
         }
-        match replace_held(self.slots.as_mut_slice(), key.slot, Held::After(value)) {
+        match line.replace(at, value) {
             Held::After(former) => Ok(former),
             _ => unreachable!(),
         }
@@ -421,19 +269,24 @@ impl<A, B> Chain<A, B> {
 
     /// Moves the cursor past the first entry after it, which gets this value. Its key and the value that it had are
     /// the answer.
+    #[inline(always)]
     pub fn advance(&mut self, value: A) -> (Key, B)
         requires { 0 < length self.old.after }
         ensures first { self.old.after ≡ result ∷ self.new.after }
         ensures told { self.new.before ≡ self.old.before ++ (result.0, value) ∷ [] }
         ensures spare { self.new.spare ≡ self.old.spare }
     {
-        let Some(index) = self.ends.cursor else {
+        let Some(line) = &mut self.line else {
             unreachable!()
         };
-        let (key, former, next) = move_before_cursor(self.slots.as_mut_slice(), index, value);
-        self.ends.cursor = next;
-        self.ends.before_len += 1;
-        self.ends.after_len -= 1;
-        (key, former)
+        let (key, held) = line.advance(value);
+        match held {
+            Held::After(former) => {
+                self.before_len += 1;
+                self.after_len -= 1;
+                (key, former)
+            }
+            _ => unreachable!(),
+        }
     }
 }

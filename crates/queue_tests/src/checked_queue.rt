@@ -1,6 +1,6 @@
 //! A queue whose calls are checked, so that a test is a list of calls, each with its answer.
 use crate::checks::check;
-use crate::doubles::Noted;
+use crate::doubles::{NextNumber, Noted};
 use event_queue::{Key, List, ListenError, Notification, NotifyError, RegisterResult, State};
 use std::alloc::AllocGlobal;
 use std::fmt::Debug;
@@ -127,6 +127,28 @@ impl<'a, T: PartialEq + Debug + Drop, R: Abort> CheckedQueue<'a, T, R> {
         self.register(key, UNUSED, RegisterResult::Notified(tag));
     }
 
+    fn register_with(
+        &mut self,
+        key: Key,
+        expected: RegisterResult<T>,
+        handed_out: Option<Option<u32>>,
+    ) {
+        let mut on = None;
+        let answer = self.queue.register_with(key, &NextNumber, &mut on);
+        check(self.rt, ("register_with", key), answer, expected);
+        check(self.rt, ("handed out", key), on, handed_out);
+    }
+
+    /// The listener waits, hands this task out, and stores the next number.
+    pub fn exchanges(&mut self, key: Key, stored: Option<u32>) {
+        self.register_with(key, RegisterResult::Registered, Some(stored));
+    }
+
+    /// The listener was told, hands no task out, and leaves with this tag.
+    pub fn takes_without_exchange(&mut self, key: Key, tag: T) {
+        self.register_with(key, RegisterResult::Notified(tag), None);
+    }
+
     fn remove(&mut self, key: Key, propagate: bool, expected: Option<State<T, u32>>) {
         let answer = self.queue.remove(key, propagate, &mut self.woken);
         check(self.rt, ("remove", key), answer, expected);
@@ -142,6 +164,7 @@ impl<'a, T: PartialEq + Debug + Drop, R: Abort> CheckedQueue<'a, T, R> {
         let before = (self.queue.total_listeners(), self.woken.tasks.len());
         self.is_told(key, false);
         self.register(key, UNUSED, RegisterResult::NeverInserted);
+        self.register_with(key, RegisterResult::NeverInserted, None);
         self.remove(key, false, None);
         self.remove(key, true, None);
         let after = (self.queue.total_listeners(), self.woken.tasks.len());

@@ -1,7 +1,7 @@
-//! A sink and a notification of the tests' own.
-ghost use Rattle.std.specs.Prelude.{◌≡◌, Ok};
+//! A sink, an exchange and a notification of the tests' own.
+ghost use Rattle.std.specs.Prelude.{◌≡◌, Ok, Some};
 
-use event_queue::{Notification, WakeSink};
+use event_queue::{Notification, TaskExchange, WakeSink};
 use std::alloc::{AllocError, Global};
 
 /// Keeps the woken tasks, in order, as far as there is memory for them.
@@ -23,6 +23,21 @@ impl WakeSink<u32> for Noted {
 
     fn wake(&mut self, task: u32) {
         let _ = self.tasks.push(task);
+    }
+}
+
+/// Stores the next number, and keeps what was handed out last.
+#[derive(Drop)]
+pub struct NextNumber;
+
+impl TaskExchange<u32, Option<Option<u32>>> for NextNumber {
+    ghost exchanged = { λ _ _ stored _ after. after ≡ Some stored };
+
+    fn exchange(&self, on: &mut Option<Option<u32>>, stored: Option<u32>) -> u32
+        ensures { on.new ≡ Some stored }
+    {
+        *on = Some(stored);
+        stored.map_or(1, |task| task.saturating_add(1))
     }
 }
 

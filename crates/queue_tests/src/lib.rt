@@ -6,7 +6,15 @@ mod checked_queue;
 #[cfg(test)]
 mod checks;
 #[cfg(test)]
+mod counted;
+#[cfg(test)]
+mod counting_queue;
+#[cfg(test)]
 mod doubles;
+#[cfg(test)]
+mod drops;
+#[cfg(test)]
+mod many;
 #[cfg(test)]
 mod notifications;
 #[cfg(test)]

@@ -125,3 +125,18 @@ fn additional_notification_is_passed_on_whoever_stays_told(rt: HostRuntime) {
     queue.counts(0, 0);
     queue.woke(&[1, 2, 3]);
 }
+
+#[test]
+fn a_task_is_made_of_the_one_that_is_stored(rt: HostRuntime) {
+    let mut queue = CheckedQueue::new(&rt);
+    let first = queue.inserts();
+    let second = queue.inserts_with(20);
+    queue.exchanges(first, None);
+    queue.exchanges(second, Some(20));
+    queue.exchanges(second, Some(21));
+    queue.notifies(additional(2, 7), Ok(2));
+    queue.woke(&[1, 22]);
+    queue.takes_without_exchange(second, 7);
+    queue.takes_without_exchange(first, 7);
+    queue.has_no(first);
+}

@@ -1,95 +1,73 @@
-use Rattle.std.proofs.Common.{◌≡◌, ◌∷◌, ◌++◌, [], length, arith, ◌∙◌}
-use Rattle.event_queue.proofs.ChainSteps.{rewritten, finds_first, FindsFirst-cursor, FindsFirst-within, FindsFirst-after, FindsFirst-some, FindsFirst-fits, FindsFirst-key, FindsFirst-former, IsChain-passed, passed_after, passed_before}
+use Rattle.std.proofs.Common.{◌<◌, arith, refl, sym, ◌∙◌}
+use Rattle.event_queue.specs.declared.node.line.Held.TheVariants.{Before}
+use Rattle.event_queue.specs.Ring.{placed}
+use Rattle.event_queue.proofs.NodeLists.{some_value, is_after}
+use Rattle.event_queue.proofs.NodeSteps.{length-after_of, cursor_is, cursor_after, IsSound-advanced, after_advanced, before_advanced}
 use Rattle.event_queue.proofs.node.Chain.advance.Goals as goal
 
-pub unreachable-requires : goal.unreachable-requires
-unreachable-requires g c =
-    let slots = c.self.inside.slots.items in
-    let finds = finds_first slots c.self.inside.ends c.self.invariant (rw (← c.self.view_is) at c.requires) in
-    c.in_default.not-Some finds.key.slot (FindsFirst-cursor slots c.self.inside.ends finds)
-
-pub move_before_cursor-former-requires-clause-index : goal.move_before_cursor-former-requires-clause-index
-move_before_cursor-former-requires-clause-index g c =
-    let slots = c.self.inside.slots.items in
-    let finds = finds_first slots c.self.inside.ends c.self.invariant (rw (← c.self.view_is) at c.requires) in
-    let cursor = FindsFirst-cursor slots c.self.inside.ends finds in
-    let is = c.in-Some.is in
-    let same : c.in-Some.index ≡ finds.key.slot = cc in
-    rw (c.as_mut_slice.ensures.value, same) (FindsFirst-within slots c.self.inside.ends finds)
-
-pub move_before_cursor-former-requires-clause-after : goal.move_before_cursor-former-requires-clause-after
-move_before_cursor-former-requires-clause-after g c =
-    let slots = c.self.inside.slots.items in
-    let finds = finds_first slots c.self.inside.ends c.self.invariant (rw (← c.self.view_is) at c.requires) in
-    let cursor = FindsFirst-cursor slots c.self.inside.ends finds in
-    let is = c.in-Some.is in
-    let same : c.in-Some.index ≡ finds.key.slot = cc in
-    rw (c.as_mut_slice.ensures.value, same) (FindsFirst-after slots c.self.inside.ends finds)
-
-pub overflow_add-self : goal.overflow_add-self
-overflow_add-self g c =
-    let slots = c.self.inside.slots in
-    let finds = finds_first slots.items c.self.inside.ends c.self.invariant (rw (← c.self.view_is) at c.requires) in
-    omega (arith, FindsFirst-fits slots.items c.self.inside.ends finds, slots.ok.0, slots.ok.1, slots.small)
+pub advance-held-requires : goal.advance-held-requires
+advance-held-requires g c =
+    let i = c.self.inside in
+    let length_is = length-after_of i.line i.table.slots.items i.table.spares.items i.before_len i.after_len c.self.invariant in
+    let some : 0 < i.after_len = let listed = rw (← c.self.view_is) at c.requires in omega (arith, listed, length_is) in
+    let sound = rw c.in-Some.is at c.self.invariant in
+    let cursor = cursor_is c.in-Some.line i.table.slots.items i.table.spares.items i.before_len i.after_len sound some in
+    (sound.before, cursor.first, cursor.others, cursor.is, cursor.place)
 
 pub overflow_sub-self : goal.overflow_sub-self
 overflow_sub-self g c =
-    let slots = c.self.inside.slots.items in
-    let finds = finds_first slots c.self.inside.ends c.self.invariant (rw (← c.self.view_is) at c.requires) in
-    FindsFirst-some slots c.self.inside.ends finds
+    let i = c.self.inside in
+    let length_is = length-after_of i.line i.table.slots.items i.table.spares.items i.before_len i.after_len c.self.invariant in
+    let listed = rw (← c.self.view_is) at c.requires in
+    omega (arith, listed, length_is)
+
+pub unreachable-requires-in_default-held : goal.unreachable-requires-in_default-held
+unreachable-requires-in_default-held g c =
+    let i = c.self.inside in
+    let length_is = length-after_of i.line i.table.slots.items i.table.spares.items i.before_len i.after_len c.self.invariant in
+    let some : 0 < i.after_len = let listed = rw (← c.self.view_is) at c.requires in omega (arith, listed, length_is) in
+    let sound = rw c.in-Some.is at c.self.invariant in
+    let cursor = cursor_is c.in-Some.line i.table.slots.items i.table.spares.items i.before_len i.after_len sound some in
+    let value = some_value _ (cursor_after c.in-Some.line i.table.slots.items i.table.spares.items i.before_len i.after_len sound cursor) in
+    c.in_default-held.not-After value.0 (c.advance-held.ensures.former sound.before cursor.first cursor.others cursor.is cursor.place ∙ is_after cursor.first.entry.held value.0 value.1)
 
 pub invariant_of-self : goal.invariant_of-self
 invariant_of-self g c =
-    let slots = c.self.inside.slots.items in
-    let finds = finds_first slots c.self.inside.ends c.self.invariant (rw (← c.self.view_is) at c.requires) in
-    let cursor = FindsFirst-cursor slots c.self.inside.ends finds in
-    let is = c.in-Some.is in
-    let same : c.in-Some.index ≡ finds.key.slot = cc in
-    let slots_are = rw (c.as_mut_slice.ensures.value, same) at c.move_before_cursor-former.ensures.slots in
-    let next_now = rw (c.as_mut_slice.ensures.value, same) at c.move_before_cursor-former.ensures.next in
-    let as_long : length c.move_before_cursor-former.new.slots ≡ c.self.inside.slots.len = omega (arith, c.as_mut_slice.ensures.len) in
-    rw (rewritten c.self.inside.slots.len slots c.move_before_cursor-former.new.slots as_long)
-    (record {
-      before = finds.before ++ (finds.key, c.args.value) ∷ [];
-      after = finds.rest;
-      unused = finds.unused;
-      chain = IsChain-passed slots c.self.inside.ends finds c.move_before_cursor-former.new.slots c.args.value c.move_before_cursor-former.result.2 slots_are next_now;
-    })
+    let i = c.self.inside in
+    let length_is = length-after_of i.line i.table.slots.items i.table.spares.items i.before_len i.after_len c.self.invariant in
+    let some : 0 < i.after_len = let listed = rw (← c.self.view_is) at c.requires in omega (arith, listed, length_is) in
+    let sound = rw c.in-Some.is at c.self.invariant in
+    let cursor = cursor_is c.in-Some.line i.table.slots.items i.table.spares.items i.before_len i.after_len sound some in
+    let later = c.advance-held.ensures in
+    let nodes = later.nodes sound.before cursor.first cursor.others cursor.is cursor.place in
+    let former = sym (later.former sound.before cursor.first cursor.others cursor.is cursor.place) ∙ c.in-After.is in
+    let moved = later.cursor sound.before cursor.first cursor.others cursor.is cursor.place in
+    IsSound-advanced c.in-Some.line i.table.slots.items i.table.spares.items i.before_len i.after_len sound cursor c.advance-held.new.self (placed cursor.first.at (record cursor.first.entry { held = Before c.args.value })) c.args.value c.in-After.former nodes refl refl refl former later.root moved
 
 pub returns-clause-first : goal.returns-clause-first
 returns-clause-first g c =
-    let slots = c.self.inside.slots.items in
-    let finds = finds_first slots c.self.inside.ends c.self.invariant (rw (← c.self.view_is) at c.requires) in
-    let cursor = FindsFirst-cursor slots c.self.inside.ends finds in
-    let is = c.in-Some.is in
-    let same : c.in-Some.index ≡ finds.key.slot = cc in
-    let slots_are = rw (c.as_mut_slice.ensures.value, same) at c.move_before_cursor-former.ensures.slots in
-    let next_now = rw (c.as_mut_slice.ensures.value, same) at c.move_before_cursor-former.ensures.next in
-    let serial_now = rw (c.as_mut_slice.ensures.value, same) at c.move_before_cursor-former.ensures.serial in
-    let held_now = rw (c.as_mut_slice.ensures.value, same) at c.move_before_cursor-former.ensures.former in
-    let key = FindsFirst-key slots c.self.inside.ends finds c.move_before_cursor-former.result.0 (c.move_before_cursor-former.ensures.slot ∙ same) serial_now in
-    let former = FindsFirst-former slots c.self.inside.ends finds c.move_before_cursor-former.result.1 held_now in
-    let as_long : length c.move_before_cursor-former.new.slots ≡ c.self.inside.slots.len = omega (arith, c.as_mut_slice.ensures.len) in
-    rw (← c.self.view_is, rewritten c.self.inside.slots.len slots c.move_before_cursor-former.new.slots as_long)
-    (passed_after slots c.self.inside.ends finds c.move_before_cursor-former.result.0 c.move_before_cursor-former.result.1 c.move_before_cursor-former.new.slots c.args.value c.move_before_cursor-former.result.2 slots_are next_now key former)
+    let i = c.self.inside in
+    let length_is = length-after_of i.line i.table.slots.items i.table.spares.items i.before_len i.after_len c.self.invariant in
+    let some : 0 < i.after_len = let listed = rw (← c.self.view_is) at c.requires in omega (arith, listed, length_is) in
+    let sound = rw c.in-Some.is at c.self.invariant in
+    let cursor = cursor_is c.in-Some.line i.table.slots.items i.table.spares.items i.before_len i.after_len sound some in
+    let later = c.advance-held.ensures in
+    let nodes = later.nodes sound.before cursor.first cursor.others cursor.is cursor.place in
+    let former = sym (later.former sound.before cursor.first cursor.others cursor.is cursor.place) ∙ c.in-After.is in
+    let key = later.key sound.before cursor.first cursor.others cursor.is cursor.place in
+    rw (← c.self.view_is, c.in-Some.is, key)
+    (after_advanced c.in-Some.line i.table.slots.items i.table.spares.items i.before_len i.after_len sound cursor c.advance-held.new.self (placed cursor.first.at (record cursor.first.entry { held = Before c.args.value })) c.args.value c.in-After.former nodes refl refl refl former)
 
 pub returns-clause-told : goal.returns-clause-told
 returns-clause-told g c =
-    let slots = c.self.inside.slots.items in
-    let finds = finds_first slots c.self.inside.ends c.self.invariant (rw (← c.self.view_is) at c.requires) in
-    let cursor = FindsFirst-cursor slots c.self.inside.ends finds in
-    let is = c.in-Some.is in
-    let same : c.in-Some.index ≡ finds.key.slot = cc in
-    let slots_are = rw (c.as_mut_slice.ensures.value, same) at c.move_before_cursor-former.ensures.slots in
-    let next_now = rw (c.as_mut_slice.ensures.value, same) at c.move_before_cursor-former.ensures.next in
-    let serial_now = rw (c.as_mut_slice.ensures.value, same) at c.move_before_cursor-former.ensures.serial in
-    let key = FindsFirst-key slots c.self.inside.ends finds c.move_before_cursor-former.result.0 (c.move_before_cursor-former.ensures.slot ∙ same) serial_now in
-    let as_long : length c.move_before_cursor-former.new.slots ≡ c.self.inside.slots.len = omega (arith, c.as_mut_slice.ensures.len) in
-    rw (← c.self.view_is, rewritten c.self.inside.slots.len slots c.move_before_cursor-former.new.slots as_long)
-    (passed_before slots c.self.inside.ends finds c.move_before_cursor-former.result.0 c.move_before_cursor-former.new.slots c.args.value c.move_before_cursor-former.result.2 slots_are next_now key)
-
-pub returns-clause-spare : goal.returns-clause-spare
-returns-clause-spare g c =
-    let slots = c.self.inside.slots.items in
-    let finds = finds_first slots c.self.inside.ends c.self.invariant (rw (← c.self.view_is) at c.requires) in
-    rw (← c.self.view_is) (omega (arith, FindsFirst-some slots c.self.inside.ends finds))
+    let i = c.self.inside in
+    let length_is = length-after_of i.line i.table.slots.items i.table.spares.items i.before_len i.after_len c.self.invariant in
+    let some : 0 < i.after_len = let listed = rw (← c.self.view_is) at c.requires in omega (arith, listed, length_is) in
+    let sound = rw c.in-Some.is at c.self.invariant in
+    let cursor = cursor_is c.in-Some.line i.table.slots.items i.table.spares.items i.before_len i.after_len sound some in
+    let later = c.advance-held.ensures in
+    let nodes = later.nodes sound.before cursor.first cursor.others cursor.is cursor.place in
+    let former = sym (later.former sound.before cursor.first cursor.others cursor.is cursor.place) ∙ c.in-After.is in
+    let key = later.key sound.before cursor.first cursor.others cursor.is cursor.place in
+    rw (← c.self.view_is, c.in-Some.is, key)
+    (before_advanced c.in-Some.line i.table.slots.items i.table.spares.items i.before_len i.after_len sound cursor c.advance-held.new.self (placed cursor.first.at (record cursor.first.entry { held = Before c.args.value })) c.args.value c.in-After.former nodes refl refl refl former)

@@ -1,7 +1,23 @@
-use Rattle.event_queue.proofs.ChainSteps.{lookup-before_of}
+use Rattle.std.proofs.Common.{sym, ◌∙◌}
+use Rattle.event_queue.specs.Nodes.{value_before}
+use Rattle.event_queue.proofs.NodeSteps.{stands_at, tests_lookup, leads_nowhere}
 use Rattle.event_queue.proofs.node.Chain.is_before.Goals as goal
+
+pub is_before-requires : goal.is_before-requires
+is_before-requires g c =
+    let i = c.self.inside in
+    let sound = rw c.in-Some-Some.is-0 at c.self.invariant in
+    stands_at c.in-Some-Some.line i.table.slots.items i.table.spares.items i.before_len i.after_len sound c.args.key c.in-Some-Some.at (sym c.find.ensures ∙ c.in-Some-Some.is-1)
+
+pub returns-in_default : goal.returns-in_default
+returns-in_default g c =
+    let i = c.self.inside in
+    let none = leads_nowhere i.line i.table.slots.items i.table.spares.items i.before_len i.after_len c.self.invariant c.args.key (sym c.find.ensures ∙ c.in_default.is-1) value_before in
+    rw (← c.self.view_is, none) (λ e. e, λ e. e)
 
 pub returns : goal.returns
 returns g c =
-    let looked = lookup-before_of c.self.inside.slots.items c.self.inside.ends c.self.invariant c.args.key in
-    rw (← c.self.view_is, looked, ← c.as_slice.ensures.value) c.holds_before.ensures
+    let i = c.self.inside in
+    let sound = rw c.in-Some-Some.is-0 at c.self.invariant in
+    rw (← c.self.view_is, c.in-Some-Some.is-0)
+    (tests_lookup c.in-Some-Some.line i.table.slots.items i.table.spares.items i.before_len i.after_len sound c.args.key c.in-Some-Some.at (sym c.find.ensures ∙ c.in-Some-Some.is-1) value_before c.is_before.result c.is_before.ensures)

@@ -1,60 +1,106 @@
-use Rattle.std.proofs.Common.{◌∷◌, ◌++◌, ◌≡◌, length, arith, ap, ◌∙◌, Some}
-use Rattle.event_queue.specs.Chain.{after_at}
-use Rattle.event_queue.proofs.ChainSteps.{rewritten, none_value, lookup-after_of, finds_after, FindsAfter-within, FindsAfter-held, IsChain-with_after, sequence_with_after}
+use Rattle.std.proofs.Common.{◌≡◌, Some, None, refl, sym, ap, ◌∙◌, rules}
+use Rattle.event_queue.specs.declared.node.line.Held.TheVariants.{After}
+use Rattle.event_queue.specs.Ring.{placed}
+use Rattle.event_queue.specs.Nodes.{value_after}
+use Rattle.event_queue.proofs.NodeLists.{is_after}
+use Rattle.event_queue.proofs.NodeSteps.{finds, stands_at, misses, leads_nowhere, after_set, before_unset, IsSound-set}
 use Rattle.event_queue.proofs.node.Chain.replace_after.Goals as goal
 
-pub returns-then-not-holds_after-clause-absent : goal.returns-then-not-holds_after-clause-absent
-returns-then-not-holds_after-clause-absent g c =
-    let slots = c.self.inside.slots.items in
-    let looked = lookup-after_of slots c.self.inside.ends c.self.invariant c.args.key in
-    let tested = rw c.as_slice.ensures.value at c.holds_after.ensures.1 in
-    rw (← c.self.view_is) (looked ∙ none_value (after_at slots c.args.key) c.holds_after.result tested c.if-not-holds_after.true)
+pub returns-in_default-clause-absent : goal.returns-in_default-clause-absent
+returns-in_default-clause-absent g c =
+    let i = c.self.inside in
+    let slots = i.table.slots.items in
+    let spares = i.table.spares.items in
+    let none : c.find.result ≡ None = search rules in
+    rw (← c.self.view_is)
+    (leads_nowhere i.line slots spares i.before_len i.after_len c.self.invariant c.args.key (sym c.find.ensures ∙ none) value_after)
 
-pub replace_held-requires : goal.replace_held-requires
-replace_held-requires g c =
-    let slots = c.self.inside.slots.items in
-    let some = rw c.as_slice.ensures.value at (c.holds_after.ensures.0 c.if-not-holds_after.false) in
-    let finds = finds_after slots c.self.inside.ends c.args.key c.self.invariant some in
-    rw c.as_mut_slice.ensures.value (FindsAfter-within slots c.self.inside.ends c.args.key finds)
+pub is_after-requires : goal.is_after-requires
+is_after-requires g c =
+    let i = c.self.inside in
+    let slots = i.table.slots.items in
+    let spares = i.table.spares.items in
+    let sound = rw c.in-Some-line.is at c.self.invariant in
+    let line = c.in-Some-line.line in
+    let leads = sym c.find.ensures ∙ c.in-Some.is in
+    stands_at line slots spares i.before_len i.after_len sound c.args.key c.in-Some.at leads
 
-pub invariant_of-self : goal.invariant_of-self
-invariant_of-self g c =
-    let slots = c.self.inside.slots.items in
-    let some = rw c.as_slice.ensures.value at (c.holds_after.ensures.0 c.if-not-holds_after.false) in
-    let finds = finds_after slots c.self.inside.ends c.args.key c.self.invariant some in
-    let as_long : length c.replace_held.new.slots ≡ c.self.inside.slots.len = omega (arith, c.as_mut_slice.ensures.len) in
-    rw (rewritten c.self.inside.slots.len slots c.replace_held.new.slots as_long, c.replace_held.ensures.replaced, c.as_mut_slice.ensures.value)
-    (record {
-      before = finds.before;
-      after = finds.cut.front ++ (c.args.key, c.args.value) ∷ finds.cut.rest;
-      unused = finds.unused;
-      chain = IsChain-with_after slots c.self.inside.ends c.args.key finds c.args.value;
-    })
+pub returns-then-not-is_after-clause-absent : goal.returns-then-not-is_after-clause-absent
+returns-then-not-is_after-clause-absent g c =
+    let i = c.self.inside in
+    let slots = i.table.slots.items in
+    let spares = i.table.spares.items in
+    let sound = rw c.in-Some-line.is at c.self.invariant in
+    let line = c.in-Some-line.line in
+    let leads = sym c.find.ensures ∙ c.in-Some.is in
+    rw (← c.self.view_is, c.in-Some-line.is)
+    (misses line slots spares i.before_len i.after_len sound c.args.key c.in-Some.at leads value_after c.is_after.result c.is_after.ensures c.if-not-is_after.true)
 
-pub unreachable-requires : goal.unreachable-requires
-unreachable-requires g c =
-    let slots = c.self.inside.slots.items in
-    let some = rw c.as_slice.ensures.value at (c.holds_after.ensures.0 c.if-not-holds_after.false) in
-    let finds = finds_after slots c.self.inside.ends c.args.key c.self.invariant some in
-    let held_now = rw c.as_mut_slice.ensures.value at c.replace_held.ensures.former in
-    c.in_default.not-After finds.value (FindsAfter-held slots c.self.inside.ends c.args.key finds c.replace_held.result held_now)
+pub replace-requires : goal.replace-requires
+replace-requires g c =
+    let i = c.self.inside in
+    let slots = i.table.slots.items in
+    let spares = i.table.spares.items in
+    let sound = rw c.in-Some-line.is at c.self.invariant in
+    let line = c.in-Some-line.line in
+    let leads = sym c.find.ensures ∙ c.in-Some.is in
+    stands_at line slots spares i.before_len i.after_len sound c.args.key c.in-Some.at leads
+
+pub unreachable-requires-in_default-replace : goal.unreachable-requires-in_default-replace
+unreachable-requires-in_default-replace g c =
+    let i = c.self.inside in
+    let slots = i.table.slots.items in
+    let spares = i.table.spares.items in
+    let sound = rw c.in-Some-line.is at c.self.invariant in
+    let line = c.in-Some-line.line in
+    let leads = sym c.find.ensures ∙ c.in-Some.is in
+    let found = finds line slots spares i.before_len i.after_len sound c.args.key c.in-Some.at leads value_after c.is_after.result c.is_after.ensures c.if-not-is_after.false in
+    let lies = found.lies in
+    let held = c.replace.ensures.former lies.front lies.node lies.rest lies.is lies.place in
+    c.in_default-replace.not-After found.x (held ∙ is_after lies.node.entry.held found.x found.held)
+
+pub invariant_of-self-2 : goal.invariant_of-self-2
+invariant_of-self-2 g c =
+    let i = c.self.inside in
+    let slots = i.table.slots.items in
+    let spares = i.table.spares.items in
+    let sound = rw c.in-Some-line.is at c.self.invariant in
+    let line = c.in-Some-line.line in
+    let leads = sym c.find.ensures ∙ c.in-Some.is in
+    let found = finds line slots spares i.before_len i.after_len sound c.args.key c.in-Some.at leads value_after c.is_after.result c.is_after.ensures c.if-not-is_after.false in
+    let lies = found.lies in
+    let nodes = c.replace.ensures.nodes lies.front lies.node lies.rest lies.is lies.place in
+    let other = placed lies.node.at (record lies.node.entry { held = After c.args.value }) in
+    IsSound-set line slots spares i.before_len i.after_len sound c.args.key c.in-Some.at.ptr found c.replace.new.self other c.args.value nodes refl refl refl c.replace.ensures.root c.replace.ensures.cursor
 
 pub returns-clause-former : goal.returns-clause-former
 returns-clause-former g c =
-    let slots = c.self.inside.slots.items in
-    let some = rw c.as_slice.ensures.value at (c.holds_after.ensures.0 c.if-not-holds_after.false) in
-    let finds = finds_after slots c.self.inside.ends c.args.key c.self.invariant some in
-    let held_now = rw c.as_mut_slice.ensures.value at c.replace_held.ensures.former in
-    let held = FindsAfter-held slots c.self.inside.ends c.args.key finds c.replace_held.result held_now in
+    let i = c.self.inside in
+    let slots = i.table.slots.items in
+    let spares = i.table.spares.items in
+    let sound = rw c.in-Some-line.is at c.self.invariant in
+    let line = c.in-Some-line.line in
+    let leads = sym c.find.ensures ∙ c.in-Some.is in
+    let found = finds line slots spares i.before_len i.after_len sound c.args.key c.in-Some.at leads value_after c.is_after.result c.is_after.ensures c.if-not-is_after.false in
+    let lies = found.lies in
+    let held = c.replace.ensures.former lies.front lies.node lies.rest lies.is lies.place in
     let taken = c.in-After.is in
-    let same : finds.value ≡ c.in-After.former = cc in
-    rw (← c.self.view_is) (lookup-after_of slots c.self.inside.ends c.self.invariant c.args.key ∙ finds.looked ∙ ap Some same)
+    let was = is_after lies.node.entry.held found.x found.held in
+    let same : found.x ≡ c.in-After.former = cc in
+    rw (← c.self.view_is, c.in-Some-line.is, found.looked) (ap Some same)
 
 pub returns-clause-replaced : goal.returns-clause-replaced
 returns-clause-replaced g c =
-    let slots = c.self.inside.slots in
-    let some = rw c.as_slice.ensures.value at (c.holds_after.ensures.0 c.if-not-holds_after.false) in
-    let finds = finds_after slots.items c.self.inside.ends c.args.key c.self.invariant some in
-    let as_long : length c.replace_held.new.slots ≡ slots.len = omega (arith, c.as_mut_slice.ensures.len) in
-    rw (← c.self.view_is, rewritten slots.len slots.items c.replace_held.new.slots as_long, c.replace_held.ensures.replaced, c.as_mut_slice.ensures.value)
-    (sequence_with_after slots.items c.self.inside.ends c.args.key finds c.args.value slots.cap)
+    let i = c.self.inside in
+    let slots = i.table.slots.items in
+    let spares = i.table.spares.items in
+    let sound = rw c.in-Some-line.is at c.self.invariant in
+    let line = c.in-Some-line.line in
+    let leads = sym c.find.ensures ∙ c.in-Some.is in
+    let found = finds line slots spares i.before_len i.after_len sound c.args.key c.in-Some.at leads value_after c.is_after.result c.is_after.ensures c.if-not-is_after.false in
+    let lies = found.lies in
+    let nodes = c.replace.ensures.nodes lies.front lies.node lies.rest lies.is lies.place in
+    let other = placed lies.node.at (record lies.node.entry { held = After c.args.value }) in
+    let replaced = after_set line slots spares i.before_len i.after_len sound c.args.key c.in-Some.at.ptr found c.replace.new.self other c.args.value nodes refl refl refl in
+    let kept = before_unset line slots spares i.before_len i.after_len sound c.args.key c.in-Some.at.ptr found c.replace.new.self other c.args.value nodes refl refl refl in
+    rw (← c.self.view_is, c.in-Some-line.is, replaced, kept) refl

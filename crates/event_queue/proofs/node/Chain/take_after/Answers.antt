@@ -1,95 +1,171 @@
-use Rattle.std.proofs.Common.{◌∷◌, ◌++◌, ◌≡◌, length, arith, sym, ap, ◌∙◌, Some}
-use Rattle.event_queue.specs.Chain.{after_at}
-use Rattle.event_queue.proofs.ChainSteps.{rewritten, none_value, lookup-after_of, finds_after, FindsAfter-within, FindsAfter-previous, FindsAfter-next, FindsAfter-held, FindsAfter-still_some, IsChain-without_after, sequence_without_after}
+use Rattle.std.proofs.Common.{◌≡◌, Some, arith, refl, sym, ap, ◌∙◌, length-append}
+use Rattle.event_queue.specs.Nodes.{value_after}
+use Rattle.event_queue.proofs.NodeLists.{is_after}
+use Rattle.event_queue.proofs.NodeSteps.{finds, stands_at, slot_within, spare_room, misses, leads_nowhere, some_after, IsSound-without_after, after_removed, before_kept, cursor_is}
 use Rattle.event_queue.proofs.node.Chain.take_after.Goals as goal
 
-pub returns-then-not-holds_after-clause-value : goal.returns-then-not-holds_after-clause-value
-returns-then-not-holds_after-clause-value g c =
-    let slots = c.self.inside.slots.items in
-    let looked = lookup-after_of slots c.self.inside.ends c.self.invariant c.args.key in
-    let tested = rw c.as_slice.ensures.value at c.holds_after.ensures.1 in
-    rw (← c.self.view_is) (sym (looked ∙ none_value (after_at slots c.args.key) c.holds_after.result tested c.if-not-holds_after.true))
+pub returns-in_err-at-clause-value : goal.returns-in_err-at-clause-value
+returns-in_err-at-clause-value g c =
+    let i = c.self.inside in
+    let slots = i.table.slots.items in
+    let spares = i.table.spares.items in
+    let none = leads_nowhere i.line slots spares i.before_len i.after_len c.self.invariant c.args.key (sym c.find.ensures ∙ c.in_err-at.was) value_after in
+    rw (← c.self.view_is, none) c.from_residual.ensures
 
-pub skip-self-inside-requires : goal.skip-self-inside-requires
-skip-self-inside-requires g c =
-    let slots = c.self.inside.slots.items in
-    let some = rw c.as_slice.ensures.value at (c.holds_after.ensures.0 c.if-not-holds_after.false) in
-    let finds = finds_after slots c.self.inside.ends c.args.key c.self.invariant some in
-    rw c.as_slice-2.ensures.value (FindsAfter-within slots c.self.inside.ends c.args.key finds)
+pub is_after-requires : goal.is_after-requires
+is_after-requires g c =
+    let i = c.self.inside in
+    let slots = i.table.slots.items in
+    let spares = i.table.spares.items in
+    let sound = rw c.in-Some.is at c.self.invariant in
+    let line = c.in-Some.line in
+    let leads = sym c.find.ensures ∙ c.in_ok-at.was in
+    stands_at line slots spares i.before_len i.after_len sound c.args.key c.in_ok-at.at leads
 
-pub unlink-requires-clause-index : goal.unlink-requires-clause-index
-unlink-requires-clause-index g c =
-    let slots = c.self.inside.slots.items in
-    let some = rw c.as_slice.ensures.value at (c.holds_after.ensures.0 c.if-not-holds_after.false) in
-    let finds = finds_after slots c.self.inside.ends c.args.key c.self.invariant some in
-    rw c.as_mut_slice.ensures.value (FindsAfter-within slots c.self.inside.ends c.args.key finds)
+pub returns-then-not-is_after-clause-value : goal.returns-then-not-is_after-clause-value
+returns-then-not-is_after-clause-value g c =
+    let i = c.self.inside in
+    let slots = i.table.slots.items in
+    let spares = i.table.spares.items in
+    let sound = rw c.in-Some.is at c.self.invariant in
+    let line = c.in-Some.line in
+    let leads = sym c.find.ensures ∙ c.in_ok-at.was in
+    rw (← c.self.view_is, c.in-Some.is)
+    (sym (misses line slots spares i.before_len i.after_len sound c.args.key c.in_ok-at.at leads value_after c.is_after.result c.is_after.ensures c.if-not-is_after.true))
 
-pub unlink-requires-clause-previous : goal.unlink-requires-clause-previous
-unlink-requires-clause-previous g c =
-    let slots = c.self.inside.slots.items in
-    let some = rw c.as_slice.ensures.value at (c.holds_after.ensures.0 c.if-not-holds_after.false) in
-    let finds = finds_after slots c.self.inside.ends c.args.key c.self.invariant some in
-    rw c.as_mut_slice.ensures.value (FindsAfter-previous slots c.self.inside.ends c.args.key finds)
+pub skip-requires-clause-node : goal.skip-requires-clause-node
+skip-requires-clause-node g c =
+    let i = c.self.inside in
+    let slots = i.table.slots.items in
+    let spares = i.table.spares.items in
+    let sound = rw c.in-Some.is at c.self.invariant in
+    let line = c.in-Some.line in
+    let leads = sym c.find.ensures ∙ c.in_ok-at.was in
+    stands_at line slots spares i.before_len i.after_len sound c.args.key c.in_ok-at.at leads
 
-pub unlink-requires-clause-next : goal.unlink-requires-clause-next
-unlink-requires-clause-next g c =
-    let slots = c.self.inside.slots.items in
-    let some = rw c.as_slice.ensures.value at (c.holds_after.ensures.0 c.if-not-holds_after.false) in
-    let finds = finds_after slots c.self.inside.ends c.args.key c.self.invariant some in
-    rw c.as_mut_slice.ensures.value (FindsAfter-next slots c.self.inside.ends c.args.key finds)
+pub skip-requires-clause-cursor : goal.skip-requires-clause-cursor
+skip-requires-clause-cursor g c =
+    let i = c.self.inside in
+    let slots = i.table.slots.items in
+    let spares = i.table.spares.items in
+    let sound = rw c.in-Some.is at c.self.invariant in
+    let line = c.in-Some.line in
+    let leads = sym c.find.ensures ∙ c.in_ok-at.was in
+    let found = finds line slots spares i.before_len i.after_len sound c.args.key c.in_ok-at.at leads value_after c.is_after.result c.is_after.ensures c.if-not-is_after.false in
+    let lies = found.lies in
+    let some = some_after line slots spares i.before_len i.after_len sound c.args.key c.in_ok-at.at.ptr found in
+    let cursor = cursor_is line slots spares i.before_len i.after_len sound (omega (arith, some)) in
+    (sound.before, cursor.first, cursor.others, cursor.is, cursor.place)
+
+pub take-node-requires : goal.take-node-requires
+take-node-requires g c =
+    let i = c.self.inside in
+    let slots = i.table.slots.items in
+    let spares = i.table.spares.items in
+    let sound = rw c.in-Some.is at c.self.invariant in
+    let line = c.in-Some.line in
+    let leads = sym c.find.ensures ∙ c.in_ok-at.was in
+    let found = finds line slots spares i.before_len i.after_len sound c.args.key c.in_ok-at.at leads value_after c.is_after.result c.is_after.ensures c.if-not-is_after.false in
+    let lies = found.lies in
+    let is = ap (λ ring. ring.nodes) c.skip.ensures.ring ∙ lies.is in
+    (lies.front, lies.node, lies.rest, is, lies.place)
+
+pub give_back-requires-clause-slot : goal.give_back-requires-clause-slot
+give_back-requires-clause-slot g c =
+    let i = c.self.inside in
+    let slots = i.table.slots.items in
+    let spares = i.table.spares.items in
+    let sound = rw c.in-Some.is at c.self.invariant in
+    let line = c.in-Some.line in
+    let leads = sym c.find.ensures ∙ c.in_ok-at.was in
+    slot_within line slots spares i.before_len i.after_len sound c.args.key c.in_ok-at.at leads
+
+pub give_back-requires-clause-room : goal.give_back-requires-clause-room
+give_back-requires-clause-room g c =
+    let i = c.self.inside in
+    let slots = i.table.slots.items in
+    let spares = i.table.spares.items in
+    let sound = rw c.in-Some.is at c.self.invariant in
+    let line = c.in-Some.line in
+    let leads = sym c.find.ensures ∙ c.in_ok-at.was in
+    spare_room line slots spares i.before_len i.after_len sound c.args.key c.in_ok-at.at leads
 
 pub overflow_sub-self : goal.overflow_sub-self
 overflow_sub-self g c =
-    let slots = c.self.inside.slots.items in
-    let some = rw c.as_slice.ensures.value at (c.holds_after.ensures.0 c.if-not-holds_after.false) in
-    let finds = finds_after slots c.self.inside.ends c.args.key c.self.invariant some in
-    let ends_now = rw c.as_mut_slice.ensures.value at c.unlink.ensures.ends in
-    FindsAfter-still_some slots c.self.inside.ends c.args.key finds c.skip-self-inside.result c.unlink.new.ends ends_now
+    let i = c.self.inside in
+    let slots = i.table.slots.items in
+    let spares = i.table.spares.items in
+    let sound = rw c.in-Some.is at c.self.invariant in
+    let line = c.in-Some.line in
+    let leads = sym c.find.ensures ∙ c.in_ok-at.was in
+    let found = finds line slots spares i.before_len i.after_len sound c.args.key c.in_ok-at.at leads value_after c.is_after.result c.is_after.ensures c.if-not-is_after.false in
+    let lies = found.lies in
+    some_after line slots spares i.before_len i.after_len sound c.args.key c.in_ok-at.at.ptr found
 
-pub invariant_of-self : goal.invariant_of-self
-invariant_of-self g c =
-    let slots = c.self.inside.slots.items in
-    let some = rw c.as_slice.ensures.value at (c.holds_after.ensures.0 c.if-not-holds_after.false) in
-    let finds = finds_after slots c.self.inside.ends c.args.key c.self.invariant some in
-    let cursor_now = rw c.as_slice-2.ensures.value at c.skip-self-inside.ensures in
-    let slots_now = rw c.as_mut_slice.ensures.value at c.unlink.ensures.slots in
-    let ends_now = rw c.as_mut_slice.ensures.value at c.unlink.ensures.ends in
-    let as_long : length c.unlink.new.slots ≡ c.self.inside.slots.len = omega (arith, c.as_mut_slice.ensures.len) in
-    rw (rewritten c.self.inside.slots.len slots c.unlink.new.slots as_long)
-    (record {
-      before = finds.before;
-      after = finds.cut.front ++ finds.cut.rest;
-      unused = c.args.key.slot ∷ finds.unused;
-      chain = IsChain-without_after slots c.self.inside.ends c.args.key finds c.skip-self-inside.result c.unlink.new.slots c.unlink.new.ends cursor_now slots_now ends_now;
-    })
+pub invariant_of-self-in-After : goal.invariant_of-self-in-After
+invariant_of-self-in-After g c =
+    let i = c.self.inside in
+    let slots = i.table.slots.items in
+    let spares = i.table.spares.items in
+    let sound = rw c.in-Some.is at c.self.invariant in
+    let line = c.in-Some.line in
+    let leads = sym c.find.ensures ∙ c.in_ok-at.was in
+    let found = finds line slots spares i.before_len i.after_len sound c.args.key c.in_ok-at.at leads value_after c.is_after.result c.is_after.ensures c.if-not-is_after.false in
+    let lies = found.lies in
+    let is = ap (λ ring. ring.nodes) c.skip.ensures.ring ∙ lies.is in
+    let nodes = c.take-node.ensures.nodes lies.front lies.node lies.rest is lies.place in
+    let spare_is = c.take-node.ensures.spare lies.front lies.node lies.rest is lies.place in
+    let some = some_after line slots spares i.before_len i.after_len sound c.args.key c.in_ok-at.at.ptr found in
+    let cursor = cursor_is line slots spares i.before_len i.after_len sound (omega (arith, some)) in
+    let skips = c.skip.ensures.cursor lies.front lies.node lies.rest lies.is lies.place sound.before cursor.first cursor.others cursor.is cursor.place in
+    let root = c.take-node.ensures.root ∙ ap (λ ring. ring.at) c.skip.ensures.ring in
+    let moved = ap (λ place. place.ptr) c.take-node.ensures.cursor ∙ skips in
+    rw (c.give_back.ensures.slots, c.give_back.ensures.spares)
+    (IsSound-without_after line slots spares i.before_len i.after_len sound c.args.key c.in_ok-at.at.ptr found cursor c.take-node.new.self c.take-node.result.0 nodes root moved c.take-node.ensures.alone spare_is)
 
-pub unreachable-requires : goal.unreachable-requires
-unreachable-requires g c =
-    let slots = c.self.inside.slots.items in
-    let some = rw c.as_slice.ensures.value at (c.holds_after.ensures.0 c.if-not-holds_after.false) in
-    let finds = finds_after slots c.self.inside.ends c.args.key c.self.invariant some in
-    let held_now = rw c.as_mut_slice.ensures.value at c.unlink.ensures.held in
-    c.in_default.not-After finds.value (FindsAfter-held slots c.self.inside.ends c.args.key finds c.unlink.result held_now)
+pub unreachable-requires-in_default-held : goal.unreachable-requires-in_default-held
+unreachable-requires-in_default-held g c =
+    let i = c.self.inside in
+    let slots = i.table.slots.items in
+    let spares = i.table.spares.items in
+    let sound = rw c.in-Some.is at c.self.invariant in
+    let line = c.in-Some.line in
+    let leads = sym c.find.ensures ∙ c.in_ok-at.was in
+    let found = finds line slots spares i.before_len i.after_len sound c.args.key c.in_ok-at.at leads value_after c.is_after.result c.is_after.ensures c.if-not-is_after.false in
+    let lies = found.lies in
+    let is = ap (λ ring. ring.nodes) c.skip.ensures.ring ∙ lies.is in
+    let held = c.take-node.ensures.held lies.front lies.node lies.rest is lies.place in
+    c.in_default-held.not-After found.x (held ∙ is_after lies.node.entry.held found.x found.held)
 
 pub returns-clause-value : goal.returns-clause-value
 returns-clause-value g c =
-    let slots = c.self.inside.slots.items in
-    let some = rw c.as_slice.ensures.value at (c.holds_after.ensures.0 c.if-not-holds_after.false) in
-    let finds = finds_after slots c.self.inside.ends c.args.key c.self.invariant some in
-    let held_now = rw c.as_mut_slice.ensures.value at c.unlink.ensures.held in
-    let held = FindsAfter-held slots c.self.inside.ends c.args.key finds c.unlink.result held_now in
+    let i = c.self.inside in
+    let slots = i.table.slots.items in
+    let spares = i.table.spares.items in
+    let sound = rw c.in-Some.is at c.self.invariant in
+    let line = c.in-Some.line in
+    let leads = sym c.find.ensures ∙ c.in_ok-at.was in
+    let found = finds line slots spares i.before_len i.after_len sound c.args.key c.in_ok-at.at leads value_after c.is_after.result c.is_after.ensures c.if-not-is_after.false in
+    let lies = found.lies in
+    let is = ap (λ ring. ring.nodes) c.skip.ensures.ring ∙ lies.is in
+    let held = c.take-node.ensures.held lies.front lies.node lies.rest is lies.place in
     let taken = c.in-After.is in
-    let same : finds.value ≡ c.in-After.value = cc in
-    rw (← c.self.view_is) (sym (lookup-after_of slots c.self.inside.ends c.self.invariant c.args.key ∙ finds.looked ∙ ap Some same))
+    let was = is_after lies.node.entry.held found.x found.held in
+    let same : found.x ≡ c.in-After.value = cc in
+    rw (← c.self.view_is, c.in-Some.is, found.looked) (ap Some (sym same))
 
 pub returns-clause-taken : goal.returns-clause-taken
 returns-clause-taken g c =
-    let slots = c.self.inside.slots in
-    let some = rw c.as_slice.ensures.value at (c.holds_after.ensures.0 c.if-not-holds_after.false) in
-    let finds = finds_after slots.items c.self.inside.ends c.args.key c.self.invariant some in
-    let cursor_now = rw c.as_slice-2.ensures.value at c.skip-self-inside.ensures in
-    let slots_now = rw c.as_mut_slice.ensures.value at c.unlink.ensures.slots in
-    let ends_now = rw c.as_mut_slice.ensures.value at c.unlink.ensures.ends in
-    let as_long : length c.unlink.new.slots ≡ slots.len = omega (arith, c.as_mut_slice.ensures.len) in
-    rw (← c.self.view_is, rewritten slots.len slots.items c.unlink.new.slots as_long)
-    (sequence_without_after slots.items c.self.inside.ends c.args.key finds c.skip-self-inside.result c.unlink.new.slots c.unlink.new.ends slots.cap cursor_now slots_now ends_now (omega (arith, slots.ok.0, slots.ok.1)))
+    let i = c.self.inside in
+    let slots = i.table.slots.items in
+    let spares = i.table.spares.items in
+    let sound = rw c.in-Some.is at c.self.invariant in
+    let line = c.in-Some.line in
+    let leads = sym c.find.ensures ∙ c.in_ok-at.was in
+    let found = finds line slots spares i.before_len i.after_len sound c.args.key c.in_ok-at.at leads value_after c.is_after.result c.is_after.ensures c.if-not-is_after.false in
+    let lies = found.lies in
+    let is = ap (λ ring. ring.nodes) c.skip.ensures.ring ∙ lies.is in
+    let nodes = c.take-node.ensures.nodes lies.front lies.node lies.rest is lies.place in
+    let removed = after_removed line slots spares i.before_len i.after_len sound c.args.key c.in_ok-at.at.ptr found c.take-node.new.self.ring.nodes nodes in
+    let kept = before_kept line slots spares i.before_len i.after_len sound c.args.key c.in_ok-at.at.ptr found c.take-node.new.self.ring.nodes nodes in
+    rw (← c.self.view_is, c.in-Some.is, removed, kept, c.give_back.ensures.spares, length-append) refl

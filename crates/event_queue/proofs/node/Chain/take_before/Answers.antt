@@ -1,86 +1,135 @@
-use Rattle.std.proofs.Common.{◌∷◌, ◌++◌, ◌≡◌, length, arith, sym, ap, ◌∙◌, Some}
-use Rattle.event_queue.specs.Chain.{before_at}
-use Rattle.event_queue.proofs.ChainSteps.{rewritten, none_value, lookup-before_of, finds_before, FindsBefore-within, FindsBefore-previous, FindsBefore-next, FindsBefore-held, FindsBefore-still_some, IsChain-without_before, sequence_without_before}
+use Rattle.std.proofs.Common.{◌≡◌, Some, refl, sym, ap, ◌∙◌, length-append}
+use Rattle.event_queue.specs.Nodes.{value_before}
+use Rattle.event_queue.proofs.NodeLists.{is_before}
+use Rattle.event_queue.proofs.NodeSteps.{finds, stands_at, slot_within, spare_room, misses, leads_nowhere, some_before, IsSound-without_before, before_removed, after_kept}
 use Rattle.event_queue.proofs.node.Chain.take_before.Goals as goal
 
-pub returns-then-not-holds_before-clause-value : goal.returns-then-not-holds_before-clause-value
-returns-then-not-holds_before-clause-value g c =
-    let slots = c.self.inside.slots.items in
-    let looked = lookup-before_of slots c.self.inside.ends c.self.invariant c.args.key in
-    let tested = rw c.as_slice.ensures.value at c.holds_before.ensures.1 in
-    rw (← c.self.view_is) (sym (looked ∙ none_value (before_at slots c.args.key) c.holds_before.result tested c.if-not-holds_before.true))
+pub returns-in_err-at-clause-value : goal.returns-in_err-at-clause-value
+returns-in_err-at-clause-value g c =
+    let i = c.self.inside in
+    let slots = i.table.slots.items in
+    let spares = i.table.spares.items in
+    let none = leads_nowhere i.line slots spares i.before_len i.after_len c.self.invariant c.args.key (sym c.find.ensures ∙ c.in_err-at.was) value_before in
+    rw (← c.self.view_is, none) c.from_residual.ensures
 
-pub unlink-requires-clause-index : goal.unlink-requires-clause-index
-unlink-requires-clause-index g c =
-    let slots = c.self.inside.slots.items in
-    let some = rw c.as_slice.ensures.value at (c.holds_before.ensures.0 c.if-not-holds_before.false) in
-    let finds = finds_before slots c.self.inside.ends c.args.key c.self.invariant some in
-    rw c.as_mut_slice.ensures.value (FindsBefore-within slots c.self.inside.ends c.args.key finds)
+pub is_before-requires : goal.is_before-requires
+is_before-requires g c =
+    let i = c.self.inside in
+    let slots = i.table.slots.items in
+    let spares = i.table.spares.items in
+    let sound = rw c.in-Some.is at c.self.invariant in
+    let line = c.in-Some.line in
+    let leads = sym c.find.ensures ∙ c.in_ok-at.was in
+    stands_at line slots spares i.before_len i.after_len sound c.args.key c.in_ok-at.at leads
 
-pub unlink-requires-clause-previous : goal.unlink-requires-clause-previous
-unlink-requires-clause-previous g c =
-    let slots = c.self.inside.slots.items in
-    let some = rw c.as_slice.ensures.value at (c.holds_before.ensures.0 c.if-not-holds_before.false) in
-    let finds = finds_before slots c.self.inside.ends c.args.key c.self.invariant some in
-    rw c.as_mut_slice.ensures.value (FindsBefore-previous slots c.self.inside.ends c.args.key finds)
+pub returns-then-not-is_before-clause-value : goal.returns-then-not-is_before-clause-value
+returns-then-not-is_before-clause-value g c =
+    let i = c.self.inside in
+    let slots = i.table.slots.items in
+    let spares = i.table.spares.items in
+    let sound = rw c.in-Some.is at c.self.invariant in
+    let line = c.in-Some.line in
+    let leads = sym c.find.ensures ∙ c.in_ok-at.was in
+    rw (← c.self.view_is, c.in-Some.is)
+    (sym (misses line slots spares i.before_len i.after_len sound c.args.key c.in_ok-at.at leads value_before c.is_before.result c.is_before.ensures c.if-not-is_before.true))
 
-pub unlink-requires-clause-next : goal.unlink-requires-clause-next
-unlink-requires-clause-next g c =
-    let slots = c.self.inside.slots.items in
-    let some = rw c.as_slice.ensures.value at (c.holds_before.ensures.0 c.if-not-holds_before.false) in
-    let finds = finds_before slots c.self.inside.ends c.args.key c.self.invariant some in
-    rw c.as_mut_slice.ensures.value (FindsBefore-next slots c.self.inside.ends c.args.key finds)
+pub take-node-requires : goal.take-node-requires
+take-node-requires g c =
+    let i = c.self.inside in
+    let slots = i.table.slots.items in
+    let spares = i.table.spares.items in
+    let sound = rw c.in-Some.is at c.self.invariant in
+    let line = c.in-Some.line in
+    let leads = sym c.find.ensures ∙ c.in_ok-at.was in
+    stands_at line slots spares i.before_len i.after_len sound c.args.key c.in_ok-at.at leads
+
+pub give_back-requires-clause-slot : goal.give_back-requires-clause-slot
+give_back-requires-clause-slot g c =
+    let i = c.self.inside in
+    let slots = i.table.slots.items in
+    let spares = i.table.spares.items in
+    let sound = rw c.in-Some.is at c.self.invariant in
+    let line = c.in-Some.line in
+    let leads = sym c.find.ensures ∙ c.in_ok-at.was in
+    slot_within line slots spares i.before_len i.after_len sound c.args.key c.in_ok-at.at leads
+
+pub give_back-requires-clause-room : goal.give_back-requires-clause-room
+give_back-requires-clause-room g c =
+    let i = c.self.inside in
+    let slots = i.table.slots.items in
+    let spares = i.table.spares.items in
+    let sound = rw c.in-Some.is at c.self.invariant in
+    let line = c.in-Some.line in
+    let leads = sym c.find.ensures ∙ c.in_ok-at.was in
+    spare_room line slots spares i.before_len i.after_len sound c.args.key c.in_ok-at.at leads
 
 pub overflow_sub-self : goal.overflow_sub-self
 overflow_sub-self g c =
-    let slots = c.self.inside.slots.items in
-    let some = rw c.as_slice.ensures.value at (c.holds_before.ensures.0 c.if-not-holds_before.false) in
-    let finds = finds_before slots c.self.inside.ends c.args.key c.self.invariant some in
-    let ends_now = rw c.as_mut_slice.ensures.value at c.unlink.ensures.ends in
-    FindsBefore-still_some slots c.self.inside.ends c.args.key finds c.unlink.new.ends ends_now
+    let i = c.self.inside in
+    let slots = i.table.slots.items in
+    let spares = i.table.spares.items in
+    let sound = rw c.in-Some.is at c.self.invariant in
+    let line = c.in-Some.line in
+    let leads = sym c.find.ensures ∙ c.in_ok-at.was in
+    let found = finds line slots spares i.before_len i.after_len sound c.args.key c.in_ok-at.at leads value_before c.is_before.result c.is_before.ensures c.if-not-is_before.false in
+    let lies = found.lies in
+    some_before line slots spares i.before_len i.after_len sound c.args.key c.in_ok-at.at.ptr found
 
-pub invariant_of-self : goal.invariant_of-self
-invariant_of-self g c =
-    let slots = c.self.inside.slots.items in
-    let some = rw c.as_slice.ensures.value at (c.holds_before.ensures.0 c.if-not-holds_before.false) in
-    let finds = finds_before slots c.self.inside.ends c.args.key c.self.invariant some in
-    let slots_now = rw c.as_mut_slice.ensures.value at c.unlink.ensures.slots in
-    let ends_now = rw c.as_mut_slice.ensures.value at c.unlink.ensures.ends in
-    let as_long : length c.unlink.new.slots ≡ c.self.inside.slots.len = omega (arith, c.as_mut_slice.ensures.len) in
-    rw (rewritten c.self.inside.slots.len slots c.unlink.new.slots as_long)
-    (record {
-      before = finds.cut.front ++ finds.cut.rest;
-      after = finds.after;
-      unused = c.args.key.slot ∷ finds.unused;
-      chain = IsChain-without_before slots c.self.inside.ends c.args.key finds c.unlink.new.slots c.unlink.new.ends slots_now ends_now;
-    })
+pub invariant_of-self-in-Before : goal.invariant_of-self-in-Before
+invariant_of-self-in-Before g c =
+    let i = c.self.inside in
+    let slots = i.table.slots.items in
+    let spares = i.table.spares.items in
+    let sound = rw c.in-Some.is at c.self.invariant in
+    let line = c.in-Some.line in
+    let leads = sym c.find.ensures ∙ c.in_ok-at.was in
+    let found = finds line slots spares i.before_len i.after_len sound c.args.key c.in_ok-at.at leads value_before c.is_before.result c.is_before.ensures c.if-not-is_before.false in
+    let lies = found.lies in
+    let nodes = c.take-node.ensures.nodes lies.front lies.node lies.rest lies.is lies.place in
+    let spare_is = c.take-node.ensures.spare lies.front lies.node lies.rest lies.is lies.place in
+    rw (c.give_back.ensures.slots, c.give_back.ensures.spares)
+    (IsSound-without_before line slots spares i.before_len i.after_len sound c.args.key c.in_ok-at.at.ptr found c.take-node.new.self c.take-node.result.0 nodes c.take-node.ensures.root c.take-node.ensures.cursor c.take-node.ensures.alone spare_is)
 
-pub unreachable-requires : goal.unreachable-requires
-unreachable-requires g c =
-    let slots = c.self.inside.slots.items in
-    let some = rw c.as_slice.ensures.value at (c.holds_before.ensures.0 c.if-not-holds_before.false) in
-    let finds = finds_before slots c.self.inside.ends c.args.key c.self.invariant some in
-    let held_now = rw c.as_mut_slice.ensures.value at c.unlink.ensures.held in
-    c.in_default.not-Before finds.value (FindsBefore-held slots c.self.inside.ends c.args.key finds c.unlink.result held_now)
+pub unreachable-requires-in_default-held : goal.unreachable-requires-in_default-held
+unreachable-requires-in_default-held g c =
+    let i = c.self.inside in
+    let slots = i.table.slots.items in
+    let spares = i.table.spares.items in
+    let sound = rw c.in-Some.is at c.self.invariant in
+    let line = c.in-Some.line in
+    let leads = sym c.find.ensures ∙ c.in_ok-at.was in
+    let found = finds line slots spares i.before_len i.after_len sound c.args.key c.in_ok-at.at leads value_before c.is_before.result c.is_before.ensures c.if-not-is_before.false in
+    let lies = found.lies in
+    let held = c.take-node.ensures.held lies.front lies.node lies.rest lies.is lies.place in
+    c.in_default-held.not-Before found.x (held ∙ is_before lies.node.entry.held found.x found.held)
 
 pub returns-clause-value : goal.returns-clause-value
 returns-clause-value g c =
-    let slots = c.self.inside.slots.items in
-    let some = rw c.as_slice.ensures.value at (c.holds_before.ensures.0 c.if-not-holds_before.false) in
-    let finds = finds_before slots c.self.inside.ends c.args.key c.self.invariant some in
-    let held_now = rw c.as_mut_slice.ensures.value at c.unlink.ensures.held in
-    let held = FindsBefore-held slots c.self.inside.ends c.args.key finds c.unlink.result held_now in
+    let i = c.self.inside in
+    let slots = i.table.slots.items in
+    let spares = i.table.spares.items in
+    let sound = rw c.in-Some.is at c.self.invariant in
+    let line = c.in-Some.line in
+    let leads = sym c.find.ensures ∙ c.in_ok-at.was in
+    let found = finds line slots spares i.before_len i.after_len sound c.args.key c.in_ok-at.at leads value_before c.is_before.result c.is_before.ensures c.if-not-is_before.false in
+    let lies = found.lies in
+    let held = c.take-node.ensures.held lies.front lies.node lies.rest lies.is lies.place in
     let taken = c.in-Before.is in
-    let same : finds.value ≡ c.in-Before.value = cc in
-    rw (← c.self.view_is) (sym (lookup-before_of slots c.self.inside.ends c.self.invariant c.args.key ∙ finds.looked ∙ ap Some same))
+    let was = is_before lies.node.entry.held found.x found.held in
+    let same : found.x ≡ c.in-Before.value = cc in
+    rw (← c.self.view_is, c.in-Some.is, found.looked) (ap Some (sym same))
 
 pub returns-clause-taken : goal.returns-clause-taken
 returns-clause-taken g c =
-    let slots = c.self.inside.slots in
-    let some = rw c.as_slice.ensures.value at (c.holds_before.ensures.0 c.if-not-holds_before.false) in
-    let finds = finds_before slots.items c.self.inside.ends c.args.key c.self.invariant some in
-    let slots_now = rw c.as_mut_slice.ensures.value at c.unlink.ensures.slots in
-    let ends_now = rw c.as_mut_slice.ensures.value at c.unlink.ensures.ends in
-    let as_long : length c.unlink.new.slots ≡ slots.len = omega (arith, c.as_mut_slice.ensures.len) in
-    rw (← c.self.view_is, rewritten slots.len slots.items c.unlink.new.slots as_long)
-    (sequence_without_before slots.items c.self.inside.ends c.args.key finds c.unlink.new.slots c.unlink.new.ends slots.cap slots_now ends_now (omega (arith, slots.ok.0, slots.ok.1)))
+    let i = c.self.inside in
+    let slots = i.table.slots.items in
+    let spares = i.table.spares.items in
+    let sound = rw c.in-Some.is at c.self.invariant in
+    let line = c.in-Some.line in
+    let leads = sym c.find.ensures ∙ c.in_ok-at.was in
+    let found = finds line slots spares i.before_len i.after_len sound c.args.key c.in_ok-at.at leads value_before c.is_before.result c.is_before.ensures c.if-not-is_before.false in
+    let lies = found.lies in
+    let nodes = c.take-node.ensures.nodes lies.front lies.node lies.rest lies.is lies.place in
+    let removed = before_removed line slots spares i.before_len i.after_len sound c.args.key c.in_ok-at.at.ptr found c.take-node.new.self.ring.nodes nodes in
+    let kept = after_kept line slots spares i.before_len i.after_len sound c.args.key c.in_ok-at.at.ptr found c.take-node.new.self.ring.nodes nodes in
+    rw (← c.self.view_is, c.in-Some.is, removed, kept, c.give_back.ensures.spares, length-append) refl

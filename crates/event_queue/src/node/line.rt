@@ -1,0 +1,231 @@
+//! The entries of a chain in order, each on a node of one ring, and the cursor.
+ghost use Rattle.std.specs.Prelude.{◌≡◌, [], ◌∷◌, ◌++◌, cond, ◌↔◌, eqb, IsTrue, IsSome, IfOk};
+ghost use Rattle.event_queue.specs.Ring.{placed, first_place, IsAt, AtNode};
+ghost use Rattle.event_queue.specs.Nodes.{key_of, spare_entry, before_in, after_in};
+
+use super::ring::{NodePtr, Ring};
+use crate::key::Key;
+use std::alloc::{AllocError, AllocFailed, Global};
+
+/// What a node carries: the slot that it keeps, and an entry's serial and value.
+#[derive(Drop)]
+pub(super) struct Entry<A, B> {
+    slot: usize,
+    serial: u64,
+    held: Held<A, B>,
+}
+
+/// A value before the cursor or after it. The root and a spare node hold nothing.
+#[derive(Drop)]
+pub(super) enum Held<A, B> {
+    Before(A),
+    After(B),
+    Nothing,
+}
+
+impl<A, B> Entry<A, B> {
+    /// The payload of a spare node with that slot.
+    #[inline(always)]
+    pub(super) fn spare(slot: usize) -> Self
+        ensures { result ≡ spare_entry slot }
+    {
+        Entry {
+            slot,
+            serial: 0,
+            held: Held::Nothing,
+        }
+    }
+
+    #[inline(always)]
+    fn key(&self) -> Key
+        ensures { result ≡ key_of self.now }
+    {
+        Key {
+            slot: self.slot,
+            serial: self.serial,
+        }
+    }
+
+    #[inline(always)]
+    fn into_held(self) -> Held<A, B>
+        ensures { result ≡ self.held }
+    {
+        let Entry {
+            slot: _,
+            serial: _,
+            held,
+        } = self;
+        held
+    }
+
+    /// Lets a payload go that holds nothing.
+    #[inline(always)]
+    pub(super) fn let_go(self)
+        requires { self.held ≡ Held.Nothing }
+    {
+        match self.into_held() {
+            Held::Nothing => {}
+            _ => unreachable!(),
+        }
+    }
+}
+
+/// Nodes in order, and the first of them after the cursor, or the root where none is.
+#[derive(Drop)]
+pub(super) struct Line<A, B> {
+    ring: Ring<Entry<A, B>>,
+    cursor: NodePtr<Entry<A, B>>,
+}
+
+impl<A, B> Line<A, B> {
+    /// A line with no entry.
+    pub(super) fn new(alloc: Global) -> Result<Self, AllocError>
+        ensures nodes { IfOk result (λ line. line.ring.nodes ≡ []) }
+        ensures cursor { IfOk result (λ line. line.cursor.ptr ≡ line.ring.at) }
+    {
+        match Ring::alone(alloc, Entry::spare(0)) {
+            Ok(ring) => {
+                let cursor = ring.root();
+                Ok(Line { ring, cursor })
+            }
+            Err(refused) => {
+                let AllocFailed { value } = refused;
+                value.let_go();
+                Err(AllocError)
+            }
+        }
+    }
+
+    /// Whether the node holds the entry of that serial, before the cursor.
+    #[inline(always)]
+    pub(super) fn is_before(&self, at: NodePtr<Entry<A, B>>, serial: u64) -> bool
+        requires { IsAt self.now.ring.nodes at.ptr }
+        ensures { AtNode self.now.ring.nodes at.ptr (λ _ n _. IsTrue result ↔ IsSome (before_in serial n.entry)) }
+    {
+        let (entry, _) = self.ring.look(at);
+        entry.serial == serial && matches!(entry.held, Held::Before(_))
+    }
+
+    /// Whether the node holds the entry of that serial, after the cursor.
+    #[inline(always)]
+    pub(super) fn is_after(&self, at: NodePtr<Entry<A, B>>, serial: u64) -> bool
+        requires { IsAt self.now.ring.nodes at.ptr }
+        ensures { AtNode self.now.ring.nodes at.ptr (λ _ n _. IsTrue result ↔ IsSome (after_in serial n.entry)) }
+    {
+        let (entry, _) = self.ring.look(at);
+        entry.serial == serial && matches!(entry.held, Held::After(_))
+    }
+
+    /// Links a spare node in at the end, with an entry after the cursor. Its slot and its place are the answer.
+    ///
+    /// Where no other entry is after the cursor, the cursor moves to it.
+    #[inline(always)]
+    pub(super) fn append(
+        &mut self,
+        node: Ring<Entry<A, B>>,
+        serial: u64,
+        value: B,
+        is_first: bool,
+    ) -> (usize, NodePtr<Entry<A, B>>)
+        requires alone { node.nodes ≡ [] }
+        requires spare { node.entry.held ≡ Held.Nothing }
+        ensures slot { result.0 ≡ node.entry.slot }
+        ensures place { result.1.ptr ≡ node.at }
+        ensures root { self.new.ring.at ≡ self.old.ring.at }
+        ensures nodes { self.new.ring.nodes ≡ self.old.ring.nodes ++ placed node.at (record { slot = node.entry.slot; serial = serial; held = Held.After value }) ∷ [] }
+        ensures cursor { self.new.cursor.ptr ≡ cond is_first node.at self.old.cursor.ptr }
+    {
+        let at = node.root();
+        self.ring.link_last(node);
+        let (spare, _) = self.ring.look(at);
+        let slot = spare.slot;
+        let entry = Entry {
+            slot,
+            serial,
+            held: Held::After(value),
+        };
+        self.ring.replace(at, entry).let_go();
+        if is_first {
+            self.cursor = at;
+        }
+        (slot, at)
+    }
+
+    /// Takes a node out. It becomes spare, and its value is the answer too.
+    #[inline(always)]
+    pub(super) fn take(&mut self, at: NodePtr<Entry<A, B>>) -> (Ring<Entry<A, B>>, Held<A, B>)
+        requires { IsAt self.old.ring.nodes at.ptr }
+        ensures root { self.new.ring.at ≡ self.old.ring.at }
+        ensures cursor { self.new.cursor ≡ self.old.cursor }
+        ensures place { result.0.at ≡ at.ptr }
+        ensures alone { result.0.nodes ≡ [] }
+        ensures nodes { AtNode self.old.ring.nodes at.ptr (λ xs n ys. self.new.ring.nodes ≡ xs ++ ys) }
+        ensures spare { AtNode self.old.ring.nodes at.ptr (λ _ n _. result.0.entry ≡ spare_entry n.entry.slot) }
+        ensures held { AtNode self.old.ring.nodes at.ptr (λ _ n _. result.1 ≡ n.entry.held) }
+    {
+        let (entry, _) = self.ring.look(at);
+        let slot = entry.slot;
+        let entry = self.ring.replace(at, Entry::spare(slot));
+        (self.ring.unlink(at), entry.into_held())
+    }
+
+    /// Moves the cursor behind this node, if it is the first after the cursor.
+    #[inline(always)]
+    pub(super) fn skip(&mut self, at: NodePtr<Entry<A, B>>)
+        requires node { IsAt self.old.ring.nodes at.ptr }
+        requires cursor { IsAt self.old.ring.nodes self.old.cursor.ptr }
+        ensures ring { self.new.ring ≡ self.old.ring }
+        ensures cursor { AtNode self.old.ring.nodes at.ptr (λ _ n ys. AtNode self.old.ring.nodes self.old.cursor.ptr (λ _ first _.
+            self.new.cursor.ptr ≡ cond (eqb first.entry.slot n.entry.slot) (first_place ys self.old.ring.at) self.old.cursor.ptr)) }
+    {
+        let (first, _) = self.ring.look(self.cursor);
+        let (entry, next) = self.ring.look(at);
+        if first.slot == entry.slot {
+            self.cursor = next;
+        }
+    }
+
+    /// Gives an entry another value, which is after the cursor, and returns the one that it had.
+    #[inline(always)]
+    pub(super) fn replace(&mut self, at: NodePtr<Entry<A, B>>, value: B) -> Held<A, B>
+        requires { IsAt self.old.ring.nodes at.ptr }
+        ensures root { self.new.ring.at ≡ self.old.ring.at }
+        ensures cursor { self.new.cursor ≡ self.old.cursor }
+        ensures former { AtNode self.old.ring.nodes at.ptr (λ _ n _. result ≡ n.entry.held) }
+        ensures nodes { AtNode self.old.ring.nodes at.ptr (λ xs n ys. self.new.ring.nodes ≡ xs ++ placed n.at (record n.entry { held = Held.After value }) ∷ ys) }
+    {
+        let (entry, _) = self.ring.look(at);
+        let Key { slot, serial } = entry.key();
+        let entry = Entry {
+            slot,
+            serial,
+            held: Held::After(value),
+        };
+        let former = self.ring.replace(at, entry);
+        former.into_held()
+    }
+
+    /// Moves the cursor past the first entry after it, which gets this value. Its key and the value that it had are
+    /// the answer.
+    #[inline(always)]
+    pub(super) fn advance(&mut self, value: A) -> (Key, Held<A, B>)
+        requires { IsAt self.old.ring.nodes self.old.cursor.ptr }
+        ensures root { self.new.ring.at ≡ self.old.ring.at }
+        ensures cursor { AtNode self.old.ring.nodes self.old.cursor.ptr (λ _ _ ys. self.new.cursor.ptr ≡ first_place ys self.old.ring.at) }
+        ensures key { AtNode self.old.ring.nodes self.old.cursor.ptr (λ _ n _. result.0 ≡ key_of n.entry) }
+        ensures former { AtNode self.old.ring.nodes self.old.cursor.ptr (λ _ n _. result.1 ≡ n.entry.held) }
+        ensures nodes { AtNode self.old.ring.nodes self.old.cursor.ptr (λ xs n ys. self.new.ring.nodes ≡ xs ++ placed n.at (record n.entry { held = Held.Before value }) ∷ ys) }
+    {
+        let at = self.cursor;
+        let (first, next) = self.ring.look(at);
+        let key = first.key();
+        let entry = Entry {
+            slot: key.slot,
+            serial: key.serial,
+            held: Held::Before(value),
+        };
+        let told = self.ring.replace(at, entry);
+        self.cursor = next;
+        (key, told.into_held())
+    }
+}

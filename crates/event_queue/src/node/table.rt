@@ -1,0 +1,139 @@
+//! The table of slots, which leads from a key to its node, and the spare nodes.
+ghost use Rattle.std.specs.Prelude.{◌≡◌, ◌+◌, ◌<◌, ◌≤◌, ◌==◌, [], ◌∷◌, ◌++◌, length, Option, MatchOption, OnOk, OnErr, IsSome, slice_set, vec_capacity, vec_len};
+ghost use Rattle.event_queue.specs.Nodes.{node_at, spare_entry, GrowsTo};
+
+use super::line::Entry;
+use super::ring::{NodePtr, Ring};
+use std::alloc::{AllocError, AllocFailed, Global};
+
+/// A slot for each node but the root, and the nodes that no entry uses.
+///
+/// A node keeps its slot for ever: its place stands there while an entry uses it, and nothing while it is spare.
+#[derive(Drop)]
+pub(super) struct Table<A, B> {
+    slots: Vec<Option<NodePtr<Entry<A, B>>>>,
+    spares: Vec<Ring<Entry<A, B>>>,
+    ghost counted: { vec_len spares ≤ vec_len slots },
+    // No node that becomes spare needs memory.
+    ghost has_room: { vec_len slots ≤ vec_capacity spares },
+}
+
+impl<A, B> Table<A, B> {
+    /// A table with no slot, which allocates nothing.
+    pub(super) fn new(alloc: Global) -> Self
+        ensures slots { result.slots.items ≡ [] }
+        ensures spares { result.spares.items ≡ [] }
+    {
+        Table {
+            slots: Vec::new(alloc),
+            spares: Vec::new(alloc),
+        }
+    }
+
+    /// The allocator that the table was made with.
+    pub(super) fn allocator(&self) -> Global {
+        *self.slots.allocator()
+    }
+
+    /// How many nodes are spare.
+    #[inline(always)]
+    pub(super) fn spare(&self) -> usize
+        ensures { result ≡ length self.now.spares.items }
+    {
+        self.spares.len()
+    }
+
+    /// The place of the node whose slot this is, if an entry uses it.
+    #[inline(always)]
+    pub(super) fn find(&self, slot: usize) -> Option<NodePtr<Entry<A, B>>>
+        ensures { result ≡ node_at self.now.slots.items slot }
+    {
+        match self.slots.get(slot) {
+            Some(place) => *place,
+            None => None,
+        }
+    }
+
+    /// Takes a spare node.
+    #[inline(always)]
+    pub(super) fn take_spare(&mut self) -> Option<Ring<Entry<A, B>>>
+        ensures slots { self.new.slots ≡ self.old.slots }
+        ensures spares { MatchOption result (self.old.spares.items ≡ []) (λ node. self.old.spares.items ≡ self.new.spares.items ++ node ∷ []) }
+    {
+        self.spares.pop()
+    }
+
+    /// Writes the place of a node that was spare into its slot.
+    #[inline(always)]
+    pub(super) fn fill(&mut self, slot: usize, at: NodePtr<Entry<A, B>>)
+        requires { slot < length self.old.slots.items }
+        ensures slots { self.new.slots.items ≡ slice_set self.old.slots.items slot (Option.Some at) }
+        ensures spares { self.new.spares.items ≡ self.old.spares.items }
+    {
+        self.slots[slot] = Some(at);
+    }
+
+    /// Makes a node spare, whose slot this is. It allocates nothing.
+    #[inline(always)]
+    pub(super) fn give_back(&mut self, slot: usize, node: Ring<Entry<A, B>>)
+        requires slot { slot < length self.old.slots.items }
+        requires room { length self.old.spares.items < length self.old.slots.items }
+        ensures slots { self.new.slots.items ≡ slice_set self.old.slots.items slot Option.None }
+        ensures spares { self.new.spares.items ≡ self.old.spares.items ++ node ∷ [] }
+    {
+        self.spares.push_reserved(node);
+        self.slots[slot] = None;
+    }
+
+    /// Makes `n` more spare nodes. After a refusal it keeps those that it made.
+    pub(super) fn grow(&mut self, n: usize) -> Result<(), AllocError>
+        ensures grows { GrowsTo self.old.slots.items self.old.spares.items self.new.slots.items self.new.spares.items }
+        ensures kept { length self.old.spares.items ≤ length self.new.spares.items }
+        ensures ok { OnOk result (length self.new.spares.items ≡ length self.old.spares.items + n) }
+        ensures err { OnErr result (length self.new.spares.items < length self.old.spares.items + n) }
+    {
+        self.make_room(n)?;
+        for _ in 0..n {
+            self.make_spare()?;
+        }
+        Ok(())
+    }
+
+    // Makes room for `n` more nodes, in the table and among the spares.
+    fn make_room(&mut self, n: usize) -> Result<(), AllocError>
+        ensures slots { self.new.slots.items ≡ self.old.slots.items }
+        ensures spares { self.new.spares.items ≡ self.old.spares.items }
+        ensures slots_room { OnOk result (vec_len self.new.slots + n ≤ vec_capacity self.new.slots) }
+        ensures spares_room { OnOk result (vec_len self.new.slots + n ≤ vec_capacity self.new.spares) }
+        ensures err { OnErr result (0 < n) }
+    {
+        self.slots.reserve(n)?;
+        let total = self.slots.len() + n;
+        self.spares.reserve(total - self.spares.len())
+    }
+
+    // Makes one more spare node, with a slot of its own at the end of the table.
+    fn make_spare(&mut self) -> Result<(), AllocError>
+        requires slots_room { vec_len self.old.slots < vec_capacity self.old.slots }
+        requires spares_room { vec_len self.old.slots < vec_capacity self.old.spares }
+        ensures grows { GrowsTo self.old.slots.items self.old.spares.items self.new.slots.items self.new.spares.items }
+        ensures slots { OnOk result (vec_len self.new.slots ≡ vec_len self.old.slots + 1) }
+        ensures spares { OnOk result (vec_len self.new.spares ≡ vec_len self.old.spares + 1) }
+        ensures err { OnErr result (self.new ≡ self.old) }
+        ensures slots_capacity { vec_capacity self.new.slots ≡ vec_capacity self.old.slots }
+        ensures spares_capacity { vec_capacity self.new.spares ≡ vec_capacity self.old.spares }
+    {
+        match Ring::alone(self.allocator(), Entry::spare(self.slots.len())) {
+            Ok(node) => {
+                self.slots.push_reserved(None);
+                self.spares.push_reserved(node);
+                Ok(())
+            }
+            Err(refused) => {
+                let AllocFailed { value } = refused;
+                value.let_go();
+                Err(AllocError)
+            }
+        }
+    }
+}
