@@ -12,3 +12,4 @@ pub mod RecordingLemmas
 pub mod ClosingLemmas
 pub mod HandLemmas
 pub mod RecordedRunLemmas
+pub mod ExchangeLemmas

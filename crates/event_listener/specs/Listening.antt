@@ -2,8 +2,10 @@
 use Rattle.std.specs.Prelude.{ℕ, Bool}
 use Rattle.event_queue.specs.declared.key.Key.{Key}
 
--- the number of its event, by which key it stands in the queue there, and whether it has given its tag
+-- the number of its event, by which key it stands in the queue there, whether it has given its tag, and the source at
+-- which a task registers that polls it
 pub record Listening : Type 0 where
   pub event_number : ℕ
   pub key : Key
   pub is_finished : Bool
+  pub source : ℕ

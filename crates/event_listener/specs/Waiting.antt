@@ -4,6 +4,8 @@ use Rattle.event_queue.specs.declared.reply.State.{State}
 use Rattle.event_queue.specs.declared.reply.State.TheVariants.{Created, Notified, Task, NotifiedTaken}
 use Rattle.event_listener.specs.declared.listener.wait_error.WaitError.{WaitError}
 use Rattle.event_listener.specs.declared.listener.wait_error.WaitError.TheVariants.{NeverInserted, Memory}
+use Rattle.event_listener.specs.declared.listener.wait_error.WaitReason.{WaitReason}
+use Rattle.event_listener.specs.declared.listener.wait_error.WaitReason.TheVariants as reason
 use Rattle.event_listener.specs.declared.listener.wait.WaitOutcome.{WaitOutcome}
 use Rattle.event_listener.specs.declared.listener.wait.WaitOutcome.TheVariants.{Told, TimedOut, Absent, Refused}
 
@@ -11,6 +13,11 @@ use Rattle.event_listener.specs.declared.listener.wait.WaitOutcome.TheVariants.{
 abbrev pub HandsBack : {L : Type 0} → L → WaitError L → Type 0
 HandsBack listener NeverInserted = ⊤
 HandsBack listener (Memory back) = back ≡ listener
+
+-- the same error without the listener
+abbrev pub reason_of : {L : Type 0} → WaitError L → WaitReason
+reason_of NeverInserted = reason.NeverInserted
+reason_of (Memory listener) = reason.Memory
 
 module _ {T : Type 0} where
   -- the wait found no listener in the queue, or was refused memory

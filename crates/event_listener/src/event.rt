@@ -8,6 +8,7 @@ mod identity;
 mod shared;
 
 use crate::listener::{EventListener, InnerListener};
+use crate::locks::take_lock;
 use crate::task::Waking;
 use event_queue::{IntoNotification, ListenError, NotifyError};
 pub use identity::{EventId, EventIds, IdsUsedUp, given_numbers_are_distinct};
@@ -76,6 +77,7 @@ impl<T> Event<T> {
     ///
     /// The call allocates where there is no queue yet or the queue has no spare slot. It may wait for the lock of the
     /// event, and for a thread that is making the queue.
+    #[inline(always)]
     pub fn listen<R>(&self, rt: &R, alloc: Global) -> Result<EventListener<T, R>, ListenError>
     where
         T: Drop,
@@ -83,27 +85,32 @@ impl<T> Event<T> {
         ensures event { IfOk result (λ listener. listener.event_number ≡ self.now) }
         ensures unfinished { IfOk result (λ listener. listener.is_finished ≡ false) }
     {
-        let Ok(shared) = self.share(rt, alloc) else {
+        let shared = match self.shared.get() {
+            Some(shared) => Arc::try_clone(shared),
+            None => self.first_share(rt, alloc),
+        };
+        let Ok(shared) = shared else {
             return Err(ListenError::Memory);
         };
         let Ok(runtime) = rt.clone() else {
             return Err(ListenError::Memory);
         };
-        let key = shared.lock(rt).insert()?;
+        let key = take_lock(shared.queue(), rt).insert()?;
         let inner = InnerListener::new(key, self.id.number(), runtime, alloc);
         Ok(EventListener::new(shared, inner))
     }
 
-    // A share of the queue, which is made where there is none.
-    fn share<R: Wait>(&self, rt: &R, alloc: Global) -> Result<Arc<Shared<T>>, AllocError>
+    // A share of the queue, which is made. It stands apart, so that a share of one that is there is a few instructions.
+    #[cold]
+    #[inline(never)]
+    fn first_share<R: Wait>(&self, rt: &R, alloc: Global) -> Result<Arc<Shared<T>>, AllocError>
     where
         T: Drop,
     {
-        Arc::try_clone(self.queue(rt, alloc)?)
+        Arc::try_clone(self.make_queue(rt, alloc)?)
     }
 
-    /// The queue, which is made where there is none. Where two threads make it at once, the second drops its own and
-    /// takes that of the first.
+    /// The queue, which is made where there is none.
     pub(crate) fn queue<R: Wait>(
         &self,
         rt: &R,
@@ -112,9 +119,19 @@ impl<T> Event<T> {
     where
         T: Drop,
     {
-        if let Some(shared) = self.shared.get() {
-            return Ok(shared);
+        match self.shared.get() {
+            Some(shared) => Ok(shared),
+            None => self.make_queue(rt, alloc),
         }
+    }
+
+    // Makes the queue. Where two threads make it at once, the second drops its own and takes that of the first.
+    #[cold]
+    #[inline(never)]
+    fn make_queue<R: Wait>(&self, rt: &R, alloc: Global) -> Result<&Arc<Shared<T>>, AllocError>
+    where
+        T: Drop,
+    {
         let made = Arc::new(alloc, Shared::new(alloc))?;
         let token = match self.shared.try_insert(rt, made) {
             Ok(token) => token,
@@ -141,6 +158,7 @@ impl<T> Event<T> {
     /// nobody is skipped.
     ///
     /// The call allocates only what the notification allocates for its tags. It may wait for the lock of the event.
+    #[inline(always)]
     pub fn notify<R: Wait, N: IntoNotification<Tag = T>>(
         &self,
         rt: &R,
@@ -154,9 +172,12 @@ impl<T> Event<T> {
     {
         let mut notification = n.into_notification();
         match self.shared.get() {
-            Some(shared) => shared
-                .lock(rt)
-                .notify(&mut notification, &mut Waking::new(rt)),
+            Some(shared) => {
+                let mut waking = Waking::new(rt);
+                let told = take_lock(shared.queue(), rt).notify(&mut notification, &mut waking);
+                waking.finish();
+                told
+            }
             None => Ok(0),
         }
     }
@@ -166,7 +187,7 @@ impl<T> Event<T> {
     /// The call does not allocate. It may wait for the lock of the event.
     pub fn is_notified<R: Wait>(&self, rt: &R) -> bool {
         match self.shared.get() {
-            Some(shared) => shared.lock(rt).is_notified(),
+            Some(shared) => take_lock(shared.queue(), rt).is_notified(),
             None => false,
         }
     }
@@ -176,7 +197,7 @@ impl<T> Event<T> {
     /// The call does not allocate. It may wait for the lock of the event.
     pub fn total_listeners<R: Wait>(&self, rt: &R) -> usize {
         match self.shared.get() {
-            Some(shared) => shared.lock(rt).total_listeners(),
+            Some(shared) => take_lock(shared.queue(), rt).total_listeners(),
             None => 0,
         }
     }

@@ -156,6 +156,7 @@
 
 mod event;
 mod listener;
+mod locks;
 mod recorded;
 mod task;
 
@@ -167,7 +168,9 @@ pub use event_queue::{
     notification_is_its_own_conversion, notify_clone_means_the_same, relaxed_changes_no_meaning,
     relaxed_clone_means_the_same, tag_clone_has_both_clones, woken_keeps_the_first,
 };
-pub use listener::{EventListener, Listener, NeverInserted, StackListener, StackSlot, WaitError};
+pub use listener::{
+    EventListener, Listener, NeverInserted, StackListener, StackSlot, WaitError, WaitReason,
+};
 pub use recorded::{
     CloseError, Entry, Former, Hand, Note, Record, RecordError, RecordedCall, RecordedEvent,
     RecordedListener, RecordedPollError, RecordedReply, RecordedState, StepCall, equal_calls,

@@ -1,9 +1,11 @@
 //! Listeners.
 ghost use Rattle.std.specs.Prelude.{◌≡◌, ◌↔◌, ℕ, Bool, true, false, IsTrue, IsErr, IfOk, IfErr, OnErr};
 ghost use Rattle.futures.specs.Poll.{IfReady, OnPending};
+ghost use Rattle.futures.specs.Task.{Covers, Keeps};
 ghost use Rattle.event_listener.specs.Waiting.{HandsBack};
 
 mod event_listener;
+mod future;
 mod inner_listener;
 mod macros;
 mod membership;
@@ -14,14 +16,14 @@ mod wait_error;
 
 use crate::event::Event;
 pub use event_listener::EventListener;
-use futures::task::{Poll, Waker};
+use futures::task::{Context, Poll, Waker};
 pub(crate) use inner_listener::InnerListener;
 pub use stack_listener::StackListener;
 pub use stack_slot::StackSlot;
 use std::time::{Duration, Instant};
 use thiserror::Error;
 pub(crate) use wait::{Limit, WaitOutcome, WaitSteps, wait_in};
-pub use wait_error::WaitError;
+pub use wait_error::{WaitError, WaitReason};
 
 /// The listener is not in the queue: it has given its tag.
 #[derive(Clone, Copy, Debug, PartialEq, Eq, Error)]
@@ -61,6 +63,8 @@ pub trait Listener<T>: Sized {
 
     ghost is_finished: { Self → Bool };
 
+    ghost source: { Self → ℕ };
+
     /// Takes the tag if the listener was told, which finishes it; else stores the waker, in place of any earlier one.
     ///
     /// A finished listener returns [`NeverInserted`] and stays finished. The call does not allocate. It may wait for
@@ -78,6 +82,23 @@ pub trait Listener<T>: Sized {
         ensures pending { IfOk result (λ polled. OnPending polled (is_finished self.new ≡ false)) }
         ensures same { IfOk result (λ polled. OnPending polled (self.new ≡ self.old)) }
         ensures err { OnErr result (is_finished self.new ≡ true) };
+
+    /// As [`poll`](Listener::poll), with the waker of the task that polls. Where the listener has stored one of that task
+    /// already, it stays, and nobody is woken.
+    ///
+    /// Where it stored another task's waker, that task is woken. Where no waker can be made, the task asks for another
+    /// poll.
+    fn poll_in(&mut self, cx: &mut Context<'_>) -> Result<Poll<T>, NeverInserted>
+        ensures finished { is_finished self.old ≡ true → IsErr result }
+        ensures event { event_number self.new ≡ event_number self.old }
+        ensures ready { IfOk result (λ polled. IfReady polled (λ _. is_finished self.new ≡ true)) }
+        ensures pending { IfOk result (λ polled. OnPending polled (is_finished self.new ≡ false)) }
+        ensures same { IfOk result (λ polled. OnPending polled (self.new ≡ self.old)) }
+        ensures err { OnErr result (is_finished self.new ≡ true) }
+
+        // A poll that is pending has registered at the listener's source.
+        ensures registered { IfOk result (λ polled. OnPending polled (Covers cx.new (λ s. s ≡ source self.new))) }
+        ensures kept { Keeps cx.old cx.new };
 
     /// Waits until the listener is told, and returns the tag.
     ///

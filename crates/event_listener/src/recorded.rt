@@ -9,6 +9,7 @@ mod event;
 mod hand;
 mod laws;
 mod listener;
+mod poll;
 mod record;
 mod replay;
 mod reply;

@@ -2,13 +2,15 @@
 ghost use Rattle.std.specs.Prelude.{◌≡◌};
 
 mod parker;
+mod waker_exchange;
 
 use event_queue::WakeSink;
 use futures::task::Waker;
 pub(crate) use parker::Parker;
-use parker::Unparker;
+use parker::{Signal, Unparker};
 use std::alloc::AllocError;
 use std::sync::Wait;
+pub(crate) use waker_exchange::EventSource;
 
 /// What is woken when a listener is told: the waker that a poll was handed, or a thread that waits.
 ///
@@ -20,6 +22,8 @@ pub struct Task(TaskKind);
 #[derive(Drop)]
 enum TaskKind {
     Polled(Waker),
+    // A poll could make no waker, and has asked for another poll instead.
+    Unmade,
     Parked(Unparker),
 }
 
@@ -34,11 +38,17 @@ impl Task {
         Ok(Task(TaskKind::Parked(parker.unparker()?)))
     }
 
-    fn wake<R: Wait>(self, rt: &R) {
+    // Wakes the task. For a thread that is to have its token set; the signal that ends its sleep is left to the caller.
+    #[inline(always)]
+    fn wake<R: Wait>(self, rt: &R) -> Option<Signal> {
         let Task(kind) = self;
         match kind {
-            TaskKind::Polled(waker) => waker.wake(),
-            TaskKind::Parked(unparker) => unparker.unpark(rt),
+            TaskKind::Polled(waker) => {
+                waker.wake();
+                None
+            }
+            TaskKind::Unmade => None,
+            TaskKind::Parked(unparker) => Some(unparker.set_token(rt)),
         }
     }
 }
@@ -46,22 +56,44 @@ impl Task {
 /// What every call on the queue of an event hands its tasks to. It wakes each at once, so in queue order and under the
 /// lock.
 ///
-/// It keeps nothing but the runtime value, so its relation says only that it stays as it is. Tests show that it wakes.
-#[derive(Drop)]
-pub(crate) struct Waking<'r, R: Wait> {
+/// A thread is woken when its token is set. The signal that ends its sleep is held back, so that it doesn't meet the
+/// lock that woke it: [`finish`](Waking::finish) gives it, once the lock is given back. One signal is held at a time, so
+/// nothing is allocated: the one before is given when the next comes.
+///
+/// It is no `Drop`, and neither is a signal, so whoever makes one has to finish it. Its relation says nothing, since no
+/// contract can name what sleeps. Tests show that it wakes.
+pub(crate) struct Waking<'r, R> {
     rt: &'r R,
+    held_back: Option<Signal>,
 }
 
-impl<'r, R: Wait> Waking<'r, R> {
+impl<'r, R> Waking<'r, R> {
     pub(crate) fn new(rt: &'r R) -> Self {
-        Waking { rt }
+        Waking {
+            rt,
+            held_back: None,
+        }
+    }
+
+    /// Gives the signal that is held back. It is called with no lock held.
+    pub(crate) fn finish(self) {
+        let Waking { rt: _, held_back } = self;
+        if let Some(signal) = held_back {
+            signal.give();
+        }
     }
 }
 
 impl<'r, R: Wait> WakeSink<Task> for Waking<'r, R> {
-    ghost woke = { λ before _ after. after ≡ before };
+    ghost woke = { λ _ _ _. Unit {0} };
 
+    #[inline(always)]
     fn wake(&mut self, task: Task) {
-        task.wake(self.rt);
+        let Some(signal) = task.wake(self.rt) else {
+            return;
+        };
+        if let Some(earlier) = self.held_back.replace(signal) {
+            earlier.give();
+        }
     }
 }

@@ -1,19 +1,22 @@
 //! What an event and its listeners share.
-use crate::task::Task;
+use crate::task::{EventSource, Task};
 use event_queue::List;
 use std::alloc::Global;
-use std::sync::{Mutex, MutexGuard, Wait};
+use std::sync::Mutex;
 
 /// The queue of one event, under a lock that no other event has.
 #[derive(Drop)]
 pub(crate) struct Shared<T> {
     queue: Mutex<List<T, Task>>,
+    /// What a task that polls a listener registers at.
+    pub(crate) source: EventSource,
 }
 
 impl<T> Shared<T> {
     pub(crate) fn new(alloc: Global) -> Self {
         Shared {
             queue: Mutex::new(List::new(alloc)),
+            source: EventSource::new(),
         }
     }
 
@@ -21,16 +24,12 @@ impl<T> Shared<T> {
     pub(super) fn starting_at(alloc: Global, serial: u64) -> Self {
         Shared {
             queue: Mutex::new(List::starting_at(alloc, serial)),
+            source: EventSource::new(),
         }
     }
 
-    /// The queue. Whoever takes the lock makes one call and gives it back, so each call is one step.
-    pub(crate) fn lock<R: Wait>(&self, rt: &R) -> MutexGuard<'_, List<T, Task>> {
-        self.queue.lock(rt)
-    }
-
-    /// The queue, if the lock can be taken at once.
-    pub(super) fn try_lock(&self) -> Option<MutexGuard<'_, List<T, Task>>> {
-        self.queue.try_lock()
+    /// The queue under its lock. Whoever takes the lock makes one call and gives it back, so each call is one step.
+    pub(crate) fn queue(&self) -> &Mutex<List<T, Task>> {
+        &self.queue
     }
 }

@@ -5,7 +5,7 @@ use super::inner_listener::InnerListener;
 use super::wait::{Limit, wait_until_told, wait_within};
 use super::{Listener, NeverInserted, WaitError};
 use crate::event::{Event, Shared};
-use futures::task::{Poll, Waker};
+use futures::task::{Context, Poll, Waker};
 use std::fmt;
 use std::marker::Model;
 use std::sync::{Arc, Wait};
@@ -21,6 +21,7 @@ pub struct EventListener<T, R: Wait + Clock + Clone> {
 }
 
 impl<T, R: Wait + Clock + Clone> Model for EventListener<T, R> {
+    ghost use Rattle.std.specs.Arc.{arc_value};
     ghost use Rattle.event_listener.specs.Listening.{Listening};
 
     ghost Value = { Listening };
@@ -29,6 +30,7 @@ impl<T, R: Wait + Clock + Clone> Model for EventListener<T, R> {
       event_number = listener.inner.event_number;
       key = listener.inner.membership.key;
       is_finished = listener.inner.membership.is_finished;
+      source = (arc_value listener.shared).source.source.id;
     } };
 }
 
@@ -46,8 +48,15 @@ impl<T: Drop, R: Wait + Clock + Clone> Listener<T> for EventListener<T, R> {
 
     ghost is_finished = { λ listener. listener.is_finished };
 
+    ghost source = { λ listener. listener.source };
+
+    #[inline(always)]
     fn poll(&mut self, waker: Waker) -> Result<Poll<T>, NeverInserted> {
         self.inner.poll(&self.shared, waker)
+    }
+
+    fn poll_in(&mut self, cx: &mut Context<'_>) -> Result<Poll<T>, NeverInserted> {
+        self.inner.poll_in(&self.shared, cx)
     }
 
     fn wait(self) -> Result<T, WaitError<Self>> {
@@ -77,6 +86,7 @@ impl<T: Drop, R: Wait + Clock + Clone> Listener<T> for EventListener<T, R> {
 }
 
 impl<T: Drop, R: Wait + Clock + Clone> Drop for EventListener<T, R> {
+    #[inline(always)]
     fn drop(self) {
         let Self { shared, inner } = self;
         let _ = inner.remove(&shared, true);

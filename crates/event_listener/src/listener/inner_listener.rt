@@ -1,13 +1,14 @@
 //! What listeners of any kind have in common.
 ghost use Rattle.std.specs.Prelude.{◌≡◌, true, false, IsErr, IfOk, OnErr};
 ghost use Rattle.futures.specs.Poll.{IfReady, OnPending};
+ghost use Rattle.futures.specs.Task.{Covers, Keeps};
 
 use super::NeverInserted;
 use super::membership::Membership;
 use crate::event::Shared;
 use crate::task::Task;
 use event_queue::{Key, RegisterResult, State};
-use futures::task::{Poll, Waker};
+use futures::task::{Context, Poll, Waker};
 use std::alloc::Global;
 use std::sync::Wait;
 use std::time::Clock;
@@ -23,6 +24,7 @@ pub(crate) struct InnerListener<R: Wait + Clock + Clone> {
 }
 
 impl<R: Wait + Clock + Clone> InnerListener<R> {
+    #[inline(always)]
     pub(crate) fn new(key: Key, event_number: u64, runtime: R, alloc: Global) -> Self
         ensures event { result.event_number ≡ event_number }
         ensures unfinished { result.membership.is_finished ≡ false }
@@ -36,6 +38,7 @@ impl<R: Wait + Clock + Clone> InnerListener<R> {
     }
 
     /// Takes the tag if there is one, and else leaves the waker.
+    #[inline(always)]
     pub(super) fn poll<T>(
         &mut self,
         shared: &Shared<T>,
@@ -56,8 +59,31 @@ impl<R: Wait + Clock + Clone> InnerListener<R> {
         }
     }
 
+    /// Takes the tag if there is one, and else leaves a waker of the task that polls.
+    pub(super) fn poll_in<T>(
+        &mut self,
+        shared: &Shared<T>,
+        cx: &mut Context<'_>,
+    ) -> Result<Poll<T>, NeverInserted>
+        ensures finished { self.old.membership.is_finished ≡ true → IsErr result }
+        ensures event { self.new.event_number ≡ self.old.event_number }
+        ensures ready { IfOk result (λ polled. IfReady polled (λ _. self.new.membership.is_finished ≡ true)) }
+        ensures pending { IfOk result (λ polled. OnPending polled (self.new.membership.is_finished ≡ false)) }
+        ensures same { IfOk result (λ polled. OnPending polled (self.new ≡ self.old)) }
+        ensures err { OnErr result (self.new.membership.is_finished ≡ true) }
+        ensures registered { IfOk result (λ polled. OnPending polled (Covers cx.new (λ s. s ≡ shared.now.source.source.id))) }
+        ensures kept { Keeps cx.old cx.new }
+    {
+        match self.membership.register_in(&self.runtime, shared, cx) {
+            RegisterResult::Notified(tag) => Ok(Poll::Ready(tag)),
+            RegisterResult::Registered => Ok(Poll::Pending),
+            RegisterResult::NeverInserted => Err(NeverInserted),
+        }
+    }
+
     /// Takes the listener out of the queue, if it is there, and answers whether it was told. With `propagate` its
     /// notification is passed on.
+    #[inline(always)]
     pub(super) fn remove<T: Drop>(self, shared: &Shared<T>, propagate: bool) -> bool
         ensures finished { self.membership.is_finished ≡ true → result ≡ false }
     {

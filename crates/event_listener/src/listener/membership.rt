@@ -1,16 +1,19 @@
 //! A listener's membership in the queue of its event.
 ghost use Rattle.std.specs.Prelude.{◌≡◌, ◌≢◌, true, false, Some, None};
 ghost use Rattle.event_queue.specs.declared.reply.RegisterResult.TheVariants.{Registered, NeverInserted};
+ghost use Rattle.futures.specs.Task.{Covers, Keeps};
 ghost use Rattle.event_queue.specs.declared.reply.State.TheVariants.{NotifiedTaken};
 
 use crate::event::Shared;
+use crate::locks::take_lock;
 use crate::task::{Task, Waking};
 use event_queue::{Key, RegisterResult, State};
+use futures::task::Context;
 use std::sync::Wait;
 
 /// By which key a listener stands in the queue of its event, and whether it has left the queue by a call of its own.
 ///
-/// The key is private to this file. So whatever takes the listener out of the queue is one of the two calls below, and
+/// The key is private to this file. So whatever takes the listener out of the queue is one of the three calls below, and
 /// each of them notes that it did: a listener that is not finished after a call was not taken out by that call.
 #[derive(Drop)]
 pub(super) struct Membership {
@@ -19,6 +22,7 @@ pub(super) struct Membership {
 }
 
 impl Membership {
+    #[inline(always)]
     pub(super) fn new(key: Key) -> Self
         ensures { result.is_finished ≡ false }
     {
@@ -29,6 +33,7 @@ impl Membership {
     }
 
     /// Takes the tag if the listener was told, which takes it out of the queue; else stores the task.
+    #[inline(always)]
     pub(super) fn register<T, R: Wait>(
         &mut self,
         rt: &R,
@@ -42,13 +47,40 @@ impl Membership {
         if self.is_finished {
             return RegisterResult::NeverInserted;
         }
-        let found = shared.lock(rt).register(self.key, task);
+        let found = take_lock(shared.queue(), rt).register(self.key, task);
         self.is_finished = !matches!(found, RegisterResult::Registered);
         found
     }
 
+    /// Takes the tag if the listener was told, which takes it out of the queue; else registers the task that polls, whose
+    /// waker stays where it is stored already.
+    pub(super) fn register_in<T, R: Wait>(
+        &mut self,
+        rt: &R,
+        shared: &Shared<T>,
+        cx: &mut Context<'_>,
+    ) -> RegisterResult<T>
+        ensures finished { self.old.is_finished ≡ true → result ≡ NeverInserted }
+        ensures stays { result ≡ Registered → (self.old.is_finished ≡ false) × (self.new ≡ self.old) }
+        ensures leaves { result ≢ Registered → self.new.is_finished ≡ true }
+        ensures registered { result ≡ Registered → Covers cx.new (λ s. s ≡ shared.now.source.source.id) }
+        ensures kept { Keeps cx.old cx.new }
+    {
+        if self.is_finished {
+            RegisterResult::NeverInserted
+        } else {
+            let found = take_lock(shared.queue(), rt).register_with(self.key, &shared.source, cx);
+            self.is_finished = matches!(
+                found,
+                RegisterResult::Notified(_) | RegisterResult::NeverInserted
+            );
+            found
+        }
+    }
+
     /// Takes the listener out of the queue, if it is there, and answers what it was. With `propagate` its notification
     /// is passed on.
+    #[inline(always)]
     pub(super) fn remove<T: Drop, R: Wait>(
         &mut self,
         rt: &R,
@@ -63,8 +95,9 @@ impl Membership {
             return None;
         }
         self.is_finished = true;
-        shared
-            .lock(rt)
-            .remove(self.key, propagate, &mut Waking::new(rt))
+        let mut waking = Waking::new(rt);
+        let former = take_lock(shared.queue(), rt).remove(self.key, propagate, &mut waking);
+        waking.finish();
+        former
     }
 }

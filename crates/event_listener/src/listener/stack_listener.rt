@@ -5,7 +5,7 @@ use super::inner_listener::InnerListener;
 use super::wait::{Limit, wait_until_told, wait_within};
 use super::{Listener, NeverInserted, WaitError};
 use crate::event::{Event, Shared};
-use futures::task::{Poll, Waker};
+use futures::task::{Context, Poll, Waker};
 use std::fmt;
 use std::marker::Model;
 use std::sync::Wait;
@@ -32,6 +32,7 @@ impl<'ev, T, R: Wait + Clock + Clone> Model for StackListener<'ev, T, R> {
       event_number = listener.inner.event_number;
       key = listener.inner.membership.key;
       is_finished = listener.inner.membership.is_finished;
+      source = listener.shared.now.source.source.id;
     } };
 }
 
@@ -49,8 +50,15 @@ impl<T: Drop, R: Wait + Clock + Clone> Listener<T> for StackListener<'_, T, R> {
 
     ghost is_finished = { λ listener. listener.is_finished };
 
+    ghost source = { λ listener. listener.source };
+
+    #[inline(always)]
     fn poll(&mut self, waker: Waker) -> Result<Poll<T>, NeverInserted> {
         self.inner.poll(self.shared, waker)
+    }
+
+    fn poll_in(&mut self, cx: &mut Context<'_>) -> Result<Poll<T>, NeverInserted> {
+        self.inner.poll_in(self.shared, cx)
     }
 
     fn wait(self) -> Result<T, WaitError<Self>> {
@@ -80,6 +88,7 @@ impl<T: Drop, R: Wait + Clock + Clone> Listener<T> for StackListener<'_, T, R> {
 }
 
 impl<T: Drop, R: Wait + Clock + Clone> Drop for StackListener<'_, T, R> {
+    #[inline(always)]
     fn drop(self) {
         let Self { shared, inner } = self;
         let _ = inner.remove(shared, true);

@@ -4,6 +4,7 @@ ghost use Rattle.std.specs.Prelude.{◌≡◌, false, IfOk};
 use super::StackListener;
 use super::inner_listener::InnerListener;
 use crate::event::{Event, Shared};
+use crate::locks::take_lock;
 use event_queue::ListenError;
 use std::alloc::Global;
 use std::fmt;
@@ -62,6 +63,7 @@ impl<'ev, T> StackSlot<'ev, T> {
     /// the queue has given out all serial numbers. Neither inserts anybody, and either drops the slot.
     ///
     /// The call allocates where the queue has no spare slot. It may wait for the lock of the event.
+    #[inline(always)]
     pub fn listen<R>(self, rt: &R) -> Result<StackListener<'ev, T, R>, ListenError>
     where
         T: Drop,
@@ -72,7 +74,7 @@ impl<'ev, T> StackSlot<'ev, T> {
         let Ok(runtime) = rt.clone() else {
             return Err(ListenError::Memory);
         };
-        let key = self.shared.lock(rt).insert()?;
+        let key = take_lock(self.shared.queue(), rt).insert()?;
         let inner = InnerListener::new(key, self.event_number, runtime, self.alloc);
         Ok(StackListener::new(self.shared, inner))
     }

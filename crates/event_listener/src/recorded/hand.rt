@@ -3,10 +3,13 @@ ghost use Rattle.std.specs.Prelude.{◌≡◌, [], OnErr, IfErr, IfOk};
 ghost use Rattle.event_listener.specs.RecordedStep.{IsReplyTo, without_task};
 ghost use Rattle.event_listener.specs.Noting.{noted, new_hands};
 
+mod exchange;
+
 use super::call::{RecordedCall, StepCall};
 use super::error::RecordError;
 use super::reply::RecordedReply;
 use super::state::RecordedState;
+use crate::locks::take_lock;
 use crate::task::Waking;
 use std::alloc::{AllocError, Global};
 use std::marker::Model;
@@ -99,6 +102,7 @@ pub(super) fn new_hands<T>(
 impl<T: Copy + Eq> Hand<T> {
     // Makes one call under the lock, and notes it with its reply. Room for the note is made first, so a refusal leaves
     // queue, record and notes as they were.
+    #[inline(always)]
     pub(super) fn make<R: Wait>(
         &mut self,
         rt: &R,
@@ -112,9 +116,10 @@ impl<T: Copy + Eq> Hand<T> {
     {
         self.notes.reserve(1)?;
         let recorded = call.recorded();
-        let reply = state
-            .lock(rt)
-            .apply(self.number, call, &mut Waking::new(rt))?;
+        let mut waking = Waking::new(rt);
+        let applied = take_lock(state, rt).apply(self.number, call, &mut waking);
+        waking.finish();
+        let reply = applied?;
         self.notes.push_reserved(Note {
             call: recorded,
             reply,

@@ -10,6 +10,7 @@ use super::hand::Hand;
 use super::reply::{Former, RecordedReply};
 use super::wait::wait_within;
 use crate::listener::{Limit, WaitError};
+use crate::locks::take_lock;
 use crate::task::{Task, Waking};
 use event_queue::{Key, RegisterResult};
 use futures::task::{Poll, Waker};
@@ -200,10 +201,9 @@ impl<T: Copy + Eq, R: Wait + Clock + Clone> Drop for RecordedListener<'_, T, R> 
             runtime,
             alloc: _,
         } = self;
-        event
-            .state()
-            .lock(&runtime)
-            .apply_end(key, &mut Waking::new(&runtime));
+        let mut waking = Waking::new(&runtime);
+        take_lock(event.state(), &runtime).apply_end(key, &mut waking);
+        waking.finish();
     }
 }
 

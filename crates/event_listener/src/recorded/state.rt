@@ -7,6 +7,8 @@ ghost use Rattle.event_listener.specs.RecordedStep.{StepsAnySpare, IsReplyTo, wi
 ghost use Rattle.event_listener.specs.Replay.{ReplaysTo, replays};
 ghost use Rattle.event_listener.specs.Recording.{Ends};
 
+mod exchange;
+
 use super::call::{RecordedCall, StepCall};
 use super::entry::Entry;
 use super::error::RecordError;
@@ -20,8 +22,8 @@ use std::marker::Model;
 /// A queue and the record of every step that it made: what stands under the lock of a recorded event.
 ///
 /// The type keeps that the record replays to the queue, and room to record the end of each listener that stands in it.
-/// Only [`apply`](RecordedState::apply) and [`apply_end`](RecordedState::apply_end) change it; each makes one step of
-/// the queue and records it. No call takes a lock, and none waits unless its sink does. A contract sees a state as its
+/// Only [`apply`](RecordedState::apply), [`apply_end`](RecordedState::apply_end) and the polls of this crate change it;
+/// each makes one step of the queue and records it. No call takes a lock, and none waits unless its sink does. A contract sees a state as its
 /// entries and its queue, but for how much is spare.
 #[derive(Drop)]
 pub struct RecordedState<T: Copy + Eq> {
@@ -75,6 +77,7 @@ impl<T: Copy + Eq> RecordedState<T> {
     /// it returns [`RecordError::Memory`], makes no call, drops the task of the call, and leaves the queue, the record
     /// and the sink as they were. It returns no other error: where the serials are used up, that is the reply, and it
     /// is recorded.
+    #[inline(always)]
     pub fn apply<S: WakeSink<Task>>(
         &mut self,
         hand: usize,

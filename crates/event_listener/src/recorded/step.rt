@@ -4,15 +4,17 @@ ghost use Rattle.std.specs.List.{FoldsTo};
 ghost use Rattle.event_queue.specs.Queue.{IsQueue, how_many, after_telling, tasks_of};
 ghost use Rattle.event_queue.specs.Remove.{woken_by_removal};
 ghost use Rattle.event_listener.specs.RecordedStep.{Steps, RemovesAs, without_task, task_of, woken_by_call};
+ghost use Rattle.event_listener.specs.RecordedPoll.{RegistersSome, ExchangesIfWaiting};
 ghost use Rattle.event_listener.specs.Recording.{unspared};
 
 use super::call::StepCall;
 use super::copied_tag::CopiedTag;
 use super::reply::{Former, RecordedReply};
 use crate::task::Task;
-use event_queue::{Key, List, WakeSink};
+use event_queue::{Key, List, TaskExchange, WakeSink};
 
 /// Makes the call, and returns what the queue answered. It allocates where an insertion does, and never waits.
+#[inline(always)]
 pub(super) fn make_step<T: Copy, S: WakeSink<Task>>(
     list: &mut List<T, Task>,
     call: StepCall<T>,
@@ -45,7 +47,23 @@ pub(super) fn make_step<T: Copy, S: WakeSink<Task>>(
     }
 }
 
+/// Registers a listener, with a task that is made of the one that it stored. It allocates and waits where the exchange
+/// does.
+pub(super) fn make_exchange<T: Copy, C, X: TaskExchange<Task, C>>(
+    list: &mut List<T, Task>,
+    key: Key,
+    exchange: &X,
+    on: &mut C,
+) -> RecordedReply<T>
+    ensures step { RegistersSome list.old key result list.new }
+    ensures exchanged { ExchangesIfWaiting (X.exchanged exchange.now) on.old result on.new }
+    ensures queue { IsQueue list.new }
+{
+    RecordedReply::Registered(list.register_with(key, exchange, on))
+}
+
 /// Removes a listener, and returns what it was without its task. It neither allocates nor waits.
+#[inline(always)]
 pub(super) fn make_removal<T: Copy, S: WakeSink<Task>>(
     list: &mut List<T, Task>,
     key: Key,

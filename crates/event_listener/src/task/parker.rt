@@ -61,12 +61,25 @@ pub(crate) struct Unparker {
 }
 
 impl Unparker {
-    /// Sets the token, and wakes the thread that is parked on it.
-    pub(crate) fn unpark<R: Wait>(self, rt: &R) {
-        let token = &self.token;
-        let mut is_set = token.is_set.lock(rt);
-        *is_set = true;
-        drop(is_set);
+    /// Sets the token: the thread is woken. If it sleeps already, it does so until the signal is given.
+    #[cold]
+    #[inline(never)]
+    pub(super) fn set_token<R: Wait>(self, rt: &R) -> Signal {
+        let Unparker { token } = self;
+        *token.is_set.lock(rt) = true;
+        Signal { token }
+    }
+}
+
+/// What ends the sleep of a thread whose token is set. It is no `Drop`: to give it is the only thing to do with it.
+pub(super) struct Signal {
+    token: Arc<Token>,
+}
+
+impl Signal {
+    /// Ends the sleep of the thread, if it sleeps. The call does not wait.
+    pub(super) fn give(self) {
+        let Signal { token } = self;
         token.changed.notify_one();
     }
 }

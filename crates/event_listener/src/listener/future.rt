@@ -1,0 +1,42 @@
+//! Listeners as futures.
+ghost use Rattle.std.specs.Prelude.{◌≡◌, true, IsErr};
+
+use super::{EventListener, Listener, NeverInserted, StackListener};
+use futures::Future;
+use futures::task::{Context, Poll};
+use std::sync::Wait;
+use std::time::Clock;
+
+/// Gives the tag once the listener is told. A listener that has given its tag gives [`NeverInserted`].
+impl<T: Drop, R: Wait + Clock + Clone> Future for EventListener<T, R> {
+    type Output = Result<T, NeverInserted>;
+
+    ghost needs = { λ listener s. s ≡ listener.source };
+
+    ghost gives = { λ listener output. listener.is_finished ≡ true → IsErr output };
+
+    fn poll(&mut self, cx: &mut Context<'_>) -> Poll<Result<T, NeverInserted>> {
+        match self.poll_in(cx) {
+            Ok(Poll::Ready(tag)) => Poll::Ready(Ok(tag)),
+            Ok(Poll::Pending) => Poll::Pending,
+            Err(gone) => Poll::Ready(Err(gone)),
+        }
+    }
+}
+
+/// Gives the tag once the listener is told. A listener that has given its tag gives [`NeverInserted`].
+impl<T: Drop, R: Wait + Clock + Clone> Future for StackListener<'_, T, R> {
+    type Output = Result<T, NeverInserted>;
+
+    ghost needs = { λ listener s. s ≡ listener.source };
+
+    ghost gives = { λ listener output. listener.is_finished ≡ true → IsErr output };
+
+    fn poll(&mut self, cx: &mut Context<'_>) -> Poll<Result<T, NeverInserted>> {
+        match self.poll_in(cx) {
+            Ok(Poll::Ready(tag)) => Poll::Ready(Ok(tag)),
+            Ok(Poll::Pending) => Poll::Pending,
+            Err(gone) => Poll::Ready(Err(gone)),
+        }
+    }
+}

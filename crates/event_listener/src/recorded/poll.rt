@@ -1,0 +1,48 @@
+//! Polls of recorded listeners that keep the waker of their task.
+ghost use Rattle.std.specs.Prelude.{◌≡◌, IfOk};
+ghost use Rattle.futures.specs.Task.{IsArmed, Keeps};
+ghost use Rattle.futures.specs.Poll.{OnPending};
+ghost use Rattle.event_listener.specs.Noting.{Owns};
+ghost use Rattle.event_listener.specs.RecordedCalls.{Polls};
+
+use super::hand::Hand;
+use super::listener::{RecordedListener, RecordedPollError};
+use super::reply::RecordedReply;
+use crate::task::EventSource;
+use event_queue::RegisterResult;
+use futures::task::{Context, Poll};
+use std::sync::Wait;
+use std::time::Clock;
+
+impl<T: Copy + Eq, R: Wait + Clock + Clone> RecordedListener<'_, T, R> {
+    /// As [`poll`](RecordedListener::poll), with the waker of the task that polls. Where the listener has stored one of
+    /// that task already, it stays, and nobody is woken.
+    ///
+    /// Where it stored another task's waker, that task is woken. Where no waker can be made, the task asks for another
+    /// poll. A poll that is refused memory leaves no waker, so a future gives that error, or polls again by itself.
+    pub fn poll_in(
+        &mut self,
+        hand: &mut Hand<T>,
+        cx: &mut Context<'_>,
+    ) -> Result<Poll<T>, RecordedPollError>
+        requires { Owns self.old.event hand.old }
+        ensures noted { Polls self.old.key hand.old result hand.new }
+        ensures same { self.new ≡ self.old }
+        ensures registered { IfOk result (λ polled. OnPending polled (IsArmed cx.new)) }
+        ensures kept { Keeps cx.old cx.new }
+    {
+        let source = EventSource::new();
+        let state = self.event.state();
+        let Ok(reply) = hand.make_exchange(&self.runtime, state, self.key, &source, cx) else {
+            return Err(RecordedPollError::Memory);
+        };
+        match reply {
+            RecordedReply::Registered(RegisterResult::Notified(tag)) => Ok(Poll::Ready(tag)),
+            RecordedReply::Registered(RegisterResult::Registered) => Ok(Poll::Pending),
+            RecordedReply::Registered(RegisterResult::NeverInserted) => {
+                Err(RecordedPollError::NeverInserted)
+            }
+            _ => unreachable!(),
+        }
+    }
+}
