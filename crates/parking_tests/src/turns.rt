@@ -27,14 +27,14 @@ where
     R: Runtime,
 {
     let deadline = deadline_after(rt, Duration::from_secs(50)).expect(rt, "a moment");
-    let mut listener = listen::<K, _, R>(rt, own);
+    let mut listener = listen::<K, _, R, R>(rt, rt, own);
     ready.wait(rt);
     for _ in 0..ROUNDS {
         if serves {
             other.notify_additional(rt, 1);
         }
         is_told(rt, listener, deadline);
-        listener = listen::<K, _, R>(rt, own);
+        listener = listen::<K, _, R, R>(rt, rt, own);
         if !serves {
             other.notify_additional(rt, 1);
         }
@@ -71,7 +71,7 @@ where
     R: Runtime,
 {
     for _ in 0..ROUNDS {
-        let listener = listen::<K, _, R>(rt, event);
+        let listener = listen::<K, _, R, R>(rt, rt, event);
         listened.fetch_add(1, Ordering::SeqCst);
         check(rt, "wait", answered(listener.wait()), Ok(()));
     }

@@ -1,8 +1,10 @@
 //! Threads that park, and what wakes them.
-use crate::support::{Runtime, check, listen, new_event};
-use event_listener::{Event, IntoTagged, Listener};
+use crate::support::{Runtime, check, listen, new_event, nobody_is_left};
+use event_listener::{Event, IntoTagged, Listener, NotifyError};
+use std::alloc::AllocError;
 use std::process::Abort;
-use std::sync::Wait;
+use std::sync::atomic::{AtomicBool, Ordering};
+use std::sync::{Arc, Wait};
 use std::thread::{self, Threads};
 use std::time::{Clock, CpuClock, Duration, Instant};
 use test_support::{Borrowing, ListenerKind, Sharing, TIMED_WAITS, WaitCall};
@@ -25,10 +27,6 @@ fn soon() -> Duration {
 // Tells so many listeners, each with the tag 7.
 fn tell<R: Abort + Wait>(rt: &R, event: &Event<u32>, n: usize) {
     check(rt, "notify", event.notify(rt, n.tag(7u32)), Ok(n));
-}
-
-fn nobody_is_left<R: Abort + Wait>(rt: &R, event: &Event<u32>) {
-    check(rt, "listeners", event.total_listeners(rt), 0);
 }
 
 // The listener is told, with the tag 7.
@@ -82,7 +80,7 @@ where
     K: ListenerKind<'ev, u32, R>,
     R: Runtime + CpuClock + Threads + Sync,
 {
-    let listener = listen::<K, _, R>(rt, event);
+    let listener = listen::<K, _, R, R>(rt, rt, event);
     is_woken_by(rt, listener, wait, || tell(rt, event, 1));
     nobody_is_left(rt, event);
 }
@@ -123,15 +121,15 @@ where
 #[test]
 fn the_drop_of_a_told_listener_wakes_a_parked_thread(rt: HostRuntime) {
     let event = new_event(&rt);
-    let first = listen::<Sharing, _, _>(&rt, &event);
-    let second = listen::<Sharing, _, _>(&rt, &event);
+    let first = listen::<Sharing, _, _, _>(&rt, &rt, &event);
+    let second = listen::<Sharing, _, _, _>(&rt, &rt, &event);
     is_woken_by_a_drop(&rt, &event, first, second);
-    let first = listen::<Borrowing, _, _>(&rt, &event);
-    let second = listen::<Borrowing, _, _>(&rt, &event);
+    let first = listen::<Borrowing, _, _, _>(&rt, &rt, &event);
+    let second = listen::<Borrowing, _, _, _>(&rt, &rt, &event);
     is_woken_by_a_drop(&rt, &event, first, second);
 }
 
-fn both_are_woken_by_one<L, R>(rt: &R, event: &Event<u32>, first: L, second: L)
+fn all_are_woken_by_one<L, R>(rt: &R, event: &Event<u32>, first: L, second: L, third: L)
 where
     L: Listener<u32> + Drop + Send,
     R: Runtime + CpuClock + Threads + Sync,
@@ -140,18 +138,82 @@ where
     thread::join(
         rt,
         || is_told(rt, first, WaitCall::Timeout),
-        || is_woken_by(rt, second, WaitCall::Timeout, || tell(rt, event, 2)),
+        || {
+            thread::join(
+                rt,
+                || is_told(rt, second, WaitCall::Timeout),
+                || is_woken_by(rt, third, WaitCall::Timeout, || tell(rt, event, 3)),
+            );
+        },
     );
     ends_soon(rt, start);
 }
 
 #[test]
-fn one_notification_wakes_two_parked_threads(rt: HostRuntime) {
+fn one_notification_wakes_three_parked_threads(rt: HostRuntime) {
     let event = new_event(&rt);
-    let first = listen::<Sharing, _, _>(&rt, &event);
-    let second = listen::<Sharing, _, _>(&rt, &event);
-    both_are_woken_by_one(&rt, &event, first, second);
-    let first = listen::<Borrowing, _, _>(&rt, &event);
-    let second = listen::<Borrowing, _, _>(&rt, &event);
-    both_are_woken_by_one(&rt, &event, first, second);
+    let first = listen::<Sharing, _, _, _>(&rt, &rt, &event);
+    let second = listen::<Sharing, _, _, _>(&rt, &rt, &event);
+    let third = listen::<Sharing, _, _, _>(&rt, &rt, &event);
+    all_are_woken_by_one(&rt, &event, first, second, third);
+    let first = listen::<Borrowing, _, _, _>(&rt, &rt, &event);
+    let second = listen::<Borrowing, _, _, _>(&rt, &rt, &event);
+    let third = listen::<Borrowing, _, _, _>(&rt, &rt, &event);
+    all_are_woken_by_one(&rt, &event, first, second, third);
+}
+
+// A tag of which one clone is made: each further one is refused.
+#[derive(Drop)]
+struct Once {
+    is_given: Arc<AtomicBool>,
+}
+
+impl Clone for Once {
+    fn clone(&self) -> Result<Self, AllocError> {
+        if self.is_given.swap(true, Ordering::SeqCst) {
+            return Err(AllocError);
+        }
+        let is_given = Arc::try_clone(&self.is_given)?;
+        Ok(Once { is_given })
+    }
+}
+
+fn tell_one_of_two<R: Runtime>(rt: &R, event: &Event<Once>) {
+    let is_given = Arc::new(rt.alloc(), AtomicBool::new(false)).expect(rt, "a tag");
+    let answer = event.notify(rt, 2.tag(Once { is_given }));
+    check(rt, "notify", answer, Err(NotifyError { told: 1 }));
+}
+
+fn gets_a_tag<L: Listener<Once> + Drop, R: Runtime>(rt: &R, listener: L) {
+    let tag = WaitCall::Timeout.make(rt, listener, limit());
+    check(rt, "wait", matches!(tag, Ok(Some(_))), true);
+}
+
+fn is_woken_where_a_tag_is_refused<L, R>(rt: &R, event: &Event<Once>, first: L, second: L)
+where
+    L: Listener<Once> + Drop + Send,
+    R: Runtime + Threads + Sync,
+{
+    let start = Instant::now(rt).expect(rt, "the time");
+    thread::join(
+        rt,
+        || {
+            rt.sleep(a_while());
+            tell_one_of_two(rt, event);
+        },
+        || gets_a_tag(rt, first),
+    );
+    ends_soon(rt, start);
+    drop(second);
+}
+
+#[test]
+fn a_thread_told_before_a_tag_is_refused_is_woken(rt: HostRuntime) {
+    let event = new_event(&rt);
+    let first = listen::<Sharing, _, _, _>(&rt, &rt, &event);
+    let second = listen::<Sharing, _, _, _>(&rt, &rt, &event);
+    is_woken_where_a_tag_is_refused(&rt, &event, first, second);
+    let first = listen::<Borrowing, _, _, _>(&rt, &rt, &event);
+    let second = listen::<Borrowing, _, _, _>(&rt, &rt, &event);
+    is_woken_where_a_tag_is_refused(&rt, &event, first, second);
 }

@@ -1,46 +1,33 @@
-use crate::support::Recorded;
-use event_listener::{Former, RecordedCall, RecordedReply, StepCall};
-use std::test::Fail;
+//! The calls of a recorded state while memory is refused.
+use crate::support::{Recorded, ended};
+use event_listener::{Former, StepCall};
 use test_support::Hog;
 
 #[test]
-fn a_call_that_is_refused_memory_changes_nothing(rt: HostRuntime) -> Result<(), Fail> {
-    let alloc = rt.alloc();
-    let mut recorded = Recorded::new(&rt, alloc)?;
-    let hog = Hog::new(alloc)?;
-    recorded.refuses(StepCall::Listen);
-    recorded.refuses(StepCall::TotalListeners);
+fn a_call_that_is_refused_memory_changes_nothing(rt: HostRuntime) {
+    let mut recorded = Recorded::new(&rt);
+    let hog = Hog::new(rt.alloc()).expect(&rt, "all memory");
+    recorded.refuses("listen", StepCall::Listen);
+    recorded.refuses("total_listeners", StepCall::TotalListeners);
     recorded.counts(0, 0);
-    assert!(rt; recorded.state.entries().is_empty());
+    recorded.has_recorded_nothing();
 
     drop(hog);
-    recorded.answers(StepCall::TotalListeners, RecordedReply::TotalListeners(0));
+    recorded.total(0);
     recorded.listens(0);
     recorded.counts(1, 0);
-    Ok(())
 }
 
 #[test]
-fn an_end_needs_no_memory(rt: HostRuntime) -> Result<(), Fail> {
-    let alloc = rt.alloc();
-    let mut recorded = Recorded::new(&rt, alloc)?;
+fn an_end_needs_no_memory(rt: HostRuntime) {
+    let mut recorded = Recorded::new(&rt);
     let first = recorded.listens(0);
     let second = recorded.listens(1);
-    let hog = Hog::new(alloc)?;
+    let hog = Hog::new(rt.alloc()).expect(&rt, "all memory");
     recorded.ends(first);
     recorded.ends(second);
     recorded.counts(0, 0);
 
     drop(hog);
-    recorded.has_recorded(
-        alloc,
-        4,
-        RecordedCall::Remove {
-            key: second,
-            propagate: true,
-        },
-        RecordedReply::Removed(Some(Former::Created)),
-        None,
-    );
-    Ok(())
+    recorded.has_recorded(4, ended(second, Former::Created));
 }

@@ -1,72 +1,141 @@
 //! A recorded queue whose replies are compared as they come.
+use crate::checks::{Runtime, check};
 use event_listener::{
-    Entry, Key, RecordError, RecordedCall, RecordedReply, RecordedState, StepCall, Task, Woken,
-    replays,
+    Entry, Former, Key, RecordError, RecordedCall, RecordedReply, RecordedState, RegisterResult,
+    StepCall, Task, Woken, replays,
 };
-use std::alloc::{AllocError, Global};
-use std::process::Abort;
+use test_support::any_waker;
 
+/// A recorded queue, and the tasks that it woke.
+///
+/// A method makes a call of hand 0, but for the drop of a listener, and ends the test where the answer is not the one
+/// that its name and its arguments say.
 #[derive(Drop)]
-pub struct Recorded<'r, R: Abort> {
+pub struct Recorded<'r, R> {
     rt: &'r R,
-    pub state: RecordedState<u8>,
-    pub woken: Woken<Task>,
+    state: RecordedState<u8>,
+    woken: Woken<Task>,
 }
 
-impl<'r, R: Abort> Recorded<'r, R> {
-    pub fn new(rt: &'r R, alloc: Global) -> Result<Self, AllocError> {
-        Ok(Recorded {
+/// The entry of a removal by hand 0, which passes nothing on.
+pub fn removed(key: Key, former: Former<u8>) -> Entry<u8> {
+    Entry {
+        hand: Some(0),
+        call: RecordedCall::Remove {
+            key,
+            propagate: false,
+        },
+        reply: RecordedReply::Removed(Some(former)),
+    }
+}
+
+/// The entry of the drop of a listener, which is nobody's call.
+pub fn ended(key: Key, former: Former<u8>) -> Entry<u8> {
+    Entry {
+        hand: None,
+        call: RecordedCall::Remove {
+            key,
+            propagate: true,
+        },
+        reply: RecordedReply::Removed(Some(former)),
+    }
+}
+
+impl<'r, R: Runtime> Recorded<'r, R> {
+    pub fn new(rt: &'r R) -> Self {
+        let woken = Woken::with_room(rt.alloc(), 8);
+        Recorded {
             rt,
-            state: RecordedState::new(alloc),
-            woken: Woken::with_room(alloc, 8)?,
-        })
+            state: RecordedState::new(rt.alloc()),
+            woken: woken.expect(rt, "a sink"),
+        }
     }
 
-    /// Makes a call of hand 0, and compares its reply.
-    pub fn answers(&mut self, call: StepCall<u8>, reply: RecordedReply<u8>) {
-        let answer = self.state.apply(0, call, &mut self.woken);
-        assert_eq!(self.rt; answer, Ok(reply));
+    fn apply(&mut self, call: StepCall<u8>) -> Result<RecordedReply<u8>, RecordError> {
+        self.state.apply(0, call, &mut self.woken)
     }
 
-    /// Makes a call that is refused memory.
-    pub fn refuses(&mut self, call: StepCall<u8>) {
-        let answer = self.state.apply(0, call, &mut self.woken);
-        assert_eq!(self.rt; answer, Err(RecordError::Memory));
+    fn answers(&mut self, asked: &str, call: StepCall<u8>, reply: RecordedReply<u8>) {
+        let answer = self.apply(call);
+        check(self.rt, asked, answer, Ok(reply));
     }
 
-    /// Inserts a listener, and looks at its serial number.
+    /// The call is refused memory.
+    pub fn refuses(&mut self, asked: &str, call: StepCall<u8>) {
+        let answer = self.apply(call);
+        check(self.rt, asked, answer, Err(RecordError::Memory));
+    }
+
+    /// A new listener, which gets this serial number.
     pub fn listens(&mut self, serial: u64) -> Key {
-        let answer = self.state.apply(0, StepCall::Listen, &mut self.woken);
-        let Ok(RecordedReply::Listened(Ok(key))) = answer else {
+        let Ok(RecordedReply::Listened(Ok(key))) = self.apply(StepCall::Listen) else {
             panic!(self.rt; "no listener was inserted");
         };
-        assert_eq!(self.rt; key.serial(), serial);
+        check(self.rt, "serial", key.serial(), serial);
         key
     }
 
-    /// Drops a listener.
+    /// The listener hands in a task.
+    pub fn registers(&mut self, key: Key, answer: RegisterResult<u8>) {
+        let waker = any_waker(self.rt).expect(self.rt, "a waker");
+        let task = Task::from_waker(waker);
+        let reply = RecordedReply::Registered(answer);
+        self.answers("register", StepCall::Register { key, task }, reply);
+    }
+
+    /// A notification of one tells one.
+    pub fn tells_one(&mut self, additional: bool, tag: u8) {
+        let call = StepCall::Notify {
+            count: 1,
+            additional,
+            tag,
+        };
+        self.answers("notify", call, RecordedReply::Notified(1));
+    }
+
+    /// The listener, which was this, leaves without passing a notification on.
+    pub fn removes(&mut self, key: Key, former: Former<u8>) {
+        let call = StepCall::Remove {
+            key,
+            propagate: false,
+        };
+        self.answers("remove", call, RecordedReply::Removed(Some(former)));
+    }
+
+    /// Whether some listener is told.
+    pub fn is_notified(&mut self, told: bool) {
+        let reply = RecordedReply::IsNotified(told);
+        self.answers("is_notified", StepCall::IsNotified, reply);
+    }
+
+    /// How many listeners there are.
+    pub fn total(&mut self, total: usize) {
+        let reply = RecordedReply::TotalListeners(total);
+        self.answers("total_listeners", StepCall::TotalListeners, reply);
+    }
+
+    /// The listener is dropped.
     pub fn ends(&mut self, key: Key) {
         self.state.apply_end(key, &mut self.woken);
     }
 
-    /// Looks at how many entries the record has, at the last of them, and at whether it replays.
-    pub fn has_recorded(
-        &self,
-        alloc: Global,
-        entries: usize,
-        call: RecordedCall<u8>,
-        reply: RecordedReply<u8>,
-        hand: Option<usize>,
-    ) {
-        assert_eq!(self.rt; self.state.entries().len(), entries);
-        let last = self.state.entries().last().copied();
-        assert_eq!(self.rt; last, Some(Entry { hand, call, reply }));
-        assert_eq!(self.rt; replays(alloc, self.state.entries()), Ok(true));
+    /// The record has so many entries, and this one is its last. It replays.
+    pub fn has_recorded(&self, entries: usize, last: Entry<u8>) {
+        let recorded = self.state.entries();
+        check(self.rt, "entries", recorded.len(), entries);
+        check(self.rt, "last", recorded.last().copied(), Some(last));
+        let answer = replays(self.rt.alloc(), recorded);
+        check(self.rt, "replays", answer, Ok(true));
     }
 
-    /// Looks at how many listeners there are, and at how many tasks were woken.
+    /// Nothing is recorded.
+    pub fn has_recorded_nothing(&self) {
+        check(self.rt, "entries", self.state.entries().len(), 0);
+    }
+
+    /// There are so many listeners, and so many tasks were woken. Neither is asked by a call.
     pub fn counts(&self, listeners: usize, woken: usize) {
-        assert_eq!(self.rt; self.state.total_listeners(), listeners);
-        assert_eq!(self.rt; self.woken.tasks().len(), woken);
+        let found = (self.state.total_listeners(), self.woken.tasks().len());
+        check(self.rt, "listeners, woken", found, (listeners, woken));
     }
 }

@@ -1,12 +1,11 @@
+//! Replays of records that were written by hand.
+use crate::checks::{Runtime, check};
 use event_listener::{
     Entry, Former, Key, ListenError, Note, RecordedCall, RecordedReply, RegisterResult, replays,
 };
 use recorded_support::lines::{
     asked as is_notified, counted as total, listened, notified, registered, removed,
 };
-use std::alloc::AllocGlobal;
-use std::process::Abort;
-use std::test::Fail;
 
 fn key(slot: usize, serial: u64) -> Key {
     Key { slot, serial }
@@ -26,26 +25,27 @@ fn entry(hand: Option<usize>, note: Note<u8>) -> Entry<u8> {
 
 // Records that are compared as they come. All calls are those of the first hand.
 #[derive(Drop)]
-struct Records<'r, R: Abort + AllocGlobal> {
+struct Records<'r, R> {
     rt: &'r R,
 }
 
-impl<'r, R: Abort + AllocGlobal> Records<'r, R> {
+impl<'r, R: Runtime> Records<'r, R> {
     fn replays(&self, notes: &[Note<u8>]) {
-        self.check(notes, true);
+        self.answers(notes, true);
     }
 
     fn differs(&self, notes: &[Note<u8>]) {
-        self.check(notes, false);
+        self.answers(notes, false);
     }
 
-    fn check(&self, notes: &[Note<u8>], expected: bool) {
+    fn answers(&self, notes: &[Note<u8>], expected: bool) {
         let rt = self.rt;
         let mut entries = Vec::new(rt.alloc());
         for note in notes {
             entries.push(entry(Some(0), *note)).expect(rt, "room");
         }
-        assert_eq!(rt; replays(rt.alloc(), entries.as_slice()), Ok(expected));
+        let answer = replays(rt.alloc(), entries.as_slice());
+        check(rt, notes, answer, Ok(expected));
     }
 }
 
@@ -207,11 +207,14 @@ fn a_removal_passes_an_additional_notification_on(rt: HostRuntime) {
     ]);
 }
 
+fn replays_whoever_called<R: Runtime>(rt: &R, hand: Option<usize>) {
+    let entries = [entry(hand, listened(key(0, 0)))];
+    check(rt, hand, replays(rt.alloc(), &entries), Ok(true));
+}
+
 #[test]
-fn whose_call_it_was_is_not_looked_at(rt: HostRuntime) -> Result<(), Fail> {
-    for hand in [None, Some(0), Some(usize::MAX)] {
-        let entries = [entry(hand, listened(key(0, 0)))];
-        assert_eq!(rt; replays(rt.alloc(), &entries), Ok(true));
-    }
-    Ok(())
+fn whose_call_it_was_is_not_looked_at(rt: HostRuntime) {
+    replays_whoever_called(&rt, None);
+    replays_whoever_called(&rt, Some(0));
+    replays_whoever_called(&rt, Some(usize::MAX));
 }

@@ -1,7 +1,9 @@
-//! Tests of many threads on recorded events: what no clause says of the record that they make.
+//! Tests of several threads on recorded events: threads that park until they are woken, and the record of many.
 #![tactic(auto)]
 
 #[cfg(test)]
 mod many_threads;
+#[cfg(test)]
+mod parking;
 #[cfg(test)]
 mod support;

@@ -7,7 +7,7 @@ use std::process::Abort;
 use std::random::RandomSource;
 use std::sync::Wait;
 use std::thread::Threads;
-use std::time::Clock;
+use std::time::{Clock, CpuClock};
 
 /// What the tests ask of the runtime value of a thread.
 pub trait Runtime: Abort + AllocGlobal + RandomSource + Wait + Clock + Clone {}
@@ -15,9 +15,9 @@ pub trait Runtime: Abort + AllocGlobal + RandomSource + Wait + Clock + Clone {}
 impl<R: Abort + AllocGlobal + RandomSource + Wait + Clock + Clone> Runtime for R {}
 
 /// What the tests ask of a runtime value that several threads use.
-pub trait SharedRuntime: Runtime + Threads + Send + Sync {}
+pub trait SharedRuntime: Runtime + CpuClock + Threads + Send + Sync {}
 
-impl<R: Runtime + Threads + Send + Sync> SharedRuntime for R {}
+impl<R: Runtime + CpuClock + Threads + Send + Sync> SharedRuntime for R {}
 
 /// The answer is the expected one. Where it is not, the message has both, and what was asked.
 pub fn check<A, V, R>(rt: &R, asked: A, answer: V, expected: V)

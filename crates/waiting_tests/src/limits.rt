@@ -1,5 +1,5 @@
 //! Waits that end soon after their limits, or at once where no time is left.
-use crate::support::{Runtime, listen, new_event};
+use crate::support::{Runtime, check, has_listeners, listen, new_event};
 use event_listener::{Event, IntoNotification, IntoTagged};
 use std::time::{Duration, Instant};
 use test_support::{Borrowing, ListenerKind, Sharing, TIMED_WAITS, WaitCall};
@@ -29,7 +29,7 @@ where
             return;
         }
     }
-    assert!(rt; false, "each wait took nearly twice its time");
+    panic!(rt; "each wait took nearly twice its time");
 }
 
 #[test]
@@ -49,12 +49,13 @@ where
 {
     let told = listen::<K, _, R>(rt, event);
     let waiting = listen::<K, _, R>(rt, event);
-    assert_eq!(rt; event.notify(rt, 1.additional().tag(7u32)), Ok(1));
-    assert_eq!(rt; wait.make(rt, told, Duration::ZERO), Ok(Some(7)));
-    assert!(rt; !event.is_notified(rt));
-    assert_eq!(rt; event.total_listeners(rt), 1);
-    assert_eq!(rt; wait.make(rt, waiting, Duration::ZERO), Ok(None));
-    assert_eq!(rt; event.total_listeners(rt), 0);
+    let notified = event.notify(rt, 1.additional().tag(7u32));
+    check(rt, "notify", notified, Ok(1));
+    check(rt, wait, wait.make(rt, told, Duration::ZERO), Ok(Some(7)));
+    check(rt, "is_notified", event.is_notified(rt), false);
+    has_listeners(rt, event, 1);
+    check(rt, wait, wait.make(rt, waiting, Duration::ZERO), Ok(None));
+    has_listeners(rt, event, 0);
 }
 
 #[test]

@@ -1,7 +1,9 @@
 //! Waits that are refused.
-use crate::support::{Runtime, listen, new_event};
+use crate::support::{Runtime, check, listen, new_event};
 use event_listener::{Event, Listener, WaitError};
 use futures::task::Poll;
+use std::fmt::Display;
+use std::process::Abort;
 use std::time::{Duration, Instant};
 use test_support::{Borrowing, ListenerKind, Sharing, any_waker};
 
@@ -14,8 +16,14 @@ where
     let waker = any_waker(rt).expect(rt, "a waker");
     let mut listener = listen::<K, _, R>(rt, event);
     event.notify_relaxed(rt, 1);
-    assert_eq!(rt; listener.poll(waker), Ok(Poll::Ready(())));
+    check(rt, "poll", listener.poll(waker), Ok(Poll::Ready(())));
     listener
+}
+
+// The wait was refused since the listener is not in the queue.
+fn is_absent<A: Drop, L: Drop, R: Abort>(rt: &R, asked: &str, answer: Result<A, WaitError<L>>) {
+    let is_refused = matches!(answer, Err(WaitError::NeverInserted));
+    check(rt, asked, is_refused, true);
 }
 
 fn does_not_wait_once_finished<'ev, K, R>(rt: &R, event: &'ev Event<()>)
@@ -24,13 +32,13 @@ where
     R: Runtime,
 {
     let listener = finished::<K, R>(rt, event);
-    assert!(rt; matches!(listener.wait(), Err(WaitError::NeverInserted)));
+    is_absent(rt, "wait", listener.wait());
     let listener = finished::<K, R>(rt, event);
     let long = Duration::from_secs(3600);
-    assert!(rt; matches!(listener.wait_timeout(long), Err(WaitError::NeverInserted)));
+    is_absent(rt, "wait_timeout", listener.wait_timeout(long));
     let past = Instant::now(rt).expect(rt, "the time");
     let listener = finished::<K, R>(rt, event);
-    assert!(rt; matches!(listener.wait_deadline(past), Err(WaitError::NeverInserted)));
+    is_absent(rt, "wait_deadline", listener.wait_deadline(past));
 }
 
 #[test]
@@ -40,13 +48,14 @@ fn a_finished_listener_does_not_wait(rt: HostRuntime) {
     does_not_wait_once_finished::<Borrowing, _>(&rt, &event);
 }
 
+fn reads<E: Display + Drop, R: Runtime>(rt: &R, refusal: E, text: &str) {
+    let shown = format!(in rt.alloc(); "{refusal}").expect(rt, "a text");
+    check(rt, "the text", shown.as_str(), text);
+}
+
 #[test]
 fn texts_of_the_refusals(rt: HostRuntime) {
-    let alloc = rt.alloc();
     let absent: WaitError<u8> = WaitError::NeverInserted;
-    let text = format!(in alloc; "{absent}").expect(&rt, "a text");
-    assert_eq!(rt; text.as_str(), "listener is not in the queue");
-    let refused = WaitError::Memory(7u8);
-    let text = format!(in alloc; "{refused}").expect(&rt, "a text");
-    assert_eq!(rt; text.as_str(), "no memory for a parker");
+    reads(&rt, absent, "listener is not in the queue");
+    reads(&rt, WaitError::Memory(7u8), "no memory for a parker");
 }

@@ -1,6 +1,7 @@
-//! What the tests share: the calls that have to succeed. Each ends the test where it does not.
+//! What ends a test, and the calls that have to succeed.
 use event_listener::{Event, EventIds};
 use std::alloc::AllocGlobal;
+use std::fmt::Debug;
 use std::process::Abort;
 use std::random::RandomSource;
 use std::sync::Wait;
@@ -12,9 +13,33 @@ pub trait Runtime: Abort + AllocGlobal + RandomSource + Wait + Clock + Clone {}
 
 impl<R: Abort + AllocGlobal + RandomSource + Wait + Clock + Clone> Runtime for R {}
 
+/// The answer is the expected one. Where it is not, the message has both, and what was asked. The assertion stands here
+/// once, in a generic function, and is proved once.
+pub fn check<A, V, R>(rt: &R, asked: A, answer: V, expected: V)
+where
+    A: Debug + Drop,
+    V: PartialEq + Debug + Drop,
+    R: Abort,
+{
+    assert_eq!(rt; answer, expected, "{asked:?}");
+}
+
+/// So many listeners stand in the queue of the event.
+pub fn has_listeners<T, R: Abort + Wait>(rt: &R, event: &Event<T>, expected: usize) {
+    check(rt, "listeners", event.total_listeners(rt), expected);
+}
+
 /// A new event, the only one of its source.
 pub fn new_event<T, R: Abort>(rt: &R) -> Event<T> {
     Event::with_tag(EventIds::new().next().expect(rt, "an identity"))
+}
+
+/// Two events of one source.
+pub fn two_events<T, R: Abort>(rt: &R) -> (Event<T>, Event<T>) {
+    let mut ids = EventIds::new();
+    let first = Event::with_tag(ids.next().expect(rt, "an identity"));
+    let second = Event::with_tag(ids.next().expect(rt, "an identity"));
+    (first, second)
 }
 
 /// A new listener of this kind.

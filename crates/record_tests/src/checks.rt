@@ -4,13 +4,14 @@ use recorded_support::close_and_count;
 use std::alloc::AllocGlobal;
 use std::fmt::Debug;
 use std::process::Abort;
+use std::random::RandomSource;
 use std::sync::Wait;
 use std::time::Clock;
 
 /// What the tests ask of a runtime value.
-pub trait Runtime: Abort + AllocGlobal + Wait + Clock + Clone {}
+pub trait Runtime: Abort + AllocGlobal + RandomSource + Wait + Clock + Clone {}
 
-impl<R: Abort + AllocGlobal + Wait + Clock + Clone> Runtime for R {}
+impl<R: Abort + AllocGlobal + RandomSource + Wait + Clock + Clone> Runtime for R {}
 
 /// The answer is the expected one. Where it is not, the message has both, and what was asked.
 pub fn check<A, V, R>(rt: &R, asked: A, answer: V, expected: V)

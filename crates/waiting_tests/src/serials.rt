@@ -1,5 +1,5 @@
 //! An event whose serial numbers are used up.
-use crate::support::{Runtime, listen};
+use crate::support::{Runtime, check, has_listeners, listen};
 use event_listener::{Event, EventIds, IntoTagged, ListenError, Listener};
 use std::alloc::AllocGlobal;
 use std::process::Abort;
@@ -20,8 +20,8 @@ where
 {
     let total = event.total_listeners(rt);
     let refused = K::listen(rt, rt.alloc(), event).err();
-    assert_eq!(rt; refused, Some(ListenError::SerialsUsedUp));
-    assert_eq!(rt; event.total_listeners(rt), total);
+    check(rt, "listen", refused, Some(ListenError::SerialsUsedUp));
+    has_listeners(rt, event, total);
 }
 
 fn refuses_each_kind<R: Runtime>(rt: &R, event: &Event<u32>) {
@@ -30,11 +30,11 @@ fn refuses_each_kind<R: Runtime>(rt: &R, event: &Event<u32>) {
 }
 
 fn tells<R: Abort + Wait>(rt: &R, event: &Event<u32>, tag: u32, told: usize) {
-    assert_eq!(rt; event.notify(rt, 3.tag(tag)), Ok(told));
+    check(rt, "notify", event.notify(rt, 3.tag(tag)), Ok(told));
 }
 
 fn gives_its_tag<L: Listener<u32> + Drop, R: Abort>(rt: &R, listener: L) {
-    assert_eq!(rt; answered(listener.wait()), Ok(7));
+    check(rt, "wait", answered(listener.wait()), Ok(7));
 }
 
 // Two listeners get the last serial numbers.
@@ -48,7 +48,7 @@ where
     let last = listen::<Last, _, R>(rt, event);
     refuses_each_kind(rt, event);
     refuses_each_kind(rt, event);
-    assert_eq!(rt; event.total_listeners(rt), 2);
+    has_listeners(rt, event, 2);
 
     // Those that have a serial number are told as ever.
     tells(rt, event, 7, 2);

@@ -51,7 +51,7 @@ fn a_park_that_ends_early_does_not_end_a_wait(rt: HostRuntime) {
 }
 
 // A wait that looked at the time again and again would read its clock thousands of times.
-fn parks<R: Runtime + Clone>(rt: &R, wait: WaitCall) {
+fn parks<R: Runtime>(rt: &R, wait: WaitCall) {
     let reads = Cell::new(0);
     let counted = CountedClock { rt, reads: &reads };
     each_kind_ends_at_its_limit(rt, &counted, wait);

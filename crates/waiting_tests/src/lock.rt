@@ -1,5 +1,5 @@
 //! Calls that one thread makes while another holds the lock of their event.
-use crate::support::{Runtime, listen, new_event};
+use crate::support::{Runtime, check, has_listeners, listen, new_event};
 use event_listener::{Event, IntoNotification, IntoTagged, Listener};
 use std::process::Abort;
 use std::sync::{Barrier, Wait};
@@ -32,7 +32,7 @@ where
             call()
         },
     );
-    assert_eq!(rt; told, Ok(1));
+    check(rt, "notify", told, Ok(1));
     answer
 }
 
@@ -43,11 +43,10 @@ where
 {
     let _first = listen::<K, _, R>(rt, event);
     let _second = listen::<K, _, R>(rt, event);
-    assert!(rt; while_one_is_told(rt, event, || event.is_notified(rt)));
-    assert_eq!(rt;
-        while_one_is_told(rt, event, || event.total_listeners(rt)),
-        2
-    );
+    let is_notified = while_one_is_told(rt, event, || event.is_notified(rt));
+    check(rt, "is_notified", is_notified, true);
+    let total = while_one_is_told(rt, event, || event.total_listeners(rt));
+    check(rt, "listeners", total, 2);
 }
 
 #[test]
@@ -74,9 +73,10 @@ where
     R: Runtime + Threads + Sync,
 {
     let _third = listen::<Sharing, _, R>(rt, event);
-    assert_eq!(rt; left_by_a_drop(rt, event, first), 2);
-    assert!(rt; while_one_is_told(rt, event, || second.discard()));
-    assert_eq!(rt; event.total_listeners(rt), 1);
+    check(rt, "listeners", left_by_a_drop(rt, event, first), 2);
+    let was_told = while_one_is_told(rt, event, || second.discard());
+    check(rt, "discard", was_told, true);
+    has_listeners(rt, event, 1);
 }
 
 #[test]

@@ -2,7 +2,7 @@
 //!
 //! A tag is made under the lock of its event. So what the function of a notification calls is called while that lock is
 //! held, and a call that waited for it would not return.
-use crate::support::{Runtime, listen, new_event, two_events};
+use crate::support::{Runtime, check, has_listeners, listen, new_event, two_events};
 use event_listener::{Event, IntoTagged, Listener};
 use futures::task::{Poll, Waker};
 use futures::test::MockTask;
@@ -21,22 +21,22 @@ where
     F: FnMut() -> T + Drop,
     requires { F.IsAlwaysCallable call }
 {
-    assert_eq!(rt; event.notify(rt, 1.tag_with(call)), Ok(1));
+    check(rt, "notify", event.notify(rt, 1.tag_with(call)), Ok(1));
     answered(first.wait()).expect(rt, "a tag")
 }
 
 fn is_pending<L: Listener<()>, R: Abort>(rt: &R, listener: &mut L, waker: Waker) {
-    assert!(rt; matches!(listener.poll(waker), Ok(Poll::Pending)));
+    check(rt, "poll", listener.poll(waker), Ok(Poll::Pending));
 }
 
 fn is_ready<L: Listener<()>, R: Abort>(rt: &R, listener: &mut L, waker: Waker) {
-    assert!(rt; matches!(listener.poll(waker), Ok(Poll::Ready(()))));
+    check(rt, "poll", listener.poll(waker), Ok(Poll::Ready(())));
 }
 
 // Tells one listener, which wakes its task.
 fn wakes_by_telling<R: Abort + Wait>(rt: &R, event: &Event<()>, task: &MockTask) {
-    assert_eq!(rt; event.notify(rt, 1usize), Ok(1));
-    assert!(rt; task.is_woken());
+    check(rt, "notify", event.notify(rt, 1usize), Ok(1));
+    check(rt, "whether it is woken", task.is_woken(), true);
 }
 
 // A listener to the event is polled, told, woken, and gives its tag.
@@ -50,7 +50,7 @@ where
     is_pending(rt, &mut listener, waker_of(&task).expect(rt, "a waker"));
     wakes_by_telling(rt, event, &task);
     is_ready(rt, &mut listener, any_waker(rt).expect(rt, "a waker"));
-    assert_eq!(rt; event.total_listeners(rt), 0);
+    has_listeners(rt, event, 0);
 }
 
 fn each_kind_is_told<R: Runtime>(rt: &R, event: &Event<()>) {
@@ -91,7 +91,7 @@ where
             first.same_event(&elsewhere),
         ]
     });
-    assert_eq!(rt; answers, [true, false, true, false]);
+    check(rt, "answers", answers, [true, false, true, false]);
 }
 
 #[test]
@@ -103,7 +103,7 @@ fn identity_is_asked_while_the_lock_is_held(rt: HostRuntime) {
 
 fn is_shown_as_locked<R: Abort + AllocGlobal>(rt: &R, event: &Event<()>) {
     let shown = format!(in rt.alloc(); "{event:?}").expect(rt, "a text");
-    assert_eq!(rt; shown.as_str(), "Event(<locked>)");
+    check(rt, "the text", shown.as_str(), "Event(<locked>)");
 }
 
 fn is_shown_under_its_lock<R: Runtime>(rt: &R, event: &Event<()>) {
@@ -146,7 +146,7 @@ fn locks_while_written<R: Runtime>(rt: &R, event: &Event<()>) -> (u32, u32) {
         found_free: 0,
         found_held: 0,
     };
-    assert!(rt; write!(watcher, "{event:?}").is_ok());
+    write!(watcher, "{event:?}").expect(rt, "a text");
     (watcher.found_free, watcher.found_held)
 }
 
@@ -156,6 +156,6 @@ fn an_event_is_written_with_its_lock_free(rt: HostRuntime) {
     // An event that nobody has listened to has no lock.
     drop(listen::<Sharing, _, _>(&rt, &event));
     let (free, held) = locks_while_written(&rt, &event);
-    assert!(rt; free > 0);
-    assert_eq!(rt; held, 0);
+    check(&rt, ("free", free), free > 0, true);
+    check(&rt, "held", held, 0);
 }

@@ -1,6 +1,8 @@
 //! Threads that park in a wait until they are woken.
-use crate::support::{Runtime, check, close, listen, new_event_of_two};
-use event_listener::{Entry, Former, Hand, Key, RecordedCall, RecordedEvent, RecordedReply};
+use crate::support::{SharedRuntime, check, close_with, listen, new_event_of_two};
+use event_listener::{
+    Entry, EventIds, Former, Hand, Key, RecordedCall, RecordedEvent, RecordedReply,
+};
 use recorded_waiters::{Waiter, first_key, notify_one};
 use std::fmt::Debug;
 use std::sync::atomic::{AtomicUsize, Ordering};
@@ -24,12 +26,12 @@ fn soon() -> Duration {
 }
 
 // Notifies one listener with the tag 7. One has to be waiting, and none told.
-fn tell<R: Runtime>(rt: &R, event: &RecordedEvent<u32>, hand: &mut Hand<u32>) {
+fn tell<R: SharedRuntime>(rt: &R, event: &RecordedEvent<u32>, hand: &mut Hand<u32>) {
     check(rt, "notify", notify_one(rt, event, hand, false, 7), Ok(1));
 }
 
 // The wait gives the tag 7. Gives the hand.
-fn is_told<A: Debug + Drop, R: Runtime>(
+fn is_told<A: Debug + Drop, R: SharedRuntime>(
     rt: &R,
     asked: A,
     waiter: Waiter<'_, R>,
@@ -40,13 +42,13 @@ fn is_told<A: Debug + Drop, R: Runtime>(
     hand
 }
 
-fn processor_time<R: Runtime>(rt: &R) -> Duration {
+fn processor_time<R: SharedRuntime>(rt: &R) -> Duration {
     rt.thread_cpu_time().expect(rt, "the processor time")
 }
 
 // The wait gives the tag 7, and its thread parks until then. One that looked again and again would use most of the time,
 // and note each look. Gives the hand.
-fn parks<R: Runtime>(rt: &R, waiter: Waiter<'_, R>, wait: WaitCall) -> Hand<u32> {
+fn parks<R: SharedRuntime>(rt: &R, waiter: Waiter<'_, R>, wait: WaitCall) -> Hand<u32> {
     let before = processor_time(rt);
     let hand = is_told(rt, wait, waiter, wait);
     let used = processor_time(rt).saturating_sub(before);
@@ -55,7 +57,7 @@ fn parks<R: Runtime>(rt: &R, waiter: Waiter<'_, R>, wait: WaitCall) -> Hand<u32>
     hand
 }
 
-fn ends_soon<R: Runtime>(rt: &R, start: Instant) {
+fn ends_soon<R: SharedRuntime>(rt: &R, start: Instant) {
     let taken = start.elapsed(rt).expect(rt, "the time");
     check(rt, taken, taken < soon(), true);
 }
@@ -64,7 +66,7 @@ fn ends_soon<R: Runtime>(rt: &R, start: Instant) {
 // hand that waited, and what `wake` answered.
 fn is_woken_by<R, W, X>(rt: &R, waiter: Waiter<'_, R>, wait: WaitCall, wake: W) -> (Hand<u32>, X)
 where
-    R: Runtime,
+    R: SharedRuntime,
     W: FnOnce() -> X,
     X: Drop,
     requires { W.pre wake }
@@ -83,11 +85,11 @@ where
 }
 
 // A thread in this wait is woken by a notification that another hand makes.
-fn is_woken_by_a_notification<R: Runtime>(rt: &R, wait: WaitCall) {
-    let (event, waiting, mut telling) = new_event_of_two(rt);
+fn is_woken_by_a_notification<R: SharedRuntime>(rt: &R, wait: WaitCall) {
+    let (event, waiting, mut telling) = new_event_of_two(rt, &mut EventIds::new());
     let waiter = listen(rt, &event, waiting);
     let (waiting, ()) = is_woken_by(rt, waiter, wait, || tell(rt, &event, &mut telling));
-    close(rt, event, waiting, telling);
+    close_with(rt, event, waiting, telling);
 }
 
 #[test]
@@ -115,14 +117,14 @@ fn drop_that_passes_on(key: Key) -> Entry<u32> {
 }
 
 // A thread in this wait is woken by the drop of another listener, which was told before it listened.
-fn is_woken_by_a_drop<R: Runtime>(rt: &R, wait: WaitCall) {
-    let (event, dropping, mut waiting) = new_event_of_two(rt);
+fn is_woken_by_a_drop<R: SharedRuntime>(rt: &R, wait: WaitCall) {
+    let (event, dropping, mut waiting) = new_event_of_two(rt, &mut EventIds::new());
     let told = listen(rt, &event, dropping);
     tell(rt, &event, &mut waiting);
     let waiter = listen(rt, &event, waiting);
     let (waiting, dropping) = is_woken_by(rt, waiter, wait, || told.drop_listener());
     let key = first_key(&dropping).expect(rt, "a listening");
-    let record = close(rt, event, dropping, waiting);
+    let record = close_with(rt, event, dropping, waiting);
     let has_drop = record.entries().contains(&drop_that_passes_on(key));
     check(rt, record.entries(), has_drop, true);
 }
@@ -136,7 +138,7 @@ fn the_drop_of_a_told_listener_wakes_a_parked_thread(rt: HostRuntime) {
 const ROUNDS: usize = 5_000;
 
 // Waits in each round, and shows the other thread in which round it listens. Gives the hand.
-fn wait_in_each_round<R: Runtime>(
+fn wait_in_each_round<R: SharedRuntime>(
     rt: &R,
     event: &RecordedEvent<u32>,
     mut hand: Hand<u32>,
@@ -153,7 +155,7 @@ fn wait_in_each_round<R: Runtime>(
 
 // Returns as soon as the other thread listens in this round. One that sleeps in the round before never does, and ends the
 // test.
-fn see_it_listen<R: Runtime>(rt: &R, listening: &AtomicUsize, round: usize) {
+fn see_it_listen<R: SharedRuntime>(rt: &R, listening: &AtomicUsize, round: usize) {
     for _ in 0..10_000 {
         if listening.load(Ordering::SeqCst) == round {
             return;
@@ -169,7 +171,7 @@ fn see_it_listen<R: Runtime>(rt: &R, listening: &AtomicUsize, round: usize) {
 }
 
 // Notifies in each round, a little later after the other thread listened than in the round before.
-fn tell_in_each_round<R: Runtime>(
+fn tell_in_each_round<R: SharedRuntime>(
     rt: &R,
     event: &RecordedEvent<u32>,
     hand: &mut Hand<u32>,
@@ -185,15 +187,15 @@ fn tell_in_each_round<R: Runtime>(
 }
 
 // A thread that waits again and again is woken each time, at whatever moment of its wait it is told.
-fn is_woken_at_any_moment<R: Runtime>(rt: &R, wait: WaitCall) {
-    let (event, waiting, mut telling) = new_event_of_two(rt);
+fn is_woken_at_any_moment<R: SharedRuntime>(rt: &R, wait: WaitCall) {
+    let (event, waiting, mut telling) = new_event_of_two(rt, &mut EventIds::new());
     let listening = AtomicUsize::new(0);
     let (waiting, ()) = thread::join(
         rt,
         || wait_in_each_round(rt, &event, waiting, wait, &listening),
         || tell_in_each_round(rt, &event, &mut telling, &listening),
     );
-    close(rt, event, waiting, telling);
+    close_with(rt, event, waiting, telling);
 }
 
 #[test]
