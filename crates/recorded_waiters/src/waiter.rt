@@ -3,7 +3,8 @@ ghost use Rattle.event_listener.specs.Noting.{Owns};
 
 use crate::refusal::{Refusal, answered};
 use event_listener::{Hand, RecordedEvent, RecordedListener, RecordedPollError};
-use futures::task::{Poll, Waker};
+use futures::Future;
+use futures::task::{Context, Poll, Waker};
 use std::alloc::Global;
 use std::sync::Wait;
 use std::time::{Clock, Duration};
@@ -94,5 +95,18 @@ impl<'ev, C: WaitClock> Waiter<'ev, C> {
         let Waiter { listener, hand } = self;
         drop(listener);
         hand
+    }
+}
+
+/// Gives the tag once the listener is told. Each poll is a call of the hand.
+impl<C: WaitClock> Future for Waiter<'_, C> {
+    type Output = Result<u32, RecordedPollError>;
+
+    fn poll(&mut self, cx: &mut Context<'_>) -> Poll<Result<u32, RecordedPollError>> {
+        match self.listener.poll_in(&mut self.hand, cx) {
+            Ok(Poll::Ready(tag)) => Poll::Ready(Ok(tag)),
+            Ok(Poll::Pending) => Poll::Pending,
+            Err(refusal) => Poll::Ready(Err(refusal)),
+        }
     }
 }

@@ -1,7 +1,7 @@
 use super::*;
 use crate::checks::{check, listen, new_id};
 use event_listener::{Event, IntoTagged, NeverInserted};
-use futures::task::{Poll, Waker};
+use futures::task::{Context, Poll, Waker};
 use std::cell::Cell;
 use std::io;
 use std::process::Abort;
@@ -160,8 +160,14 @@ impl<'a, T, L: Listener<T> + Drop> Listener<T> for Refusing<'a, L> {
 
     ghost is_finished = { λ refusing. L.is_finished refusing.listener };
 
+    ghost source = { λ refusing. L.source refusing.listener };
+
     fn poll(&mut self, waker: Waker) -> Result<Poll<T>, NeverInserted> {
         self.listener.poll(waker)
+    }
+
+    fn poll_in(&mut self, cx: &mut Context<'_>) -> Result<Poll<T>, NeverInserted> {
+        self.listener.poll_in(cx)
     }
 
     fn wait(self) -> Result<T, WaitError<Self>> {
