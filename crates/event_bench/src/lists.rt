@@ -1,0 +1,83 @@
+//! The queue as a value.
+ghost use Rattle.std.specs.Prelude.{◌≡◌};
+
+use crate::subject::Subject;
+use event_listener::RegisterResult::Notified;
+use event_listener::{IntoNotification, Key, List, ListenError, Notification, WakeSink};
+use futures::task::Context;
+use std::alloc::Global;
+
+/// A queue whose tasks are numbers.
+#[derive(Drop)]
+pub struct OnList {
+    list: List<(), u64>,
+}
+
+impl OnList {
+    pub fn new(alloc: Global) -> Self {
+        OnList {
+            list: List::new(alloc),
+        }
+    }
+
+    #[inline(always)]
+    fn notify_by<N: Notification<Tag = ()> + Drop>(&mut self, notification: N) -> usize
+    where
+        requires { N.can_tag notification }
+    {
+        let mut notification = notification;
+        self.list
+            .notify(&mut notification, &mut Unheard)
+            .unwrap_or(0)
+    }
+}
+
+// Wakes nobody.
+#[derive(Drop)]
+struct Unheard;
+
+impl WakeSink<u64> for Unheard {
+    ghost woke = { λ before _ after. after ≡ before };
+
+    #[inline(always)]
+    fn wake(&mut self, _task: u64) {}
+}
+
+impl Subject for OnList {
+    type Listener = Key;
+
+    #[inline(always)]
+    fn listen(&mut self) -> Result<Key, ListenError> {
+        self.list.insert()
+    }
+
+    #[inline(always)]
+    fn poll(&mut self, listener: &mut Key, _cx: &mut Context<'_>) -> bool {
+        matches!(self.list.register(*listener, 7), Notified(()))
+    }
+
+    #[inline(always)]
+    fn notify(&mut self, count: usize) -> usize {
+        self.notify_by(count.into_notification())
+    }
+
+    #[inline(always)]
+    fn notify_relaxed(&mut self, count: usize) -> usize {
+        self.notify_by(count.relaxed().into_notification())
+    }
+
+    #[inline(always)]
+    fn leave(&mut self, listener: Key) {
+        self.list.remove(listener, true, &mut Unheard);
+    }
+
+    #[inline(always)]
+    fn is_notified(&mut self) -> bool {
+        self.list.is_notified()
+    }
+
+    #[inline(always)]
+    fn total_listeners(&mut self) -> usize {
+        self.list.total_listeners()
+    }
+}
