@@ -9,7 +9,7 @@ use event_listener::{
 use futures::task::{Poll, Waker};
 use std::alloc::AllocGlobal;
 use std::sync::Wait;
-use std::time::Clock;
+use std::time::{Clock, Duration};
 
 /// Why a call has no answer.
 #[derive(Clone, Copy, Debug, PartialEq, Eq)]
@@ -86,6 +86,15 @@ pub trait Calls {
         hand: &mut Hand<u32>,
         listener: Self::Listener,
     ) -> (Result<u32, Refusal>, Option<Self::Listener>);
+
+    /// Waits for so long at most, and answers the tag or `None`. A refusal hands the listener back, if it is in the
+    /// queue.
+    fn wait_timeout(
+        &self,
+        hand: &mut Hand<u32>,
+        listener: Self::Listener,
+        timeout: Duration,
+    ) -> (Result<Option<u32>, Refusal>, Option<Self::Listener>);
 }
 
 /// A listener, and the event that it listens to.
@@ -185,6 +194,25 @@ impl<'ev, R: AllocGlobal + Wait + Clock + Clone> Calls for On<'ev, R> {
         let OwnListener { event, listener } = own;
         match listener.wait(hand) {
             Ok(tag) => (Ok(tag), None),
+            Err(WaitError::NeverInserted) => (Err(Refusal::NeverInserted), None),
+            Err(WaitError::Memory(listener)) => {
+                (Err(Refusal::Memory), Some(OwnListener { event, listener }))
+            }
+        }
+    }
+
+    fn wait_timeout(
+        &self,
+        hand: &mut Hand<u32>,
+        own: OwnListener<'ev, R>,
+        timeout: Duration,
+    ) -> (Result<Option<u32>, Refusal>, Option<OwnListener<'ev, R>>) {
+        if !own.event.owns(hand) {
+            return (Err(Refusal::NotItsHand), Some(own));
+        }
+        let OwnListener { event, listener } = own;
+        match listener.wait_timeout(hand, timeout) {
+            Ok(answer) => (Ok(answer), None),
             Err(WaitError::NeverInserted) => (Err(Refusal::NeverInserted), None),
             Err(WaitError::Memory(listener)) => {
                 (Err(Refusal::Memory), Some(OwnListener { event, listener }))

@@ -1,0 +1,33 @@
+//! Numbers that are drawn from a seed.
+ghost use Rattle.std.specs.Prelude.{◌<◌};
+
+use rand_core::Rng;
+use rand_pcg::Pcg32;
+
+/// A sequence of numbers. One seed and one stream give one sequence, so what was drawn can be drawn again.
+#[derive(Drop)]
+pub struct Draws {
+    generator: Pcg32,
+}
+
+impl Draws {
+    /// The sequence of that seed and that stream.
+    pub fn new(seed: u64, stream: u64) -> Self {
+        Draws {
+            generator: Pcg32::new(seed, stream),
+        }
+    }
+
+    /// The next number, below the bound.
+    pub fn below(&mut self, bound: u32) -> u32
+        requires { 0 < bound }
+        ensures { result < bound }
+    {
+        self.generator.next_u32() % bound
+    }
+
+    /// The next number, as one of two.
+    pub fn coin(&mut self) -> bool {
+        self.below(2) == 0
+    }
+}

@@ -1,0 +1,82 @@
+//! Lists of calls, one after another.
+use anyhow::Result;
+use drawing::{Comparison, Request, Shown, Started, shorten};
+use fuzz_events::{self, Events, Runtime};
+use fuzz_queue::{self, Queues};
+use std::alloc::Global;
+use std::fmt::Debug;
+use std::io::Print;
+
+// How many lists that differ are printed.
+const PRINTED: u64 = 5;
+
+/// How many lists were tried, and how many of them differ.
+#[derive(Clone, Copy)]
+pub struct Tally {
+    pub lists: u64,
+    pub differing: u64,
+}
+
+/// Tries a list of each seed from the first one on, until the limit comes. Prints the first lists that differ, as short
+/// as they were made. The error says that there was no memory, no clock or nothing to print to.
+pub fn try_lists<R: Runtime + Print>(rt: &R, request: Request) -> Result<Tally> {
+    let started = Started::new(rt, request.limit)?;
+    let mut tally = Tally {
+        lists: 0,
+        differing: 0,
+    };
+    for times in 0..u64::MAX {
+        if !started.goes_on(rt, times)? {
+            break;
+        }
+        let seed = request.seed.wrapping_add(times);
+        let is_printed = tally.differing < PRINTED;
+        let differs = try_list(rt, seed, is_printed)?;
+        tally.lists = tally.lists.saturating_add(1);
+        tally.differing = tally.differing.saturating_add(u64::from(differs));
+    }
+    Ok(tally)
+}
+
+// Tries the list of this seed: every second one is of calls on a queue. Answers whether it differs.
+fn try_list<R: Runtime + Print>(rt: &R, seed: u64, is_printed: bool) -> Result<bool> {
+    let alloc = rt.alloc();
+    if seed % 2 == 0 {
+        let calls = fuzz_queue::draw_list(alloc, seed)?;
+        try_calls(rt, alloc, &Queues { alloc }, seed, calls, is_printed)
+    } else {
+        let calls = fuzz_events::draw_list(alloc, seed)?;
+        try_calls(rt, alloc, &Events { rt }, seed, calls, is_printed)
+    }
+}
+
+fn try_calls<C: Comparison, R: Print>(
+    rt: &R,
+    alloc: Global,
+    comparison: &C,
+    seed: u64,
+    calls: Vec<C::Call>,
+    is_printed: bool,
+) -> Result<bool> {
+    let Some(difference) = comparison.compare(calls.as_slice())? else {
+        return Ok(false);
+    };
+    if is_printed {
+        let shown = shorten(alloc, comparison, Shown { calls, difference })?;
+        print_shown(rt, seed, &shown)?;
+    }
+    Ok(true)
+}
+
+// A list without a call that shows its difference shows it once all calls were made.
+fn print_shown<C: Debug, R: Print>(rt: &R, seed: u64, shown: &Shown<C>) -> Result<()> {
+    println!(rt;
+        "the list of seed {seed} differs at call {}:",
+        shown.difference.call
+    )?;
+    for (number, call) in shown.calls.iter().enumerate() {
+        println!(rt; "  {number} {call:?}")?;
+    }
+    println!(rt; "  {}", shown.difference.text)?;
+    Ok(())
+}

@@ -1,0 +1,21 @@
+//! Makes drawn lists of calls on queues and events, and compares what they answer.
+#![tactic(auto)]
+
+mod lists;
+
+use anyhow::Result;
+use drawing::Request;
+use lists::try_lists;
+use std::process::ExitCode;
+
+fn main(rt: HostRuntime) -> Result<ExitCode> {
+    let request = Request::read(&rt)?;
+    println!(rt; "seed {}", request.seed)?;
+    let tally = try_lists(&rt, request)?;
+    println!(rt; "{} lists, {} differ", tally.lists, tally.differing)?;
+    Ok(if tally.differing == 0 {
+        ExitCode::SUCCESS
+    } else {
+        ExitCode::FAILURE
+    })
+}

@@ -1,0 +1,32 @@
+//! Many threads on one event and one recorded event, round after round.
+#![tactic(auto)]
+
+mod record;
+mod round;
+mod rounds;
+mod watch;
+
+use anyhow::Result;
+use drawing::Request;
+use std::process::ExitCode;
+use watch::{Ended, watch};
+
+fn main(rt: HostRuntime) -> Result<ExitCode> {
+    let request = Request::read(&rt)?;
+    println!(rt; "seed {}", request.seed)?;
+    match watch(rt, rt.alloc(), request)? {
+        Ended::Played(tally) => {
+            eprintln!(rt; "{}", tally.counts)?;
+            println!(rt; "{} rounds, {} differ", tally.rounds, tally.differing)?;
+            Ok(if tally.differing == 0 {
+                ExitCode::SUCCESS
+            } else {
+                ExitCode::FAILURE
+            })
+        }
+        Ended::Hangs { round } => {
+            println!(rt; "round {round} does not end")?;
+            Ok(ExitCode::FAILURE)
+        }
+    }
+}
