@@ -8,6 +8,8 @@ mod refused_listening;
 #[cfg(test)]
 mod refused_waits;
 #[cfg(test)]
+mod rows;
+#[cfg(test)]
 mod support;
 #[cfg(test)]
 mod without_memory;

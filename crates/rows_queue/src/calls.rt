@@ -1,7 +1,7 @@
 //! The calls of a row on a queue without tags, whose tasks are numbers.
 use event_queue::{IntoNotification, Key, List, ListenError, Reply, Woken};
 use std::sync::Wait;
-use worked_rows::{Difference, Harness, Hook, Refusal, Subject, Wakers};
+use worked_rows::{Difference, Harness, Hook, Refusal, Request, Subject, Wakers};
 
 /// A call of a row on its queue.
 #[derive(Clone, Copy)]
@@ -12,6 +12,8 @@ pub enum QueueCall {
     Register(Key, u32),
     /// Removes the listener of that key, and propagates nothing.
     Remove(Key),
+    /// Removes the listener of that key, and propagates its notification.
+    RemoveAndPropagate(Key),
     /// Notifies so many by a default notification.
     Notify(usize),
     /// Asks how many listeners there are.
@@ -57,6 +59,9 @@ impl Subject for Queue {
             QueueCall::Remove(key) => {
                 Reply::Removed(self.list.remove(key, false, &mut self.woken))
             }
+            QueueCall::RemoveAndPropagate(key) => {
+                Reply::Removed(self.list.remove(key, true, &mut self.woken))
+            }
             QueueCall::Notify(count) => {
                 let mut n = count.into_notification();
                 Reply::Notified(self.list.notify(&mut n, &mut self.woken))
@@ -66,8 +71,11 @@ impl Subject for Queue {
         })
     }
 
-    fn takes_memory(&self, call: QueueCall) -> bool {
-        matches!(call, QueueCall::Insert) && self.list.spare() == 0
+    fn request(&self, call: QueueCall) -> Option<Request> {
+        match call {
+            QueueCall::Insert if self.list.spare() == 0 => Some(Request::Slot),
+            _ => None,
+        }
     }
 
     fn shape(&self) -> [usize; 3] {
@@ -90,7 +98,7 @@ impl<'h, 'a, R: Wait, H: Hook> QueueHarness<'h, 'a, R, H> {
     /// Calls on an empty queue whose first listener gets that serial, or 0.
     pub fn new(harness: &'h mut Harness<'a, R, H>, first: Option<u64>, woken: Woken<u32>) -> Self {
         let alloc = harness.alloc();
-        harness.hook().before(false);
+        harness.hook().before(None);
         let list = match first {
             Some(first) => List::starting_at(alloc, first),
             None => List::new(alloc),
@@ -98,6 +106,17 @@ impl<'h, 'a, R: Wait, H: Hook> QueueHarness<'h, 'a, R, H> {
         harness.hook().after();
         let queue = Queue { list, woken };
         QueueHarness { harness, queue }
+    }
+
+    /// Calls on a queue on which a row has made calls before.
+    pub fn on(harness: &'h mut Harness<'a, R, H>, queue: Queue) -> Self {
+        QueueHarness { harness, queue }
+    }
+
+    /// The queue, for calls on another one to come between.
+    pub fn into_queue(self) -> Queue {
+        let QueueHarness { harness: _, queue } = self;
+        queue
     }
 }
 

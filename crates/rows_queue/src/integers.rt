@@ -17,7 +17,7 @@ where
     H: Hook,
 {
     if !harness.has_ended() {
-        harness.hook().before(false);
+        harness.hook().before(None);
         let reply = n.fits();
         harness.hook().after();
         harness.compare(reply, answer);

@@ -8,6 +8,7 @@ mod queue;
 mod run;
 mod runs;
 mod sink;
+mod two_queues;
 
 use calls::{QueueCalls, QueueHarness};
 use sink::woken_with_room;
@@ -34,6 +35,8 @@ pub enum QueueRow {
     LastTask,
     /// A sink keeps as many tasks as it has room for, and counts the others.
     MissedTasks,
+    /// A key finds nobody in a queue that did not give it.
+    ForeignKey,
     /// A notification is refused the tag after its last one.
     TagsRunOut,
     /// The least and the greatest count, and the integers round them.
@@ -53,6 +56,7 @@ impl Row for QueueRow {
             29 => QueueRow::IntegersThatFit,
             33 => QueueRow::LastTask,
             38 => QueueRow::MissedTasks,
+            48 => QueueRow::ForeignKey,
             50 => QueueRow::TagsRunOut,
             51 => QueueRow::CountsAtTheirEnds,
             62 => QueueRow::CountsTheTold,
@@ -69,6 +73,7 @@ impl Row for QueueRow {
         match self {
             QueueRow::RefusedTag => runs::refused_tag(harness),
             QueueRow::IntegersThatFit => integers::integers_that_fit(harness),
+            QueueRow::ForeignKey => two_queues::foreign_key(harness),
             QueueRow::TagsRunOut => runs::tags_run_out(harness),
             QueueRow::CountsAtTheirEnds => runs::counts_at_their_ends(harness),
             QueueRow::LastSerial => self.run_on_queue(harness, Some(u64::MAX - 1), 0),

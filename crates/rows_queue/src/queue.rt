@@ -4,8 +4,8 @@ use crate::calls::QueueCalls;
 use event_queue::RegisterResult::{NeverInserted, Notified, Registered};
 use event_queue::{ListenError, Reply, State};
 
-// What removes a listener that waits without a task.
-const CREATED: Reply<(), u32> = Reply::Removed(Some(State::Created));
+/// What removes a listener that waits without a task.
+pub const CREATED: Reply<(), u32> = Reply::Removed(Some(State::Created));
 
 const STORED: Reply<(), u32> = Reply::Registered(Registered);
 

@@ -4,7 +4,7 @@ use crate::sink::woken_with_room;
 use event_queue::{Call, Key, List, ListenError, Reply, State, Woken};
 use std::alloc::AllocError;
 use std::sync::Wait;
-use worked_rows::{Difference, Harness, Hook, Refusal};
+use worked_rows::{Difference, Harness, Hook, Refusal, Request};
 
 /// A queue, what runs on it answered, and their sink.
 #[derive(Drop)]
@@ -19,7 +19,7 @@ impl Run {
     pub fn new<R: Wait, H: Hook>(harness: &mut Harness<'_, R, H>) -> Option<Self> {
         let woken = woken_with_room(harness, 0)?;
         let alloc = harness.alloc();
-        harness.hook().before(false);
+        harness.hook().before(None);
         let queue = List::new(alloc);
         harness.hook().after();
         Some(Run {
@@ -42,8 +42,11 @@ impl Run {
         }
         let before = self.shape();
         let mut reply = self.insert_once(harness);
-        if reply == Err(ListenError::Memory) && harness.hook().refused(self.shape() == before) {
-            reply = self.insert_once(harness);
+        if reply == Err(ListenError::Memory) {
+            let stands = self.shape() == before;
+            if harness.hook().refused(Request::Slot, stands) {
+                reply = self.insert_once(harness);
+            }
         }
         if let Err(refused) = reply {
             harness.end(Difference::Refused(Refusal::Listen(refused)));
@@ -54,7 +57,12 @@ impl Run {
         &mut self,
         harness: &mut Harness<'_, R, H>,
     ) -> Result<Key, ListenError> {
-        harness.hook().before(self.queue.spare() == 0);
+        let request = if self.queue.spare() == 0 {
+            Some(Request::Slot)
+        } else {
+            None
+        };
+        harness.hook().before(request);
         let reply = self.queue.insert();
         harness.hook().after();
         reply
@@ -68,7 +76,7 @@ impl Run {
         expected: State<u32, u32>,
     ) {
         if !harness.has_ended() {
-            harness.hook().before(false);
+            harness.hook().before(None);
             let reply = self.queue.remove(key, false, &mut self.woken);
             harness.hook().after();
             harness.compare(reply, Some(expected));
@@ -94,7 +102,8 @@ impl Run {
         if made {
             return true;
         }
-        let again = harness.hook().refused(self.shape() == before);
+        let stands = self.shape() == before;
+        let again = harness.hook().refused(Request::Replies, stands);
         if again && self.make_once(harness, program) == Some(true) {
             return true;
         }
@@ -109,8 +118,7 @@ impl Run {
         H: Hook,
     {
         let calls = built(harness, program)?;
-        // There is no room for replies yet.
-        harness.hook().before(!calls.is_empty());
+        harness.hook().before(Some(Request::Replies));
         let outcome = self.queue.run(calls, &mut self.replies, &mut self.woken);
         harness.hook().after();
         Some(outcome.is_ok())
@@ -154,7 +162,8 @@ pub fn run_on_new<R: Wait, H: Hook>(
     if !run.has_refused_insertion() {
         return Some(run);
     }
-    if harness.hook().refused(run.holds_inserted()) {
+    let stands = run.holds_inserted();
+    if harness.hook().refused(Request::SlotInRun, stands) {
         return run_on_new_once(harness, program);
     }
     harness.end(Difference::Refused(Refusal::Listen(ListenError::Memory)));
@@ -179,8 +188,10 @@ fn built<R: Wait, H: Hook>(
     program: Program,
 ) -> Option<Vec<Call<u32, u32>>> {
     let alloc = harness.alloc();
+    harness.hook().before(Some(Request::Argument));
     let mut calls = program.calls(alloc);
-    if calls.is_err() && harness.hook().refused(true) {
+    harness.hook().after();
+    if calls.is_err() && harness.hook().refused(Request::Argument, true) {
         calls = program.calls(alloc);
     }
     harness.answer(calls.map_err(|_: AllocError| Refusal::Memory))

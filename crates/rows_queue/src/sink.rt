@@ -1,7 +1,7 @@
 use event_queue::Woken;
 use std::alloc::AllocError;
 use std::sync::Wait;
-use worked_rows::{Harness, Hook, Refusal};
+use worked_rows::{Harness, Hook, Refusal, Request};
 
 /// A sink with room for so many tasks, made again where memory was refused and is back. None is made once the row has
 /// ended.
@@ -13,8 +13,10 @@ pub fn woken_with_room<R: Wait, H: Hook>(
         return None;
     }
     let alloc = harness.alloc();
+    harness.hook().before(Some(Request::Argument));
     let mut woken = Woken::with_room(alloc, room);
-    if woken.is_err() && harness.hook().refused(true) {
+    harness.hook().after();
+    if woken.is_err() && harness.hook().refused(Request::Argument, true) {
         woken = Woken::with_room(alloc, room);
     }
     harness.answer(woken.map_err(|_: AllocError| Refusal::Memory))

@@ -6,7 +6,7 @@ use crate::subject::{Answer, Entries, HandCall, RecordedSubject, Replay, RowCall
 use event_listener::{CloseError, EventIds, Hand, Record, RecordedEvent};
 use std::sync::Wait;
 use std::time::Clock;
-use worked_rows::{Difference, Harness, Hook, Refusal, Subject};
+use worked_rows::{Difference, Harness, Hook, Refusal, Request, Subject};
 
 /// The calls of a row on one recorded event. Each takes the answer that it must give. The row ends at the first that
 /// gives another or is refused: from then on no call is made.
@@ -102,8 +102,12 @@ pub fn new_event<R: Wait, H: Hook>(
 ) -> Option<EventAndHands> {
     let mut ids = harness.identities(0);
     let made = match new_event_once(harness, &mut ids, hands) {
-        Err(refusal) if refusal.is_of_memory() && harness.hook().refused(true) => {
-            new_event_once(harness, &mut ids, hands)
+        Err(refusal) if refusal.is_of_memory() => {
+            if harness.hook().refused(Request::Hands, true) {
+                new_event_once(harness, &mut ids, hands)
+            } else {
+                Err(refusal)
+            }
         }
         reply => reply,
     };
@@ -119,7 +123,7 @@ fn new_event_once<R: Wait, H: Hook>(
 ) -> Result<EventAndHands, Refusal> {
     match harness.identity(ids) {
         Ok(id) => {
-            harness.hook().before(true);
+            harness.hook().before(Some(Request::Hands));
             let made = RecordedEvent::new(harness.alloc(), id, hands);
             harness.hook().after();
             made.map_err(Refusal::Record)
@@ -138,7 +142,7 @@ pub fn close<R: Wait, H: Hook>(
         harness.end(Difference::Answer);
         return None;
     }
-    harness.hook().before(false);
+    harness.hook().before(None);
     let reply = event.close(hands);
     harness.hook().after();
     Some(reply)

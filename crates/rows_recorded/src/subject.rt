@@ -10,7 +10,7 @@ use futures::task::Poll;
 use std::alloc::Global;
 use std::sync::Wait;
 use std::time::Clock;
-use worked_rows::{Refusal, Subject, Wakers};
+use worked_rows::{Refusal, Request, Subject, Wakers};
 
 /// A call that a hand makes. A row has one listener.
 #[derive(Clone, Copy, PartialEq, Eq)]
@@ -186,8 +186,11 @@ impl<'ev, R: Wait + Clock + Clone> Subject for RecordedSubject<'ev, R> {
         }
     }
 
-    fn takes_memory(&self, call: RowCall) -> bool {
-        matches!(call, RowCall::By(_, _))
+    fn request(&self, call: RowCall) -> Option<Request> {
+        match call {
+            RowCall::By(_, _) => Some(Request::Entry),
+            RowCall::Release => None,
+        }
     }
 
     fn shape(&self) -> (Notes, Notes) {
@@ -237,8 +240,8 @@ impl<'r> Subject for Replay<'r> {
         reply.map_err(|_| Refusal::Memory)
     }
 
-    fn takes_memory(&self, _call: ()) -> bool {
-        true
+    fn request(&self, _call: ()) -> Option<Request> {
+        Some(Request::Replay)
     }
 
     fn shape(&self) {}

@@ -53,14 +53,14 @@ impl<'h, 'a, R, H> FlagHarness<'h, 'a, R, H> {
 
 impl<'h, 'a, R: Wait, H: Hook> FlagCalls for FlagHarness<'h, 'a, R, H> {
     fn run(&mut self, steps: &[Step], taken: usize) {
-        self.harness.hook().before(false);
+        self.harness.hook().before(None);
         let answer = self.world.run(steps);
         self.harness.hook().after();
         self.harness.compare(answer, taken);
     }
 
     fn flag(&mut self, is_set: bool) {
-        self.harness.hook().before(false);
+        self.harness.hook().before(None);
         let answer = self.world.flag();
         self.harness.hook().after();
         self.harness.compare(answer, is_set);
@@ -71,7 +71,7 @@ impl<'h, 'a, R: Wait, H: Hook> FlagCalls for FlagHarness<'h, 'a, R, H> {
             self.harness.end(Difference::Answer);
             return;
         }
-        self.harness.hook().before(false);
+        self.harness.hook().before(None);
         let at = self.world.place(client);
         let told = self.world.is_told(client);
         self.harness.hook().after();
@@ -83,7 +83,7 @@ impl<'h, 'a, R: Wait, H: Hook> FlagCalls for FlagHarness<'h, 'a, R, H> {
             self.harness.end(Difference::Answer);
             return;
         }
-        self.harness.hook().before(false);
+        self.harness.hook().before(None);
         let at = self.world.setter(0);
         self.harness.hook().after();
         self.harness.compare(at, place);

@@ -53,21 +53,21 @@ impl<'h, 'a, R, H> MutexHarness<'h, 'a, R, H> {
 
 impl<'h, 'a, R: Wait, H: Hook> MutexCalls for MutexHarness<'h, 'a, R, H> {
     fn run(&mut self, steps: &[Step], taken: usize) {
-        self.harness.hook().before(false);
+        self.harness.hook().before(None);
         let answer = self.world.run(steps);
         self.harness.hook().after();
         self.harness.compare(answer, taken);
     }
 
     fn step(&mut self, step: Step, is_taken: bool) {
-        self.harness.hook().before(false);
+        self.harness.hook().before(None);
         let answer = self.world.step(step.client, step.act);
         self.harness.hook().after();
         self.harness.compare(answer, is_taken);
     }
 
     fn holder(&mut self, holder: Option<usize>) {
-        self.harness.hook().before(false);
+        self.harness.hook().before(None);
         let answer = self.world.holder();
         self.harness.hook().after();
         self.harness.compare(answer, holder);
@@ -78,7 +78,7 @@ impl<'h, 'a, R: Wait, H: Hook> MutexCalls for MutexHarness<'h, 'a, R, H> {
             self.harness.end(Difference::Answer);
             return;
         }
-        self.harness.hook().before(false);
+        self.harness.hook().before(None);
         let at = self.world.place(client);
         let told = self.world.is_told(client);
         let woken = self.world.has_wake(client);

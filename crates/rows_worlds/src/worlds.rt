@@ -1,7 +1,7 @@
 //! How a row makes its world.
 use std::alloc::{AllocError, Global};
 use std::sync::Wait;
-use worked_rows::{Harness, Hook, Refusal};
+use worked_rows::{Harness, Hook, Refusal, Request};
 
 /// How large a world is, and the serial of its first listener.
 pub trait Size: Copy {
@@ -16,10 +16,10 @@ pub fn world_of<S: Size, R: Wait, H: Hook>(
     size: S,
 ) -> Option<S::World> {
     let alloc = harness.alloc();
-    harness.hook().before(true);
+    harness.hook().before(Some(Request::World));
     let mut made = size.world(alloc);
     harness.hook().after();
-    if made.is_err() && harness.hook().refused(true) {
+    if made.is_err() && harness.hook().refused(Request::World, true) {
         made = size.world(alloc);
     }
     harness.answer(made.map_err(|_: AllocError| Refusal::Memory))

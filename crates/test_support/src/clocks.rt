@@ -41,3 +41,60 @@ impl<'a, R> Clock for NoClock<'a, R> {
         Err(io::ErrorKind::Unsupported.into())
     }
 }
+
+// How much a clock goes back at a reading, in milliseconds, and at how many readings.
+const BACK: u32 = 20;
+
+const TIMES_BACK: u32 = 5;
+
+/// A runtime whose clock goes back at each of its first readings.
+#[derive(Clone, Copy)]
+pub struct BackwardClock<'a, R> {
+    pub rt: &'a R,
+    pub reads: &'a Cell<u32>,
+}
+
+impl<'a, R: Wait> Wait for BackwardClock<'a, R> {}
+
+impl<'a, R: Clock> Clock for BackwardClock<'a, R> {
+    fn monotonic(&self) -> io::Result<Duration> {
+        let reads = self.reads.get();
+        self.reads.set(reads.saturating_add(1));
+        let back = reads.min(TIMES_BACK).saturating_mul(BACK);
+        let moved = self
+            .rt
+            .monotonic()?
+            .checked_add(Duration::from_secs(10))
+            .and_then(|later| later.checked_sub(Duration::from_millis(u64::from(back))));
+        moved.ok_or_else(|| io::ErrorKind::Unsupported.into())
+    }
+
+    fn since_1970(&self) -> io::Result<Duration> {
+        self.rt.since_1970()
+    }
+}
+
+/// A runtime whose clock can be read so many times, and then not any more.
+#[derive(Clone, Copy)]
+pub struct FailingClock<'a, R> {
+    pub rt: &'a R,
+    pub reads_left: &'a Cell<u32>,
+}
+
+impl<'a, R: Wait> Wait for FailingClock<'a, R> {}
+
+impl<'a, R: Clock> Clock for FailingClock<'a, R> {
+    fn monotonic(&self) -> io::Result<Duration> {
+        match self.reads_left.get().checked_sub(1) {
+            Some(left) => {
+                self.reads_left.set(left);
+                self.rt.monotonic()
+            }
+            None => Err(io::ErrorKind::Unsupported.into()),
+        }
+    }
+
+    fn since_1970(&self) -> io::Result<Duration> {
+        self.rt.since_1970()
+    }
+}

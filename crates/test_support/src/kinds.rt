@@ -20,6 +20,7 @@ pub struct Sharing;
 impl<'ev, T: Drop, R: Wait + Clock + Clone> ListenerKind<'ev, T, R> for Sharing {
     type Listener = EventListener<T, R>;
 
+    #[inline(always)]
     fn listen(
         rt: &R,
         alloc: Global,
@@ -36,6 +37,7 @@ pub struct Borrowing;
 impl<'ev, T: Drop + 'ev, R: Wait + Clock + Clone> ListenerKind<'ev, T, R> for Borrowing {
     type Listener = StackListener<'ev, T, R>;
 
+    #[inline(always)]
     fn listen(
         rt: &R,
         alloc: Global,

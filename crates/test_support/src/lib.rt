@@ -2,6 +2,8 @@
 //! of the process, taken for real.
 #![tactic(auto)]
 
+mod awaited;
+mod budget;
 mod clocks;
 mod hog;
 mod kinds;
@@ -9,7 +11,9 @@ mod runtimes;
 mod waits;
 mod wakers;
 
-pub use clocks::{CountedClock, NoClock};
+pub use awaited::Awaited;
+pub use budget::Budget;
+pub use clocks::{BackwardClock, CountedClock, FailingClock, NoClock};
 pub use hog::Hog;
 pub use kinds::{Borrowing, ListenerKind, Sharing};
 pub use runtimes::Unshared;

@@ -2,7 +2,7 @@ use event_listener::{IdsUsedUp, ListenError, NotifyError, RecordError};
 use thiserror::Error;
 
 /// Why a row does not hold.
-#[derive(Clone, Copy)]
+#[derive(Clone, Copy, Debug)]
 pub enum Difference {
     /// A call answered otherwise than the row says.
     Answer,

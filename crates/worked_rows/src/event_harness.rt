@@ -54,7 +54,7 @@ where
         N::Notify: Drop,
     {
         if !self.harness.has_ended() {
-            self.harness.hook().before(false);
+            self.harness.hook().before(None);
             let reply = self.subject.event.notify(self.harness.rt(), n);
             self.harness.hook().after();
             match reply {
@@ -68,7 +68,7 @@ where
 
     fn listens_to(&mut self, listener: ListenerIndex, event: &Event<T>, answer: bool) {
         if !self.harness.has_ended() {
-            self.harness.hook().before(false);
+            self.harness.hook().before(None);
             let reply = self.subject.listeners.listens_to(listener, event);
             self.harness.hook().after();
             self.harness.compare(reply, EventAnswer::Same(answer));
@@ -90,7 +90,7 @@ where
     fn notify_in(&mut self, form: Form, n: usize, told: usize) {
         if !self.harness.has_ended() {
             let (rt, event) = (self.harness.rt(), self.subject.event);
-            self.harness.hook().before(false);
+            self.harness.hook().before(None);
             let reply = match form {
                 Form::Additional => event.notify_additional(rt, n),
                 Form::Relaxed => event.notify_relaxed(rt, n),

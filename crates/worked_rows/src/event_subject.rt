@@ -1,5 +1,6 @@
 use crate::difference::Refusal;
 use crate::event_calls::{EventAnswer, EventCall};
+use crate::hook::Request;
 use crate::listeners::Listeners;
 use crate::subject::Subject;
 use crate::wakers::Wakers;
@@ -71,8 +72,12 @@ where
         }
     }
 
-    fn takes_memory(&self, call: EventCall) -> bool {
-        matches!(call, EventCall::Listen | EventCall::Wait(_, _))
+    fn request(&self, call: EventCall) -> Option<Request> {
+        match call {
+            EventCall::Listen => Some(Request::Listener),
+            EventCall::Wait(_, _) => Some(Request::Parker),
+            _ => None,
+        }
     }
 
     fn shape(&self) -> usize {

@@ -1,5 +1,5 @@
 use crate::difference::{Difference, Refusal};
-use crate::hook::Hook;
+use crate::hook::{Hook, Request};
 use crate::subject::Subject;
 use crate::wakers::Wakers;
 use event_listener::{Event, EventId, EventIds, IdsUsedUp};
@@ -104,11 +104,15 @@ impl<'a, R: Wait, H: Hook> Harness<'a, R, H> {
     where
         S: Subject,
     {
+        // A call that allocates nothing is not refused memory: where it is, the row ends.
+        let Some(request) = subject.request(call) else {
+            return self.make_once(subject, call, None);
+        };
         let before = subject.shape();
-        match self.make_once(subject, call) {
+        match self.make_once(subject, call, Some(request)) {
             Err(refusal) if refusal.is_of_memory() => {
-                if self.hook.refused(subject.shape() == before) {
-                    self.make_once(subject, call)
+                if self.hook.refused(request, subject.shape() == before) {
+                    self.make_once(subject, call, Some(request))
                 } else {
                     Err(refusal)
                 }
@@ -117,11 +121,16 @@ impl<'a, R: Wait, H: Hook> Harness<'a, R, H> {
         }
     }
 
-    fn make_once<S>(&mut self, subject: &mut S, call: S::Call) -> Result<S::Answer, Refusal>
+    fn make_once<S>(
+        &mut self,
+        subject: &mut S,
+        call: S::Call,
+        request: Option<Request>,
+    ) -> Result<S::Answer, Refusal>
     where
         S: Subject,
     {
-        self.hook.before(subject.takes_memory(call));
+        self.hook.before(request);
         let reply = subject.make(call, &mut self.wakers);
         self.hook.after();
         reply
@@ -129,7 +138,7 @@ impl<'a, R: Wait, H: Hook> Harness<'a, R, H> {
 
     /// A new source of identities.
     pub fn identities(&mut self, first: u64) -> EventIds {
-        self.hook.before(false);
+        self.hook.before(None);
         let ids = EventIds::starting_at(first);
         self.hook.after();
         ids
@@ -137,7 +146,7 @@ impl<'a, R: Wait, H: Hook> Harness<'a, R, H> {
 
     /// The next identity of the source.
     pub fn identity(&mut self, ids: &mut EventIds) -> Result<EventId, IdsUsedUp> {
-        self.hook.before(false);
+        self.hook.before(None);
         let reply = ids.next();
         self.hook.after();
         reply
@@ -147,7 +156,7 @@ impl<'a, R: Wait, H: Hook> Harness<'a, R, H> {
     pub fn event_of<T>(&mut self, ids: &mut EventIds) -> Option<Event<T>> {
         let id = self.identity(ids).map_err(Refusal::Identity);
         let id = self.answer(id)?;
-        self.hook.before(false);
+        self.hook.before(None);
         let event = Event::with_tag(id);
         self.hook.after();
         Some(event)

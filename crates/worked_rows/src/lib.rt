@@ -26,9 +26,10 @@ pub use event_calls::{
     EventAnswer, EventCall, EventCalls, Form, OnEvent, OnUntaggedEvent, UntaggedCalls,
 };
 pub use harness::Harness;
-pub use hook::{Hook, Undisturbed};
+pub use hook::{Hook, Request, Undisturbed};
 pub use listeners::{Limit, ListenerIndex};
 pub use report::print_rows;
 pub use row::Row;
 pub use subject::Subject;
+pub use task::run_in_task;
 pub use wakers::Wakers;

@@ -1,4 +1,5 @@
 use crate::difference::Refusal;
+use crate::hook::Request;
 use crate::wakers::Wakers;
 
 /// What a row makes its calls on. They are values here, and made with nothing round them.
@@ -15,8 +16,8 @@ pub trait Subject {
     /// Makes the call. A poll takes one of the wakers.
     fn make(&mut self, call: Self::Call, wakers: &mut Wakers) -> Result<Self::Answer, Refusal>;
 
-    /// Whether the call may ask for memory in the state that it meets.
-    fn takes_memory(&self, call: Self::Call) -> bool;
+    /// What the call may ask memory for in the state that it meets.
+    fn request(&self, call: Self::Call) -> Option<Request>;
 
     /// What stands now.
     fn shape(&self) -> Self::Shape;

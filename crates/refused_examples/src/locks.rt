@@ -1,0 +1,133 @@
+//! Locks that are held, and whose callers are refused memory.
+use crate::support::{
+    Outcome, Runtime, check, hold, leave, lock, lock_in_time, new_budget, new_mutex,
+    nobody_listens, poll, poll_with,
+};
+use example_mutex::{Mutex, MutexError};
+use futures::test::MockTask;
+use std::process::Abort;
+use test_support::Budget;
+
+const REFUSED: Outcome = Outcome::Refused(MutexError::Memory);
+
+// Waits for a new lock, which is held, with so many bytes of memory. After a refusal the lock works, and nobody listens.
+fn timed_with<R: Runtime>(rt: &R, budget: &mut Budget, bytes: usize) -> Outcome {
+    let mutex = new_mutex(rt);
+    let held = hold(rt, &mutex);
+    leave(rt, budget, bytes);
+    let outcome = lock_in_time(rt, &mutex);
+    budget.give_back();
+    nobody_listens(rt, &mutex, held);
+    outcome
+}
+
+// Waits for a lock with larger and larger budgets. Answers the greatest that is too small.
+fn greatest_refused<R: Runtime>(rt: &R, budget: &mut Budget) -> usize {
+    let mut greatest = 0;
+    for bytes in (0..Budget::MOST).step_by(Budget::STEP) {
+        let outcome = timed_with(rt, budget, bytes);
+        if outcome == Outcome::NotYet {
+            return greatest;
+        }
+        check(rt, bytes, outcome, REFUSED);
+        greatest = bytes;
+    }
+    panic!(rt; "no budget serves")
+}
+
+// Without a limit the call would wait for ever where nothing is refused. It asks for no more than a timed one.
+fn untimed_with<R: Runtime>(rt: &R, budget: &mut Budget, bytes: usize) {
+    let mutex = new_mutex(rt);
+    let held = hold(rt, &mutex);
+    leave(rt, budget, bytes);
+    let outcome = lock(rt, &mutex);
+    budget.give_back();
+    check(rt, bytes, outcome, REFUSED);
+    nobody_listens(rt, &mutex, held);
+}
+
+#[test]
+fn each_request_of_a_lock_is_refused(rt: HostRuntime) {
+    let mut budget = new_budget(&rt);
+    let greatest = greatest_refused(&rt, &mut budget);
+    // The queue, and what the thread parks on.
+    check(&rt, greatest, greatest > Budget::STEP, true);
+    for bytes in (0..=greatest).step_by(Budget::STEP) {
+        untimed_with(&rt, &mut budget, bytes);
+    }
+}
+
+// A lock that somebody has waited for, so that there is a slot in its queue.
+fn used_mutex<R: Runtime>(rt: &R) -> Mutex<u64> {
+    let mutex = new_mutex(rt);
+    let held = hold(rt, &mutex);
+    check(rt, "in time", lock_in_time(rt, &mutex), Outcome::NotYet);
+    drop(held);
+    mutex
+}
+
+// Listening takes no memory here, so it is the parker that is refused, and the listener is in the queue.
+fn without_parker<R: Runtime>(rt: &R, budget: &mut Budget, has_limit: bool) {
+    let mutex = used_mutex(rt);
+    let held = hold(rt, &mutex);
+    leave(rt, budget, 0);
+    let outcome = if has_limit {
+        lock_in_time(rt, &mutex)
+    } else {
+        lock(rt, &mutex)
+    };
+    budget.give_back();
+    check(rt, has_limit, outcome, REFUSED);
+    nobody_listens(rt, &mutex, held);
+}
+
+#[test]
+fn a_refused_parker_leaves_no_listener(rt: HostRuntime) {
+    let mut budget = new_budget(&rt);
+    without_parker(&rt, &mut budget, true);
+    without_parker(&rt, &mut budget, false);
+}
+
+// Polls a new lock, which is held, with so many bytes of memory, and then with all.
+fn polled_with<R: Runtime>(rt: &R, budget: &mut Budget, bytes: usize) -> Outcome {
+    let mutex = new_mutex(rt);
+    let task = MockTask::new(rt).expect(rt, "a task");
+    let held = hold(rt, &mutex);
+    let mut polled = mutex.polled_lock(rt, rt.alloc());
+    let outcome = poll_with(rt, &mut polled, &task, budget, bytes);
+    if outcome == REFUSED {
+        check(rt, bytes, poll(rt, &mut polled, &task), Outcome::NotYet);
+    }
+    drop(polled);
+    nobody_listens(rt, &mutex, held);
+    outcome
+}
+
+#[test]
+fn each_request_of_a_polled_lock_is_refused(rt: HostRuntime) {
+    let mut budget = new_budget(&rt);
+    let mut refused = 0usize;
+    for bytes in (0..Budget::MOST).step_by(Budget::STEP) {
+        let outcome = polled_with(&rt, &mut budget, bytes);
+        if outcome == Outcome::NotYet {
+            break;
+        }
+        check(&rt, bytes, outcome, REFUSED);
+        refused = refused.wrapping_add(1);
+    }
+    check(&rt, refused, refused > 0, true);
+}
+
+// A task that waits without a parker needs none.
+#[test]
+fn a_polled_lock_with_a_spare_slot_needs_no_memory(rt: HostRuntime) {
+    let mut budget = new_budget(&rt);
+    let mutex = used_mutex(&rt);
+    let task = MockTask::new(&rt).expect(&rt, "a task");
+    let held = hold(&rt, &mutex);
+    let mut polled = mutex.polled_lock(&rt, rt.alloc());
+    let outcome = poll_with(&rt, &mut polled, &task, &mut budget, 0);
+    check(&rt, "without memory", outcome, Outcome::NotYet);
+    drop(polled);
+    nobody_listens(&rt, &mutex, held);
+}
