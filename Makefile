@@ -2,8 +2,8 @@
 # so the next one of the same sources takes seconds; `make test` takes nothing that was kept.
 #
 # run       compiles and runs the worked rows, with every check at run time, and proves nothing: under a minute
-# test      the whole gate: proofs from nothing, edits and programs that must be refused, tests and programs: some 45 minutes, and an hour where four
-#           processors are two cores
+# test      the whole gate: proofs from nothing, edits and programs that must be refused, tests and programs: some 45 minutes
+#           where four processors are two cores
 # prove     proves every crate and its tests, and runs tests and programs, but tries no edits: some 25 minutes with
 #           `make prove JOBS=4`, which works on four crates at a time in 10 GB; without JOBS it chooses one or two
 # vectors   proves and runs the program of the worked rows, and keeps it as crates/vectors/out/vectors: 12 minutes
@@ -12,10 +12,17 @@
 # quoted    compares what the pages for callers quote with the sources: a second
 # explore   shows a run of a world: `make explore RUN='mutex 2: 0 Go 2, 1 Go 5'`, or lines on its input; it proves the
 #           program first, which takes minutes
+# fuzz      compares queue, events and records on drawn lists of calls: `make fuzz SECONDS=600 SEED=7`, from another seed
+#           each time where none is given; it proves the program first, which takes minutes
+# soak      has 8 threads call an event and a recorded event, and counts: `make soak SECONDS=600 SEED=7`, the same
+# starved   runs the programs with fewer addresses than they need, and looks at what they print; it proves them first,
+#           which takes minutes
 # fmt       lays out the files
+# bench     measures events beside the Rust crate, where that is at hand: `make bench ORACLE=FOLDER`, with a folder as
+#           scripts/bench says. It writes the tables of docs/BENCHMARKS.md: some ten minutes, and the proof of the program
 # diff      compares the queue with the Rust crate, where what that answers is at hand: `make diff ORACLE=FOLDER`, with
 #           a folder as crates/replies/README.md says
-.PHONY: run test prove vectors check refused quoted explore fmt diff
+.PHONY: run test prove vectors check refused quoted explore fuzz soak starved fmt bench diff
 
 run:
 	@scripts/run
@@ -41,8 +48,17 @@ quoted:
 explore:
 	@scripts/explore "$(RUN)"
 
+fuzz soak:
+	@scripts/drawn $@ "$(SECONDS)" "$(SEED)"
+
+starved:
+	@scripts/starved
+
 fmt:
 	@for crate in crates/*/; do (cd "$$crate" && rt fmt) || exit 1; done
+
+bench:
+	@ORACLE="$(ORACLE)" scripts/bench
 
 diff:
 	@ORACLE="$(ORACLE)" scripts/diff
