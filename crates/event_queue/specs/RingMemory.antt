@@ -1,4 +1,5 @@
--- The memory of a ring. An edge from a to b is the cell of a that points forward and the cell of b that points back, so unlinking takes cells apart by ownership alone, also where both neighbours are one node.
+-- The memory of a ring. An edge from a to b is the cell of a that points forward and the cell of b that points back, so
+-- unlinking takes cells apart by ownership alone, also where both neighbours are one node.
 use Rattle.std.specs.Prelude.{ℕ, List, [], ◌∷◌, ◌++◌}
 use base.Fraction.{full_share}
 use base.Fml.{Lft, Fml, ftrue, fsep, fwand}

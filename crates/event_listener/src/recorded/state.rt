@@ -23,8 +23,8 @@ use std::marker::Model;
 ///
 /// The type keeps that the record replays to the queue, and room to record the end of each listener that stands in it.
 /// Only [`apply`](RecordedState::apply), [`apply_end`](RecordedState::apply_end) and the polls of this crate change it;
-/// each makes one step of the queue and records it. No call takes a lock, and none waits unless its sink does. A contract sees a state as its
-/// entries and its queue, but for how much is spare.
+/// each makes one step of the queue and records it. No call takes a lock, and none waits unless its sink does. A contract
+/// sees a state as its entries and its queue, but for how much is spare.
 #[derive(Drop)]
 pub struct RecordedState<T: Copy + Eq> {
     list: List<T, Task>,
