@@ -27,7 +27,7 @@ impl OnList {
     {
         let mut notification = notification;
         self.list
-            .notify(&mut notification, &mut Unheard)
+            .notify_uncounted(&mut notification, &mut Unheard)
             .unwrap_or(0)
     }
 }
@@ -48,12 +48,12 @@ impl Subject for OnList {
 
     #[inline(always)]
     fn listen(&mut self) -> Result<Key, ListenError> {
-        self.list.insert()
+        self.list.insert_uncounted()
     }
 
     #[inline(always)]
     fn poll(&mut self, listener: &mut Key, _cx: &mut Context<'_>) -> bool {
-        matches!(self.list.register(*listener, 7), Notified(()))
+        matches!(self.list.register_uncounted(*listener, 7), Notified(()))
     }
 
     #[inline(always)]
@@ -68,7 +68,7 @@ impl Subject for OnList {
 
     #[inline(always)]
     fn leave(&mut self, listener: Key) {
-        self.list.remove(listener, true, &mut Unheard);
+        self.list.remove_uncounted(listener, true, &mut Unheard);
     }
 
     #[inline(always)]

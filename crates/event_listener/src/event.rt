@@ -95,7 +95,7 @@ impl<T> Event<T> {
         let Ok(runtime) = rt.clone() else {
             return Err(ListenError::Memory);
         };
-        let key = take_lock(shared.queue(), rt).insert()?;
+        let key = take_lock(shared.queue(), rt).insert_uncounted()?;
         let inner = InnerListener::new(key, self.id.number(), runtime, alloc);
         Ok(EventListener::new(shared, inner))
     }
@@ -174,7 +174,10 @@ impl<T> Event<T> {
         match self.shared.get() {
             Some(shared) => {
                 let mut waking = Waking::new(rt);
-                let told = take_lock(shared.queue(), rt).notify(&mut notification, &mut waking);
+                let told = take_lock(shared.queue(), rt).notify_uncounted(
+                    &mut notification,
+                    &mut waking,
+                );
                 waking.finish();
                 told
             }

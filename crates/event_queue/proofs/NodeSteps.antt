@@ -4,7 +4,7 @@ use Rattle.std.specs.Map.{lookup, remove_entry, set_value}
 use Rattle.std.proofs.lemmas.Bool.{eqb-true, eq-eqb, ne_eqb, cases_lt}
 use denote.RawPtr.{Ptr}
 use Rattle.event_queue.specs.declared.key.Key.{Key}
-use Rattle.event_queue.specs.declared.node.ring.NodePtr.{NodePtr}
+use Rattle.event_queue.specs.declared.node.ring.pointers.NodePtr.{NodePtr}
 use Rattle.event_queue.specs.declared.node.line.Held.{Held}
 use Rattle.event_queue.specs.declared.node.line.Held.TheVariants.{Before, After, Nothing}
 use Rattle.event_queue.specs.declared.node.line.Entry.{Entry}

@@ -3,7 +3,7 @@ use Rattle.std.proofs.Common.{◌≡◌, ◌≢◌, ℕ, zero, suc, ◌+◌, ◌
 use Rattle.std.proofs.lemmas.Bool.{cases_eq, eq-eqb, ne_eqb, lt-ltb, le-ltb, cases_lt}
 use Rattle.std.proofs.lemmas.List.{map-append, length-set}
 use Rattle.std.proofs.lemmas.Option.{slice_get_past}
-use Rattle.event_queue.specs.declared.node.ring.NodePtr.{NodePtr}
+use Rattle.event_queue.specs.declared.node.ring.pointers.NodePtr.{NodePtr}
 use Rattle.event_queue.specs.declared.node.line.Held.TheVariants.{Nothing}
 use Rattle.event_queue.specs.declared.node.line.Entry.{Entry}
 use Rattle.event_queue.specs.Nodes.{Node, Spare, Slots, times, slots_of, spare_slots, node_at, spare_entry, AreMapped, AreSpare, IsTable}

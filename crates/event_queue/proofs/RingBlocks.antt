@@ -17,7 +17,7 @@ use Rattle.std.specs.contracts.alloc.Global as Heap
 use Rattle.std.specs.contracts.impls.GlobalAllocator.TheImpl.{ghosts}
 use Rattle.std_alloc.specs.contracts.room.vacant.Vacant as vacant_room
 use Rattle.event_queue.specs.RingMemory.{link_room, node_type, entry_offset, entry_room, rest_of_block}
-use Rattle.event_queue.specs.contracts.node.ring.Node as node
+use Rattle.event_queue.specs.contracts.node.ring.pointers.Node as node
 
 -- a block with nothing in it, as the heap gives it
 abbrev pub Room : RattleType → RattleType

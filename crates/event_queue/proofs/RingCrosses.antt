@@ -17,7 +17,7 @@ use Rattle.std.proofs.alloc.Global.TheSendSync as handle
 use Rattle.std.specs.declared.alloc.Global.{Global}
 use Rattle.event_queue.specs.Ring.{Placed, placed}
 use Rattle.event_queue.specs.RingMemory.{path, path_lent, node_type, nodes_own, nodes_lent}
-use Rattle.event_queue.specs.contracts.node.ring.Ring as Ring
+use Rattle.event_queue.specs.contracts.node.ring.pointers.Ring as Ring
 
 room : (τ : Ty) (p : Ptr) → Keyless (room_for τ p)
 room τ (block_ptr b o) = tt

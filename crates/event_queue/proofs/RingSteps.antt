@@ -42,7 +42,7 @@ use Rattle.std.specs.contracts.alloc.Global as Heap
 use Rattle.std.proofs.alloc.Global.TheLaws as Heap'
 use Rattle.event_queue.specs.Ring.{Placed, is_same_place}
 use Rattle.event_queue.specs.RingMemory.{next_of, previous_of, link_room, edge, path, edge_lent, path_lent, entry_of, node_owns, nodes_own, nodes_lent}
-use Rattle.event_queue.specs.contracts.node.ring.Ring as ring
+use Rattle.event_queue.specs.contracts.node.ring.pointers.Ring as ring
 use Rattle.event_queue.proofs.RingPlaces.{last_from, IsNew, is_same_place-eq}
 
 abbrev pub heap_val : Val

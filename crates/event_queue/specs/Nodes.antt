@@ -1,8 +1,8 @@
 -- How a `Chain` keeps its entries on nodes. No public clause cites this module.
 use Rattle.std.specs.Prelude.{◌≡◌, ℕ, ◌+◌, cond, eqb, ltb, List, [], ◌∷◌, ◌++◌, map, length, Option, Some, None, IsSome, slice_get, option_map, option_and_then}
 use Rattle.event_queue.specs.declared.key.Key.{Key}
-use Rattle.event_queue.specs.declared.node.ring.NodePtr.{NodePtr}
-use Rattle.event_queue.specs.declared.node.ring.Ring.{Ring}
+use Rattle.event_queue.specs.declared.node.ring.pointers.NodePtr.{NodePtr}
+use Rattle.event_queue.specs.declared.node.ring.pointers.Ring.{Ring}
 use Rattle.event_queue.specs.declared.node.line.Held.{Held}
 use Rattle.event_queue.specs.declared.node.line.Held.TheVariants.{Before, After, Nothing}
 use Rattle.event_queue.specs.declared.node.line.Entry.{Entry}
@@ -23,6 +23,10 @@ Spare A B = Ring (Entry A B)
 
 abbrev pub Slots : Type 0 → Type 0 → Type 0
 Slots A B = List (Option (NodePtr (Entry A B)))
+
+-- the place that stands in a slot
+abbrev pub node_at : {E : Type 0} → List (Option (NodePtr E)) → ℕ → Option (NodePtr E)
+node_at slots slot = option_and_then (λ place. place) (slice_get slots slot)
 
 module _ {A B : Type 0} where
   -- the value of an entry before the cursor
@@ -75,10 +79,6 @@ module _ {A B : Type 0} where
 
   abbrev pub spare_slots : List (Spare A B) → List ℕ
   spare_slots spares = map (λ spare. spare.entry.slot) spares
-
-  -- the place that stands in a slot
-  abbrev pub node_at : Slots A B → ℕ → Option (NodePtr (Entry A B))
-  node_at slots slot = option_and_then (λ place. place) (slice_get slots slot)
 
   -- each node's slot leads to it
   abbrev pub AreMapped : Slots A B → List (Node A B) → Type 0

@@ -15,7 +15,9 @@ mod notification_laws;
 mod notify;
 mod reply;
 mod run;
+mod steps;
 mod tag_list;
+mod uncounted;
 mod wake;
 mod woken;
 
@@ -35,6 +37,7 @@ pub use notify::{
     Additional, IntoNotification, IntoTagged, Notification, Notify, Relaxed, Tag, TagWith,
 };
 pub use reply::{ListenError, NotifyError, RegisterResult, State};
+pub use steps::Steps;
 #[doc(hidden)]
 pub use tag_list::TagList;
 pub use wake::WakeSink;

@@ -16,14 +16,19 @@ use crate::node::Chain;
 use crate::notice::Notice;
 use crate::notify::Notification;
 use crate::reply::{ListenError, NotifyError, RegisterResult, State};
+use crate::steps::Steps;
 use crate::wake::WakeSink;
 use std::alloc::{AllocError, AllocFailed, Global};
 use std::marker::Model;
+use std::sync::ledger::Ledger;
 
 /// A queue of listeners.
 ///
 /// A front of the queue is told, each listener of it with a tag; the others wait, each with a task if it stored one.
 /// No call takes a lock, waits or panics.
+///
+/// Five calls count in [`Steps`] how many nodes of other listeners they visit. Each has a namesake for callers that
+/// count nothing, as [`insert_uncounted`](List::insert_uncounted).
 #[derive(Drop)]
 pub struct List<T, W> {
     chain: Chain<Notice<T>, Option<W>>,
@@ -99,18 +104,19 @@ impl<T, W> List<T, W> {
     ///
     /// It allocates only where [`spare`](List::spare) is 0, and returns [`ListenError::Memory`] where that is refused.
     /// Where the serials are used up it returns [`ListenError::SerialsUsedUp`] and allocates nothing. Both leave the
-    /// queue as it was.
+    /// queue as it was. It adds its visits to `steps`, three at most.
     #[inline(always)]
-    pub fn insert(&mut self) -> Result<Key, ListenError>
+    pub fn insert<L: Ledger>(&mut self, steps: &mut Steps<L>) -> Result<Key, ListenError>
         ensures step { Inserts self.old result self.new }
         ensures queue { IsQueue self.new }
         ensures order { IfOk result (λ key. order_of self.new ≡ order_of self.old ++ key ∷ []) }
         ensures serial { self.old.next_serial ≤ self.new.next_serial }
+        ensures visits { steps.new ≤ steps.old + 3 }
     {
         if self.next_serial == u64::MAX {
             return Err(ListenError::SerialsUsedUp);
         }
-        match self.chain.push_back(self.next_serial, None) {
+        match self.chain.push_back(self.next_serial, None, steps) {
             Ok(key) => {
                 self.next_serial += 1;
                 Ok(key)
@@ -128,9 +134,15 @@ impl<T, W> List<T, W> {
     /// Registers the task of a listener: one that was told takes its tag and leaves the queue, one that waits stores
     /// the task, in place of any that it stored before.
     ///
-    /// The call drops a task that it doesn't store, and one that it replaces. It allocates nothing.
+    /// The call drops a task that it doesn't store, and one that it replaces. It allocates nothing. It adds its visits
+    /// to `steps`, three at most.
     #[inline(always)]
-    pub fn register(&mut self, key: Key, task: W) -> RegisterResult<T>
+    pub fn register<L: Ledger>(
+        &mut self,
+        key: Key,
+        task: W,
+        steps: &mut Steps<L>,
+    ) -> RegisterResult<T>
     where
         W: Drop,
         ensures step { Registers self.old key task result self.new }
@@ -141,19 +153,26 @@ impl<T, W> List<T, W> {
         ensures order_without { OnNotified result (order_of self.new ≡ without key (order_of self.old)) }
         ensures order_kept { UnlessNotified result (order_of self.new ≡ order_of self.old) }
         ensures serial { self.new.next_serial ≡ self.old.next_serial }
+        ensures visits { steps.new ≤ steps.old + 3 }
     {
-        self.register_step(key, task)
+        self.register_step(key, task, steps)
     }
 
     #[inline(always)]
-    fn register_step(&mut self, key: Key, task: W) -> RegisterResult<T>
+    pub(crate) fn register_step<L: Ledger>(
+        &mut self,
+        key: Key,
+        task: W,
+        steps: &mut Steps<L>,
+    ) -> RegisterResult<T>
     where
         W: Drop,
         ensures step { Registers self.old key task result self.new }
         ensures was_queue { IsQueue self.old }
         ensures queue { IsQueue self.new }
+        ensures visits { steps.new ≤ steps.old + 3 }
     {
-        if let Some(notice) = self.chain.take_before(key) {
+        if let Some(notice) = self.chain.take_before(key, steps) {
             let Notice { additional: _, tag } = notice;
             return RegisterResult::Notified(tag);
         }
@@ -167,12 +186,13 @@ impl<T, W> List<T, W> {
     /// leaves the queue; of one that waits, the stored task, if it has one, is exchanged, and what comes back is stored.
     ///
     /// Nothing is exchanged where the listener was told, or where no listener has that key. The call drops no task, and
-    /// allocates and waits only where the exchange does.
-    pub fn register_with<C, X: TaskExchange<W, C>>(
+    /// allocates and waits only where the exchange does. It adds its visits to `steps`, three at most.
+    pub fn register_with<C, X: TaskExchange<W, C>, L: Ledger>(
         &mut self,
         key: Key,
         exchange: &X,
         on: &mut C,
+        steps: &mut Steps<L>,
     ) -> RegisterResult<T>
         ensures step { RegistersWith (X.exchanged exchange.now) self.old key on.old result self.new on.new }
         ensures queue { IsQueue self.new }
@@ -182,21 +202,24 @@ impl<T, W> List<T, W> {
         ensures order_without { OnNotified result (order_of self.new ≡ without key (order_of self.old)) }
         ensures order_kept { UnlessNotified result (order_of self.new ≡ order_of self.old) }
         ensures serial { self.new.next_serial ≡ self.old.next_serial }
+        ensures visits { steps.new ≤ steps.old + 3 }
     {
-        self.register_with_step(key, exchange, on)
+        self.register_with_step(key, exchange, on, steps)
     }
 
-    fn register_with_step<C, X: TaskExchange<W, C>>(
+    pub(crate) fn register_with_step<C, X: TaskExchange<W, C>, L: Ledger>(
         &mut self,
         key: Key,
         exchange: &X,
         on: &mut C,
+        steps: &mut Steps<L>,
     ) -> RegisterResult<T>
         ensures step { RegistersWith (X.exchanged exchange.now) self.old key on.old result self.new on.new }
         ensures was_queue { IsQueue self.old }
         ensures queue { IsQueue self.new }
+        ensures visits { steps.new ≤ steps.old + 3 }
     {
-        if let Some(notice) = self.chain.take_before(key) {
+        if let Some(notice) = self.chain.take_before(key, steps) {
             let Notice { additional: _, tag } = notice;
             return RegisterResult::Notified(tag);
         }
@@ -232,13 +255,15 @@ impl<T, W> List<T, W> {
     ///
     /// With `propagate`, the notification of a told listener is propagated: the queue is notified of one, of the same
     /// kind and with the same tag. So a default notification is lost while another listener stays told, and an
-    /// additional one only where nobody waits. The call drops a lost tag. It allocates nothing.
+    /// additional one only where nobody waits. The call drops a lost tag. It allocates nothing. It adds its visits to
+    /// `steps`, three at most.
     #[inline(always)]
-    pub fn remove<S: WakeSink<W>>(
+    pub fn remove<S: WakeSink<W>, L: Ledger>(
         &mut self,
         key: Key,
         propagate: bool,
         sink: &mut S,
+        steps: &mut Steps<L>,
     ) -> Option<State<T, W>>
     where
         T: Drop,
@@ -254,16 +279,19 @@ impl<T, W> List<T, W> {
         // How many are told once a told listener's notification was passed on.
         ensures drop_default { IsTrue propagate → IsToldAs key false self.old → length self.new.told ≡ max (length self.old.told - 1) (min 1 (listeners_of self.old - 1)) }
         ensures drop_additional { IsTrue propagate → IsToldAs key true self.old → length self.new.told ≡ min (length self.old.told) (listeners_of self.old - 1) }
+
+        ensures visits { steps.new ≤ steps.old + 3 }
     {
-        self.remove_step(key, propagate, sink)
+        self.remove_step(key, propagate, sink, steps)
     }
 
     #[inline(always)]
-    fn remove_step<S: WakeSink<W>>(
+    pub(crate) fn remove_step<S: WakeSink<W>, L: Ledger>(
         &mut self,
         key: Key,
         propagate: bool,
         sink: &mut S,
+        steps: &mut Steps<L>,
     ) -> Option<State<T, W>>
     where
         T: Drop,
@@ -271,16 +299,17 @@ impl<T, W> List<T, W> {
         ensures wakes { FoldsTo S.woke sink.old (woken_by_removal key propagate self.old) sink.new }
         ensures was_queue { IsQueue self.old }
         ensures queue { IsQueue self.new }
+        ensures visits { steps.new ≤ steps.old + 3 }
     {
-        if let Some(task) = self.chain.take_after(key) {
+        if let Some(task) = self.chain.take_after(key, steps) {
             return Some(match task {
                 Some(task) => State::Task(task),
                 None => State::Created,
             });
         }
-        let notice = self.chain.take_before(key)?;
+        let notice = self.chain.take_before(key, steps)?;
         if propagate {
-            self.pass_on(notice, sink);
+            self.pass_on(notice, sink, steps);
             return Some(State::NotifiedTaken);
         }
         let Notice { additional, tag } = notice;
@@ -291,15 +320,21 @@ impl<T, W> List<T, W> {
     // of a listener, which stands in many places, is short.
     #[cold]
     #[inline(never)]
-    fn pass_on<S: WakeSink<W>>(&mut self, notice: Notice<T>, sink: &mut S)
+    fn pass_on<S: WakeSink<W>, L: Ledger>(
+        &mut self,
+        notice: Notice<T>,
+        sink: &mut S,
+        steps: &mut Steps<L>,
+    )
     where
         T: Drop,
         ensures passed { self.new ≡ after_passing notice self.old }
         ensures wakes { FoldsTo S.woke sink.old (woken_by_passing notice self.old) sink.new }
         ensures queue { IsQueue self.new }
+        ensures visits { steps.new ≤ steps.old + 1 }
     {
         if self.how_many(1, notice.additional) == 1 {
-            self.tell_next(notice, sink);
+            self.tell_next(notice, sink, steps);
         }
     }
 
@@ -309,12 +344,14 @@ impl<T, W> List<T, W> {
     /// A default notification counts the listeners that are told already; an additional one does not. The
     /// notification is asked for a tag once for each listener told. Where it refuses one, the call returns a
     /// [`NotifyError`]: the listeners told until then stay told, and nobody is skipped. A notification that finds no
-    /// listener to tell is not kept. The call allocates nothing, but the notification may where it makes a tag.
+    /// listener to tell is not kept. The call allocates nothing, but the notification may where it makes a tag. It adds
+    /// one visit to `steps` for each listener told, and no other.
     #[inline(always)]
-    pub fn notify<N: Notification<Tag = T>, S: WakeSink<W>>(
+    pub fn notify<N: Notification<Tag = T>, S: WakeSink<W>, L: Ledger>(
         &mut self,
         n: &mut N,
         sink: &mut S,
+        steps: &mut Steps<L>,
     ) -> Result<usize, NotifyError>
         requires { N.can_tag n.old }
         ensures step { Notifies N.tag_gives (N.count n.old) (N.is_additional n.old) self.old n.old result self.new n.new }
@@ -327,21 +364,26 @@ impl<T, W> List<T, W> {
         ensures default_leaves { IsOk result → IsFalse (N.is_additional n.old) → length self.new.told ≡ max (length self.old.told) (min (N.count n.old) (listeners_of self.old)) }
         ensures additional_tells { IsOk result → IsTrue (N.is_additional n.old) → length self.new.told ≡ length self.old.told + min (N.count n.old) (length self.old.waiting) }
         ensures unrefused { NeverRefuses N.tag_gives → IsOk result }
+
+        // One visit for each listener told, also where a tag is refused.
+        ensures visits { steps.new ≡ steps.old + told_by result }
     {
-        self.notify_step(n, sink)
+        self.notify_step(n, sink, steps)
     }
 
     #[inline(always)]
-    fn notify_step<N: Notification<Tag = T>, S: WakeSink<W>>(
+    pub(crate) fn notify_step<N: Notification<Tag = T>, S: WakeSink<W>, L: Ledger>(
         &mut self,
         n: &mut N,
         sink: &mut S,
+        steps: &mut Steps<L>,
     ) -> Result<usize, NotifyError>
         requires { N.can_tag n.old }
         ensures step { Notifies N.tag_gives (N.count n.old) (N.is_additional n.old) self.old n.old result self.new n.new }
         ensures wakes { FoldsTo S.woke sink.old (tasks_of (told_by result) self.old) sink.new }
         ensures was_queue { IsQueue self.old }
         ensures queue { IsQueue self.new }
+        ensures visits { steps.new ≡ steps.old + told_by result }
     {
         let additional = n.is_additional();
         let count = self.how_many(n.count(), additional);
@@ -349,7 +391,7 @@ impl<T, W> List<T, W> {
             let Ok(tag) = n.next_tag() else {
                 return Err(NotifyError { told });
             };
-            self.tell_next(Notice { additional, tag }, sink);
+            self.tell_next(Notice { additional, tag }, sink, steps);
         }
         Ok(count)
     }
@@ -370,13 +412,19 @@ impl<T, W> List<T, W> {
 
     // Tells the first waiting listener, and wakes its task if it has one.
     #[inline(always)]
-    fn tell_next<S: WakeSink<W>>(&mut self, notice: Notice<T>, sink: &mut S)
+    fn tell_next<S: WakeSink<W>, L: Ledger>(
+        &mut self,
+        notice: Notice<T>,
+        sink: &mut S,
+        steps: &mut Steps<L>,
+    )
         requires { 0 < length self.old.waiting }
         ensures told { self.new ≡ after_telling notice.additional (notice.tag ∷ []) self.old }
         ensures wakes { FoldsTo S.woke sink.old (tasks_of 1 self.old) sink.new }
         ensures queue { IsQueue self.new }
+        ensures visits { steps.new ≡ steps.old + 1 }
     {
-        let (_, task) = self.chain.advance(notice);
+        let (_, task) = self.chain.advance(notice, steps);
         if let Some(task) = task {
             sink.wake(task);
         }

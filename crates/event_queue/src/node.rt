@@ -7,9 +7,11 @@ ghost use Rattle.event_queue.specs.Nodes.{nodes_of, IsLined};
 use crate::key::Key;
 use crate::node::line::{Held, Line};
 use crate::node::table::Table;
+use crate::steps::Steps;
 use std::alloc::{AllocError, AllocFailed, Global};
 use std::marker::Model;
 use std::mem;
+use std::sync::ledger::Ledger;
 
 mod line;
 mod ring;
@@ -136,15 +138,20 @@ impl<A, B> Chain<A, B> {
     pub fn is_before(&self, key: Key) -> bool
         ensures { IsTrue result ↔ IsSome (lookup (is_key key) self.now.before) }
     {
-        let (Some(line), Some(at)) = (&self.line, self.table.find(key.slot)) else {
+        let (Some(line), Some(own)) = (&self.line, self.table.find(key.slot)) else {
             return false;
         };
-        line.is_before(at, key.serial)
+        line.is_before(&own, key.serial)
     }
 
     /// Appends an entry. It allocates only where no slot is spare; where that is refused, the value comes back.
     #[inline(always)]
-    pub fn push_back(&mut self, serial: u64, value: B) -> Result<Key, AllocFailed<B>>
+    pub fn push_back<L: Ledger>(
+        &mut self,
+        serial: u64,
+        value: B,
+        steps: &mut Steps<L>,
+    ) -> Result<Key, AllocFailed<B>>
         ensures serial { IfOk result (λ key. key.serial ≡ serial) }
         ensures before { OnOk result (self.new.before ≡ self.old.before) }
         ensures after { IfOk result (λ key. self.new.after ≡ self.old.after ++ (key, value) ∷ []) }
@@ -160,16 +167,19 @@ impl<A, B> Chain<A, B> {
 
         ensures err { OnErr result (self.new ≡ self.old) }
         ensures value_returned { IfErr result (λ failed. failed.value ≡ value) }
+
+        ensures visits { OnOk result (steps.new ≡ steps.old + 1) }
+        ensures no_visit { OnErr result (steps.new ≡ steps.old) }
     {
         if self.table.spare() == 0 && self.grow(1).is_err() {
             return Err(AllocFailed { value });
         }
-        Ok(self.push_spare(serial, value))
+        Ok(self.push_spare(serial, value, steps))
     }
 
     // Appends an entry on a spare node.
     #[inline(always)]
-    fn push_spare(&mut self, serial: u64, value: B) -> Key
+    fn push_spare<L: Ledger>(&mut self, serial: u64, value: B, steps: &mut Steps<L>) -> Key
         requires { 0 < self.old.spare }
         ensures serial { result.serial ≡ serial }
         ensures before { self.new.before ≡ self.old.before }
@@ -178,6 +188,7 @@ impl<A, B> Chain<A, B> {
         ensures slot_after { All (λ entry. entry.0.slot ≢ result.slot) self.old.after }
         ensures spare { self.new.spare + 1 ≡ self.old.spare }
         ensures slots_fit { length self.new.before + length self.new.after + self.new.spare < 2 ^ 64 }
+        ensures visits { steps.new ≡ steps.old + 1 }
     {
         let Some(line) = &mut self.line else {
             unreachable!()
@@ -185,7 +196,7 @@ impl<A, B> Chain<A, B> {
         let Some(node) = self.table.take_spare() else {
             unreachable!()
         };
-        let (slot, at) = line.append(node, serial, value, self.after_len == 0);
+        let (slot, at) = line.append(node, serial, value, self.after_len == 0, steps);
         self.table.fill(slot, at);
         self.after_len += 1;
         Key { slot, serial }
@@ -193,19 +204,21 @@ impl<A, B> Chain<A, B> {
 
     /// Takes the entry of that key out, if it is before the cursor.
     #[inline(always)]
-    pub fn take_before(&mut self, key: Key) -> Option<A>
+    pub fn take_before<L: Ledger>(&mut self, key: Key, steps: &mut Steps<L>) -> Option<A>
         ensures value { result ≡ lookup (is_key key) self.old.before }
         ensures taken { OnSome result (self.new ≡ record self.old { before = remove_entry (is_key key) self.old.before; spare = self.old.spare + 1 }) }
         ensures absent { IfNone result (self.new ≡ self.old) }
+        ensures visits { OnSome result (steps.new ≡ steps.old + 2) }
+        ensures no_visit { IfNone result (steps.new ≡ steps.old) }
     {
-        let at = self.table.find(key.slot)?;
+        let own = self.table.find(key.slot)?;
         let Some(line) = &mut self.line else {
             unreachable!()
         };
-        if !line.is_before(at, key.serial) {
+        if !line.is_before(&own, key.serial) {
             return None;
         }
-        let (node, held) = line.take(at);
+        let (node, held) = line.take(own, steps);
         self.table.give_back(key.slot, node);
         match held {
             Held::Before(value) => {
@@ -218,20 +231,21 @@ impl<A, B> Chain<A, B> {
 
     /// Takes the entry of that key out, if it is after the cursor.
     #[inline(always)]
-    pub fn take_after(&mut self, key: Key) -> Option<B>
+    pub fn take_after<L: Ledger>(&mut self, key: Key, steps: &mut Steps<L>) -> Option<B>
         ensures value { result ≡ lookup (is_key key) self.old.after }
         ensures taken { OnSome result (self.new ≡ record self.old { after = remove_entry (is_key key) self.old.after; spare = self.old.spare + 1 }) }
         ensures absent { IfNone result (self.new ≡ self.old) }
+        ensures visits { OnSome result (steps.new ≡ steps.old + 3) }
+        ensures no_visit { IfNone result (steps.new ≡ steps.old) }
     {
-        let at = self.table.find(key.slot)?;
+        let own = self.table.find(key.slot)?;
         let Some(line) = &mut self.line else {
             unreachable!()
         };
-        if !line.is_after(at, key.serial) {
+        if !line.is_after(&own, key.serial) {
             return None;
         }
-        line.skip(at);
-        let (node, held) = line.take(at);
+        let (node, held) = line.take_after(own, steps);
         self.table.give_back(key.slot, node);
         match held {
             Held::After(value) => {
@@ -252,16 +266,16 @@ impl<A, B> Chain<A, B> {
         ensures unchanged { OnErr result (self.new ≡ self.old) }
         ensures value_returned { IfErr result (λ refused. refused ≡ value) }
     {
-        let Some(at) = self.table.find(key.slot) else {
+        let Some(own) = self.table.find(key.slot) else {
             return Err(value);
         };
         let Some(line) = &mut self.line else {
             unreachable!()
         };
-        if !line.is_after(at, key.serial) {
+        if !line.is_after(&own, key.serial) {
             return Err(value);
         }
-        match line.replace(at, value) {
+        match line.replace(&own, value) {
             Held::After(former) => Ok(former),
             _ => unreachable!(),
         }
@@ -270,16 +284,17 @@ impl<A, B> Chain<A, B> {
     /// Moves the cursor past the first entry after it, which gets this value. Its key and the value that it had are
     /// the answer.
     #[inline(always)]
-    pub fn advance(&mut self, value: A) -> (Key, B)
+    pub fn advance<L: Ledger>(&mut self, value: A, steps: &mut Steps<L>) -> (Key, B)
         requires { 0 < length self.old.after }
         ensures first { self.old.after ≡ result ∷ self.new.after }
         ensures told { self.new.before ≡ self.old.before ++ (result.0, value) ∷ [] }
         ensures spare { self.new.spare ≡ self.old.spare }
+        ensures visits { steps.new ≡ steps.old + 1 }
     {
         let Some(line) = &mut self.line else {
             unreachable!()
         };
-        let (key, held) = line.advance(value);
+        let (key, held) = line.advance(value, steps);
         match held {
             Held::After(former) => {
                 self.before_len += 1;

@@ -56,9 +56,11 @@ impl<T: Drop, W: Drop> List<T, W> {
         ensures serial { self.old.next_serial ≤ self.new.next_serial }
     {
         match call {
-            Call::Insert => Reply::Inserted(self.insert()),
-            Call::Register { key, task } => Reply::Registered(self.register(key, task)),
-            Call::Remove { key, propagate } => Reply::Removed(self.remove(key, propagate, sink)),
+            Call::Insert => Reply::Inserted(self.insert_uncounted()),
+            Call::Register { key, task } => Reply::Registered(self.register_uncounted(key, task)),
+            Call::Remove { key, propagate } => Reply::Removed(self.remove_uncounted(
+                key, propagate, sink,
+            )),
             Call::Notify {
                 count,
                 additional,
@@ -69,7 +71,7 @@ impl<T: Drop, W: Drop> List<T, W> {
                     additional,
                     tags: tags.into_iter(),
                 };
-                Reply::Notified(self.notify(&mut source, sink))
+                Reply::Notified(self.notify_uncounted(&mut source, sink))
             }
             Call::TotalListeners => Reply::TotalListeners(self.total_listeners()),
             Call::IsNotified => Reply::IsNotified(self.is_notified()),

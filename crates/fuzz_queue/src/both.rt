@@ -78,7 +78,7 @@ impl Both {
     }
 
     fn insert(&mut self) -> Result<Option<String>> {
-        let answer = self.queue.insert();
+        let answer = self.queue.insert_uncounted();
         let expected = self.plain.insert();
         if let (Ok(key), Ok(plain_key)) = (answer, expected) {
             self.keys.push((key, plain_key))?;
@@ -104,14 +104,16 @@ impl Both {
     fn register(&mut self, key: DrawnKey, task: u32) -> Result<Option<String>> {
         let key = self.queue_key(key);
         let plain_key = self.plain_key(key);
-        let answer = self.queue.register(key, task);
+        let answer = self.queue.register_uncounted(key, task);
         let expected = self.plain.register(plain_key, task);
         differ(self.alloc, "register", answer, expected)
     }
 
     fn remove(&mut self, key: Key, propagate: bool) -> Result<Option<String>> {
         let plain_key = self.plain_key(key);
-        let answer = self.queue.remove(key, propagate, &mut self.queue_woken);
+        let answer = self
+            .queue
+            .remove_uncounted(key, propagate, &mut self.queue_woken);
         let expected = self
             .plain
             .remove(plain_key, propagate, &mut self.plain_woken);
@@ -126,7 +128,9 @@ impl Both {
         tags: u32,
     ) -> Result<Option<String>> {
         let mut source = tag_list(self.alloc, count, additional, tag, tags)?;
-        let answer = self.queue.notify(&mut source, &mut self.queue_woken);
+        let answer = self
+            .queue
+            .notify_uncounted(&mut source, &mut self.queue_woken);
         let mut source = tag_list(self.alloc, count, additional, tag, tags)?;
         let expected = self.plain.notify(&mut source, &mut self.plain_woken);
         differ(self.alloc, "notify", answer, expected)

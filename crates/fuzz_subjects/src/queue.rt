@@ -43,7 +43,7 @@ impl QueueSubject {
     }
 
     fn listen(&mut self) -> Result<Answer> {
-        let key = self.list.insert()?;
+        let key = self.list.insert_uncounted()?;
         self.places.push(Place { key, stored: None })?;
         Ok(Answer::Listened)
     }
@@ -65,7 +65,8 @@ impl QueueSubject {
         };
         match register(&mut self.list, &mut taken, WAIT, &mut self.let_go) {
             Answer::Pending => {
-                self.list.remove(taken.key, false, &mut self.woken);
+                self.list
+                    .remove_uncounted(taken.key, false, &mut self.woken);
                 Answer::TimedOut
             }
             // The task of the wait was not stored. Nobody is woken by it.
@@ -79,10 +80,12 @@ impl QueueSubject {
     fn notify(&mut self, count: usize, additional: bool, tag: u32) -> Result<Answer> {
         let told = if additional {
             let mut notification = count.additional().tag(tag);
-            self.list.notify(&mut notification, &mut self.woken)?
+            self.list
+                .notify_uncounted(&mut notification, &mut self.woken)?
         } else {
             let mut notification = count.tag(tag);
-            self.list.notify(&mut notification, &mut self.woken)?
+            self.list
+                .notify_uncounted(&mut notification, &mut self.woken)?
         };
         Ok(Answer::Notified(told))
     }
@@ -90,7 +93,10 @@ impl QueueSubject {
     // Removes the listener at that place. Answers whether it was told.
     fn remove(&mut self, place: usize, propagate: bool) -> Option<bool> {
         let taken = take(&mut self.places, place)?;
-        match self.list.remove(taken.key, propagate, &mut self.woken) {
+        match self
+            .list
+            .remove_uncounted(taken.key, propagate, &mut self.woken)
+        {
             Some(State::Notified { .. } | State::NotifiedTaken) => Some(true),
             Some(State::Task(task)) => {
                 self.let_go = Some(task);
@@ -109,7 +115,7 @@ fn register(
     let_go: &mut Option<u32>,
 ) -> Answer {
     *let_go = Some(task);
-    match list.register(place.key, task) {
+    match list.register_uncounted(place.key, task) {
         RegisterResult::Notified(tag) => Answer::Ready(tag),
         RegisterResult::Registered => {
             *let_go = mem::replace(&mut place.stored, Some(task));

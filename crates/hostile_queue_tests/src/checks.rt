@@ -15,5 +15,5 @@ where
 
 /// A new listener.
 pub fn insert<T, W, R: Abort>(rt: &R, queue: &mut List<T, W>) -> Key {
-    queue.insert().expect(rt, "a listener")
+    queue.insert_uncounted().expect(rt, "a listener")
 }

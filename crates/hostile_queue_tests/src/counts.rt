@@ -13,7 +13,7 @@ fn queue_with<R: Abort + AllocGlobal>(rt: &R, told: usize, waiting: usize) -> Li
     for _ in 0..told {
         insert(rt, &mut queue);
     }
-    let answer = queue.notify(&mut usize::MAX.tag(1), &mut woken);
+    let answer = queue.notify_uncounted(&mut usize::MAX.tag(1), &mut woken);
     check(rt, "told before", answer, Ok(told));
     for _ in 0..waiting {
         insert(rt, &mut queue);
@@ -33,10 +33,13 @@ fn tells<R: Abort + AllocGlobal>(
     // A default notification counts those that are told already.
     let (answer, wanted) = if additional {
         let mut n = count.additional().tag(2);
-        (queue.notify(&mut n, &mut woken), count)
+        (queue.notify_uncounted(&mut n, &mut woken), count)
     } else {
         let mut n = count.tag(2);
-        (queue.notify(&mut n, &mut woken), count.saturating_sub(told))
+        (
+            queue.notify_uncounted(&mut n, &mut woken),
+            count.saturating_sub(told),
+        )
     };
     let newly = wanted.min(waiting);
     let asked = (told, waiting, count, additional);

@@ -38,10 +38,10 @@ fn new_standing<R: Abort + AllocGlobal>(rt: &R) -> Standing {
     let waiting = insert(rt, &mut queue);
     let leaver = insert(rt, &mut queue);
     let with_task = insert(rt, &mut queue);
-    queue.register(with_task, 30);
-    queue.remove(leaver, false, &mut woken);
+    queue.register_uncounted(with_task, 30);
+    queue.remove_uncounted(leaver, false, &mut woken);
     let newcomer = insert(rt, &mut queue);
-    let answer = queue.notify(&mut 1.tag(7), &mut woken);
+    let answer = queue.notify_uncounted(&mut 1.tag(7), &mut woken);
     check(rt, "told", answer, Ok(1));
     Standing {
         queue,
@@ -63,7 +63,7 @@ fn holds<R: Abort>(rt: &R, key: Key, standing: Standing, states: &[Left]) {
         keys,
     } = standing;
     for (other, state) in keys.iter().zip(states.iter()) {
-        let left = queue.remove(*other, false, &mut woken);
+        let left = queue.remove_uncounted(*other, false, &mut woken);
         check(rt, ("left", key), left, *state);
     }
     check(rt, ("nobody else", key), queue.total_listeners(), 0);
@@ -86,7 +86,7 @@ fn asks<R: Abort + AllocGlobal>(rt: &R, key: Key) {
 
 fn registers<R: Abort + AllocGlobal>(rt: &R, key: Key) {
     let mut standing = new_standing(rt);
-    let answer = standing.queue.register(key, 99);
+    let answer = standing.queue.register_uncounted(key, 99);
     let mut states = STATES;
     let expected = match owner_of(standing.keys.as_slice(), key) {
         Some(0) => {
@@ -105,7 +105,9 @@ fn registers<R: Abort + AllocGlobal>(rt: &R, key: Key) {
 
 fn removes<R: Abort + AllocGlobal>(rt: &R, key: Key) {
     let mut standing = new_standing(rt);
-    let answer = standing.queue.remove(key, false, &mut standing.woken);
+    let answer = standing
+        .queue
+        .remove_uncounted(key, false, &mut standing.woken);
     let mut states = STATES;
     let mut expected = None;
     if let Some(owner) = owner_of(standing.keys.as_slice(), key) {
@@ -119,7 +121,9 @@ fn removes<R: Abort + AllocGlobal>(rt: &R, key: Key) {
 // The notification of the told listener is passed on to the first that waits.
 fn removes_and_propagates<R: Abort + AllocGlobal>(rt: &R, key: Key) {
     let mut standing = new_standing(rt);
-    let answer = standing.queue.remove(key, true, &mut standing.woken);
+    let answer = standing
+        .queue
+        .remove_uncounted(key, true, &mut standing.woken);
     let mut states = STATES;
     let owner = owner_of(standing.keys.as_slice(), key);
     check(rt, ("found", key), answer.is_some(), owner.is_some());
@@ -162,9 +166,9 @@ fn a_key_of_another_queue_is_that_of_the_listener_with_an_equal_one(rt: HostRunt
     let (_, strangers) = three_from(&rt, 3);
     check(&rt, "equal keys", keys, namesakes);
     for (key, stranger) in namesakes.iter().zip(strangers.iter()) {
-        let answer = queue.register(*stranger, 1);
+        let answer = queue.register_uncounted(*stranger, 1);
         check(&rt, stranger, answer, RegisterResult::NeverInserted);
-        let answer = queue.register(*key, 1);
+        let answer = queue.register_uncounted(*key, 1);
         check(&rt, key, answer, RegisterResult::Registered);
     }
     check(&rt, "listeners", queue.total_listeners(), 3);

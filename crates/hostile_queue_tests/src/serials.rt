@@ -10,7 +10,7 @@ fn refuses_to_insert<R: Abort>(rt: &R, queue: &mut List<u32, u32>) {
     check(
         rt,
         "insert",
-        queue.insert(),
+        queue.insert_uncounted(),
         Err(ListenError::SerialsUsedUp),
     );
     check(rt, "spare", queue.spare(), spare);
@@ -77,9 +77,14 @@ fn greatest_finds_nobody<R: Abort + AllocGlobal>(rt: &R, queue: &mut List<u32, u
         serial: u64::MAX,
     };
     let mut woken = Woken::with_room(rt.alloc(), 1).expect(rt, "room");
-    let answer = queue.register(key, 9);
+    let answer = queue.register_uncounted(key, 9);
     check(rt, "register", answer, RegisterResult::NeverInserted);
-    check(rt, "remove", queue.remove(key, true, &mut woken), None);
+    check(
+        rt,
+        "remove",
+        queue.remove_uncounted(key, true, &mut woken),
+        None,
+    );
 }
 
 #[test]

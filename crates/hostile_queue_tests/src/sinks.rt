@@ -18,14 +18,14 @@ impl WakeSink<u32> for Busy {
     fn wake(&mut self, task: u32) {
         self.tasks = self.tasks.wrapping_mul(10).wrapping_add(u64::from(task));
         for _ in 0..100 {
-            if let Ok(key) = self.queue.insert() {
-                self.queue.register(key, task);
+            if let Ok(key) = self.queue.insert_uncounted() {
+                self.queue.register_uncounted(key, task);
                 let _ = self
                     .queue
-                    .notify(&mut 1.into_notification(), &mut self.woken);
-                self.queue.remove(key, true, &mut self.woken);
+                    .notify_uncounted(&mut 1.into_notification(), &mut self.woken);
+                self.queue.remove_uncounted(key, true, &mut self.woken);
             }
-            let _ = self.queue.insert();
+            let _ = self.queue.insert_uncounted();
         }
     }
 }
@@ -41,17 +41,17 @@ fn a_sink_may_do_a_lot(rt: HostRuntime) {
     let first = insert(&rt, &mut queue);
     for task in 1..4 {
         let key = insert(&rt, &mut queue);
-        queue.register(key, task);
+        queue.register_uncounted(key, task);
     }
-    queue.register(first, 9);
-    let answer = queue.notify(&mut 2.into_notification(), &mut busy);
+    queue.register_uncounted(first, 9);
+    let answer = queue.notify_uncounted(&mut 2.into_notification(), &mut busy);
     check(&rt, "told", answer, Ok(2));
     check(&rt, "woken", busy.tasks, 91);
-    let left = queue.remove(first, true, &mut busy);
+    let left = queue.remove_uncounted(first, true, &mut busy);
     check(&rt, "left", left.is_some(), true);
     // A default notification is lost while another listener stays told.
     check(&rt, "woken", busy.tasks, 91);
-    let answer = queue.notify(&mut 9.additional(), &mut busy);
+    let answer = queue.notify_uncounted(&mut 9.additional(), &mut busy);
     check(&rt, "told", answer, Ok(2));
     check(&rt, "woken", busy.tasks, 9123);
     check(&rt, "listeners", queue.total_listeners(), 3);

@@ -35,7 +35,7 @@ fn notify<'a, R: Abort + AllocGlobal>(
 ) -> Result<usize, NotifyError> {
     let mut woken = Woken::with_room(rt.alloc(), 0).expect(rt, "room");
     asked.set(0);
-    queue.notify(&mut 3.tag(Refusing { asked, refused }), &mut woken)
+    queue.notify_uncounted(&mut 3.tag(Refusing { asked, refused }), &mut woken)
 }
 
 // Three wait. The first notification is refused the clones of these numbers, the second none. So many are told by
@@ -82,7 +82,7 @@ fn removes_and_propagates<R: Abort + AllocGlobal>(
     key: Key,
 ) {
     let mut woken = Woken::with_room(rt.alloc(), 0).expect(rt, "room");
-    let left = queue.remove(key, true, &mut woken);
+    let left = queue.remove_uncounted(key, true, &mut woken);
     check(rt, key, matches!(left, Some(State::Notified { .. })), false);
     check(rt, key, left.is_some(), true);
 }

@@ -9,7 +9,7 @@ fn refuses_to_insert<R: Abort>(rt: &R, queue: &mut List<(), u32>) {
     check(
         rt,
         "insert",
-        queue.insert(),
+        queue.insert_uncounted(),
         Err(ListenError::SerialsUsedUp),
     );
 }
@@ -18,7 +18,7 @@ fn refuses_to_insert<R: Abort>(rt: &R, queue: &mut List<(), u32>) {
 fn makes_room_and_takes_nobody<R: Abort + AllocGlobal>(rt: &R) {
     let mut queue = List::starting_at(rt.alloc(), u64::MAX);
     let hog = Hog::new(rt.alloc()).expect(rt, "all memory");
-    let without_memory = queue.insert();
+    let without_memory = queue.insert_uncounted();
     drop(hog);
     check(
         rt,
@@ -69,9 +69,9 @@ fn has_no_room<R: Abort>(rt: &R, queue: &mut List<(), u32>, n: usize) {
 #[test]
 fn more_than_memory_holds_is_refused(rt: HostRuntime) {
     let mut queue = List::new(rt.alloc());
-    let first = queue.insert().expect(&rt, "a listener");
+    let first = queue.insert_uncounted().expect(&rt, "a listener");
     has_no_room(&rt, &mut queue, usize::MAX);
     has_no_room(&rt, &mut queue, usize::MAX - 1);
-    let second = queue.insert().expect(&rt, "a listener");
+    let second = queue.insert_uncounted().expect(&rt, "a listener");
     check(&rt, "serials", (first.serial(), second.serial()), (0, 1));
 }

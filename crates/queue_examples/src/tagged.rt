@@ -13,7 +13,8 @@ use event_queue::{IntoNotification, IntoTagged, List, NotifyError, Woken};
 pub fn call_to_desk(line: &mut List<u32, u64>, desk: u32, called: &mut Woken<u64>) -> usize
     ensures { result ≡ min 1 (length line.old.waiting) }
 {
-    line.notify(&mut 1.additional().tag(desk), called).unwrap()
+    line.notify_uncounted(&mut 1.additional().tag(desk), called)
+        .unwrap()
 }
 
 /// Calls the first `n` who wait, and hands each a copy of the text. Returns how many it told.
@@ -29,5 +30,5 @@ pub fn announce(
     ensures some { IfErr result (λ error. error.told < min n (length line.old.waiting)) }
     ensures order { order_of line.new ≡ order_of line.old }
 {
-    line.notify(&mut n.additional().tag(text), called)
+    line.notify_uncounted(&mut n.additional().tag(text), called)
 }

@@ -46,8 +46,8 @@ impl Turnstile {
         ensures told { self.new.told ≡ self.old.told }
         ensures refused { OnErr result (self.new ≡ self.old) }
     {
-        let ticket = self.line.insert()?;
-        self.line.register(ticket, visitor);
+        let ticket = self.line.insert_uncounted()?;
+        self.line.register_uncounted(ticket, visitor);
         Ok(ticket)
     }
 
@@ -63,7 +63,7 @@ impl Turnstile {
         let room = n.min(self.line.total_listeners());
         let mut admitted = Woken::with_room(alloc, room)?;
         self.line
-            .notify(&mut n.additional(), &mut admitted)
+            .notify_uncounted(&mut n.additional(), &mut admitted)
             .unwrap();
         Ok(admitted)
     }
@@ -76,7 +76,7 @@ impl Turnstile {
         ensures waits { IsFalse result → order_of self.new ≡ order_of self.old }
     {
         let is_admitted = self.line.is_told(ticket);
-        self.line.register(ticket, visitor);
+        self.line.register_uncounted(ticket, visitor);
         is_admitted
     }
 
@@ -87,7 +87,7 @@ impl Turnstile {
         ensures others { order_of self.new ≡ without ticket (order_of self.old) }
     {
         let mut next = LastWoken { task: None };
-        self.line.remove(ticket, true, &mut next);
+        self.line.remove_uncounted(ticket, true, &mut next);
         next.task
     }
 }

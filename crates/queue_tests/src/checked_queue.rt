@@ -37,7 +37,7 @@ impl<'a, T, R: Abort + AllocGlobal> CheckedQueue<'a, T, R> {
 impl<'a, T, R: Abort> CheckedQueue<'a, T, R> {
     /// A new listener, with no task.
     pub fn inserts(&mut self) -> Key {
-        self.queue.insert().expect(self.rt, "a listener")
+        self.queue.insert_uncounted().expect(self.rt, "a listener")
     }
 
     /// A new listener, which takes a spare slot.
@@ -51,7 +51,12 @@ impl<'a, T, R: Abort> CheckedQueue<'a, T, R> {
     /// Nobody is inserted, and no slot is taken.
     pub fn refuses_to_insert(&mut self, refusal: ListenError) {
         let spare = self.queue.spare();
-        check(self.rt, "insert", self.queue.insert(), Err(refusal));
+        check(
+            self.rt,
+            "insert",
+            self.queue.insert_uncounted(),
+            Err(refusal),
+        );
         check(self.rt, "spare", self.queue.spare(), spare);
     }
 
@@ -80,7 +85,7 @@ impl<'a, T, R: Abort> CheckedQueue<'a, T, R> {
         requires { N.can_tag n }
     {
         let mut n = n;
-        let answer = self.queue.notify(&mut n, &mut self.woken);
+        let answer = self.queue.notify_uncounted(&mut n, &mut self.woken);
         check(self.rt, ("notify", &n), answer, expected);
     }
 
@@ -106,7 +111,7 @@ impl<'a, T, R: Abort> CheckedQueue<'a, T, R> {
 
 impl<'a, T: PartialEq + Debug + Drop, R: Abort> CheckedQueue<'a, T, R> {
     fn register(&mut self, key: Key, task: u32, expected: RegisterResult<T>) {
-        let answer = self.queue.register(key, task);
+        let answer = self.queue.register_uncounted(key, task);
         check(self.rt, ("register", key), answer, expected);
     }
 
@@ -134,7 +139,9 @@ impl<'a, T: PartialEq + Debug + Drop, R: Abort> CheckedQueue<'a, T, R> {
         handed_out: Option<Option<u32>>,
     ) {
         let mut on = None;
-        let answer = self.queue.register_with(key, &NextNumber, &mut on);
+        let answer = self
+            .queue
+            .register_with_uncounted(key, &NextNumber, &mut on);
         check(self.rt, ("register_with", key), answer, expected);
         check(self.rt, ("handed out", key), on, handed_out);
     }
@@ -150,7 +157,7 @@ impl<'a, T: PartialEq + Debug + Drop, R: Abort> CheckedQueue<'a, T, R> {
     }
 
     fn remove(&mut self, key: Key, propagate: bool, expected: Option<State<T, u32>>) {
-        let answer = self.queue.remove(key, propagate, &mut self.woken);
+        let answer = self.queue.remove_uncounted(key, propagate, &mut self.woken);
         check(self.rt, ("remove", key), answer, expected);
     }
 

@@ -59,13 +59,15 @@ impl<'a, R: Abort + AllocGlobal> CountingQueue<'a, R> {
 impl<'a, R: Abort> CountingQueue<'a, R> {
     /// A new listener.
     pub fn inserts(&mut self) -> Key {
-        self.queue.insert().expect(self.rt, "a listener")
+        self.queue.insert_uncounted().expect(self.rt, "a listener")
     }
 
     /// One listener is told, with a tag whose drops are counted here.
     pub fn tells_one(&mut self, count: usize, additional: bool, drops: &'a Cell<u8>) {
         let mut notification = OneTag::new(count, additional, drops);
-        let answer = self.queue.notify(&mut notification, &mut self.woken);
+        let answer = self
+            .queue
+            .notify_uncounted(&mut notification, &mut self.woken);
         check(self.rt, "notify", answer, Ok(1));
     }
 
@@ -76,7 +78,7 @@ impl<'a, R: Abort> CountingQueue<'a, R> {
         drops: &'a Cell<u8>,
         expected: Registration,
     ) -> RegisterResult<Counted<'a>> {
-        let answer = self.queue.register(key, Counted { drops });
+        let answer = self.queue.register_uncounted(key, Counted { drops });
         let registration = match &answer {
             RegisterResult::Notified(_) => Registration::Notified,
             RegisterResult::Registered => Registration::Registered,
@@ -93,7 +95,7 @@ impl<'a, R: Abort> CountingQueue<'a, R> {
         propagate: bool,
         expected: Removal,
     ) -> Option<State<Counted<'a>, Counted<'a>>> {
-        let answer = self.queue.remove(key, propagate, &mut self.woken);
+        let answer = self.queue.remove_uncounted(key, propagate, &mut self.woken);
         let removal = match &answer {
             None => Removal::Nobody,
             Some(State::Created) => Removal::Created,

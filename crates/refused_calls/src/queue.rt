@@ -10,7 +10,7 @@ use std::process::Abort;
 const TAG: u32 = 7;
 
 fn insert<R: Abort, T, W>(rt: &R, list: &mut List<T, W>) -> Key {
-    list.insert().expect(rt, "a listener")
+    list.insert_uncounted().expect(rt, "a listener")
 }
 
 fn new_sink<R: Abort + AllocGlobal>(rt: &R, room: usize) -> Woken<u32> {
@@ -20,7 +20,7 @@ fn new_sink<R: Abort + AllocGlobal>(rt: &R, room: usize) -> Woken<u32> {
 // Inserts and stores a task.
 fn insert_with_task<R: Abort>(rt: &R, list: &mut List<u32, u32>, task: u32) -> Key {
     let key = insert(rt, list);
-    let registered = list.register(key, task) == RegisterResult::Registered;
+    let registered = list.register_uncounted(key, task) == RegisterResult::Registered;
     check(rt, task, registered, true);
     key
 }
@@ -35,24 +35,34 @@ fn each_call_but_a_growth(rt: HostRuntime) {
     let gone = insert(&rt, &mut list);
 
     let hog = all_memory(&rt);
-    let left = list.remove(gone, true, &mut woken);
+    let left = list.remove_uncounted(gone, true, &mut woken);
     check(&rt, "one that waits", left, Some(State::Created));
     let spare = list.spare();
     let late = insert(&rt, &mut list);
     check(&rt, "a spare slot", spare.saturating_sub(list.spare()), 1);
     let mut two = 2.tag(TAG);
-    check(&rt, "two", list.notify(&mut two, &mut woken), Ok(2));
+    check(
+        &rt,
+        "two",
+        list.notify_uncounted(&mut two, &mut woken),
+        Ok(2),
+    );
     // Another one is still told, so this notification is lost.
-    let lost = list.remove(first, true, &mut woken);
+    let lost = list.remove_uncounted(first, true, &mut woken);
     check(&rt, "lost", lost, Some(State::NotifiedTaken));
     let mut one = 1.additional().tag(TAG);
-    check(&rt, "one more", list.notify(&mut one, &mut woken), Ok(1));
-    let given = list.register(second, 4);
+    check(
+        &rt,
+        "one more",
+        list.notify_uncounted(&mut one, &mut woken),
+        Ok(1),
+    );
+    let given = list.register_uncounted(second, 4);
     check(&rt, "a tag", given, RegisterResult::Notified(TAG));
-    let passed_on = list.remove(third, true, &mut woken).is_some();
+    let passed_on = list.remove_uncounted(third, true, &mut woken).is_some();
     check(&rt, "passed on", passed_on, true);
     check(&rt, "the last is told", list.is_told(late), true);
-    let nobody = list.register(third, 5);
+    let nobody = list.register_uncounted(third, 5);
     check(&rt, "a stale key", nobody, RegisterResult::NeverInserted);
     check(
         &rt,
@@ -70,10 +80,25 @@ fn a_new_queue_and_a_queue_at_its_last_serial(rt: HostRuntime) {
     let mut woken = new_sink(&rt, 1);
     let hog = all_memory(&rt);
     let mut list: List<u32, u32> = List::new(rt.alloc());
-    check(&rt, "a slot", list.insert(), Err(ListenError::Memory));
-    check(&rt, "a slot again", list.insert(), Err(ListenError::Memory));
+    check(
+        &rt,
+        "a slot",
+        list.insert_uncounted(),
+        Err(ListenError::Memory),
+    );
+    check(
+        &rt,
+        "a slot again",
+        list.insert_uncounted(),
+        Err(ListenError::Memory),
+    );
     let mut one = 1.tag(TAG);
-    check(&rt, "nobody", list.notify(&mut one, &mut woken), Ok(0));
+    check(
+        &rt,
+        "nobody",
+        list.notify_uncounted(&mut one, &mut woken),
+        Ok(0),
+    );
     check(
         &rt,
         "listeners",
@@ -84,7 +109,7 @@ fn a_new_queue_and_a_queue_at_its_last_serial(rt: HostRuntime) {
     check(
         &rt,
         "a serial",
-        last.insert(),
+        last.insert_uncounted(),
         Err(ListenError::SerialsUsedUp),
     );
     drop(hog);
@@ -107,7 +132,7 @@ const MANY: usize = 1000;
 fn insert_many<'c, R: Abort>(rt: &R, list: &mut List<(), Counted<'c>>, drops: &'c Cell<usize>) {
     for _ in 0..MANY {
         let key = insert(rt, list);
-        let _ = list.register(key, Counted(drops));
+        let _ = list.register_uncounted(key, Counted(drops));
     }
 }
 
@@ -123,7 +148,7 @@ fn a_queue_and_its_tasks_are_dropped(rt: HostRuntime) {
     check(
         &rt,
         "told",
-        list.notify(&mut half, &mut woken),
+        list.notify_uncounted(&mut half, &mut woken),
         Ok(MANY / 2),
     );
     check(&rt, "tasks before", drops.get(), 0);

@@ -52,7 +52,7 @@ impl Machine {
 
     fn listen(&mut self) -> Result<Reply> {
         let number = self.listeners.len();
-        let key = self.queue.insert()?;
+        let key = self.queue.insert_uncounted()?;
         let has_left = false;
         self.listeners.push(Listener { key, has_left })?;
         Ok(Reply::Listener(number))
@@ -78,25 +78,25 @@ fn act_by_key(queue: &mut Queue, key: Key, act: Act, woken: &mut Woken<usize>) -
         Act::Wait => register(queue, key, NO_TASK),
         Act::Expire => match register(queue, key, NO_TASK) {
             Reply::Pending => {
-                queue.remove(key, false, woken);
+                queue.remove_uncounted(key, false, woken);
                 Reply::TimedOut
             }
             reply => reply,
         },
         Act::Drop => {
-            queue.remove(key, true, woken);
+            queue.remove_uncounted(key, true, woken);
             Reply::Dropped
         }
         Act::Discard => {
-            let state = queue.remove(key, false, woken);
+            let state = queue.remove_uncounted(key, false, woken);
             Reply::Discarded(matches!(state, Some(State::Notified { .. })))
         }
-        Act::Remove { propagate } => Reply::Removed(queue.remove(key, propagate, woken)),
+        Act::Remove { propagate } => Reply::Removed(queue.remove_uncounted(key, propagate, woken)),
     }
 }
 
 fn register(queue: &mut Queue, key: Key, task: usize) -> Reply {
-    match queue.register(key, task) {
+    match queue.register_uncounted(key, task) {
         Registered => Reply::Pending,
         Notified(tag) => Reply::Ready(tag),
         NeverInserted => Reply::Finished,
@@ -132,7 +132,7 @@ where
 {
     match tags {
         Tags::Clones(tag) => {
-            let told = queue.notify(&mut n.tag(tag), woken)?;
+            let told = queue.notify_uncounted(&mut n.tag(tag), woken)?;
             Ok(Reply::Told { told, asked: None })
         }
         Tags::CountedFrom(first) => {
@@ -144,7 +144,7 @@ where
                 asked = asked.wrapping_add(1);
                 given
             });
-            let told = queue.notify(&mut by_function, woken)?;
+            let told = queue.notify_uncounted(&mut by_function, woken)?;
             drop(by_function);
             let asked = Some(asked);
             Ok(Reply::Told { told, asked })

@@ -51,20 +51,22 @@ impl Subject for Queue {
 
     fn make(&mut self, call: QueueCall, _wakers: &mut Wakers) -> Result<Reply<(), u32>, Refusal> {
         Ok(match call {
-            QueueCall::Insert => match self.list.insert() {
+            QueueCall::Insert => match self.list.insert_uncounted() {
                 Err(ListenError::Memory) => return Err(Refusal::Listen(ListenError::Memory)),
                 reply => Reply::Inserted(reply),
             },
-            QueueCall::Register(key, task) => Reply::Registered(self.list.register(key, task)),
+            QueueCall::Register(key, task) => Reply::Registered(
+                self.list.register_uncounted(key, task),
+            ),
             QueueCall::Remove(key) => {
-                Reply::Removed(self.list.remove(key, false, &mut self.woken))
+                Reply::Removed(self.list.remove_uncounted(key, false, &mut self.woken))
             }
             QueueCall::RemoveAndPropagate(key) => {
-                Reply::Removed(self.list.remove(key, true, &mut self.woken))
+                Reply::Removed(self.list.remove_uncounted(key, true, &mut self.woken))
             }
             QueueCall::Notify(count) => {
                 let mut n = count.into_notification();
-                Reply::Notified(self.list.notify(&mut n, &mut self.woken))
+                Reply::Notified(self.list.notify_uncounted(&mut n, &mut self.woken))
             }
             QueueCall::TotalListeners => Reply::TotalListeners(self.list.total_listeners()),
             QueueCall::IsTold(key) => Reply::IsNotified(self.list.is_told(key)),

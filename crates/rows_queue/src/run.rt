@@ -63,7 +63,7 @@ impl Run {
             None
         };
         harness.hook().before(request);
-        let reply = self.queue.insert();
+        let reply = self.queue.insert_uncounted();
         harness.hook().after();
         reply
     }
@@ -77,7 +77,7 @@ impl Run {
     ) {
         if !harness.has_ended() {
             harness.hook().before(None);
-            let reply = self.queue.remove(key, false, &mut self.woken);
+            let reply = self.queue.remove_uncounted(key, false, &mut self.woken);
             harness.hook().after();
             harness.compare(reply, Some(expected));
         }

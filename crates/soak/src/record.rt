@@ -31,7 +31,7 @@ impl Again {
     fn make(&mut self, call: RecordedCall<u32>) -> Result<(), Fault> {
         match call {
             RecordedCall::Listen => {
-                let key = self.list.insert()?;
+                let key = self.list.insert_uncounted()?;
                 self.keys.push(key)?;
                 self.counts.listened = self.counts.listened.saturating_add(1);
             }
@@ -39,7 +39,7 @@ impl Again {
                 let key = self.key_here(key);
                 let is_told = self.list.is_told(key);
                 self.counts.take(is_told);
-                let _ = self.list.register(key, ());
+                let _ = self.list.register_uncounted(key, ());
             }
             RecordedCall::Remove { key, propagate } => self.remove(self.key_here(key), propagate),
             RecordedCall::Notify {
@@ -55,10 +55,10 @@ impl Again {
     fn notify(&mut self, count: usize, additional: bool, tag: u32) -> Result<(), Fault> {
         let told = if additional {
             let mut n = count.additional().tag(tag);
-            self.list.notify(&mut n, &mut self.woken)?
+            self.list.notify_uncounted(&mut n, &mut self.woken)?
         } else {
             let mut n = count.tag(tag);
-            self.list.notify(&mut n, &mut self.woken)?
+            self.list.notify_uncounted(&mut n, &mut self.woken)?
         };
         self.counts.told = self.counts.told.saturating_add(told as u64);
         Ok(())
@@ -68,7 +68,7 @@ impl Again {
     fn remove(&mut self, key: Key, propagate: bool) {
         let is_told = self.list.is_told(key);
         let before = self.list.listeners_notified();
-        let _ = self.list.remove(key, propagate, &mut self.woken);
+        let _ = self.list.remove_uncounted(key, propagate, &mut self.woken);
         let is_passed_on = self.list.listeners_notified() == before;
         if is_told && propagate {
             self.counts.passed_on = self

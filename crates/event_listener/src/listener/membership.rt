@@ -47,7 +47,7 @@ impl Membership {
         if self.is_finished {
             return RegisterResult::NeverInserted;
         }
-        let found = take_lock(shared.queue(), rt).register(self.key, task);
+        let found = take_lock(shared.queue(), rt).register_uncounted(self.key, task);
         self.is_finished = !matches!(found, RegisterResult::Registered);
         found
     }
@@ -69,7 +69,11 @@ impl Membership {
         if self.is_finished {
             RegisterResult::NeverInserted
         } else {
-            let found = take_lock(shared.queue(), rt).register_with(self.key, &shared.source, cx);
+            let found = take_lock(shared.queue(), rt).register_with_uncounted(
+                self.key,
+                &shared.source,
+                cx,
+            );
             self.is_finished = matches!(
                 found,
                 RegisterResult::Notified(_) | RegisterResult::NeverInserted
@@ -96,7 +100,11 @@ impl Membership {
         }
         self.is_finished = true;
         let mut waking = Waking::new(rt);
-        let former = take_lock(shared.queue(), rt).remove(self.key, propagate, &mut waking);
+        let former = take_lock(shared.queue(), rt).remove_uncounted(
+            self.key,
+            propagate,
+            &mut waking,
+        );
         waking.finish();
         former
     }

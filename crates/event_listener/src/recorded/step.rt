@@ -25,8 +25,10 @@ pub(super) fn make_step<T: Copy, S: WakeSink<Task>>(
     ensures queue { IsQueue list.new }
 {
     match call {
-        StepCall::Listen => RecordedReply::Listened(list.insert()),
-        StepCall::Register { key, task } => RecordedReply::Registered(list.register(key, task)),
+        StepCall::Listen => RecordedReply::Listened(list.insert_uncounted()),
+        StepCall::Register { key, task } => RecordedReply::Registered(list.register_uncounted(
+            key, task,
+        )),
         StepCall::Remove { key, propagate } => {
             RecordedReply::Removed(make_removal(list, key, propagate, sink))
         }
@@ -59,7 +61,7 @@ pub(super) fn make_exchange<T: Copy, C, X: TaskExchange<Task, C>>(
     ensures exchanged { ExchangesIfWaiting (X.exchanged exchange.now) on.old result on.new }
     ensures queue { IsQueue list.new }
 {
-    RecordedReply::Registered(list.register_with(key, exchange, on))
+    RecordedReply::Registered(list.register_with_uncounted(key, exchange, on))
 }
 
 /// Removes a listener, and returns what it was without its task. It neither allocates nor waits.
@@ -74,7 +76,7 @@ pub(super) fn make_removal<T: Copy, S: WakeSink<Task>>(
     ensures wakes { FoldsTo S.woke sink.old (woken_by_removal key propagate (unspared list.old)) sink.new }
     ensures queue { IsQueue list.new }
 {
-    Some(Former::of(list.remove(key, propagate, sink)?))
+    Some(Former::of(list.remove_uncounted(key, propagate, sink)?))
 }
 
 // Notifies with copies of one tag, and returns how many listeners were told. No copy is refused.
@@ -88,5 +90,5 @@ fn make_notification<T: Copy, S: WakeSink<Task>>(
     ensures wakes { FoldsTo S.woke sink.old (tasks_of result list.old) sink.new }
     ensures queue { IsQueue list.new }
 {
-    list.notify(&mut source, sink).unwrap()
+    list.notify_uncounted(&mut source, sink).unwrap()
 }

@@ -1,11 +1,13 @@
 //! The entries of a chain in order, each on a node of one ring, and the cursor.
-ghost use Rattle.std.specs.Prelude.{◌≡◌, [], ◌∷◌, ◌++◌, cond, ◌↔◌, eqb, IsTrue, IsSome, IfOk};
+ghost use Rattle.std.specs.Prelude.{◌≡◌, ◌+◌, [], ◌∷◌, ◌++◌, cond, ◌↔◌, eqb, IsTrue, IsSome, IfOk};
 ghost use Rattle.event_queue.specs.Ring.{placed, first_place, IsAt, AtNode};
 ghost use Rattle.event_queue.specs.Nodes.{key_of, spare_entry, before_in, after_in};
 
-use super::ring::{NodePtr, Ring};
+use super::ring::{NodePtr, Reached, Ring};
 use crate::key::Key;
+use crate::steps::Steps;
 use std::alloc::{AllocError, AllocFailed, Global};
+use std::sync::ledger::Ledger;
 
 /// What a node carries: the slot that it keeps, and an entry's serial and value.
 #[derive(Drop)]
@@ -98,21 +100,21 @@ impl<A, B> Line<A, B> {
 
     /// Whether the node holds the entry of that serial, before the cursor.
     #[inline(always)]
-    pub(super) fn is_before(&self, at: NodePtr<Entry<A, B>>, serial: u64) -> bool
-        requires { IsAt self.now.ring.nodes at.ptr }
-        ensures { AtNode self.now.ring.nodes at.ptr (λ _ n _. IsTrue result ↔ IsSome (before_in serial n.entry)) }
+    pub(super) fn is_before(&self, own: &Reached<Entry<A, B>>, serial: u64) -> bool
+        requires { IsAt self.now.ring.nodes own.now.ptr }
+        ensures { AtNode self.now.ring.nodes own.now.ptr (λ _ n _. IsTrue result ↔ IsSome (before_in serial n.entry)) }
     {
-        let (entry, _) = self.ring.look(at);
+        let (entry, _) = self.ring.look(own);
         entry.serial == serial && matches!(entry.held, Held::Before(_))
     }
 
     /// Whether the node holds the entry of that serial, after the cursor.
     #[inline(always)]
-    pub(super) fn is_after(&self, at: NodePtr<Entry<A, B>>, serial: u64) -> bool
-        requires { IsAt self.now.ring.nodes at.ptr }
-        ensures { AtNode self.now.ring.nodes at.ptr (λ _ n _. IsTrue result ↔ IsSome (after_in serial n.entry)) }
+    pub(super) fn is_after(&self, own: &Reached<Entry<A, B>>, serial: u64) -> bool
+        requires { IsAt self.now.ring.nodes own.now.ptr }
+        ensures { AtNode self.now.ring.nodes own.now.ptr (λ _ n _. IsTrue result ↔ IsSome (after_in serial n.entry)) }
     {
-        let (entry, _) = self.ring.look(at);
+        let (entry, _) = self.ring.look(own);
         entry.serial == serial && matches!(entry.held, Held::After(_))
     }
 
@@ -120,12 +122,13 @@ impl<A, B> Line<A, B> {
     ///
     /// Where no other entry is after the cursor, the cursor moves to it.
     #[inline(always)]
-    pub(super) fn append(
+    pub(super) fn append<L: Ledger>(
         &mut self,
         node: Ring<Entry<A, B>>,
         serial: u64,
         value: B,
         is_first: bool,
+        steps: &mut Steps<L>,
     ) -> (usize, NodePtr<Entry<A, B>>)
         requires alone { node.nodes ≡ [] }
         requires spare { node.entry.held ≡ Held.Nothing }
@@ -134,17 +137,18 @@ impl<A, B> Line<A, B> {
         ensures root { self.new.ring.at ≡ self.old.ring.at }
         ensures nodes { self.new.ring.nodes ≡ self.old.ring.nodes ++ placed node.at (record { slot = node.entry.slot; serial = serial; held = Held.After value }) ∷ [] }
         ensures cursor { self.new.cursor.ptr ≡ cond is_first node.at self.old.cursor.ptr }
+        ensures visits { steps.new ≡ steps.old + 1 }
     {
-        let at = node.root();
-        self.ring.link_last(node);
-        let (spare, _) = self.ring.look(at);
+        let own = self.ring.append(node, steps);
+        let (spare, _) = self.ring.look(&own);
         let slot = spare.slot;
         let entry = Entry {
             slot,
             serial,
             held: Held::After(value),
         };
-        self.ring.replace(at, entry).let_go();
+        self.ring.replace(&own, entry).let_go();
+        let at = own.place();
         if is_first {
             self.cursor = at;
         }
@@ -153,78 +157,99 @@ impl<A, B> Line<A, B> {
 
     /// Takes a node out. It becomes spare, and its value is the answer too.
     #[inline(always)]
-    pub(super) fn take(&mut self, at: NodePtr<Entry<A, B>>) -> (Ring<Entry<A, B>>, Held<A, B>)
-        requires { IsAt self.old.ring.nodes at.ptr }
+    pub(super) fn take<L: Ledger>(
+        &mut self,
+        own: Reached<Entry<A, B>>,
+        steps: &mut Steps<L>,
+    ) -> (Ring<Entry<A, B>>, Held<A, B>)
+        requires { IsAt self.old.ring.nodes own.ptr }
         ensures root { self.new.ring.at ≡ self.old.ring.at }
         ensures cursor { self.new.cursor ≡ self.old.cursor }
-        ensures place { result.0.at ≡ at.ptr }
+        ensures place { result.0.at ≡ own.ptr }
         ensures alone { result.0.nodes ≡ [] }
-        ensures nodes { AtNode self.old.ring.nodes at.ptr (λ xs n ys. self.new.ring.nodes ≡ xs ++ ys) }
-        ensures spare { AtNode self.old.ring.nodes at.ptr (λ _ n _. result.0.entry ≡ spare_entry n.entry.slot) }
-        ensures held { AtNode self.old.ring.nodes at.ptr (λ _ n _. result.1 ≡ n.entry.held) }
+        ensures nodes { AtNode self.old.ring.nodes own.ptr (λ xs n ys. self.new.ring.nodes ≡ xs ++ ys) }
+        ensures spare { AtNode self.old.ring.nodes own.ptr (λ _ n _. result.0.entry ≡ spare_entry n.entry.slot) }
+        ensures held { AtNode self.old.ring.nodes own.ptr (λ _ n _. result.1 ≡ n.entry.held) }
+        ensures visits { steps.new ≡ steps.old + 2 }
     {
-        let (entry, _) = self.ring.look(at);
+        let (entry, _) = self.ring.look(&own);
         let slot = entry.slot;
-        let entry = self.ring.replace(at, Entry::spare(slot));
-        (self.ring.unlink(at), entry.into_held())
+        let entry = self.ring.replace(&own, Entry::spare(slot));
+        (self.ring.take(own, steps), entry.into_held())
     }
 
-    /// Moves the cursor behind this node, if it is the first after the cursor.
+    /// Takes a node out that is after the cursor, as [`Line::take`] does. If it is the first of these, the cursor moves
+    /// behind it.
     #[inline(always)]
-    pub(super) fn skip(&mut self, at: NodePtr<Entry<A, B>>)
-        requires node { IsAt self.old.ring.nodes at.ptr }
+    pub(super) fn take_after<L: Ledger>(
+        &mut self,
+        own: Reached<Entry<A, B>>,
+        steps: &mut Steps<L>,
+    ) -> (Ring<Entry<A, B>>, Held<A, B>)
+        requires node { IsAt self.old.ring.nodes own.ptr }
         requires cursor { IsAt self.old.ring.nodes self.old.cursor.ptr }
-        ensures ring { self.new.ring ≡ self.old.ring }
-        ensures cursor { AtNode self.old.ring.nodes at.ptr (λ _ n ys. AtNode self.old.ring.nodes self.old.cursor.ptr (λ _ first _.
+        ensures root { self.new.ring.at ≡ self.old.ring.at }
+        ensures cursor { AtNode self.old.ring.nodes own.ptr (λ _ n ys. AtNode self.old.ring.nodes self.old.cursor.ptr (λ _ first _.
             self.new.cursor.ptr ≡ cond (eqb first.entry.slot n.entry.slot) (first_place ys self.old.ring.at) self.old.cursor.ptr)) }
+        ensures place { result.0.at ≡ own.ptr }
+        ensures alone { result.0.nodes ≡ [] }
+        ensures nodes { AtNode self.old.ring.nodes own.ptr (λ xs n ys. self.new.ring.nodes ≡ xs ++ ys) }
+        ensures spare { AtNode self.old.ring.nodes own.ptr (λ _ n _. result.0.entry ≡ spare_entry n.entry.slot) }
+        ensures held { AtNode self.old.ring.nodes own.ptr (λ _ n _. result.1 ≡ n.entry.held) }
+        ensures visits { steps.new ≡ steps.old + 3 }
     {
-        let (first, _) = self.ring.look(self.cursor);
-        let (entry, next) = self.ring.look(at);
-        if first.slot == entry.slot {
+        let cursor = self.ring.visit(self.cursor, steps);
+        let (first, _) = self.ring.look(&cursor);
+        let (entry, next) = self.ring.look(&own);
+        let is_at_cursor = first.slot == entry.slot;
+        let taken = self.take(own, steps);
+        if is_at_cursor {
             self.cursor = next;
         }
+        taken
     }
 
     /// Gives an entry another value, which is after the cursor, and returns the one that it had.
     #[inline(always)]
-    pub(super) fn replace(&mut self, at: NodePtr<Entry<A, B>>, value: B) -> Held<A, B>
-        requires { IsAt self.old.ring.nodes at.ptr }
+    pub(super) fn replace(&mut self, own: &Reached<Entry<A, B>>, value: B) -> Held<A, B>
+        requires { IsAt self.old.ring.nodes own.now.ptr }
         ensures root { self.new.ring.at ≡ self.old.ring.at }
         ensures cursor { self.new.cursor ≡ self.old.cursor }
-        ensures former { AtNode self.old.ring.nodes at.ptr (λ _ n _. result ≡ n.entry.held) }
-        ensures nodes { AtNode self.old.ring.nodes at.ptr (λ xs n ys. self.new.ring.nodes ≡ xs ++ placed n.at (record n.entry { held = Held.After value }) ∷ ys) }
+        ensures former { AtNode self.old.ring.nodes own.now.ptr (λ _ n _. result ≡ n.entry.held) }
+        ensures nodes { AtNode self.old.ring.nodes own.now.ptr (λ xs n ys. self.new.ring.nodes ≡ xs ++ placed n.at (record n.entry { held = Held.After value }) ∷ ys) }
     {
-        let (entry, _) = self.ring.look(at);
+        let (entry, _) = self.ring.look(own);
         let Key { slot, serial } = entry.key();
         let entry = Entry {
             slot,
             serial,
             held: Held::After(value),
         };
-        let former = self.ring.replace(at, entry);
+        let former = self.ring.replace(own, entry);
         former.into_held()
     }
 
     /// Moves the cursor past the first entry after it, which gets this value. Its key and the value that it had are
     /// the answer.
     #[inline(always)]
-    pub(super) fn advance(&mut self, value: A) -> (Key, Held<A, B>)
+    pub(super) fn advance<L: Ledger>(&mut self, value: A, steps: &mut Steps<L>) -> (Key, Held<A, B>)
         requires { IsAt self.old.ring.nodes self.old.cursor.ptr }
         ensures root { self.new.ring.at ≡ self.old.ring.at }
         ensures cursor { AtNode self.old.ring.nodes self.old.cursor.ptr (λ _ _ ys. self.new.cursor.ptr ≡ first_place ys self.old.ring.at) }
         ensures key { AtNode self.old.ring.nodes self.old.cursor.ptr (λ _ n _. result.0 ≡ key_of n.entry) }
         ensures former { AtNode self.old.ring.nodes self.old.cursor.ptr (λ _ n _. result.1 ≡ n.entry.held) }
         ensures nodes { AtNode self.old.ring.nodes self.old.cursor.ptr (λ xs n ys. self.new.ring.nodes ≡ xs ++ placed n.at (record n.entry { held = Held.Before value }) ∷ ys) }
+        ensures visits { steps.new ≡ steps.old + 1 }
     {
-        let at = self.cursor;
-        let (first, next) = self.ring.look(at);
+        let at = self.ring.visit(self.cursor, steps);
+        let (first, next) = self.ring.look(&at);
         let key = first.key();
         let entry = Entry {
             slot: key.slot,
             serial: key.serial,
             held: Held::Before(value),
         };
-        let told = self.ring.replace(at, entry);
+        let told = self.ring.replace(&at, entry);
         self.cursor = next;
         (key, told.into_held())
     }

@@ -1,220 +1,101 @@
-//! Nodes on the heap, linked in a ring by raw pointers. Every raw pointer of the crate is made and followed here.
-ghost use Rattle.std.specs.Prelude.{◌≡◌, ⊤, List, [], ◌∷◌, ◌++◌, IfOk, IfErr};
-ghost use Rattle.std.specs.Coded.{prop_coded};
-ghost use Rattle.event_queue.specs.Ring.{Placed, placed, places, first_place, IsApart, IsApart-prop, IsAt, AtNode};
-ghost use Rattle.event_queue.specs.RingMemory.{ring_owns, ring_lent};
+//! The ways to a node of a ring: to the one of the listener whose call it is, and to another one, which is counted.
+ghost use Rattle.std.specs.Prelude.{◌≡◌, ◌+◌, [], ◌∷◌, ◌++◌, MatchOption};
+ghost use Rattle.event_queue.specs.Ring.{placed, first_place, IsAt, AtNode};
+ghost use Rattle.event_queue.specs.Nodes.{node_at};
 
-use std::alloc::{AllocError, AllocFailed, Global};
-use std::marker::{Model, Send, Sync};
-use std::ptr;
-use std_alloc::room::Vacant;
+use self::pointers::Node;
+pub(super) use self::pointers::{NodePtr, Ring};
+use crate::steps::Steps;
+use std::sync::ledger::Ledger;
 
-/// A node of a ring. The last node leads back to the root, and the root's previous node is the last.
-pub(super) struct Node<E> {
-    next: *mut Node<E>,
-    previous: *mut Node<E>,
-    entry: E,
+mod pointers;
+
+/// A node that a call may look at: its own listener's, or one whose visit was counted.
+///
+/// A [`NodePtr`] only says where a node stands: the functions that follow one are reached from this module alone. So a
+/// call gets to a node by [`Reached::own`] or by [`Ring::visit`], and keeps none for the next call.
+#[derive(Drop)]
+pub(super) struct Reached<E> {
+    ptr: *mut Node<E>,
 }
 
-/// Where a node stands. It owns nothing.
-pub(super) struct NodePtr<E> {
-    pub(super) ptr: *mut Node<E>,
-}
+impl<E> Reached<E> {
+    /// The node of the call's own listener: the one to which the slot of its key leads, if it leads to one.
+    #[inline(always)]
+    pub(super) fn own(slots: &[Option<NodePtr<E>>], slot: usize) -> Option<Self>
+        ensures { MatchOption result (node_at slots.now slot ≡ None) (λ node. node_at slots.now slot ≡ Some (record { ptr = node.ptr })) }
+    {
+        match slots.get(slot) {
+            Some(Some(place)) => Some(Reached { ptr: place.ptr }),
+            _ => None,
+        }
+    }
 
-impl<E> Clone for NodePtr<E> {
-    ghost is_clone = { λ x y. y ≡ x };
-
-    ghost is_infallible = { λ _. ⊤ };
-
-    fn clone(&self) -> Result<NodePtr<E>, AllocError> {
-        Ok(*self)
+    /// Where the node stands.
+    #[inline(always)]
+    pub(super) fn place(&self) -> NodePtr<E>
+        ensures { result.ptr ≡ self.now.ptr }
+    {
+        NodePtr { ptr: self.ptr }
     }
 }
-
-impl<E> Copy for NodePtr<E> {}
-
-unsafe impl<E> Send for NodePtr<E> {}
-
-unsafe impl<E> Sync for NodePtr<E> {}
-
-/// A root node and the nodes linked behind it, in order, back to the root.
-///
-/// A ring of one is a node that is in no other ring.
-pub(super) struct Ring<E> {
-    pub(super) at: *mut Node<E>,
-    alloc: Global,
-    pub(super) ghost entry: { E },
-    pub(super) ghost nodes: { List (Placed E) },
-    ghost apart: { IsApart (at ∷ places nodes) } by { prop_coded (IsApart-prop (at ∷ places nodes)) },
-}
-
-impl<E> Model for Ring<E> {
-    ghost also_owns = { λ r. ring_owns E.row r.alloc r.at r.entry r.nodes };
-
-    ghost also_shares = { λ r _ κ. ring_lent E.row r.at r.entry r.nodes κ };
-}
-
-unsafe impl<E: Send> Send for Ring<E> {}
-
-unsafe impl<E: Sync> Sync for Ring<E> {}
 
 impl<E> Ring<E> {
-    /// Where the root stands.
+    /// Goes to the node of another listener, which is one visit.
     #[inline(always)]
-    pub(super) fn root(&self) -> NodePtr<E>
-        ensures { result.ptr ≡ self.now.at }
+    pub(super) fn visit<L: Ledger>(&self, node: NodePtr<E>, steps: &mut Steps<L>) -> Reached<E>
+        ensures place { result.ptr ≡ node.ptr }
+        ensures visits { steps.new ≡ steps.old + 1 }
     {
-        NodePtr { ptr: self.at }
+        steps.add(1);
+        Reached { ptr: node.ptr }
     }
 
-    /// What the node carries, and the node behind it: behind the last one, the root.
+    /// What the node carries, and the place of the node behind it: behind the last one, that of the root.
     #[inline(always)]
-    pub(super) fn look(&self, node: NodePtr<E>) -> (&E, NodePtr<E>)
-        requires { IsAt self.now.nodes node.ptr }
-        ensures entry { AtNode self.now.nodes node.ptr (λ _ n _. result.0.now ≡ n.entry) }
-        ensures next { AtNode self.now.nodes node.ptr (λ _ _ ys. result.1.ptr ≡ first_place ys self.now.at) }
+    pub(super) fn look(&self, node: &Reached<E>) -> (&E, NodePtr<E>)
+        requires { IsAt self.now.nodes node.now.ptr }
+        ensures entry { AtNode self.now.nodes node.now.ptr (λ _ n _. result.0.now ≡ n.entry) }
+        ensures next { AtNode self.now.nodes node.now.ptr (λ _ _ ys. result.1.ptr ≡ first_place ys self.now.at) }
     {
-        unsafe {
-            (
-                &(*node.ptr).entry,
-                NodePtr {
-                    ptr: (*node.ptr).next,
-                },
-            )
-        }
+        self.look_at(NodePtr { ptr: node.ptr })
     }
 
     /// Gives the node something else to carry, and returns what it had.
     #[inline(always)]
-    pub(super) fn replace(&mut self, node: NodePtr<E>, entry: E) -> E
-        requires { IsAt self.old.nodes node.ptr }
+    pub(super) fn replace(&mut self, node: &Reached<E>, entry: E) -> E
+        requires { IsAt self.old.nodes node.now.ptr }
         ensures root { (self.new.at ≡ self.old.at) × (self.new.entry ≡ self.old.entry) }
-        ensures nodes { AtNode self.old.nodes node.ptr (λ xs n ys. (self.new.nodes ≡ xs ++ placed n.at entry ∷ ys) × (result ≡ n.entry)) }
+        ensures nodes { AtNode self.old.nodes node.now.ptr (λ xs n ys. (self.new.nodes ≡ xs ++ placed n.at entry ∷ ys) × (result ≡ n.entry)) }
     {
-        unsafe {
-            let place = &raw mut (*node.ptr).entry;
-            let had = place.read();
-            place.write(entry);
-            had
-        }
+        self.replace_at(NodePtr { ptr: node.ptr }, entry)
     }
 
-    /// Links a node in behind the last.
+    /// Links the call's own node in behind the last, which is one visit.
     #[inline(always)]
-    pub(super) fn link_last(&mut self, node: Ring<E>)
+    pub(super) fn append<L: Ledger>(&mut self, node: Ring<E>, steps: &mut Steps<L>) -> Reached<E>
         requires { node.nodes ≡ [] }
+        ensures place { result.ptr ≡ node.at }
         ensures root { (self.new.at ≡ self.old.at) × (self.new.entry ≡ self.old.entry) }
         ensures nodes { self.new.nodes ≡ self.old.nodes ++ placed node.at node.entry ∷ [] }
+        ensures visits { steps.new ≡ steps.old + 1 }
     {
-        let root = self.at;
-        let Ring { at: node, alloc: _ } = node;
-        unsafe {
-            (*node).next = root;
-            (*node).previous = (*root).previous;
-            (*root).previous = node;
-            (*(*node).previous).next = node;
-        }
+        let place = node.root();
+        steps.add(1);
+        self.link_last(node);
+        Reached { ptr: place.ptr }
     }
 
-    /// Takes the node out, as a ring of its own.
+    /// Takes the call's own node out, as a ring of its own. Its two neighbors are visited.
     #[inline(always)]
-    pub(super) fn unlink(&mut self, node: NodePtr<E>) -> Ring<E>
+    pub(super) fn take<L: Ledger>(&mut self, node: Reached<E>, steps: &mut Steps<L>) -> Ring<E>
         requires { IsAt self.old.nodes node.ptr }
         ensures root { (self.new.at ≡ self.old.at) × (self.new.entry ≡ self.old.entry) }
         ensures alone { (result.at ≡ node.ptr) × (result.nodes ≡ []) }
         ensures nodes { AtNode self.old.nodes node.ptr (λ xs n ys. (self.new.nodes ≡ xs ++ ys) × (result.entry ≡ n.entry)) }
+        ensures visits { steps.new ≡ steps.old + 2 }
     {
-        let node = node.ptr;
-        unsafe {
-            (*(*node).previous).next = (*node).next;
-            (*(*node).next).previous = (*node).previous;
-            (*node).next = node;
-            (*node).previous = node;
-        }
-        Ring {
-            at: node,
-            alloc: self.alloc,
-        }
-    }
-
-    /// A node of its own, or the value again where memory is refused.
-    pub(super) fn alone(alloc: Global, entry: E) -> Result<Ring<E>, AllocFailed<E>>
-        ensures made { IfOk result (λ ring. (ring.entry ≡ entry) × (ring.nodes ≡ [])) }
-        ensures value_returned { IfErr result (λ failed. failed.value ≡ entry) }
-    {
-        match Vacant::take(alloc) {
-            Ok(room) => Ok(Ring::fill(room, entry)),
-            Err(_) => Err(AllocFailed { value: entry }),
-        }
-    }
-
-    // Makes a node in the room, linked to itself.
-    fn fill(room: Vacant<Node<E>, Global>, entry: E) -> Ring<E>
-        ensures { (result.entry ≡ entry) × (result.nodes ≡ []) }
-    {
-        let Vacant { ptr: node, alloc } = room;
-        unsafe {
-            (*node).next = node;
-            (*node).previous = node;
-            (&raw mut (*node).entry).write(entry);
-        }
-        Ring { at: node, alloc }
-    }
-
-    /// Gives the heap a lone node's block back, and returns what the node carried.
-    pub(super) fn end(self) -> E
-        requires { self.nodes ≡ [] }
-        ensures { result ≡ self.entry }
-    {
-        let (entry, room) = self.empty();
-        room.free();
-        entry
-    }
-
-    // What a lone node carries, and its block with nothing in it.
-    fn empty(self) -> (E, Vacant<Node<E>, Global>)
-        requires { self.nodes ≡ [] }
-        ensures { result.0 ≡ self.entry }
-    {
-        let Ring { at: node, alloc } = self;
-        unsafe {
-            let entry = (&raw const (*node).entry).read();
-            (entry, Vacant { ptr: node, alloc })
-        }
-    }
-
-    // Gives a lone node's block back, and drops what the node carried.
-    fn free(self)
-    where
-        E: Drop,
-        requires { self.nodes ≡ [] }
-    {
-        drop(self.end());
-    }
-
-    // Gives every node's block back, and drops what it carried. The walk ends at the last node, whose link to the
-    // root is cut first: addresses in different blocks may not be compared.
-    fn free_all(self)
-    where
-        E: Drop,
-    {
-        let Ring { at: root, alloc } = self;
-        unsafe {
-            (*(*root).previous).next = ptr::null_mut();
-            let mut at = root;
-            while !ptr::eq(at, ptr::null_mut()) {
-                let next = (*at).next;
-                (*at).next = at;
-                (*at).previous = at;
-                Ring { at, alloc }.free();
-                at = next;
-            }
-        }
-    }
-}
-
-impl<E: Drop> Drop for Ring<E> {
-    fn drop(self) {
-        self.free_all();
+        steps.add(2);
+        self.unlink(NodePtr { ptr: node.ptr })
     }
 }

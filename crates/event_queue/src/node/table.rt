@@ -3,7 +3,7 @@ ghost use Rattle.std.specs.Prelude.{◌≡◌, ◌+◌, ◌<◌, ◌≤◌, ◌=
 ghost use Rattle.event_queue.specs.Nodes.{node_at, spare_entry, GrowsTo};
 
 use super::line::Entry;
-use super::ring::{NodePtr, Ring};
+use super::ring::{NodePtr, Reached, Ring};
 use std::alloc::{AllocError, AllocFailed, Global};
 
 /// A slot for each node but the root, and the nodes that no entry uses.
@@ -43,15 +43,12 @@ impl<A, B> Table<A, B> {
         self.spares.len()
     }
 
-    /// The place of the node whose slot this is, if an entry uses it.
+    /// The node whose slot this is, if an entry uses it. To the call whose key has the slot it is the own one.
     #[inline(always)]
-    pub(super) fn find(&self, slot: usize) -> Option<NodePtr<Entry<A, B>>>
-        ensures { result ≡ node_at self.now.slots.items slot }
+    pub(super) fn find(&self, slot: usize) -> Option<Reached<Entry<A, B>>>
+        ensures { MatchOption result (node_at self.now.slots.items slot ≡ None) (λ node. node_at self.now.slots.items slot ≡ Some (record { ptr = node.ptr })) }
     {
-        match self.slots.get(slot) {
-            Some(place) => *place,
-            None => None,
-        }
+        Reached::own(self.slots.as_slice(), slot)
     }
 
     /// Takes a spare node.

@@ -69,7 +69,7 @@ impl ClientLine {
         ensures changed { self.new ≡ (if has_serial_left self.old then joined client self.old else self.old) }
         ensures line { IsLine self.new }
     {
-        let Ok(key) = self.list.insert() else {
+        let Ok(key) = self.list.insert_uncounted() else {
             return false;
         };
         self.keys[client] = Some(key);
@@ -87,7 +87,7 @@ impl ClientLine {
         let Some(key) = self.keys[client] else {
             return false;
         };
-        match self.list.register(key, client) {
+        match self.list.register_uncounted(key, client) {
             RegisterResult::Notified(()) => {
                 self.keys[client] = None;
                 true
@@ -109,7 +109,7 @@ impl ClientLine {
         };
         let told = self.list.is_told(key);
         self.keys[client] = None;
-        let _left = self.list.remove(key, false, &mut self.wakes);
+        let _left = self.list.remove_uncounted(key, false, &mut self.wakes);
         told
     }
 
@@ -123,7 +123,7 @@ impl ClientLine {
             return;
         };
         self.keys[client] = None;
-        let _left = self.list.remove(key, true, &mut self.wakes);
+        let _left = self.list.remove_uncounted(key, true, &mut self.wakes);
     }
 
     /// The client loses its wake-up, if it has one.
@@ -141,6 +141,8 @@ impl ClientLine {
         ensures line { IsLine self.new }
     {
         let mut notification = count.into_notification();
-        let _told = self.list.notify(&mut notification, &mut self.wakes);
+        let _told = self
+            .list
+            .notify_uncounted(&mut notification, &mut self.wakes);
     }
 }

@@ -10,7 +10,7 @@ fn room_for_two<R: Abort + AllocGlobal>(rt: &R) -> Woken<u64> {
 }
 
 fn insert<T: Drop, R: Abort>(rt: &R, line: &mut List<T, u64>) -> Key {
-    line.insert().expect(rt, "a listener")
+    line.insert_uncounted().expect(rt, "a listener")
 }
 
 fn text<R: Abort + AllocGlobal>(rt: &R, text: &str) -> String {
@@ -23,7 +23,7 @@ where
     T: PartialEq + Debug + Drop,
     R: Abort,
 {
-    check(rt, "register", line.register(key, 20), expected);
+    check(rt, "register", line.register_uncounted(key, 20), expected);
 }
 
 // So many are called to the desk.

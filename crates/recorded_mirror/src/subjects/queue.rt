@@ -45,7 +45,7 @@ impl<'a, R: Runtime> QueueSubject<'a, R> {
     // Removes the listener at that place. Answers whether it was told.
     fn remove(&mut self, place: usize, propagate: bool) -> bool {
         let Place { key, stored: _ } = take(self.rt, &mut self.places, place);
-        match self.list.remove(key, propagate, &mut self.woken) {
+        match self.list.remove_uncounted(key, propagate, &mut self.woken) {
             Some(State::Notified { .. } | State::NotifiedTaken) => true,
             Some(State::Task(task)) => {
                 self.let_go = Some(task);
@@ -58,7 +58,7 @@ impl<'a, R: Runtime> QueueSubject<'a, R> {
 
 impl<'a, R: Runtime> Subject for QueueSubject<'a, R> {
     fn listen(&mut self) -> Seen {
-        let key = self.list.insert().expect(self.rt, "a key");
+        let key = self.list.insert_uncounted().expect(self.rt, "a key");
         let place = Place { key, stored: None };
         self.places.push(place).expect(self.rt, "room");
         Seen::Listened
@@ -67,7 +67,7 @@ impl<'a, R: Runtime> Subject for QueueSubject<'a, R> {
     fn poll(&mut self, place: usize, task: u32) -> Seen {
         let place = self.places.get_mut(place).expect(self.rt, "a listener");
         self.let_go = Some(task);
-        match self.list.register(place.key, task) {
+        match self.list.register_uncounted(place.key, task) {
             RegisterResult::Notified(tag) => Seen::Ready(tag),
             RegisterResult::Registered => {
                 self.let_go = mem::replace(&mut place.stored, Some(task));
@@ -80,10 +80,12 @@ impl<'a, R: Runtime> Subject for QueueSubject<'a, R> {
     fn notify(&mut self, count: usize, additional: bool, tag: u32) -> Seen {
         let told = if additional {
             let mut notification = count.additional().tag(tag);
-            self.list.notify(&mut notification, &mut self.woken)
+            self.list
+                .notify_uncounted(&mut notification, &mut self.woken)
         } else {
             let mut notification = count.tag(tag);
-            self.list.notify(&mut notification, &mut self.woken)
+            self.list
+                .notify_uncounted(&mut notification, &mut self.woken)
         };
         Seen::Notified(told.expect(self.rt, "no tag is refused"))
     }

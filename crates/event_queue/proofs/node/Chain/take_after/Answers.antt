@@ -4,12 +4,12 @@ use Rattle.event_queue.proofs.NodeLists.{is_after}
 use Rattle.event_queue.proofs.NodeSteps.{finds, stands_at, slot_within, spare_room, misses, leads_nowhere, some_after, IsSound-without_after, after_removed, before_kept, cursor_is}
 use Rattle.event_queue.proofs.node.Chain.take_after.Goals as goal
 
-pub returns-in_err-at-clause-value : goal.returns-in_err-at-clause-value
-returns-in_err-at-clause-value g c =
+pub returns-in_err-own-clause-value : goal.returns-in_err-own-clause-value
+returns-in_err-own-clause-value g c =
     let i = c.self.inside in
     let slots = i.table.slots.items in
     let spares = i.table.spares.items in
-    let none = leads_nowhere i.line slots spares i.before_len i.after_len c.self.invariant c.args.key (sym c.find.ensures ∙ c.in_err-at.was) value_after in
+    let none = leads_nowhere i.line slots spares i.before_len i.after_len c.self.invariant c.args.key (rw c.in_err-own.was at c.find.ensures) value_after in
     rw (← c.self.view_is, none) c.from_residual.ensures
 
 pub is_after-requires : goal.is_after-requires
@@ -19,8 +19,8 @@ is_after-requires g c =
     let spares = i.table.spares.items in
     let sound = rw c.in-Some.is at c.self.invariant in
     let line = c.in-Some.line in
-    let leads = sym c.find.ensures ∙ c.in_ok-at.was in
-    stands_at line slots spares i.before_len i.after_len sound c.args.key c.in_ok-at.at leads
+    let leads = rw c.in_ok-own.was at c.find.ensures in
+    stands_at line slots spares i.before_len i.after_len sound c.args.key (record { ptr = c.in_ok-own.own.ptr }) leads
 
 pub returns-then-not-is_after-clause-value : goal.returns-then-not-is_after-clause-value
 returns-then-not-is_after-clause-value g c =
@@ -29,46 +29,33 @@ returns-then-not-is_after-clause-value g c =
     let spares = i.table.spares.items in
     let sound = rw c.in-Some.is at c.self.invariant in
     let line = c.in-Some.line in
-    let leads = sym c.find.ensures ∙ c.in_ok-at.was in
+    let leads = rw c.in_ok-own.was at c.find.ensures in
     rw (← c.self.view_is, c.in-Some.is)
-    (sym (misses line slots spares i.before_len i.after_len sound c.args.key c.in_ok-at.at leads value_after c.is_after.result c.is_after.ensures c.if-not-is_after.true))
+    (sym (misses line slots spares i.before_len i.after_len sound c.args.key (record { ptr = c.in_ok-own.own.ptr }) leads value_after c.is_after.result c.is_after.ensures c.if-not-is_after.true))
 
-pub skip-requires-clause-node : goal.skip-requires-clause-node
-skip-requires-clause-node g c =
+pub take_after-node-requires-clause-cursor : goal.take_after-node-requires-clause-cursor
+take_after-node-requires-clause-cursor g c =
     let i = c.self.inside in
     let slots = i.table.slots.items in
     let spares = i.table.spares.items in
     let sound = rw c.in-Some.is at c.self.invariant in
     let line = c.in-Some.line in
-    let leads = sym c.find.ensures ∙ c.in_ok-at.was in
-    stands_at line slots spares i.before_len i.after_len sound c.args.key c.in_ok-at.at leads
-
-pub skip-requires-clause-cursor : goal.skip-requires-clause-cursor
-skip-requires-clause-cursor g c =
-    let i = c.self.inside in
-    let slots = i.table.slots.items in
-    let spares = i.table.spares.items in
-    let sound = rw c.in-Some.is at c.self.invariant in
-    let line = c.in-Some.line in
-    let leads = sym c.find.ensures ∙ c.in_ok-at.was in
-    let found = finds line slots spares i.before_len i.after_len sound c.args.key c.in_ok-at.at leads value_after c.is_after.result c.is_after.ensures c.if-not-is_after.false in
+    let leads = rw c.in_ok-own.was at c.find.ensures in
+    let found = finds line slots spares i.before_len i.after_len sound c.args.key (record { ptr = c.in_ok-own.own.ptr }) leads value_after c.is_after.result c.is_after.ensures c.if-not-is_after.false in
     let lies = found.lies in
-    let some = some_after line slots spares i.before_len i.after_len sound c.args.key c.in_ok-at.at.ptr found in
+    let some = some_after line slots spares i.before_len i.after_len sound c.args.key c.in_ok-own.own.ptr found in
     let cursor = cursor_is line slots spares i.before_len i.after_len sound (omega (arith, some)) in
     (sound.before, cursor.first, cursor.others, cursor.is, cursor.place)
 
-pub take-node-requires : goal.take-node-requires
-take-node-requires g c =
+pub take_after-node-requires-clause-node : goal.take_after-node-requires-clause-node
+take_after-node-requires-clause-node g c =
     let i = c.self.inside in
     let slots = i.table.slots.items in
     let spares = i.table.spares.items in
     let sound = rw c.in-Some.is at c.self.invariant in
     let line = c.in-Some.line in
-    let leads = sym c.find.ensures ∙ c.in_ok-at.was in
-    let found = finds line slots spares i.before_len i.after_len sound c.args.key c.in_ok-at.at leads value_after c.is_after.result c.is_after.ensures c.if-not-is_after.false in
-    let lies = found.lies in
-    let is = ap (λ ring. ring.nodes) c.skip.ensures.ring ∙ lies.is in
-    (lies.front, lies.node, lies.rest, is, lies.place)
+    let leads = rw c.in_ok-own.was at c.find.ensures in
+    stands_at line slots spares i.before_len i.after_len sound c.args.key (record { ptr = c.in_ok-own.own.ptr }) leads
 
 pub give_back-requires-clause-slot : goal.give_back-requires-clause-slot
 give_back-requires-clause-slot g c =
@@ -77,8 +64,8 @@ give_back-requires-clause-slot g c =
     let spares = i.table.spares.items in
     let sound = rw c.in-Some.is at c.self.invariant in
     let line = c.in-Some.line in
-    let leads = sym c.find.ensures ∙ c.in_ok-at.was in
-    slot_within line slots spares i.before_len i.after_len sound c.args.key c.in_ok-at.at leads
+    let leads = rw c.in_ok-own.was at c.find.ensures in
+    slot_within line slots spares i.before_len i.after_len sound c.args.key (record { ptr = c.in_ok-own.own.ptr }) leads
 
 pub give_back-requires-clause-room : goal.give_back-requires-clause-room
 give_back-requires-clause-room g c =
@@ -87,8 +74,8 @@ give_back-requires-clause-room g c =
     let spares = i.table.spares.items in
     let sound = rw c.in-Some.is at c.self.invariant in
     let line = c.in-Some.line in
-    let leads = sym c.find.ensures ∙ c.in_ok-at.was in
-    spare_room line slots spares i.before_len i.after_len sound c.args.key c.in_ok-at.at leads
+    let leads = rw c.in_ok-own.was at c.find.ensures in
+    spare_room line slots spares i.before_len i.after_len sound c.args.key (record { ptr = c.in_ok-own.own.ptr }) leads
 
 pub overflow_sub-self : goal.overflow_sub-self
 overflow_sub-self g c =
@@ -97,10 +84,10 @@ overflow_sub-self g c =
     let spares = i.table.spares.items in
     let sound = rw c.in-Some.is at c.self.invariant in
     let line = c.in-Some.line in
-    let leads = sym c.find.ensures ∙ c.in_ok-at.was in
-    let found = finds line slots spares i.before_len i.after_len sound c.args.key c.in_ok-at.at leads value_after c.is_after.result c.is_after.ensures c.if-not-is_after.false in
+    let leads = rw c.in_ok-own.was at c.find.ensures in
+    let found = finds line slots spares i.before_len i.after_len sound c.args.key (record { ptr = c.in_ok-own.own.ptr }) leads value_after c.is_after.result c.is_after.ensures c.if-not-is_after.false in
     let lies = found.lies in
-    some_after line slots spares i.before_len i.after_len sound c.args.key c.in_ok-at.at.ptr found
+    some_after line slots spares i.before_len i.after_len sound c.args.key c.in_ok-own.own.ptr found
 
 pub invariant_of-self-in-After : goal.invariant_of-self-in-After
 invariant_of-self-in-After g c =
@@ -109,19 +96,16 @@ invariant_of-self-in-After g c =
     let spares = i.table.spares.items in
     let sound = rw c.in-Some.is at c.self.invariant in
     let line = c.in-Some.line in
-    let leads = sym c.find.ensures ∙ c.in_ok-at.was in
-    let found = finds line slots spares i.before_len i.after_len sound c.args.key c.in_ok-at.at leads value_after c.is_after.result c.is_after.ensures c.if-not-is_after.false in
+    let leads = rw c.in_ok-own.was at c.find.ensures in
+    let found = finds line slots spares i.before_len i.after_len sound c.args.key (record { ptr = c.in_ok-own.own.ptr }) leads value_after c.is_after.result c.is_after.ensures c.if-not-is_after.false in
     let lies = found.lies in
-    let is = ap (λ ring. ring.nodes) c.skip.ensures.ring ∙ lies.is in
-    let nodes = c.take-node.ensures.nodes lies.front lies.node lies.rest is lies.place in
-    let spare_is = c.take-node.ensures.spare lies.front lies.node lies.rest is lies.place in
-    let some = some_after line slots spares i.before_len i.after_len sound c.args.key c.in_ok-at.at.ptr found in
+    let nodes = c.take_after-node.ensures.nodes lies.front lies.node lies.rest lies.is lies.place in
+    let spare_is = c.take_after-node.ensures.spare lies.front lies.node lies.rest lies.is lies.place in
+    let some = some_after line slots spares i.before_len i.after_len sound c.args.key c.in_ok-own.own.ptr found in
     let cursor = cursor_is line slots spares i.before_len i.after_len sound (omega (arith, some)) in
-    let skips = c.skip.ensures.cursor lies.front lies.node lies.rest lies.is lies.place sound.before cursor.first cursor.others cursor.is cursor.place in
-    let root = c.take-node.ensures.root ∙ ap (λ ring. ring.at) c.skip.ensures.ring in
-    let moved = ap (λ place. place.ptr) c.take-node.ensures.cursor ∙ skips in
+    let moved = c.take_after-node.ensures.cursor lies.front lies.node lies.rest lies.is lies.place sound.before cursor.first cursor.others cursor.is cursor.place in
     rw (c.give_back.ensures.slots, c.give_back.ensures.spares)
-    (IsSound-without_after line slots spares i.before_len i.after_len sound c.args.key c.in_ok-at.at.ptr found cursor c.take-node.new.self c.take-node.result.0 nodes root moved c.take-node.ensures.alone spare_is)
+    (IsSound-without_after line slots spares i.before_len i.after_len sound c.args.key c.in_ok-own.own.ptr found cursor c.take_after-node.new.self c.take_after-node.result.0 nodes c.take_after-node.ensures.root moved c.take_after-node.ensures.alone spare_is)
 
 pub unreachable-requires-in_default-held : goal.unreachable-requires-in_default-held
 unreachable-requires-in_default-held g c =
@@ -130,11 +114,10 @@ unreachable-requires-in_default-held g c =
     let spares = i.table.spares.items in
     let sound = rw c.in-Some.is at c.self.invariant in
     let line = c.in-Some.line in
-    let leads = sym c.find.ensures ∙ c.in_ok-at.was in
-    let found = finds line slots spares i.before_len i.after_len sound c.args.key c.in_ok-at.at leads value_after c.is_after.result c.is_after.ensures c.if-not-is_after.false in
+    let leads = rw c.in_ok-own.was at c.find.ensures in
+    let found = finds line slots spares i.before_len i.after_len sound c.args.key (record { ptr = c.in_ok-own.own.ptr }) leads value_after c.is_after.result c.is_after.ensures c.if-not-is_after.false in
     let lies = found.lies in
-    let is = ap (λ ring. ring.nodes) c.skip.ensures.ring ∙ lies.is in
-    let held = c.take-node.ensures.held lies.front lies.node lies.rest is lies.place in
+    let held = c.take_after-node.ensures.held lies.front lies.node lies.rest lies.is lies.place in
     c.in_default-held.not-After found.x (held ∙ is_after lies.node.entry.held found.x found.held)
 
 pub returns-clause-value : goal.returns-clause-value
@@ -144,11 +127,10 @@ returns-clause-value g c =
     let spares = i.table.spares.items in
     let sound = rw c.in-Some.is at c.self.invariant in
     let line = c.in-Some.line in
-    let leads = sym c.find.ensures ∙ c.in_ok-at.was in
-    let found = finds line slots spares i.before_len i.after_len sound c.args.key c.in_ok-at.at leads value_after c.is_after.result c.is_after.ensures c.if-not-is_after.false in
+    let leads = rw c.in_ok-own.was at c.find.ensures in
+    let found = finds line slots spares i.before_len i.after_len sound c.args.key (record { ptr = c.in_ok-own.own.ptr }) leads value_after c.is_after.result c.is_after.ensures c.if-not-is_after.false in
     let lies = found.lies in
-    let is = ap (λ ring. ring.nodes) c.skip.ensures.ring ∙ lies.is in
-    let held = c.take-node.ensures.held lies.front lies.node lies.rest is lies.place in
+    let held = c.take_after-node.ensures.held lies.front lies.node lies.rest lies.is lies.place in
     let taken = c.in-After.is in
     let was = is_after lies.node.entry.held found.x found.held in
     let same : found.x ≡ c.in-After.value = cc in
@@ -161,11 +143,10 @@ returns-clause-taken g c =
     let spares = i.table.spares.items in
     let sound = rw c.in-Some.is at c.self.invariant in
     let line = c.in-Some.line in
-    let leads = sym c.find.ensures ∙ c.in_ok-at.was in
-    let found = finds line slots spares i.before_len i.after_len sound c.args.key c.in_ok-at.at leads value_after c.is_after.result c.is_after.ensures c.if-not-is_after.false in
+    let leads = rw c.in_ok-own.was at c.find.ensures in
+    let found = finds line slots spares i.before_len i.after_len sound c.args.key (record { ptr = c.in_ok-own.own.ptr }) leads value_after c.is_after.result c.is_after.ensures c.if-not-is_after.false in
     let lies = found.lies in
-    let is = ap (λ ring. ring.nodes) c.skip.ensures.ring ∙ lies.is in
-    let nodes = c.take-node.ensures.nodes lies.front lies.node lies.rest is lies.place in
-    let removed = after_removed line slots spares i.before_len i.after_len sound c.args.key c.in_ok-at.at.ptr found c.take-node.new.self.ring.nodes nodes in
-    let kept = before_kept line slots spares i.before_len i.after_len sound c.args.key c.in_ok-at.at.ptr found c.take-node.new.self.ring.nodes nodes in
+    let nodes = c.take_after-node.ensures.nodes lies.front lies.node lies.rest lies.is lies.place in
+    let removed = after_removed line slots spares i.before_len i.after_len sound c.args.key c.in_ok-own.own.ptr found c.take_after-node.new.self.ring.nodes nodes in
+    let kept = before_kept line slots spares i.before_len i.after_len sound c.args.key c.in_ok-own.own.ptr found c.take_after-node.new.self.ring.nodes nodes in
     rw (← c.self.view_is, c.in-Some.is, removed, kept, c.give_back.ensures.spares, length-append) refl

@@ -4,12 +4,12 @@ use Rattle.event_queue.proofs.NodeLists.{is_before}
 use Rattle.event_queue.proofs.NodeSteps.{finds, stands_at, slot_within, spare_room, misses, leads_nowhere, some_before, IsSound-without_before, before_removed, after_kept}
 use Rattle.event_queue.proofs.node.Chain.take_before.Goals as goal
 
-pub returns-in_err-at-clause-value : goal.returns-in_err-at-clause-value
-returns-in_err-at-clause-value g c =
+pub returns-in_err-own-clause-value : goal.returns-in_err-own-clause-value
+returns-in_err-own-clause-value g c =
     let i = c.self.inside in
     let slots = i.table.slots.items in
     let spares = i.table.spares.items in
-    let none = leads_nowhere i.line slots spares i.before_len i.after_len c.self.invariant c.args.key (sym c.find.ensures ∙ c.in_err-at.was) value_before in
+    let none = leads_nowhere i.line slots spares i.before_len i.after_len c.self.invariant c.args.key (rw c.in_err-own.was at c.find.ensures) value_before in
     rw (← c.self.view_is, none) c.from_residual.ensures
 
 pub is_before-requires : goal.is_before-requires
@@ -19,8 +19,8 @@ is_before-requires g c =
     let spares = i.table.spares.items in
     let sound = rw c.in-Some.is at c.self.invariant in
     let line = c.in-Some.line in
-    let leads = sym c.find.ensures ∙ c.in_ok-at.was in
-    stands_at line slots spares i.before_len i.after_len sound c.args.key c.in_ok-at.at leads
+    let leads = rw c.in_ok-own.was at c.find.ensures in
+    stands_at line slots spares i.before_len i.after_len sound c.args.key (record { ptr = c.in_ok-own.own.ptr }) leads
 
 pub returns-then-not-is_before-clause-value : goal.returns-then-not-is_before-clause-value
 returns-then-not-is_before-clause-value g c =
@@ -29,9 +29,9 @@ returns-then-not-is_before-clause-value g c =
     let spares = i.table.spares.items in
     let sound = rw c.in-Some.is at c.self.invariant in
     let line = c.in-Some.line in
-    let leads = sym c.find.ensures ∙ c.in_ok-at.was in
+    let leads = rw c.in_ok-own.was at c.find.ensures in
     rw (← c.self.view_is, c.in-Some.is)
-    (sym (misses line slots spares i.before_len i.after_len sound c.args.key c.in_ok-at.at leads value_before c.is_before.result c.is_before.ensures c.if-not-is_before.true))
+    (sym (misses line slots spares i.before_len i.after_len sound c.args.key (record { ptr = c.in_ok-own.own.ptr }) leads value_before c.is_before.result c.is_before.ensures c.if-not-is_before.true))
 
 pub take-node-requires : goal.take-node-requires
 take-node-requires g c =
@@ -40,8 +40,8 @@ take-node-requires g c =
     let spares = i.table.spares.items in
     let sound = rw c.in-Some.is at c.self.invariant in
     let line = c.in-Some.line in
-    let leads = sym c.find.ensures ∙ c.in_ok-at.was in
-    stands_at line slots spares i.before_len i.after_len sound c.args.key c.in_ok-at.at leads
+    let leads = rw c.in_ok-own.was at c.find.ensures in
+    stands_at line slots spares i.before_len i.after_len sound c.args.key (record { ptr = c.in_ok-own.own.ptr }) leads
 
 pub give_back-requires-clause-slot : goal.give_back-requires-clause-slot
 give_back-requires-clause-slot g c =
@@ -50,8 +50,8 @@ give_back-requires-clause-slot g c =
     let spares = i.table.spares.items in
     let sound = rw c.in-Some.is at c.self.invariant in
     let line = c.in-Some.line in
-    let leads = sym c.find.ensures ∙ c.in_ok-at.was in
-    slot_within line slots spares i.before_len i.after_len sound c.args.key c.in_ok-at.at leads
+    let leads = rw c.in_ok-own.was at c.find.ensures in
+    slot_within line slots spares i.before_len i.after_len sound c.args.key (record { ptr = c.in_ok-own.own.ptr }) leads
 
 pub give_back-requires-clause-room : goal.give_back-requires-clause-room
 give_back-requires-clause-room g c =
@@ -60,8 +60,8 @@ give_back-requires-clause-room g c =
     let spares = i.table.spares.items in
     let sound = rw c.in-Some.is at c.self.invariant in
     let line = c.in-Some.line in
-    let leads = sym c.find.ensures ∙ c.in_ok-at.was in
-    spare_room line slots spares i.before_len i.after_len sound c.args.key c.in_ok-at.at leads
+    let leads = rw c.in_ok-own.was at c.find.ensures in
+    spare_room line slots spares i.before_len i.after_len sound c.args.key (record { ptr = c.in_ok-own.own.ptr }) leads
 
 pub overflow_sub-self : goal.overflow_sub-self
 overflow_sub-self g c =
@@ -70,10 +70,10 @@ overflow_sub-self g c =
     let spares = i.table.spares.items in
     let sound = rw c.in-Some.is at c.self.invariant in
     let line = c.in-Some.line in
-    let leads = sym c.find.ensures ∙ c.in_ok-at.was in
-    let found = finds line slots spares i.before_len i.after_len sound c.args.key c.in_ok-at.at leads value_before c.is_before.result c.is_before.ensures c.if-not-is_before.false in
+    let leads = rw c.in_ok-own.was at c.find.ensures in
+    let found = finds line slots spares i.before_len i.after_len sound c.args.key (record { ptr = c.in_ok-own.own.ptr }) leads value_before c.is_before.result c.is_before.ensures c.if-not-is_before.false in
     let lies = found.lies in
-    some_before line slots spares i.before_len i.after_len sound c.args.key c.in_ok-at.at.ptr found
+    some_before line slots spares i.before_len i.after_len sound c.args.key c.in_ok-own.own.ptr found
 
 pub invariant_of-self-in-Before : goal.invariant_of-self-in-Before
 invariant_of-self-in-Before g c =
@@ -82,13 +82,13 @@ invariant_of-self-in-Before g c =
     let spares = i.table.spares.items in
     let sound = rw c.in-Some.is at c.self.invariant in
     let line = c.in-Some.line in
-    let leads = sym c.find.ensures ∙ c.in_ok-at.was in
-    let found = finds line slots spares i.before_len i.after_len sound c.args.key c.in_ok-at.at leads value_before c.is_before.result c.is_before.ensures c.if-not-is_before.false in
+    let leads = rw c.in_ok-own.was at c.find.ensures in
+    let found = finds line slots spares i.before_len i.after_len sound c.args.key (record { ptr = c.in_ok-own.own.ptr }) leads value_before c.is_before.result c.is_before.ensures c.if-not-is_before.false in
     let lies = found.lies in
     let nodes = c.take-node.ensures.nodes lies.front lies.node lies.rest lies.is lies.place in
     let spare_is = c.take-node.ensures.spare lies.front lies.node lies.rest lies.is lies.place in
     rw (c.give_back.ensures.slots, c.give_back.ensures.spares)
-    (IsSound-without_before line slots spares i.before_len i.after_len sound c.args.key c.in_ok-at.at.ptr found c.take-node.new.self c.take-node.result.0 nodes c.take-node.ensures.root c.take-node.ensures.cursor c.take-node.ensures.alone spare_is)
+    (IsSound-without_before line slots spares i.before_len i.after_len sound c.args.key c.in_ok-own.own.ptr found c.take-node.new.self c.take-node.result.0 nodes c.take-node.ensures.root c.take-node.ensures.cursor c.take-node.ensures.alone spare_is)
 
 pub unreachable-requires-in_default-held : goal.unreachable-requires-in_default-held
 unreachable-requires-in_default-held g c =
@@ -97,8 +97,8 @@ unreachable-requires-in_default-held g c =
     let spares = i.table.spares.items in
     let sound = rw c.in-Some.is at c.self.invariant in
     let line = c.in-Some.line in
-    let leads = sym c.find.ensures ∙ c.in_ok-at.was in
-    let found = finds line slots spares i.before_len i.after_len sound c.args.key c.in_ok-at.at leads value_before c.is_before.result c.is_before.ensures c.if-not-is_before.false in
+    let leads = rw c.in_ok-own.was at c.find.ensures in
+    let found = finds line slots spares i.before_len i.after_len sound c.args.key (record { ptr = c.in_ok-own.own.ptr }) leads value_before c.is_before.result c.is_before.ensures c.if-not-is_before.false in
     let lies = found.lies in
     let held = c.take-node.ensures.held lies.front lies.node lies.rest lies.is lies.place in
     c.in_default-held.not-Before found.x (held ∙ is_before lies.node.entry.held found.x found.held)
@@ -110,8 +110,8 @@ returns-clause-value g c =
     let spares = i.table.spares.items in
     let sound = rw c.in-Some.is at c.self.invariant in
     let line = c.in-Some.line in
-    let leads = sym c.find.ensures ∙ c.in_ok-at.was in
-    let found = finds line slots spares i.before_len i.after_len sound c.args.key c.in_ok-at.at leads value_before c.is_before.result c.is_before.ensures c.if-not-is_before.false in
+    let leads = rw c.in_ok-own.was at c.find.ensures in
+    let found = finds line slots spares i.before_len i.after_len sound c.args.key (record { ptr = c.in_ok-own.own.ptr }) leads value_before c.is_before.result c.is_before.ensures c.if-not-is_before.false in
     let lies = found.lies in
     let held = c.take-node.ensures.held lies.front lies.node lies.rest lies.is lies.place in
     let taken = c.in-Before.is in
@@ -126,10 +126,10 @@ returns-clause-taken g c =
     let spares = i.table.spares.items in
     let sound = rw c.in-Some.is at c.self.invariant in
     let line = c.in-Some.line in
-    let leads = sym c.find.ensures ∙ c.in_ok-at.was in
-    let found = finds line slots spares i.before_len i.after_len sound c.args.key c.in_ok-at.at leads value_before c.is_before.result c.is_before.ensures c.if-not-is_before.false in
+    let leads = rw c.in_ok-own.was at c.find.ensures in
+    let found = finds line slots spares i.before_len i.after_len sound c.args.key (record { ptr = c.in_ok-own.own.ptr }) leads value_before c.is_before.result c.is_before.ensures c.if-not-is_before.false in
     let lies = found.lies in
     let nodes = c.take-node.ensures.nodes lies.front lies.node lies.rest lies.is lies.place in
-    let removed = before_removed line slots spares i.before_len i.after_len sound c.args.key c.in_ok-at.at.ptr found c.take-node.new.self.ring.nodes nodes in
-    let kept = after_kept line slots spares i.before_len i.after_len sound c.args.key c.in_ok-at.at.ptr found c.take-node.new.self.ring.nodes nodes in
+    let removed = before_removed line slots spares i.before_len i.after_len sound c.args.key c.in_ok-own.own.ptr found c.take-node.new.self.ring.nodes nodes in
+    let kept = after_kept line slots spares i.before_len i.after_len sound c.args.key c.in_ok-own.own.ptr found c.take-node.new.self.ring.nodes nodes in
     rw (← c.self.view_is, c.in-Some.is, removed, kept, c.give_back.ensures.spares, length-append) refl

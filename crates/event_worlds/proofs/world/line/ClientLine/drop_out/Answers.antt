@@ -12,10 +12,10 @@ returns-in_default-clause-line c = is_line c.self.inside.list c.self.inside.keys
 
 pub invariant_of-self : goal.invariant_of-self
 invariant_of-self c =
-    let drops = drops-now c.self.inside.list c.self.inside.keys.items c.self.inside.wakes c.self.invariant c.args.self.now c.self.view_is c.args.client c.requires.client c.index.result.now c.index.ensures c.in-Some.key c.in-Some.is c.remove-left.result c.remove-left.new.self c.remove-left.new.sink c.remove-left.ensures.step c.remove-left.ensures.wakes in
+    let drops = drops-now c.self.inside.list c.self.inside.keys.items c.self.inside.wakes c.self.invariant c.args.self.now c.self.view_is c.args.client c.requires.client c.index.result.now c.index.ensures c.in-Some.key c.in-Some.is c.remove_uncounted-left.result c.remove_uncounted-left.new.self c.remove_uncounted-left.new.sink c.remove_uncounted-left.ensures.step c.remove_uncounted-left.ensures.wakes in
     drops.tied
 
 pub returns-clause-changed : goal.returns-clause-changed
 returns-clause-changed c =
-    let drops = drops-now c.self.inside.list c.self.inside.keys.items c.self.inside.wakes c.self.invariant c.args.self.now c.self.view_is c.args.client c.requires.client c.index.result.now c.index.ensures c.in-Some.key c.in-Some.is c.remove-left.result c.remove-left.new.self c.remove-left.new.sink c.remove-left.ensures.step c.remove-left.ensures.wakes in
+    let drops = drops-now c.self.inside.list c.self.inside.keys.items c.self.inside.wakes c.self.invariant c.args.self.now c.self.view_is c.args.client c.requires.client c.index.result.now c.index.ensures c.in-Some.key c.in-Some.is c.remove_uncounted-left.result c.remove_uncounted-left.new.self c.remove_uncounted-left.new.sink c.remove_uncounted-left.ensures.step c.remove_uncounted-left.ensures.wakes in
     drops.is

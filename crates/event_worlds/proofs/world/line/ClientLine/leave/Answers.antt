@@ -18,7 +18,7 @@ returns-in_default-clause-line c = is_line c.self.inside.list c.self.inside.keys
 
 pub invariant_of-self : goal.invariant_of-self
 invariant_of-self c =
-    let leaves = leaves-now c.self.inside.list c.self.inside.keys.items c.self.inside.wakes c.self.invariant c.args.self.now c.self.view_is c.args.client c.requires.client c.index.result.now c.index.ensures c.in-Some.key c.in-Some.is c.remove-left.result c.remove-left.new.self c.remove-left.new.sink c.remove-left.ensures.step c.remove-left.ensures.wakes in
+    let leaves = leaves-now c.self.inside.list c.self.inside.keys.items c.self.inside.wakes c.self.invariant c.args.self.now c.self.view_is c.args.client c.requires.client c.index.result.now c.index.ensures c.in-Some.key c.in-Some.is c.remove_uncounted-left.result c.remove_uncounted-left.new.self c.remove_uncounted-left.new.sink c.remove_uncounted-left.ensures.step c.remove_uncounted-left.ensures.wakes in
     leaves.tied
 
 pub returns-clause-answer : goal.returns-clause-answer
@@ -28,5 +28,5 @@ returns-clause-answer c =
 
 pub returns-clause-changed : goal.returns-clause-changed
 returns-clause-changed c =
-    let leaves = leaves-now c.self.inside.list c.self.inside.keys.items c.self.inside.wakes c.self.invariant c.args.self.now c.self.view_is c.args.client c.requires.client c.index.result.now c.index.ensures c.in-Some.key c.in-Some.is c.remove-left.result c.remove-left.new.self c.remove-left.new.sink c.remove-left.ensures.step c.remove-left.ensures.wakes in
+    let leaves = leaves-now c.self.inside.list c.self.inside.keys.items c.self.inside.wakes c.self.invariant c.args.self.now c.self.view_is c.args.client c.requires.client c.index.result.now c.index.ensures c.in-Some.key c.in-Some.is c.remove_uncounted-left.result c.remove_uncounted-left.new.self c.remove_uncounted-left.new.sink c.remove_uncounted-left.ensures.step c.remove_uncounted-left.ensures.wakes in
     leaves.is

@@ -5,10 +5,10 @@ use Rattle.event_worlds.proofs.world.line.ClientLine.notify.Goals as goal
 
 pub invariant_of-self : goal.invariant_of-self
 invariant_of-self c =
-    let changed = notifies-now c.self.inside.list c.self.inside.keys.items c.self.inside.wakes c.self.invariant c.args.self.now c.self.view_is GivesUnit c.into_notification-notification.result c.into_notification-notification.result c.notify-told.new.n c.notify-told.result c.notify-told.new.self c.notify-told.new.sink c.notify-told.ensures.step (c.notify-told.ensures.unrefused (λ before after refused. absurd (cc))) c.notify-told.ensures.wakes in
+    let changed = notifies-now c.self.inside.list c.self.inside.keys.items c.self.inside.wakes c.self.invariant c.args.self.now c.self.view_is GivesUnit c.into_notification-notification.result c.into_notification-notification.result c.notify_uncounted-told.new.n c.notify_uncounted-told.result c.notify_uncounted-told.new.self c.notify_uncounted-told.new.sink c.notify_uncounted-told.ensures.step (c.notify_uncounted-told.ensures.unrefused (λ before after refused. absurd (cc))) c.notify_uncounted-told.ensures.wakes in
     changed.tied
 
 pub returns-clause-changed : goal.returns-clause-changed
 returns-clause-changed c =
-    let changed = notifies-now c.self.inside.list c.self.inside.keys.items c.self.inside.wakes c.self.invariant c.args.self.now c.self.view_is GivesUnit c.into_notification-notification.result c.into_notification-notification.result c.notify-told.new.n c.notify-told.result c.notify-told.new.self c.notify-told.new.sink c.notify-told.ensures.step (c.notify-told.ensures.unrefused (λ before after refused. absurd (cc))) c.notify-told.ensures.wakes in
+    let changed = notifies-now c.self.inside.list c.self.inside.keys.items c.self.inside.wakes c.self.invariant c.args.self.now c.self.view_is GivesUnit c.into_notification-notification.result c.into_notification-notification.result c.notify_uncounted-told.new.n c.notify_uncounted-told.result c.notify_uncounted-told.new.self c.notify_uncounted-told.new.sink c.notify_uncounted-told.ensures.step (c.notify_uncounted-told.ensures.unrefused (λ before after refused. absurd (cc))) c.notify_uncounted-told.ensures.wakes in
     changed.is ∙ ap (λ (n : ℕ). notified n c.args.self.now) c.into_notification-notification.ensures

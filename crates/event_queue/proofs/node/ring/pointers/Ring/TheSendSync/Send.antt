@@ -1,7 +1,7 @@
 use denote.RattleType.{RattleType}
 use denote.Param.Send.{IsSend}
 use Rattle.event_queue.proofs.RingCrosses.{Ring-send}
-use Rattle.event_queue.specs.contracts.node.ring.Ring.{the_row}
+use Rattle.event_queue.specs.contracts.node.ring.pointers.Ring.{the_row}
 
 pub send : (E : RattleType) → IsSend E → IsSend (the_row E)
 send = Ring-send

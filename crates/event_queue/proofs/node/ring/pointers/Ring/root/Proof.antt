@@ -27,12 +27,12 @@ use Rattle.std.proofs.raw_atomic.Walks.{proved, leaves}
 use Rattle.std.proofs.RcSteps.{Ptr-Good, word, word-Good}
 use Rattle.std.specs.contracts.alloc.Global as Heap
 use Rattle.event_queue.specs.RingMemory.{ring_lent}
-use Rattle.event_queue.specs.contracts.node.ring.Ring as ring
+use Rattle.event_queue.specs.contracts.node.ring.pointers.Ring as ring
 use Rattle.event_queue.proofs.RingSteps.{ring_val, Data, handle, told, opened, word_made}
-use Rattle.event_queue.specs.contracts.node.ring.Ring.root.{ended, clauses}
-use Rattle.event_queue.specs.contracts.node.ring.Ring.root.Key.{name as #self}
-use Rattle.event_queue.proofs.node.ring.Ring.root.Statement.{statement}
-use Rattle.event_queue.proofs.node.ring.Ring.root.Code as code
+use Rattle.event_queue.specs.contracts.node.ring.pointers.Ring.root.{ended, clauses}
+use Rattle.event_queue.specs.contracts.node.ring.pointers.Ring.root.Key.{name as #self}
+use Rattle.event_queue.proofs.node.ring.pointers.Ring.root.Statement.{statement}
+use Rattle.event_queue.proofs.node.ring.pointers.Ring.root.Code as code
 
 pub root_spec : {M : Type 1} → statement M
 root_spec 𝓤 𝓛 𝓜 𝓡 wired X L =

@@ -1,4 +1,4 @@
--- `look` reads the link of an edge and the entry of a node that the ring lends.
+-- `look_at` reads the link of an edge and the entry of a node that the ring lends.
 use Rattle.std.proofs.Common.{◌≡◌, ℕ, ◌+◌, List, [], ◌∷◌, ◌++◌, refl, sym, ap, ◌∙◌}
 use mir.Syntax.{a_type, named}
 use mir.Val.{Val, vptr}
@@ -31,17 +31,17 @@ use Rattle.std.proofs.VecSteps.Shapes.{after}
 use Rattle.std.proofs.RcSteps.{Ptr-Good, word, word-Good}
 use Rattle.event_queue.specs.Ring.{Placed, placed, places, first_place, IsAt, AtNode}
 use Rattle.event_queue.specs.RingMemory.{next_of, edge_lent, path_lent, entry_offset, entry_of, nodes_lent}
-use Rattle.event_queue.specs.contracts.node.ring.Ring as ring
-use Rattle.event_queue.specs.contracts.node.ring.NodePtr as node_ptr
+use Rattle.event_queue.specs.contracts.node.ring.pointers.Ring as ring
+use Rattle.event_queue.specs.contracts.node.ring.pointers.NodePtr as node_ptr
 use Rattle.event_queue.proofs.RingPlaces.{round_cut, round_first, same_node}
 use Rattle.event_queue.proofs.RingSteps.{word_had, word_made, link_looks, link_shuts, edge_seen, node_seen, says_two, pair_val, pair_of}
-use Rattle.event_queue.specs.contracts.node.ring.Ring.look.{ended, clauses}
-use Rattle.event_queue.specs.contracts.node.ring.Ring.look.Key.{name as #self}
-use Rattle.event_queue.proofs.node.ring.Ring.look.Statement.{statement}
-use Rattle.event_queue.proofs.node.ring.Ring.look.Code as code
+use Rattle.event_queue.specs.contracts.node.ring.pointers.Ring.look_at.{ended, clauses}
+use Rattle.event_queue.specs.contracts.node.ring.pointers.Ring.look_at.Key.{name as #self}
+use Rattle.event_queue.proofs.node.ring.pointers.Ring.look_at.Statement.{statement}
+use Rattle.event_queue.proofs.node.ring.pointers.Ring.look_at.Code as code
 
-pub look_spec : {M : Type 1} → statement M
-look_spec 𝓤 𝓛 𝓜 𝓡 wired X L =
+pub look_at_spec : {M : Type 1} → statement M
+look_at_spec 𝓤 𝓛 𝓜 𝓡 wired X L =
     let H = 𝓛.H in let 𝓣 = tables 𝓤 H 𝓜 𝓡 𝓡.env in let R : RattleType = param 0 X in let En = ended X in let inst = layouts (a_type ∷ []) (X, tt) in let fn = inst_fn inst code.function in
     let Row : RattleType = ring.the_row R in let Np : RattleType = node_ptr.the_row R in let c = clauses X 𝓛 𝓜.mem 𝓡.returns in
     let self = RefOf (0 ∷ []) tt (plain (λ _. Row)) (λ _. tt) in let hs : Stays En.signature.params En.kept = (stay_dropped self yes, (stay_dropped (plain (λ _. Np)) no, tt)) in

@@ -1,7 +1,7 @@
 use denote.RattleType.{RattleType}
 use denote.Param.Send.{IsSync}
 use Rattle.event_queue.proofs.RingCrosses.{Ring-sync}
-use Rattle.event_queue.specs.contracts.node.ring.Ring.{the_row}
+use Rattle.event_queue.specs.contracts.node.ring.pointers.Ring.{the_row}
 
 pub sync : (E : RattleType) → IsSync E → IsSync (the_row E)
 sync = Ring-sync

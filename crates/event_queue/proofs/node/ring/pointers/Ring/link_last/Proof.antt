@@ -27,13 +27,13 @@ use Rattle.std.proofs.raw_atomic.Walks.{proved_at, leaves}
 use Rattle.std.proofs.VecSteps.Shapes.{after}
 use Rattle.event_queue.specs.Ring.{Placed, placed, places}
 use Rattle.event_queue.specs.RingMemory.{edge, path, nodes_own, ring_owns}
-use Rattle.event_queue.specs.contracts.node.ring.Ring as ring
+use Rattle.event_queue.specs.contracts.node.ring.pointers.Ring as ring
 use Rattle.event_queue.proofs.RingPlaces.{IsNew, last_from, round_cut, apart_linked}
 use Rattle.event_queue.proofs.RingSteps.{ring_Good, knows, stale, fresh, ring_val, Data, handle, told, edge_out, edge_in, path_cut, path_glue, nodes_glue, no_source, no_target, says_two}
-use Rattle.event_queue.specs.contracts.node.ring.Ring.link_last.{ended, clauses}
-use Rattle.event_queue.specs.contracts.node.ring.Ring.link_last.Key.{name as #self}
-use Rattle.event_queue.proofs.node.ring.Ring.link_last.Statement.{statement}
-use Rattle.event_queue.proofs.node.ring.Ring.link_last.Code as code
+use Rattle.event_queue.specs.contracts.node.ring.pointers.Ring.link_last.{ended, clauses}
+use Rattle.event_queue.specs.contracts.node.ring.pointers.Ring.link_last.Key.{name as #self}
+use Rattle.event_queue.proofs.node.ring.pointers.Ring.link_last.Statement.{statement}
+use Rattle.event_queue.proofs.node.ring.pointers.Ring.link_last.Code as code
 
 pub link_last_spec : {M : Type 1} → statement M
 link_last_spec 𝓤 𝓛 𝓜 𝓡 wired X L =

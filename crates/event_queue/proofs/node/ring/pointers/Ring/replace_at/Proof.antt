@@ -1,4 +1,4 @@
--- `replace` reads what the node carries, and writes something else in its place.
+-- `replace_at` reads what the node carries, and writes something else in its place.
 use Rattle.std.proofs.Common.{◌≡◌, ℕ, ◌+◌, List, [], ◌∷◌, ◌++◌, refl, sym, ap, ◌∙◌, subst}
 use mir.Syntax.{a_type}
 use mir.Val.{Val, vptr}
@@ -26,17 +26,17 @@ use Rattle.std.proofs.VecSteps.Shapes.{after}
 use Rattle.std.proofs.RcSteps.{Good, word, word-Good}
 use Rattle.event_queue.specs.Ring.{Placed, placed, places, IsApart, IsAt, AtNode}
 use Rattle.event_queue.specs.RingMemory.{entry_offset, entry_of, path, node_owns, nodes_own}
-use Rattle.event_queue.specs.contracts.node.ring.Ring as ring
-use Rattle.event_queue.specs.contracts.node.ring.NodePtr as node_ptr
+use Rattle.event_queue.specs.contracts.node.ring.pointers.Ring as ring
+use Rattle.event_queue.specs.contracts.node.ring.pointers.NodePtr as node_ptr
 use Rattle.event_queue.proofs.RingPlaces.{places_cut, apart_replaced, same_node}
 use Rattle.event_queue.proofs.RingSteps.{word_had, entry_tells, entry_out, entry_in, nodes_cut, nodes_glue, says_two}
-use Rattle.event_queue.specs.contracts.node.ring.Ring.replace.{ended, clauses}
-use Rattle.event_queue.specs.contracts.node.ring.Ring.replace.Key.{name as #self}
-use Rattle.event_queue.proofs.node.ring.Ring.replace.Statement.{statement}
-use Rattle.event_queue.proofs.node.ring.Ring.replace.Code as code
+use Rattle.event_queue.specs.contracts.node.ring.pointers.Ring.replace_at.{ended, clauses}
+use Rattle.event_queue.specs.contracts.node.ring.pointers.Ring.replace_at.Key.{name as #self}
+use Rattle.event_queue.proofs.node.ring.pointers.Ring.replace_at.Statement.{statement}
+use Rattle.event_queue.proofs.node.ring.pointers.Ring.replace_at.Code as code
 
-pub replace_spec : {M : Type 1} → statement M
-replace_spec 𝓤 𝓛 𝓜 𝓡 wired X L =
+pub replace_at_spec : {M : Type 1} → statement M
+replace_at_spec 𝓤 𝓛 𝓜 𝓡 wired X L =
     let H = 𝓛.H in let 𝓣 = tables 𝓤 H 𝓜 𝓡 𝓡.env in let R : RattleType = param 0 X in let En = ended X in let inst = layouts (a_type ∷ []) (X, tt) in let fn = inst_fn inst code.function in
     let Row : RattleType = ring.the_row R in let Np : RattleType = node_ptr.the_row R in let c = clauses X 𝓛 𝓜.mem 𝓡.returns in
     let self = plain (λ _. Row) in let hs : Stays En.signature.params En.kept = (stay_ref (0 ∷ []) tt self, (stay_dropped (plain (λ _. Np)) no, (stay_dropped (plain (λ _. R)) no, tt))) in

@@ -42,17 +42,17 @@ use Rattle.std.proofs.RcSteps.{Ptr-Good}
 use Rattle.std.proofs.VecSteps.Shapes.{after, head}
 use Rattle.event_queue.specs.Ring.{Placed, placed, places, first_place}
 use Rattle.event_queue.specs.RingMemory.{next_of, previous_of, edge, path, node_type, node_owns}
-use Rattle.event_queue.specs.contracts.node.ring.Ring as ring
-use Rattle.event_queue.specs.contracts.node.ring.Ring.free as freed
-use Rattle.event_queue.specs.contracts.node.ring.Ring.free.Key as freed_key
-use Rattle.event_queue.proofs.node.ring.Ring.free.Met as freed_met
+use Rattle.event_queue.specs.contracts.node.ring.pointers.Ring as ring
+use Rattle.event_queue.specs.contracts.node.ring.pointers.Ring.free as freed
+use Rattle.event_queue.specs.contracts.node.ring.pointers.Ring.free.Key as freed_key
+use Rattle.event_queue.proofs.node.ring.pointers.Ring.free.Met as freed_met
 use Rattle.event_queue.proofs.RingPlaces.{last_from, apart_one}
 use Rattle.event_queue.proofs.RingChain.{chain_owns, chained}
 use Rattle.event_queue.proofs.RingSteps.{heap_val, heap_Good, ring_Good, ring_val, Data, handle, told, made, learns, link_out, link_in, stale, edge_out, edge_in, path_cut, no_source, no_target}
-use Rattle.event_queue.specs.contracts.node.ring.Ring.free_all as F
-use Rattle.event_queue.specs.contracts.node.ring.Ring.free_all.Key.{name as #self}
-use Rattle.event_queue.proofs.node.ring.Ring.free_all.Statement.{statement}
-use Rattle.event_queue.proofs.node.ring.Ring.free_all.Code as code
+use Rattle.event_queue.specs.contracts.node.ring.pointers.Ring.free_all as F
+use Rattle.event_queue.specs.contracts.node.ring.pointers.Ring.free_all.Key.{name as #self}
+use Rattle.event_queue.proofs.node.ring.pointers.Ring.free_all.Statement.{statement}
+use Rattle.event_queue.proofs.node.ring.pointers.Ring.free_all.Code as code
 
 module _ (X : RattleType) (δ : Dict) where
   abbrev R : RattleType
@@ -178,6 +178,6 @@ pub free_all_spec : {M : Type 1} → statement M
 unfolding tables_of
 free_all_spec 𝓤 𝓛 𝓜 𝓡 wired X L δ glue =
     let 𝓣 : Tables 𝓤 𝓛.H = tables_of 𝓤 𝓛.H 𝓜 (tables 𝓤 𝓛.H 𝓜 𝓡 𝓡.env) in let k = freed_key.name (inst X δ) in
-    let callee = cited 𝓤 𝓛.H (Frees X δ 𝓛 𝓜.mem 𝓡.returns) 𝓜 𝓡 𝓡.env k (𝓡.env k) refl (freed_met.met 𝓤 𝓛 𝓜 𝓡 (code.calls-event_queue::node::ring::Ring::free 𝓡.env wired) X L δ glue) in
+    let callee = cited 𝓤 𝓛.H (Frees X δ 𝓛 𝓜.mem 𝓡.returns) 𝓜 𝓡 𝓡.env k (𝓡.env k) refl (freed_met.met 𝓤 𝓛 𝓜 𝓡 (code.calls-event_queue::node::ring::pointers::Ring::free 𝓡.env wired) X L δ glue) in
     proved_at 𝓛 (ended X δ) (stayed X δ) (held X δ 𝓛 𝓜.mem 𝓡.returns) 𝓜 𝓡 (Goes-blank 𝓛 1 (plain (λ _. Row X δ)) no (λ κs x f. tt), tt) (#self (inst X δ)) (fn X δ) (code.unfolded 𝓤 𝓛.H 𝓜 𝓡 wired (X, tt) δ)
     (λ z are. walk X δ 𝓛 𝓜.mem 𝓡.returns 𝓣 callee z)

@@ -10,8 +10,8 @@ use denote.Struct.Laws.{RawPtr-copy}
 use denote.Struct.Lending.{of_Lends}
 use Rattle.std.specs.contracts.alloc.Global as Heap
 use Rattle.std.proofs.alloc.Global.TheLaws as heap
-use Rattle.event_queue.specs.contracts.node.ring.Ring as C
-use Rattle.event_queue.proofs.node.ring.Ring.TheLaw.Statement.{statement}
+use Rattle.event_queue.specs.contracts.node.ring.pointers.Ring as C
+use Rattle.event_queue.proofs.node.ring.pointers.Ring.TheLaw.Statement.{statement}
 use Rattle.event_queue.proofs.RingSharing.{ring_lent_laws, Lends-ring}
 
 pub shares : (E : RattleType) (L : Laws E) → statement E L
