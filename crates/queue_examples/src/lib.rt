@@ -4,6 +4,7 @@
 
 #[cfg(test)]
 mod checks;
+pub mod counted;
 pub mod shared;
 pub mod tagged;
 pub mod turnstile;

@@ -1,0 +1,87 @@
+//! One call, and how many visits it counts.
+ghost use Rattle.std.specs.Prelude.{◌≡◌, ◌<◌};
+
+use crate::checks::check;
+use crate::doubles::{Replacing, Source, TASK};
+use crate::queues::{Setting, no_room};
+use event_queue::{Key, List, NotifyError, RegisterResult, State, Steps};
+use std::alloc::AllocGlobal;
+use std::marker::Brand;
+use std::process::Abort;
+use std::sync::ledger::{Blank, Ledger};
+
+/// A call that counts, of the listener at the place where it has one.
+#[derive(Clone, Copy, Debug)]
+pub enum Call {
+    Insert,
+    Register,
+    RegisterWith,
+    Remove { propagate: bool },
+    Notify(Source),
+}
+
+/// What such a call answered.
+#[derive(Clone, Copy, Debug, PartialEq)]
+pub enum Answer {
+    Inserted,
+    Registered(RegisterResult<u32>),
+    Removed(Option<State<u32, u32>>),
+    Notified(Result<usize, NotifyError>),
+}
+
+/// The call answers so there, and makes so many visits.
+pub fn counts<R: Abort + AllocGlobal>(
+    rt: &R,
+    setting: Setting,
+    call: Call,
+    answer: Answer,
+    visits: u64,
+) {
+    counts_from::<Brand, R>(rt, setting, call, (answer, visits), Blank::new(1));
+}
+
+fn counts_from<L: Ledger, R: Abort + AllocGlobal>(
+    rt: &R,
+    setting: Setting,
+    call: Call,
+    expected: (Answer, u64),
+    blank: Blank,
+)
+    requires name { blank.name ≡ L.name }
+    requires parts { blank.parts ≡ L.parts }
+    requires has_a_part { 0 < blank.parts }
+{
+    let mut steps = Steps::<L>::new(blank);
+    let (mut queue, key) = setting.queue(rt);
+    let answer = call.make(rt, &mut queue, key, &mut steps);
+    check(rt, (setting, call), (answer, steps.visits()), expected);
+}
+
+impl Call {
+    fn make<L: Ledger, R: Abort + AllocGlobal>(
+        self,
+        rt: &R,
+        queue: &mut List<u32, u32>,
+        key: Key,
+        steps: &mut Steps<L>,
+    ) -> Answer {
+        match self {
+            Call::Insert => {
+                queue.insert(steps).expect(rt, "a listener");
+                Answer::Inserted
+            }
+            Call::Register => Answer::Registered(queue.register(key, TASK, steps)),
+            Call::RegisterWith => {
+                let mut task = TASK;
+                Answer::Registered(queue.register_with(key, &Replacing, &mut task, steps))
+            }
+            Call::Remove { propagate } => {
+                Answer::Removed(queue.remove(key, propagate, &mut no_room(rt), steps))
+            }
+            Call::Notify(source) => {
+                let mut source = source;
+                Answer::Notified(queue.notify(&mut source, &mut no_room(rt), steps))
+            }
+        }
+    }
+}

@@ -1,0 +1,15 @@
+//! Tests of how many visits the calls of a queue count at run time.
+#![tactic(auto)]
+
+#[cfg(test)]
+mod calls;
+#[cfg(test)]
+mod checks;
+#[cfg(test)]
+mod doubles;
+#[cfg(test)]
+mod listeners;
+#[cfg(test)]
+mod notifications;
+#[cfg(test)]
+mod queues;

@@ -1,0 +1,139 @@
+//! The calls of one listener. What each visits depends on how the listener stands, and not on where or among how many.
+use crate::calls::{Answer, Call, counts};
+use crate::doubles::{TAG, TASK};
+use crate::queues::Standing::{self, Absent, AllTold, FirstWaiting, LastTold, Replaced, Waiting};
+use crate::queues::{LENGTHS, PLACES, Place, Setting};
+use event_queue::RegisterResult::{self, NeverInserted, Notified, Registered};
+use event_queue::State;
+use std::alloc::AllocGlobal;
+use std::process::Abort;
+
+// What a listener was when it left.
+type Left = Option<State<u32, u32>>;
+
+const WAITED: Left = Some(State::Task(TASK));
+
+const TOLD_BY_DEFAULT: Left = Some(State::Notified {
+    additional: false,
+    tag: TAG,
+});
+
+const TOLD_BY_ADDITIONAL: Left = Some(State::Notified {
+    additional: true,
+    tag: TAG,
+});
+
+const PROPAGATED: Left = Some(State::NotifiedTaken);
+
+// What an insertion visits: the last node.
+const INSERTIONS: [(Standing, u64); 4] = [
+    (Waiting, 1),
+    (LastTold { additional: true }, 1),
+    (AllTold { additional: false }, 1),
+    // The node of the listener that has left is used again.
+    (Absent, 1),
+];
+
+// What a registration answers and visits.
+const REGISTRATIONS: [(Standing, RegisterResult<u32>, u64); 7] = [
+    // The own node alone.
+    (Waiting, Registered, 0),
+    (FirstWaiting, Registered, 0),
+    // It leaves: the two neighbors.
+    (LastTold { additional: true }, Notified(TAG), 2),
+    (LastTold { additional: false }, Notified(TAG), 2),
+    (AllTold { additional: true }, Notified(TAG), 2),
+    // Nobody has the key.
+    (Absent, NeverInserted, 0),
+    (Replaced, NeverInserted, 0),
+];
+
+// What a removal with propagation or without answers and visits.
+const REMOVALS: [(Standing, bool, Left, u64); 13] = [
+    // The two neighbors, and the node at the cursor.
+    (Waiting, false, WAITED, 3),
+    (Waiting, true, WAITED, 3),
+    (FirstWaiting, false, WAITED, 3),
+    (FirstWaiting, true, WAITED, 3),
+    // The two neighbors.
+    (LastTold { additional: false }, false, TOLD_BY_DEFAULT, 2),
+    (AllTold { additional: true }, false, TOLD_BY_ADDITIONAL, 2),
+    // The two neighbors, and who is told in its place.
+    (LastTold { additional: true }, true, PROPAGATED, 3),
+    // The two neighbors: nobody waits who could be told.
+    (AllTold { additional: true }, true, PROPAGATED, 2),
+    (AllTold { additional: false }, true, PROPAGATED, 2),
+    // Nobody has the key.
+    (Absent, false, None, 0),
+    (Absent, true, None, 0),
+    (Replaced, false, None, 0),
+    (Replaced, true, None, 0),
+];
+
+// The call answers so and makes so many visits, at every length and every place.
+fn counts_everywhere<R: Abort + AllocGlobal>(
+    rt: &R,
+    standing: Standing,
+    call: Call,
+    answer: Answer,
+    visits: u64,
+) {
+    for length in LENGTHS {
+        for place in PLACES {
+            let setting = Setting {
+                length,
+                place,
+                standing,
+            };
+            counts(rt, setting, call, answer, visits);
+        }
+    }
+}
+
+#[test]
+fn an_insertion_visits_one(rt: HostRuntime) {
+    for (standing, visits) in INSERTIONS {
+        counts_everywhere(&rt, standing, Call::Insert, Answer::Inserted, visits);
+    }
+}
+
+#[test]
+fn a_registration_visits_two_where_its_listener_leaves(rt: HostRuntime) {
+    for (standing, result, visits) in REGISTRATIONS {
+        let answer = Answer::Registered(result);
+        counts_everywhere(&rt, standing, Call::Register, answer, visits);
+        counts_everywhere(&rt, standing, Call::RegisterWith, answer, visits);
+    }
+}
+
+#[test]
+fn a_removal_visits_three_at_most(rt: HostRuntime) {
+    for (standing, propagate, left, visits) in REMOVALS {
+        let call = Call::Remove { propagate };
+        counts_everywhere(&rt, standing, call, Answer::Removed(left), visits);
+    }
+}
+
+// The removal of a listener told by a default notification, with propagation, makes so many visits.
+fn propagates_default<R: Abort + AllocGlobal>(rt: &R, length: usize, place: Place, visits: u64) {
+    let setting = Setting {
+        length,
+        place,
+        standing: LastTold { additional: false },
+    };
+    let call = Call::Remove { propagate: true };
+    counts(rt, setting, call, Answer::Removed(PROPAGATED), visits);
+}
+
+#[test]
+fn a_default_notification_is_passed_on_where_nobody_else_is_told(rt: HostRuntime) {
+    // The two neighbors, and who is told in its place.
+    for length in LENGTHS {
+        propagates_default(&rt, length, Place::Head, 3);
+    }
+    // The two neighbors: those before it stay told, so nobody is told in its place.
+    for length in [10, 1_000, 10_000] {
+        propagates_default(&rt, length, Place::Middle, 2);
+        propagates_default(&rt, length, Place::Tail, 2);
+    }
+}
