@@ -1,4 +1,5 @@
-//! The worked rows in which memory is refused. The other requests of these rows are refused in their turn, too.
+//! The worked rows over an event in which memory is refused. The other requests of these rows are refused in their
+//! turn, too.
 use crate::support::{Case, Runtime, Trial, check, poll, with_each_kind};
 use event_listener::{ListenError, Listener, WaitError};
 use std::time::Duration;

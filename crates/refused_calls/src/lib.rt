@@ -9,3 +9,5 @@ mod flag_world;
 mod mutex_world;
 #[cfg(test)]
 mod queue;
+#[cfg(test)]
+mod room;
