@@ -15,7 +15,6 @@ mod notification_laws;
 mod notify;
 mod reply;
 mod run;
-mod steps;
 mod tag_list;
 mod uncounted;
 mod wake;
@@ -26,6 +25,7 @@ pub use exchange::TaskExchange;
 pub use key::Key;
 pub use laws::{equal_keys, woken_keeps_the_first};
 pub use list::List;
+pub use node::Steps;
 #[doc(hidden)]
 pub use notice::Notice;
 pub use notification_laws::{
@@ -37,7 +37,6 @@ pub use notify::{
     Additional, IntoNotification, IntoTagged, Notification, Notify, Relaxed, Tag, TagWith,
 };
 pub use reply::{ListenError, NotifyError, RegisterResult, State};
-pub use steps::Steps;
 #[doc(hidden)]
 pub use tag_list::TagList;
 pub use wake::WakeSink;

@@ -9,14 +9,14 @@ ghost use Rattle.event_queue.specs.Register.{Registers, OnNotified, UnlessNotifi
 ghost use Rattle.event_queue.specs.Exchange.{RegistersWith};
 ghost use Rattle.event_queue.specs.Remove.{Removes, woken_by_removal, woken_by_passing, after_passing};
 ghost use Rattle.event_queue.specs.Notify.{Notifies, NeverRefuses, told_by};
+ghost use Rattle.event_queue.specs.Visits.{visits_of_insertion, visits_of_registration, visits_of_removal};
 
 use crate::exchange::TaskExchange;
 use crate::key::Key;
-use crate::node::Chain;
+use crate::node::{Chain, Steps};
 use crate::notice::Notice;
 use crate::notify::Notification;
 use crate::reply::{ListenError, NotifyError, RegisterResult, State};
-use crate::steps::Steps;
 use crate::wake::WakeSink;
 use std::alloc::{AllocError, AllocFailed, Global};
 use std::marker::Model;
@@ -112,6 +112,7 @@ impl<T, W> List<T, W> {
         ensures order { IfOk result (λ key. order_of self.new ≡ order_of self.old ++ key ∷ []) }
         ensures serial { self.old.next_serial ≤ self.new.next_serial }
         ensures visits { steps.new ≤ steps.old + 3 }
+        ensures counted { steps.new ≡ steps.old + visits_of_insertion result }
     {
         if self.next_serial == u64::MAX {
             return Err(ListenError::SerialsUsedUp);
@@ -154,6 +155,7 @@ impl<T, W> List<T, W> {
         ensures order_kept { UnlessNotified result (order_of self.new ≡ order_of self.old) }
         ensures serial { self.new.next_serial ≡ self.old.next_serial }
         ensures visits { steps.new ≤ steps.old + 3 }
+        ensures counted { steps.new ≡ steps.old + visits_of_registration result }
     {
         self.register_step(key, task, steps)
     }
@@ -171,6 +173,7 @@ impl<T, W> List<T, W> {
         ensures was_queue { IsQueue self.old }
         ensures queue { IsQueue self.new }
         ensures visits { steps.new ≤ steps.old + 3 }
+        ensures counted { steps.new ≡ steps.old + visits_of_registration result }
     {
         if let Some(notice) = self.chain.take_before(key, steps) {
             let Notice { additional: _, tag } = notice;
@@ -203,6 +206,7 @@ impl<T, W> List<T, W> {
         ensures order_kept { UnlessNotified result (order_of self.new ≡ order_of self.old) }
         ensures serial { self.new.next_serial ≡ self.old.next_serial }
         ensures visits { steps.new ≤ steps.old + 3 }
+        ensures counted { steps.new ≡ steps.old + visits_of_registration result }
     {
         self.register_with_step(key, exchange, on, steps)
     }
@@ -218,6 +222,7 @@ impl<T, W> List<T, W> {
         ensures was_queue { IsQueue self.old }
         ensures queue { IsQueue self.new }
         ensures visits { steps.new ≤ steps.old + 3 }
+        ensures counted { steps.new ≡ steps.old + visits_of_registration result }
     {
         if let Some(notice) = self.chain.take_before(key, steps) {
             let Notice { additional: _, tag } = notice;
@@ -281,6 +286,7 @@ impl<T, W> List<T, W> {
         ensures drop_additional { IsTrue propagate → IsToldAs key true self.old → length self.new.told ≡ min (length self.old.told) (listeners_of self.old - 1) }
 
         ensures visits { steps.new ≤ steps.old + 3 }
+        ensures counted { steps.new ≡ steps.old + visits_of_removal result key self.old }
     {
         self.remove_step(key, propagate, sink, steps)
     }
@@ -300,6 +306,7 @@ impl<T, W> List<T, W> {
         ensures was_queue { IsQueue self.old }
         ensures queue { IsQueue self.new }
         ensures visits { steps.new ≤ steps.old + 3 }
+        ensures counted { steps.new ≡ steps.old + visits_of_removal result key self.old }
     {
         if let Some(task) = self.chain.take_after(key, steps) {
             return Some(match task {
@@ -331,7 +338,7 @@ impl<T, W> List<T, W> {
         ensures passed { self.new ≡ after_passing notice self.old }
         ensures wakes { FoldsTo S.woke sink.old (woken_by_passing notice self.old) sink.new }
         ensures queue { IsQueue self.new }
-        ensures visits { steps.new ≤ steps.old + 1 }
+        ensures visits { steps.new ≡ steps.old + how_many 1 notice.additional self.old }
     {
         if self.how_many(1, notice.additional) == 1 {
             self.tell_next(notice, sink, steps);

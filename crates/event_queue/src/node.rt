@@ -6,8 +6,8 @@ ghost use Rattle.event_queue.specs.Nodes.{nodes_of, IsLined};
 
 use crate::key::Key;
 use crate::node::line::{Held, Line};
+use crate::node::ring::Reached;
 use crate::node::table::Table;
-use crate::steps::Steps;
 use std::alloc::{AllocError, AllocFailed, Global};
 use std::marker::Model;
 use std::mem;
@@ -16,6 +16,8 @@ use std::sync::ledger::Ledger;
 mod line;
 mod ring;
 mod table;
+
+pub use ring::Steps;
 
 /// Entries in the order in which they were pushed, each under a key that the chain gives it, and a cursor between
 /// two of them: those before it carry an `A`, those after it a `B`.
@@ -138,7 +140,7 @@ impl<A, B> Chain<A, B> {
     pub fn is_before(&self, key: Key) -> bool
         ensures { IsTrue result ↔ IsSome (lookup (is_key key) self.now.before) }
     {
-        let (Some(line), Some(own)) = (&self.line, self.table.find(key.slot)) else {
+        let (Some(line), Some(own)) = (&self.line, Reached::own(&self.table, key)) else {
             return false;
         };
         line.is_before(&own, key.serial)
@@ -196,8 +198,8 @@ impl<A, B> Chain<A, B> {
         let Some(node) = self.table.take_spare() else {
             unreachable!()
         };
-        let (slot, at) = line.append(node, serial, value, self.after_len == 0, steps);
-        self.table.fill(slot, at);
+        let (slot, own) = line.append(node, serial, value, self.after_len == 0, steps);
+        self.table.fill(slot, &own);
         self.after_len += 1;
         Key { slot, serial }
     }
@@ -211,7 +213,7 @@ impl<A, B> Chain<A, B> {
         ensures visits { OnSome result (steps.new ≡ steps.old + 2) }
         ensures no_visit { IfNone result (steps.new ≡ steps.old) }
     {
-        let own = self.table.find(key.slot)?;
+        let own = Reached::own(&self.table, key)?;
         let Some(line) = &mut self.line else {
             unreachable!()
         };
@@ -238,7 +240,7 @@ impl<A, B> Chain<A, B> {
         ensures visits { OnSome result (steps.new ≡ steps.old + 3) }
         ensures no_visit { IfNone result (steps.new ≡ steps.old) }
     {
-        let own = self.table.find(key.slot)?;
+        let own = Reached::own(&self.table, key)?;
         let Some(line) = &mut self.line else {
             unreachable!()
         };
@@ -266,7 +268,7 @@ impl<A, B> Chain<A, B> {
         ensures unchanged { OnErr result (self.new ≡ self.old) }
         ensures value_returned { IfErr result (λ refused. refused ≡ value) }
     {
-        let Some(own) = self.table.find(key.slot) else {
+        let Some(own) = Reached::own(&self.table, key) else {
             return Err(value);
         };
         let Some(line) = &mut self.line else {

@@ -3,9 +3,8 @@ ghost use Rattle.std.specs.Prelude.{◌≡◌, ◌+◌, [], ◌∷◌, ◌++◌,
 ghost use Rattle.event_queue.specs.Ring.{placed, first_place, IsAt, AtNode};
 ghost use Rattle.event_queue.specs.Nodes.{key_of, spare_entry, before_in, after_in};
 
-use super::ring::{NodePtr, Reached, Ring};
+use super::ring::{NodePtr, Reached, Ring, Steps};
 use crate::key::Key;
-use crate::steps::Steps;
 use std::alloc::{AllocError, AllocFailed, Global};
 use std::sync::ledger::Ledger;
 
@@ -118,7 +117,7 @@ impl<A, B> Line<A, B> {
         entry.serial == serial && matches!(entry.held, Held::After(_))
     }
 
-    /// Links a spare node in at the end, with an entry after the cursor. Its slot and its place are the answer.
+    /// Links a spare node in at the end, with an entry after the cursor. Its slot and the node are the answer.
     ///
     /// Where no other entry is after the cursor, the cursor moves to it.
     #[inline(always)]
@@ -129,7 +128,7 @@ impl<A, B> Line<A, B> {
         value: B,
         is_first: bool,
         steps: &mut Steps<L>,
-    ) -> (usize, NodePtr<Entry<A, B>>)
+    ) -> (usize, Reached<Entry<A, B>>)
         requires alone { node.nodes ≡ [] }
         requires spare { node.entry.held ≡ Held.Nothing }
         ensures slot { result.0 ≡ node.entry.slot }
@@ -148,11 +147,10 @@ impl<A, B> Line<A, B> {
             held: Held::After(value),
         };
         self.ring.replace(&own, entry).let_go();
-        let at = own.place();
         if is_first {
-            self.cursor = at;
+            self.cursor = own.place();
         }
-        (slot, at)
+        (slot, own)
     }
 
     /// Takes a node out. It becomes spare, and its value is the answer too.

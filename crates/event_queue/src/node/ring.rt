@@ -5,10 +5,14 @@ ghost use Rattle.event_queue.specs.Nodes.{node_at};
 
 use self::pointers::Node;
 pub(super) use self::pointers::{NodePtr, Ring};
-use crate::steps::Steps;
+pub use self::steps::Steps;
+use super::line::Entry;
+use super::table::Table;
+use crate::key::Key;
 use std::sync::ledger::Ledger;
 
 mod pointers;
+mod steps;
 
 /// A node that a call may look at: its own listener's, or one whose visit was counted.
 ///
@@ -19,18 +23,18 @@ pub(super) struct Reached<E> {
     ptr: *mut Node<E>,
 }
 
-impl<E> Reached<E> {
+impl<A, B> Reached<Entry<A, B>> {
     /// The node of the call's own listener: the one to which the slot of its key leads, if it leads to one.
     #[inline(always)]
-    pub(super) fn own(slots: &[Option<NodePtr<E>>], slot: usize) -> Option<Self>
-        ensures { MatchOption result (node_at slots.now slot ≡ None) (λ node. node_at slots.now slot ≡ Some (record { ptr = node.ptr })) }
+    pub(super) fn own(table: &Table<A, B>, key: Key) -> Option<Self>
+        ensures { MatchOption result (node_at table.now.slots.items key.slot ≡ None) (λ node. node_at table.now.slots.items key.slot ≡ Some (record { ptr = node.ptr })) }
     {
-        match slots.get(slot) {
-            Some(Some(place)) => Some(Reached { ptr: place.ptr }),
-            _ => None,
-        }
+        let place = table.find(key.slot)?;
+        Some(Reached { ptr: place.ptr })
     }
+}
 
+impl<E> Reached<E> {
     /// Where the node stands.
     #[inline(always)]
     pub(super) fn place(&self) -> NodePtr<E>

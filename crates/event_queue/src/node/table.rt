@@ -43,12 +43,15 @@ impl<A, B> Table<A, B> {
         self.spares.len()
     }
 
-    /// The node whose slot this is, if an entry uses it. To the call whose key has the slot it is the own one.
+    /// The place of the node whose slot this is, if an entry uses it.
     #[inline(always)]
-    pub(super) fn find(&self, slot: usize) -> Option<Reached<Entry<A, B>>>
-        ensures { MatchOption result (node_at self.now.slots.items slot ≡ None) (λ node. node_at self.now.slots.items slot ≡ Some (record { ptr = node.ptr })) }
+    pub(super) fn find(&self, slot: usize) -> Option<NodePtr<Entry<A, B>>>
+        ensures { result ≡ node_at self.now.slots.items slot }
     {
-        Reached::own(self.slots.as_slice(), slot)
+        match self.slots.get(slot) {
+            Some(place) => *place,
+            None => None,
+        }
     }
 
     /// Takes a spare node.
@@ -62,12 +65,12 @@ impl<A, B> Table<A, B> {
 
     /// Writes the place of a node that was spare into its slot.
     #[inline(always)]
-    pub(super) fn fill(&mut self, slot: usize, at: NodePtr<Entry<A, B>>)
+    pub(super) fn fill(&mut self, slot: usize, node: &Reached<Entry<A, B>>)
         requires { slot < length self.old.slots.items }
-        ensures slots { self.new.slots.items ≡ slice_set self.old.slots.items slot (Option.Some at) }
+        ensures slots { self.new.slots.items ≡ slice_set self.old.slots.items slot (Option.Some (record { ptr = node.now.ptr })) }
         ensures spares { self.new.spares.items ≡ self.old.spares.items }
     {
-        self.slots[slot] = Some(at);
+        self.slots[slot] = Some(node.place());
     }
 
     /// Makes a node spare, whose slot this is. It allocates nothing.

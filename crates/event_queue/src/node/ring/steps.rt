@@ -51,9 +51,9 @@ impl<L: Ledger> Steps<L> {
         self.visits
     }
 
-    // Counts so many visits more.
+    // Counts so many visits more. Only the ring counts.
     #[inline(always)]
-    pub(crate) fn add(&mut self, visits: u64)
+    pub(super) fn add(&mut self, visits: u64)
         ensures { self.new ≡ self.old + visits }
     {
         self.book.add(&mut self.share, visits);
