@@ -29,8 +29,10 @@ impl<A, B> Reached<Entry<A, B>> {
     pub(super) fn own(table: &Table<A, B>, key: Key) -> Option<Self>
         ensures { MatchOption result (node_at table.now.slots.items key.slot ≡ None) (λ node. node_at table.now.slots.items key.slot ≡ Some (record { ptr = node.ptr })) }
     {
-        let place = table.find(key.slot)?;
-        Some(Reached { ptr: place.ptr })
+        match table.slots().get(key.slot) {
+            Some(Some(place)) => Some(Reached { ptr: place.ptr }),
+            _ => None,
+        }
     }
 }
 

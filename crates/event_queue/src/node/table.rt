@@ -43,15 +43,12 @@ impl<A, B> Table<A, B> {
         self.spares.len()
     }
 
-    /// The place of the node whose slot this is, if an entry uses it.
+    /// For each slot the place of its node, if an entry uses that.
     #[inline(always)]
-    pub(super) fn find(&self, slot: usize) -> Option<NodePtr<Entry<A, B>>>
-        ensures { result ≡ node_at self.now.slots.items slot }
+    pub(super) fn slots(&self) -> &[Option<NodePtr<Entry<A, B>>>]
+        ensures { result.now ≡ self.now.slots.items }
     {
-        match self.slots.get(slot) {
-            Some(place) => *place,
-            None => None,
-        }
+        self.slots.as_slice()
     }
 
     /// Takes a spare node.
