@@ -1,6 +1,7 @@
 -- What users rely on, from the steps: who is gone, in which order the others stand, and how many are told.
 use Rattle.std.proofs.Common.{◌≡◌, ◌+◌, ◌-◌, ◌≤◌, min, max, Bool, true, false, [], ◌∷◌, take, length, refl, sym, ap, ◌∙◌, subst, arith, Option, Some, None, IsSomeAnd, OnSome, length-take}
 use Rattle.std.specs.Map.{keys_of, lookup}
+use Rattle.std.proofs.lemmas.Map.Entries.{length-keys_of}
 use Rattle.event_queue.specs.declared.key.Key.{Key}
 use Rattle.event_queue.specs.declared.notice.Notice.{Notice}
 use Rattle.event_queue.specs.declared.reply.RegisterResult.{RegisterResult}
@@ -10,7 +11,7 @@ use Rattle.event_queue.specs.declared.reply.State.TheVariants.{Created, Notified
 use Rattle.event_queue.specs.Key.{is_key, without}
 use Rattle.event_queue.specs.Queue.{Queue, IsQueue, IsGone, IsToldAs, order_of, listeners_of, how_many, told_leaves}
 use Rattle.event_queue.specs.Register.{Registers, OnNotified, UnlessNotified}
-use Rattle.event_queue.specs.Remove.{Removes, PassesTo, after_passing}
+use Rattle.event_queue.specs.Remove.{Removes, PassesTo, told_by_passing, after_passing}
 use Rattle.event_queue.proofs.OrderLemmas.{NoneIs, All-append, without-none, none_is-from_lookup, lookup-none_is, none_before, length-remove_entry}
 use Rattle.event_queue.proofs.QueueLemmas.{rises_along, order_of-told_leaves, order_of-waiting_leaves, order_of-after_storing, IsGone-without, told_serial, waiting_serial}
 use Rattle.event_queue.proofs.TellingLemmas.{order_of-after_telling, length-after_telling}
@@ -136,6 +137,11 @@ module _ {T W : Type 0} where
   at_most_one : (additional : Bool) (q : Queue T W) → how_many 1 additional q ≤ 1
   at_most_one true q = omega arith
   at_most_one false q = omega arith
+
+  pub one_told_at_most : (notice : Notice T) (q : Queue T W) → length (told_by_passing notice q) ≤ 1
+  one_told_at_most notice q =
+      let passed = how_many 1 notice.additional q in
+      omega (arith, length-keys_of (take passed q.waiting), length-take passed q.waiting, at_most_one notice.additional q)
 
   told_after_passing : (key : Key) (old : Queue T W) (notice : Notice T) → lookup (is_key key) old.told ≡ Some notice → length (after_passing notice (told_leaves key old)).told + 1 ≡ length old.told + how_many 1 notice.additional (told_leaves key old)
   told_after_passing key old notice found =
