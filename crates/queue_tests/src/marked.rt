@@ -6,6 +6,7 @@ use std::cell::Cell;
 use std::process::Abort;
 
 /// How often a tag was cloned and dropped.
+#[derive(Drop)]
 pub struct Marks {
     clones: Cell<u8>,
     drops: Cell<u8>,
