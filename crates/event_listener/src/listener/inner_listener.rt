@@ -94,6 +94,9 @@ impl<R: Wait + Clock + Clone> InnerListener<R> {
             alloc: _,
         } = self;
         let former = membership.remove(&runtime, shared, propagate);
-        matches!(former, Some(State::Notified { .. } | State::NotifiedTaken))
+        matches!(
+            former,
+            Some(State::Notified { .. } | State::Passed { .. } | State::Lost { .. })
+        )
     }
 }
