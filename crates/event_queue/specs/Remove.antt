@@ -47,6 +47,13 @@ module _ {T W : Type 0} where
       × (lookup (is_key key) old.told ≡ Some (record { additional = additional; tag = tag }))
       × PassesTo [] (record { additional = additional; tag = tag }) (told_leaves key old) new
 
+  -- what is answered of a notice that was passed on: whom it told, or what it had
+  abbrev pub PassedAs : Notice T → Queue T W → State T W → Type 0
+  PassedAs notice q (Passed to) = told_by_passing notice q ≡ to ∷ []
+  PassedAs notice q (Lost additional tag) =
+      (notice ≡ record { additional = additional; tag = tag }) × (told_by_passing notice q ≡ [])
+  PassedAs notice q _ = ⊥
+
   -- the tasks that a removal wakes
   abbrev pub woken_by_leaving : Option (Notice T) → Bool → Key → Queue T W → List W
   woken_by_leaving None propagate key q = []

@@ -7,7 +7,7 @@ ghost use Rattle.event_queue.specs.Queue.{IsQueue, IsGone, IsToldAs, order_of, l
 ghost use Rattle.event_queue.specs.Insert.{Inserts};
 ghost use Rattle.event_queue.specs.Register.{Registers, OnNotified, UnlessNotified, after_storing};
 ghost use Rattle.event_queue.specs.Exchange.{RegistersWith};
-ghost use Rattle.event_queue.specs.Remove.{Removes, woken_by_removal, woken_by_passing, told_by_passing, after_passing};
+ghost use Rattle.event_queue.specs.Remove.{Removes, PassedAs, woken_by_removal, woken_by_passing, after_passing};
 ghost use Rattle.event_queue.specs.Notify.{Notifies, NeverRefuses, told_by};
 ghost use Rattle.event_queue.specs.Visits.{visits_of_insertion, visits_of_registration, visits_of_removal};
 
@@ -313,39 +313,53 @@ impl<T, W> List<T, W> {
         }
         let notice = self.chain.take_before(key, steps)?;
         if propagate {
-            return Some(match self.pass_on(notice, sink, steps) {
-                Ok(to) => State::Passed { to },
-                Err(Notice { additional, tag }) => State::Lost { additional, tag },
-            });
+            return Some(self.pass_on(notice, sink, steps));
         }
         let Notice { additional, tag } = notice;
         Some(State::Notified { additional, tag })
     }
 
-    // Propagates a notification: notifies one, of that notice's kind and with its tag. Who was told is the answer; where
-    // nobody was, the notice comes back. It stands apart, so that the drop of a listener, which stands in many places, is
-    // short.
-    #[cold]
-    #[inline(never)]
+    // Propagates a notification: notifies one, of that notice's kind and with its tag. The answer says who was told;
+    // where nobody was, it has what the notice had.
+    #[inline(always)]
     fn pass_on<S: WakeSink<W>, L: Ledger>(
         &mut self,
         notice: Notice<T>,
         sink: &mut S,
         steps: &mut Steps<L>,
-    ) -> Result<Key, Notice<T>>
+    ) -> State<T, W>
+        ensures answer { PassedAs notice self.old result }
         ensures passed { self.new ≡ after_passing notice self.old }
-        ensures told { IfOk result (λ to. told_by_passing notice self.old ≡ to ∷ []) }
-        ensures nobody { OnErr result (told_by_passing notice self.old ≡ []) }
-        ensures returned { IfErr result (λ lost. lost ≡ notice) }
         ensures wakes { FoldsTo S.woke sink.old (woken_by_passing notice self.old) sink.new }
         ensures queue { IsQueue self.new }
         ensures visits { steps.new ≡ steps.old + how_many 1 notice.additional self.old }
     {
         if self.how_many(1, notice.additional) == 1 {
-            Ok(self.tell_next(notice, sink, steps))
-        } else {
-            Err(notice)
+            let to = self.tell_apart(notice, sink, steps);
+            return State::Passed { to };
         }
+        let Notice { additional, tag } = notice;
+        State::Lost { additional, tag }
+    }
+
+    // Tells the first waiting listener. It stands apart, so that the drop of a listener, which stands in many places, is
+    // short.
+    #[cold]
+    #[inline(never)]
+    fn tell_apart<S: WakeSink<W>, L: Ledger>(
+        &mut self,
+        notice: Notice<T>,
+        sink: &mut S,
+        steps: &mut Steps<L>,
+    ) -> Key
+        requires { 0 < length self.old.waiting }
+        ensures first { keys_of (take 1 self.old.waiting) ≡ result ∷ [] }
+        ensures told { self.new ≡ after_telling notice.additional (notice.tag ∷ []) self.old }
+        ensures wakes { FoldsTo S.woke sink.old (tasks_of 1 self.old) sink.new }
+        ensures queue { IsQueue self.new }
+        ensures visits { steps.new ≡ steps.old + 1 }
+    {
+        self.tell_next(notice, sink, steps)
     }
 
     /// Tells the first of the waiting listeners, as many as the notification is for, in order, each with the next tag

@@ -254,10 +254,12 @@ where
     outcome
 }
 
-// The slot of a new listener is the queue's own choice.
+// The slot of a listener is the queue's own choice.
 fn forget_slot(reply: &mut Reply<u32, u32>) {
-    if let Reply::Inserted(Ok(key)) = reply {
-        key.slot = 0;
+    match reply {
+        Reply::Inserted(Ok(key)) => key.slot = 0,
+        Reply::Removed(Some(State::Passed { to })) => to.slot = 0,
+        _ => {}
     }
 }
 
