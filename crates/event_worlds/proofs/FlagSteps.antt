@@ -9,7 +9,7 @@ use Rattle.event_worlds.specs.declared.world.flag.FlagPlace.{FlagPlace}
 use Rattle.event_worlds.specs.declared.world.flag.FlagPlace.TheVariants.{Check1, ToListen, Check2, Dropping, ToRegister, Parked, Done}
 use Rattle.event_worlds.specs.declared.world.flag.SetterPlace.{SetterPlace}
 use Rattle.event_worlds.specs.declared.world.flag.SetterPlace.TheVariants.{ToSet, ToNotify, Done as IsDone}
-use Rattle.event_worlds.specs.Line.{Line, IsLine, is_told, has_wake, has_serial_left, empty_line, joined, registered, told_left, waiting_left, wake_lost, first_told_of, first_told, tell, notified, dropped}
+use Rattle.event_worlds.specs.Line.{Line, IsLine, is_told, has_wake, has_serial_left, empty_line, joined, registered, told_left, waiting_left, wake_lost, first_told_of, first_told, tell, wanted, notified, dropped}
 use Rattle.event_worlds.specs.Standing.{Standing, times, standing, Fits, FitsAt, number}
 use Rattle.event_worlds.specs.Flag.{FlagState, start, from, from_setter, goes, setter_goes, everybody}
 use Rattle.event_worlds.specs.FlagSafety.{is_listening}
@@ -29,18 +29,20 @@ fewer-tell client (suc count) line =
     omega (arith, fewer-tell client count (first_told line), fewer-first client line.waiting line refl)
 
 fewer-notified : (client count : ℕ) (line : Line) → times client (keys_of (notified count line).waiting) ≤ times client (keys_of line.waiting)
-fewer-notified client count line = fewer-tell client (min (count - length line.told) (length line.waiting)) line
+fewer-notified client count line = fewer-tell client (min (wanted count line) (length line.waiting)) line
 
 -- notifying everybody leaves nobody waiting
 
-tell-all : (waiting : List (ℕ × Bool)) (told : List ℕ) (awake : List Bool) (next : ℕ) → (tell (length waiting) (record { told = told; waiting = waiting; awake = awake; next = next })).waiting ≡ []
-tell-all [] told awake next = refl
-tell-all (first ∷ rest) told awake next = tell-all rest _ _ next
+tell-all : (waiting : List (ℕ × Bool)) (told : List ℕ) (awake : List Bool) (next : ℕ) (kind : Bool) → (tell (length waiting) (record { told = told; waiting = waiting; awake = awake; next = next; additional = kind })).waiting ≡ []
+tell-all [] told awake next kind = refl
+tell-all (first ∷ rest) told awake next kind = tell-all rest _ _ next kind
 
 notified-everybody : (line : Line) → IsLine line → (notified everybody line).waiting ≡ []
 notified-everybody line fits =
-    let all : min (everybody - length line.told) (length line.waiting) ≡ length line.waiting = omega (arith, fits.clients_fit) in
-    ap (λ (n : ℕ). (tell n line).waiting) all ∙ tell-all line.waiting line.told line.awake line.next
+    let all : min (wanted everybody line) (length line.waiting) ≡ length line.waiting =
+    cond_both line.additional everybody (everybody - length line.told) (λ (n : ℕ). min n (length line.waiting) ≡ length line.waiting) (λ _. omega (arith, fits.clients_fit)) (λ _. omega (arith, fits.clients_fit)) in
+    ap (λ (n : ℕ). (tell n line).waiting) all
+    ∙ tell-all line.waiting line.told line.awake line.next line.additional
 
 module _ (state : FlagState) (client : ℕ) (sound : IsSound state) where
   module _ (p : FlagPlace) (at : slice_get state.places client ≡ Some p) where
@@ -203,7 +205,7 @@ starts-fit (suc clients) (suc client) s fits = starts-fit clients client s fits
 
 pub start-sound : (clients setters first : ℕ) → IsSound (start clients setters first)
 start-sound clients setters first = record {
-  fit = λ client. starts-fit clients client (standing client (empty_line clients first)) (record {
+  fit = λ client. starts-fit clients client (standing client (empty_line false clients first)) (record {
     once = refl;
     registered = λ _. refl;
     awake = λ _ (told : 0 < 0). absurd (omega arith);

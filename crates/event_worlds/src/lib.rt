@@ -6,7 +6,8 @@
 
 pub mod world;
 
-pub use world::acts::{Act, Step};
+pub use world::acts::{Act, SemAct, SemStep, Step};
 pub use world::flag::{FlagPlace, FlagWorld, SetterPlace};
 pub use world::mutex::MutexWorld;
 pub use world::place::{News, Place};
+pub use world::semaphore::SemaphoreWorld;

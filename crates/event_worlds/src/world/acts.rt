@@ -19,3 +19,25 @@ pub struct Step {
     /// What it is to do.
     pub act: Act,
 }
+
+/// What a client of a semaphore is to do.
+#[derive(Clone, Copy, Debug, PartialEq, Eq)]
+pub enum SemAct {
+    /// It does what its place has next.
+    Go,
+    /// It takes one more permit.
+    More,
+    /// Its deadline passes.
+    TimeOut,
+    /// It gives up, and its listener is dropped.
+    Cancel,
+}
+
+/// One step of a schedule of a semaphore: which client is to do what.
+#[derive(Clone, Copy, Debug, PartialEq, Eq)]
+pub struct SemStep {
+    /// The number of the client. A number that no client has is allowed, and the step is then not taken.
+    pub client: usize,
+    /// What it is to do.
+    pub act: SemAct,
+}

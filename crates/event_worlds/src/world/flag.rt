@@ -105,7 +105,7 @@ impl FlagWorld {
     {
         let places = vec![in alloc; FlagPlace::Check1; clients]?;
         let setters = vec![in alloc; SetterPlace::ToSet; setters]?;
-        let line = ClientLine::new(alloc, clients, first)?;
+        let line = ClientLine::new(alloc, false, clients, first)?;
         Ok(FlagWorld {
             flag: false,
             places,

@@ -83,7 +83,7 @@ impl MutexWorld {
         ensures sound { IfOk result IsSound }
     {
         let places = vec![in alloc; Place::Idle; clients]?;
-        let line = ClientLine::new(alloc, clients, first)?;
+        let line = ClientLine::new(alloc, false, clients, first)?;
         Ok(MutexWorld {
             holder: None,
             places,
