@@ -12,10 +12,7 @@ use Rattle.event_worlds.specs.Line.{Line, empty_line, is_told, joined, registere
 use Rattle.event_worlds.specs.Standing.{times, Standing, standing, Fits, FitsAt, number}
 use Rattle.event_worlds.specs.Served.{is_parked, is_past_second, IsServed}
 use Rattle.event_worlds.proofs.PlaceLemmas.{slice_get-set, slice_get-set_other, number-set}
-use Rattle.event_worlds.proofs.StandingLemmas.{times-any, times-none, times-append, times-without, times-le-length, IsSame, same-joined, same-registered, same-told_left, same-waiting_left, same-wake_lost, fits-joined, fits-registered, fits-told_left, fits-waiting_left, fits-wake_lost, fit-changed, fit-notified, length-without, length-without_one, notified-flags}
-
-itself : (client : Standing) → IsSame client client
-itself client = record { told = refl; waiting = refl; unregistered = refl; awake = refl }
+use Rattle.event_worlds.proofs.StandingLemmas.{times-any, times-none, times-append, times-without, times-le-length, IsSame, same-joined, same-registered, same-told_left, same-waiting_left, same-wake_lost, fits-joined, fits-registered, fits-told_left, fits-waiting_left, fits-wake_lost, fit-changed, fit-notified, fit-start, same-itself, length-without_one, notified-flags}
 
 at_most_one : (b : Bool) → cond {A = ℕ} b 1 0 ≤ 1
 at_most_one true = omega arith
@@ -125,7 +122,7 @@ module _ (free owed : ℕ) (places : List Place) (line : Line) (client : ℕ) (s
     -- the same where the line stays
     served-stays : (q : Place) (free' owed' : ℕ) → Fits (is_listening q) (is_parked q) (standing client line) → (free ≤ length line.told + number is_woken places + owed → free' ≤ length line.told + number is_woken (set places client q) + owed') → (is_past_second q ≡ true → is_told client line ≡ false → free' ≤ length line.told + number is_woken (set places client q) + owed') → IsServed free' owed' (set places client q) line
     served-stays q free' owed' fits others own =
-        served-changed q line free' owed' (λ other _. itself (standing other line)) fits refl others own
+        served-changed q line free' owed' (λ other _. same-itself (standing other line)) fits refl others own
 
   module _ (free' owed' : ℕ) where
     pub served-begins : slice_get places client ≡ Some Idle → free' ≤ free → owed ≤ owed' → IsServed free' owed' (set places client (First false)) line
@@ -238,11 +235,6 @@ module _ (free owed : ℕ) (places : List Place) (line : Line) (client : ℕ) (s
 
 -- nobody has come yet
 
-idle-fits : (clients client : ℕ) (s : Standing) → Fits false false s → FitsAt is_listening is_parked (slice_get (replicate clients Idle) client) s
-idle-fits zero client s fits = fits
-idle-fits (suc clients) zero s fits = fits
-idle-fits (suc clients) (suc client) s fits = idle-fits clients client s fits
-
 idle-place : (clients client : ℕ) (place : Place) → slice_get (replicate clients Idle) client ≡ Some place → is_past_second place ≡ true → ⊥
 idle-place zero client place at past = none-some place at
 idle-place (suc clients) zero place at past = let same = ap is_past_second (same_Some Idle place at) in absurd (cc)
@@ -250,11 +242,7 @@ idle-place (suc clients) (suc client) place at past = idle-place clients client 
 
 pub served-start : (free owed : ℕ) (kind : Bool) (clients first : ℕ) → IsServed free owed (replicate clients Idle) (empty_line kind clients first)
 served-start free owed kind clients first = record {
-  fit = λ client. idle-fits clients client (standing client (empty_line kind clients first)) (record {
-    once = refl;
-    registered = λ _. refl;
-    awake = λ _ (told : 0 < 0). absurd (omega arith);
-  });
+  fit = fit-start is_listening is_parked Idle refl kind clients first;
   enough = λ client place at past untold. absurd (idle-place clients client place at past);
   flags = length-replicate clients false ∙ sym (length-replicate clients Idle);
 }

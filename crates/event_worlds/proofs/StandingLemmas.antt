@@ -1,13 +1,13 @@
 -- What each change of a line does to how the clients stand in it, and that telling one keeps them fitting their
 -- places, whatever the type of places.
-use Rattle.std.proofs.Common.{◌≡◌, ◌≢◌, ℕ, zero, suc, ◌+◌, ◌-◌, ◌<◌, ◌≤◌, min, ◌⊎◌, Bool, true, false, cond, eqb, List, [], ◌∷◌, ◌++◌, length, set, get_or, slice_get, Option, Some, None, refl, sym, ap, ◌∙◌, subst, arith, inl, inr, eq-eqb, ne_eqb, eqb-true, length-append, length-set, get_or-set_same, get_or-set_other}
+use Rattle.std.proofs.Common.{◌≡◌, ◌≢◌, ℕ, zero, suc, ◌+◌, ◌-◌, ◌<◌, ◌≤◌, min, ◌⊎◌, Bool, true, false, cond, eqb, List, [], ◌∷◌, ◌++◌, length, set, get_or, replicate, slice_get, Option, Some, None, refl, sym, ap, ◌∙◌, subst, arith, inl, inr, eq-eqb, ne_eqb, eqb-true, length-append, length-set, get_or-set_same, get_or-set_other}
 use Rattle.std.proofs.lemmas.Bool.{cases_Bool, cases_eq, cond_both, or_cases, or_parts}
 use Rattle.std.proofs.lemmas.List.{map-append}
 use Rattle.std.proofs.lemmas.Map.{keys-set_value}
 use Rattle.std.proofs.lemmas.Option.{slice_get_within}
 use Rattle.std.specs.List.{list_any}
 use Rattle.std.specs.Map.{keys_of, remove_entry, set_value}
-use Rattle.event_worlds.specs.Line.{Line, is_told, joined, registered, without, told_left, waiting_left, wake_lost, woken, first_told_of, first_told, tell, wanted, notified, dropped}
+use Rattle.event_worlds.specs.Line.{Line, empty_line, is_told, joined, registered, without, told_left, waiting_left, wake_lost, woken, first_told_of, first_told, tell, wanted, notified, dropped}
 use Rattle.event_worlds.specs.Standing.{times, times_unregistered, Standing, standing, Fits, FitsAt, AllFit}
 use Rattle.event_worlds.proofs.PlaceLemmas.{one_if, none_if, slice_get-set, slice_get-set_other}
 
@@ -160,6 +160,9 @@ pub record IsSame (old new : Standing) : Type 0 where
   pub waiting : new.waiting ≡ old.waiting
   pub unregistered : new.unregistered ≡ old.unregistered
   pub awake : new.awake ≡ old.awake
+
+pub same-itself : (client : Standing) → IsSame client client
+same-itself client = record { told = refl; waiting = refl; unregistered = refl; awake = refl }
 
 module _ (client other : ℕ) (line : Line) (differs : other ≢ client) where
   pub same-joined : IsSame (standing other line) (standing other (joined client line))
@@ -408,3 +411,23 @@ module _ {P : Type 0} (listens parks : P → Bool) where
   pub fit-notified : (count : ℕ) (places : List P) (line : Line) → length line.awake ≡ length places → AllFit listens parks places line → AllFit listens parks places (notified count line)
   fit-notified count places line flags fit =
       fit-tell (min (wanted count line) (length line.waiting)) places line flags fit
+
+  -- all clients fit one place where nobody listens, in a line where nobody stands
+  pub fit-start : (place : P) → listens place ≡ false → (kind : Bool) (clients first : ℕ) → AllFit listens parks (replicate clients place) (empty_line kind clients first)
+  fit-start place unlistening kind clients first client = replicated clients client
+    where
+      nowhere : (b : Bool) → Fits b false (standing client (empty_line kind clients first)) → Fits b (parks place) (standing client (empty_line kind clients first))
+      nowhere b fits = record {
+        once = fits.once;
+        registered = λ _. refl;
+        awake = λ _ (told : 0 < 0). absurd (omega arith);
+      }
+
+      out : Fits false false (standing client (empty_line kind clients first))
+      out = record { once = refl; registered = λ _. refl; awake = λ _ (told : 0 < 0). absurd (omega arith) }
+
+      replicated : (n i : ℕ) → FitsAt listens parks (slice_get (replicate n place) i) (standing client (empty_line kind clients first))
+      replicated zero i = out
+      replicated (suc n) zero =
+          subst (λ (b : Bool). Fits b (parks place) (standing client (empty_line kind clients first))) (sym unlistening) (nowhere false out)
+      replicated (suc n) (suc i) = replicated n i

@@ -31,7 +31,12 @@ impl Model for ClientLine {
 impl ClientLine {
     /// A line of so many clients, in which nobody stands; the first that joins gets the serial `first`. Its
     /// notifications are additional or default. It has room for all clients.
-    pub(super) fn new(alloc: Global, additional: bool, clients: usize, first: u64) -> Result<Self, AllocError>
+    pub(super) fn new(
+        alloc: Global,
+        additional: bool,
+        clients: usize,
+        first: u64,
+    ) -> Result<Self, AllocError>
         ensures empty { IfOk result (λ line. line ≡ empty_line additional clients first) }
     {
         let mut list = List::starting_at(alloc, first);
