@@ -5,7 +5,9 @@ mod all;
 mod flag;
 mod lines;
 mod mutex;
+mod places;
 mod request;
+mod semaphore;
 mod table;
 mod watched;
 
