@@ -10,6 +10,8 @@ mod request;
 mod semaphore;
 mod table;
 mod watched;
+#[cfg(test)]
+mod wrong_words;
 
 use anyhow::Result;
 use std::io::{self, BufReader, BufWriter, Write};
