@@ -12,7 +12,7 @@ use Rattle.event_worlds.specs.Standing.{times, standing, FitsAt}
 use Rattle.event_worlds.specs.Flag.{FlagState, from, goes, from_setter, setter_goes, next, next_of_client, next_of_setter}
 use Rattle.event_worlds.specs.FlagSafety.{is_listening}
 use Rattle.event_worlds.specs.FlagInvariant.{is_parked, IsSound, MayBeAt}
-use Rattle.event_worlds.proofs.StandingLemmas.{times-any}
+use Rattle.event_worlds.proofs.InLineLemmas.{out_at}
 
 -- a place and a line by one test
 pub tested-moves : (test : Bool) (p q place : FlagPlace) (line line' new : Line) → place ≡ cond test p q → new ≡ cond test line line' → ◌≡◌ {A = Option (FlagPlace × Line)} (Some (cond test (p, line) (q, line'))) (Some (place, new))
@@ -56,35 +56,7 @@ module _ (state : FlagState) where
   setter-past setter past =
       ap (λ (o : Option SetterPlace). option_and_then (λ p. option_map (setter_goes setter state) (from_setter p state.flag state.line)) o) (slice_get_past state.setters setter past)
 
-  -- the state after a step, and the answer
-  pub made-after : (o : Option FlagState) (new : FlagState) → o ≡ Some new → new ≡ unwrap_or o state
-  made-after o new is = sym (ap (λ (x : Option FlagState). unwrap_or x state) is)
-
-  pub none-after : (o : Option FlagState) → o ≡ None → state ≡ unwrap_or o state
-  none-after o is = sym (ap (λ (x : Option FlagState). unwrap_or x state) is)
-
-  pub made-answer : (o : Option FlagState) (new : FlagState) → o ≡ Some new → true ≡ is_some o
-  made-answer o new is = sym (ap is_some is)
-
-  pub none-answer : (o : Option FlagState) → o ≡ None → false ≡ is_some o
-  none-answer o is = sym (ap is_some is)
-
   -- who is about to listen is not in line
   pub may_be_at : (client : ℕ) (place : FlagPlace) → IsSound state → slice_get state.places client ≡ Some place → MayBeAt place client state.line
   may_be_at client place sound at listens =
-      let fits : FitsAt is_listening is_parked (Some ToListen) (standing client state.line) =
-      subst (λ (o : Option FlagPlace). FitsAt is_listening is_parked o (standing client state.line)) (at ∙ ap (λ (p : FlagPlace). Some p) listens) (sound.fit client) in
-      let once : times client state.line.told + times client (keys_of state.line.waiting) ≡ 0 = fits.once in
-      or_from (is_told client state.line) (is_waiting client state.line) (false_from_ne_true (is_told client state.line) (λ told.
-      omega (arith, times-any client state.line.told told))) (false_from_ne_true (is_waiting client state.line) (λ waiting.
-      omega (arith, times-any client (keys_of state.line.waiting) waiting)))
-
--- a step, from the value that it is made of
-module _ (state now : FlagState) (view_is : state ≡ now) where
-  pub is_made : (step : FlagState → Option FlagState) (new : FlagState) → step state ≡ Some new → (new ≡ unwrap_or (step now) now) × (true ≡ is_some (step now))
-  is_made step new is =
-      subst (λ (s : FlagState). (new ≡ unwrap_or (step s) s) × (true ≡ is_some (step s))) view_is (made-after state (step state) new is, made-answer state (step state) new is)
-
-  pub is_none_made : (step : FlagState → Option FlagState) (new : FlagState) → new ≡ state → step state ≡ None → (new ≡ unwrap_or (step now) now) × (false ≡ is_some (step now))
-  is_none_made step new same is =
-      subst (λ (s : FlagState). (new ≡ unwrap_or (step s) s) × (false ≡ is_some (step s))) view_is (same ∙ none-after state (step state) is, none-answer state (step state) is)
+      out_at is_listening is_parked state.places state.line sound.fit client place at (ap is_listening listens)

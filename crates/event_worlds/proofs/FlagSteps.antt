@@ -9,13 +9,13 @@ use Rattle.event_worlds.specs.declared.world.flag.FlagPlace.{FlagPlace}
 use Rattle.event_worlds.specs.declared.world.flag.FlagPlace.TheVariants.{Check1, ToListen, Check2, Dropping, ToRegister, Parked, Done}
 use Rattle.event_worlds.specs.declared.world.flag.SetterPlace.{SetterPlace}
 use Rattle.event_worlds.specs.declared.world.flag.SetterPlace.TheVariants.{ToSet, ToNotify, Done as IsDone}
-use Rattle.event_worlds.specs.Line.{Line, IsLine, is_told, has_wake, has_serial_left, empty_line, joined, registered, told_left, waiting_left, wake_lost, first_told_of, first_told, tell, notified, dropped}
+use Rattle.event_worlds.specs.Line.{Line, IsLine, is_told, has_wake, has_serial_left, empty_line, joined, registered, told_left, waiting_left, wake_lost, first_told_of, first_told, tell, wanted, notified, dropped}
 use Rattle.event_worlds.specs.Standing.{Standing, times, standing, Fits, FitsAt, number}
 use Rattle.event_worlds.specs.Flag.{FlagState, start, from, from_setter, goes, setter_goes, everybody}
 use Rattle.event_worlds.specs.FlagSafety.{is_listening}
 use Rattle.event_worlds.specs.FlagInvariant.{is_parked, is_past_second, is_to_notify, IsSettled, IsSound}
 use Rattle.event_worlds.proofs.PlaceLemmas.{slice_get-set, slice_get-set_other, number-at}
-use Rattle.event_worlds.proofs.StandingLemmas.{IsSame, same-joined, same-registered, same-told_left, same-waiting_left, same-wake_lost, fits-joined, fits-registered, fits-told_left, fits-waiting_left, fits-wake_lost, fit-changed, fit-notified, notified-flags}
+use Rattle.event_worlds.proofs.StandingLemmas.{IsSame, same-joined, same-registered, same-told_left, same-waiting_left, same-wake_lost, fits-joined, fits-registered, fits-told_left, fits-waiting_left, fits-wake_lost, fit-changed, fit-notified, fit-start, same-itself, notified-flags, notified-kind}
 
 -- telling makes nobody wait
 
@@ -29,18 +29,20 @@ fewer-tell client (suc count) line =
     omega (arith, fewer-tell client count (first_told line), fewer-first client line.waiting line refl)
 
 fewer-notified : (client count : ℕ) (line : Line) → times client (keys_of (notified count line).waiting) ≤ times client (keys_of line.waiting)
-fewer-notified client count line = fewer-tell client (min (count - length line.told) (length line.waiting)) line
+fewer-notified client count line = fewer-tell client (min (wanted count line) (length line.waiting)) line
 
 -- notifying everybody leaves nobody waiting
 
-tell-all : (waiting : List (ℕ × Bool)) (told : List ℕ) (awake : List Bool) (next : ℕ) → (tell (length waiting) (record { told = told; waiting = waiting; awake = awake; next = next })).waiting ≡ []
-tell-all [] told awake next = refl
-tell-all (first ∷ rest) told awake next = tell-all rest _ _ next
+tell-all : (waiting : List (ℕ × Bool)) (told : List ℕ) (awake : List Bool) (next : ℕ) (kind : Bool) → (tell (length waiting) (record { told = told; waiting = waiting; awake = awake; next = next; additional = kind })).waiting ≡ []
+tell-all [] told awake next kind = refl
+tell-all (first ∷ rest) told awake next kind = tell-all rest _ _ next kind
 
 notified-everybody : (line : Line) → IsLine line → (notified everybody line).waiting ≡ []
 notified-everybody line fits =
-    let all : min (everybody - length line.told) (length line.waiting) ≡ length line.waiting = omega (arith, fits.clients_fit) in
-    ap (λ (n : ℕ). (tell n line).waiting) all ∙ tell-all line.waiting line.told line.awake line.next
+    let all : min (wanted everybody line) (length line.waiting) ≡ length line.waiting =
+    cond_both line.additional everybody (everybody - length line.told) (λ (n : ℕ). min n (length line.waiting) ≡ length line.waiting) (λ _. omega (arith, fits.clients_fit)) (λ _. omega (arith, fits.clients_fit)) in
+    ap (λ (n : ℕ). (tell n line).waiting) all
+    ∙ tell-all line.waiting line.told line.awake line.next line.additional
 
 module _ (state : FlagState) (client : ℕ) (sound : IsSound state) where
   module _ (p : FlagPlace) (at : slice_get state.places client ≡ Some p) where
@@ -66,21 +68,19 @@ module _ (state : FlagState) (client : ℕ) (sound : IsSound state) where
     flags_moved q awake flags = flags ∙ sym (length-set state.places client q)
 
     -- the client goes, and the others stand as they did
-    sound-goes : (q : FlagPlace) (line : Line) → ((other : ℕ) → other ≢ client → IsSame (standing other state.line) (standing other line)) → Fits (is_listening q) (is_parked q) (standing client line) → (state.flag ≡ true → number is_to_notify state.setters ≡ 0 → is_past_second q ≡ true → times client (keys_of line.waiting) ≡ 0) → length line.awake ≡ length state.places → IsLine line → IsSound (goes client state (q, line))
-    sound-goes q line same fits here flags is_line = record {
+    sound-goes : (q : FlagPlace) (line : Line) → ((other : ℕ) → other ≢ client → IsSame (standing other state.line) (standing other line)) → Fits (is_listening q) (is_parked q) (standing client line) → (state.flag ≡ true → number is_to_notify state.setters ≡ 0 → is_past_second q ≡ true → times client (keys_of line.waiting) ≡ 0) → length line.awake ≡ length state.places → IsLine line → line.additional ≡ false → IsSound (goes client state (q, line))
+    sound-goes q line same fits here flags is_line default = record {
       fit = fit-changed is_listening is_parked state.places client p q state.line line at sound.fit same fits;
       settled = settled q line (λ other apart. let waiting = (same other apart).waiting in omega arith) here;
       flags = flags_moved q line.awake flags;
       line = is_line;
+      kind = default;
     }
-
-    itself : (other : ℕ) → other ≢ client → IsSame (standing other state.line) (standing other state.line)
-    itself other _ = record { told = refl; waiting = refl; unregistered = refl; awake = refl }
 
     -- the client goes, and the line stays
     sound-stays : (q : FlagPlace) → Fits (is_listening q) (is_parked q) (standing client state.line) → (state.flag ≡ true → is_past_second q ≡ true → ⊥) → IsSound (goes client state (q, state.line))
     sound-stays q fits here =
-        sound-goes q state.line itself fits (λ flag none past. absurd (here flag past)) sound.flags sound.line
+        sound-goes q state.line (λ other _. same-itself (standing other state.line)) fits (λ flag none past. absurd (here flag past)) sound.flags sound.line sound.kind
 
     -- who waits past its second look does not wait once the flag is set and all setters have notified
     not_waiting : is_past_second p ≡ true → state.flag ≡ true → number is_to_notify state.setters ≡ 0 → times client (keys_of state.line.waiting) ≡ 0
@@ -99,7 +99,7 @@ module _ (state : FlagState) (client : ℕ) (sound : IsSound state) where
 
       leaves : is_told client state.line ≡ false → IsLine (waiting_left client state.line) → IsSound (goes client state (Done, waiting_left client state.line))
       leaves untold is_line =
-          sound-goes Dropping at Done (waiting_left client state.line) (λ other apart. same-waiting_left client other state.line apart) (fits-waiting_left client state.line false fits untold) (λ _ _ past. absurd (cc)) sound.flags is_line
+          sound-goes Dropping at Done (waiting_left client state.line) (λ other apart. same-waiting_left client other state.line apart) (fits-waiting_left client state.line false fits untold) (λ _ _ past. absurd (cc)) sound.flags is_line sound.kind
 
       passes : is_told client state.line ≡ true → IsLine (notified 1 (told_left client state.line)) → IsSound (goes client state (Done, notified 1 (told_left client state.line)))
       passes told is_line =
@@ -110,6 +110,7 @@ module _ (state : FlagState) (client : ℕ) (sound : IsSound state) where
             settled = settled Dropping at Done (notified 1 left) (λ other _. fewer-notified other 1 left) (λ _ _ past. absurd (cc));
             flags = flags_moved Dropping at Done (notified 1 left).awake (notified-flags 1 left ∙ sound.flags);
             line = is_line;
+            kind = notified-kind 1 left ∙ sound.kind;
           }
 
   sound-registers : slice_get state.places client ≡ Some ToRegister → Keeps (from ToRegister client state.flag state.line)
@@ -121,12 +122,12 @@ module _ (state : FlagState) (client : ℕ) (sound : IsSound state) where
 
       takes : is_told client state.line ≡ true → IsLine (told_left client state.line) → IsSound (goes client state (Check1, told_left client state.line))
       takes told is_line =
-          sound-goes ToRegister at Check1 (told_left client state.line) (λ other apart. same-told_left client other state.line apart) (fits-told_left client state.line false fits told) (λ _ _ past. absurd (cc)) sound.flags is_line
+          sound-goes ToRegister at Check1 (told_left client state.line) (λ other apart. same-told_left client other state.line apart) (fits-told_left client state.line false fits told) (λ _ _ past. absurd (cc)) sound.flags is_line sound.kind
 
       stores : is_told client state.line ≡ false → IsLine (registered client state.line) → IsSound (goes client state (Parked, registered client state.line))
       stores untold is_line =
           let keys = ap (times client) (keys-set_value _ state.line.waiting true) in
-          sound-goes ToRegister at Parked (registered client state.line) (λ other apart. same-registered client other state.line apart) (fits-registered client state.line false fits untold) (λ flag none _. keys ∙ not_waiting ToRegister at refl flag none) sound.flags is_line
+          sound-goes ToRegister at Parked (registered client state.line) (λ other apart. same-registered client other state.line apart) (fits-registered client state.line false fits untold) (λ flag none _. keys ∙ not_waiting ToRegister at refl flag none) sound.flags is_line sound.kind
 
   sound-wakes : slice_get state.places client ≡ Some Parked → Keeps (from Parked client state.flag state.line)
   sound-wakes at =
@@ -134,7 +135,7 @@ module _ (state : FlagState) (client : ℕ) (sound : IsSound state) where
     where
       wakes : IsLine (wake_lost client state.line) → IsSound (goes client state (ToRegister, wake_lost client state.line))
       wakes is_line =
-          sound-goes Parked at ToRegister (wake_lost client state.line) (λ other apart. same-wake_lost client other state.line apart) (fits-wake_lost client state.line true (fits_here Parked at)) (λ flag none _. not_waiting Parked at refl flag none) (length-set state.line.awake client false ∙ sound.flags) is_line
+          sound-goes Parked at ToRegister (wake_lost client state.line) (λ other apart. same-wake_lost client other state.line apart) (fits-wake_lost client state.line true (fits_here Parked at)) (λ flag none _. not_waiting Parked at refl flag none) (length-set state.line.awake client false ∙ sound.flags) is_line sound.kind
 
   sound-listens : slice_get state.places client ≡ Some ToListen → Keeps (from ToListen client state.flag state.line)
   sound-listens at =
@@ -142,7 +143,7 @@ module _ (state : FlagState) (client : ℕ) (sound : IsSound state) where
     where
       joins : has_serial_left state.line ≡ true → IsLine (joined client state.line) → IsSound (goes client state (Check2, joined client state.line))
       joins _ is_line =
-          sound-goes ToListen at Check2 (joined client state.line) (λ other apart. same-joined client other state.line apart) (fits-joined client state.line false (fits_here ToListen at)) (λ _ _ past. absurd (cc)) (length-set state.line.awake client false ∙ sound.flags) is_line
+          sound-goes ToListen at Check2 (joined client state.line) (λ other apart. same-joined client other state.line apart) (fits-joined client state.line false (fits_here ToListen at)) (λ _ _ past. absurd (cc)) (length-set state.line.awake client false ∙ sound.flags) is_line sound.kind
 
   sound-from : (p : FlagPlace) → slice_get state.places client ≡ Some p → Keeps (from p client state.flag state.line)
   sound-from Check1 at =
@@ -173,6 +174,7 @@ module _ (state : FlagState) (setter : ℕ) (sound : IsSound state) where
         settled = λ flag none. absurd (omega arith);
         flags = sound.flags;
         line = sound.line;
+        kind = sound.kind;
       }
 
   sound-notifies : IsLine (notified everybody state.line) → IsSound (setter_goes setter state (IsDone, state.flag, notified everybody state.line))
@@ -183,6 +185,7 @@ module _ (state : FlagState) (setter : ℕ) (sound : IsSound state) where
         ap (λ (ws : List (ℕ × Bool)). times client (keys_of ws)) (notified-everybody state.line sound.line);
     flags = notified-flags everybody state.line ∙ sound.flags;
     line = is_line;
+    kind = notified-kind everybody state.line ∙ sound.kind;
   }
 
   sound-from_setter : (p : SetterPlace) → slice_get state.setters setter ≡ Some p → SetterKeeps (from_setter p state.flag state.line)
@@ -196,19 +199,11 @@ module _ (state : FlagState) (setter : ℕ) (sound : IsSound state) where
 
 -- the start
 
-starts-fit : (clients client : ℕ) (s : Standing) → Fits false false s → FitsAt is_listening is_parked (slice_get (replicate clients Check1) client) s
-starts-fit zero client s fits = fits
-starts-fit (suc clients) zero s fits = fits
-starts-fit (suc clients) (suc client) s fits = starts-fit clients client s fits
-
 pub start-sound : (clients setters first : ℕ) → IsSound (start clients setters first)
 start-sound clients setters first = record {
-  fit = λ client. starts-fit clients client (standing client (empty_line clients first)) (record {
-    once = refl;
-    registered = λ _. refl;
-    awake = λ _ (told : 0 < 0). absurd (omega arith);
-  });
+  fit = fit-start is_listening is_parked Check1 refl false clients first;
   settled = λ flag. absurd (cc);
   flags = length-replicate clients false ∙ sym (length-replicate clients Check1);
   line = record { clients_fit = omega arith };
+  kind = refl;
 }

@@ -25,8 +25,8 @@ is_out client line absent =
     record { untold = parts.0; unwaiting = parts.1 }
 
 -- a queue without listeners, keys that nobody has, and no wake-ups are tied
-pub empty-tied : (q : Queue Unit ℕ) (keys : List (Option Key)) (awake : List Bool) (clients : ℕ) → IsQueue q → q.told ≡ [] → q.waiting ≡ [] → clients ≤ q.spare → keys ≡ replicate clients None → awake ≡ replicate clients false → IsTied q keys awake
-empty-tied q keys awake clients queue told waiting room none asleep =
+pub empty-tied : (kind : Bool) (q : Queue Unit ℕ) (keys : List (Option Key)) (awake : List Bool) (clients : ℕ) → IsQueue q → q.told ≡ [] → q.waiting ≡ [] → clients ≤ q.spare → keys ≡ replicate clients None → awake ≡ replicate clients false → IsTied kind q keys awake
+empty-tied kind q keys awake clients queue told waiting room none asleep =
     let keyed : (k : List (Option Key)) → Type 0 = λ k. (client : ℕ) (key : Key) → get_or k client None ≡ Some key → IsKeyOf q k client key in
     let order : order_of q ≡ [] = λ i. keys_of (told i) ++ keys_of (waiting i) in
     record {
@@ -34,7 +34,7 @@ empty-tied q keys awake clients queue told waiting room none asleep =
       listed = subst (AllByRecursion (λ key. client_of keys key < length keys)) (sym order) tt;
       mapped = subst keyed (sym none) (λ client key at. absurd (none-some key (sym (no_key clients client) ∙ at)));
       tasks = subst (AllByRecursion (HasTask keys)) (sym waiting) tt;
-      default = subst (AllByRecursion (λ entry. entry.1.additional ≡ false)) (sym told) tt;
+      kinds = subst (AllByRecursion (λ entry. entry.1.additional ≡ kind)) (sym told) tt;
       room = omega (arith, room, ap keyless none, keyless-replicate clients);
       flags =
           ap length asleep
@@ -42,7 +42,7 @@ empty-tied q keys awake clients queue told waiting room none asleep =
           ∙ (sym (length-replicate {A = Option Key} clients None) ∙ ap length (sym none)));
     }
 
-module _ (q : Queue Unit ℕ) (keys : List (Option Key)) (awake : List Bool) (tied : IsTied q keys awake) (client : ℕ) (within : client < length keys) (out : get_or keys client None ≡ None) where
+module _ (kind : Bool) (q : Queue Unit ℕ) (keys : List (Option Key)) (awake : List Bool) (tied : IsTied kind q keys awake) (client : ℕ) (within : client < length keys) (out : get_or keys client None ≡ None) where
   -- whoever is out finds room
   room_left : 0 < q.spare
   room_left =
@@ -120,7 +120,7 @@ module _ (q : Queue Unit ℕ) (keys : List (Option Key)) (awake : List Bool) (ti
             | inr apart ↦ other-key other k (sym (get_or-set_other keys client other (Some key) None apart) ∙ at)
           ]
 
-      joins-tied : (awake' : List Bool) → q'.told ≡ q.told → q'.waiting ≡ q.waiting ++ (key, None) ∷ [] → q'.spare + 1 ≡ q.spare → length awake' ≡ length awake → IsTied q' given awake'
+      joins-tied : (awake' : List Bool) → q'.told ≡ q.told → q'.waiting ≡ q.waiting ++ (key, None) ∷ [] → q'.spare + 1 ≡ q.spare → length awake' ≡ length awake → IsTied kind q' given awake'
       joins-tied awake' told waiting spare flags =
           let has = tasks-same keys given q.waiting waiting-all-same tied.tasks in
           record {
@@ -128,12 +128,12 @@ module _ (q : Queue Unit ℕ) (keys : List (Option Key)) (awake : List Bool) (ti
             listed = subst (AllByRecursion (λ other. client_of given other < length given)) (sym order) (All-append (λ other. client_of given other < length given) (order_of q) (key ∷ []) (All-both (λ other. client_of keys other < length keys) Same (λ other. client_of given other < length given) (order_of q) names' tied.listed same) (omega (arith, own, within, length-set keys client (Some key)), tt));
             mapped = mapped';
             tasks = subst (AllByRecursion (HasTask given)) (sym waiting) (All-append (HasTask given) q.waiting ((key, None) ∷ []) has (tt, tt));
-            default = subst (AllByRecursion (λ entry. entry.1.additional ≡ false)) (sym told) tied.default;
+            kinds = subst (AllByRecursion (λ entry. entry.1.additional ≡ kind)) (sym told) tied.kinds;
             room = omega (arith, tied.room, spare, keyless-joins keys client key within out);
             flags = flags ∙ (tied.flags ∙ sym (length-set keys client (Some key)));
           }
 
-    joined-line : (spare : ℕ) → line_of (record { told = q.told; waiting = q.waiting ++ (key, None) ∷ []; next_serial = q.next_serial + 1; spare = spare }) given (set awake client false) ≡ joined client (line_of q keys awake)
+    joined-line : (spare : ℕ) → line_of kind (record { told = q.told; waiting = q.waiting ++ (key, None) ∷ []; next_serial = q.next_serial + 1; spare = spare }) given (set awake client false) ≡ joined client (line_of kind q keys awake)
     joined-line spare =
         let told = clients-same keys given q.told told-same in
         let waiting : waiting_clients given (q.waiting ++ (key, None) ∷ []) ≡ waiting_clients keys q.waiting ++ (client, false) ∷ [] =
@@ -144,9 +144,10 @@ module _ (q : Queue Unit ℕ) (keys : List (Option Key)) (awake : List Bool) (ti
           waiting = waiting i;
           awake = set awake client false;
           next = q.next_serial + 1;
+          additional = kind;
         }
 
-  pub joins-line : (key : Key) (q' : Queue Unit ℕ) (awake' : List Bool) → IsQueue q' → Joins q key q' → order_of q' ≡ order_of q ++ key ∷ [] → awake' ≡ set awake client false → Changed q' (set keys client (Some key)) awake' (joined client (line_of q keys awake))
+  pub joins-line : (key : Key) (q' : Queue Unit ℕ) (awake' : List Bool) → IsQueue q' → Joins q key q' → order_of q' ≡ order_of q ++ key ∷ [] → awake' ≡ set awake client false → Changed kind q' (set keys client (Some key)) awake' (joined client (line_of kind q keys awake))
   joins-line key q' awake' queue joins order cleared =
       let next = ap (λ (p : Queue Unit ℕ). p.next_serial) joins.queue in
       let told = ap (λ (p : Queue Unit ℕ). p.told) joins.queue in
@@ -155,12 +156,12 @@ module _ (q : Queue Unit ℕ) (keys : List (Option Key)) (awake : List Bool) (ti
       record {
         tied = joins-tied key joins.serial q' queue order next awake' told waiting (joins.slot room_left) flags;
         is =
-            (λ i. line_of (joins.queue i) (set keys client (Some key)) (cleared i))
+            (λ i. line_of kind (joins.queue i) (set keys client (Some key)) (cleared i))
             ∙ joined-line key joins.serial q'.spare;
       }
 
   -- a refusal: the serials are used up, and nothing changed
-  pub refused-line : (error : ListenError) (q' : Queue Unit ℕ) → Inserts q (Err error) q' → (has_serial_left (line_of q keys awake) ≡ false) × (q' ≡ q)
+  pub refused-line : (error : ListenError) (q' : Queue Unit ℕ) → Inserts q (Err error) q' → (has_serial_left (line_of kind q keys awake) ≡ false) × (q' ≡ q)
   refused-line Memory q' step = let left = room_left in absurd (omega (arith, step.1))
   refused-line SerialsUsedUp q' step = (le-ltb (q.next_serial + 1) (2 ^ 64) (omega arith), step.1)
 

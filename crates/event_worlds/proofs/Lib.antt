@@ -6,6 +6,13 @@ pub mod NotifyLemmas
 pub mod StepLemmas
 pub mod PlaceLemmas
 pub mod StandingLemmas
+pub mod InLineLemmas
+pub mod MadeLemmas
+pub mod ServedSteps
+pub mod SemaphoreClients
+pub mod SemaphoreSteps
+pub mod SemaphoreMoves
+pub mod SemaphoreSafetyLemmas
 pub mod MutexParts
 pub mod MutexSteps
 pub mod MutexSafetyLemmas

@@ -48,31 +48,31 @@ pub length-waiting : (keys : List (Option Key)) (waiting : List (Key × Option �
 length-waiting keys [] = refl
 length-waiting keys (e ∷ es) = ap suc (length-waiting keys es)
 
-pub line_is : (q : Queue Unit ℕ) (keys : List (Option Key)) (awake : List Bool) → IsQueue q → IsLine (line_of q keys awake)
-line_is q keys awake queue = record {
+pub line_is : (kind : Bool) (q : Queue Unit ℕ) (keys : List (Option Key)) (awake : List Bool) → IsQueue q → IsLine (line_of kind q keys awake)
+line_is kind q keys awake queue = record {
   clients_fit = omega (arith, queue.slots_fit, length-told keys q.told, length-waiting keys q.waiting);
 }
 
 -- the queue, the keys and the wake-ups are tied, and are this line
-pub record Changed (q : Queue Unit ℕ) (keys : List (Option Key)) (awake : List Bool) (line : Line) : Type 0 where
-  pub tied : IsTied q keys awake
-  pub is : line_of q keys awake ≡ line
+pub record Changed (kind : Bool) (q : Queue Unit ℕ) (keys : List (Option Key)) (awake : List Bool) (line : Line) : Type 0 where
+  pub tied : IsTied kind q keys awake
+  pub is : line_of kind q keys awake ≡ line
 
-pub moves : (q q' : Queue Unit ℕ) (keys : List (Option Key)) (awake awake' : List Bool) (line line' : Line) → q' ≡ q → awake' ≡ awake → line ≡ line' → Changed q keys awake line → Changed q' keys awake' line'
-moves q q' keys awake awake' line line' same same' same_line changed =
-    subst (λ (l : Line). Changed q' keys awake' l) same_line (subst (λ (a : List Bool). Changed q' keys a line) (sym same') (subst (λ (p : Queue Unit ℕ). Changed p keys awake line) (sym same) changed))
+pub moves : (kind : Bool) (q q' : Queue Unit ℕ) (keys : List (Option Key)) (awake awake' : List Bool) (line line' : Line) → q' ≡ q → awake' ≡ awake → line ≡ line' → Changed kind q keys awake line → Changed kind q' keys awake' line'
+moves kind q q' keys awake awake' line line' same same' same_line changed =
+    subst (λ (l : Line). Changed kind q' keys awake' l) same_line (subst (λ (a : List Bool). Changed kind q' keys a line) (sym same') (subst (λ (p : Queue Unit ℕ). Changed kind p keys awake line) (sym same) changed))
 
 abbrev Names : List (Option Key) → Key → Type 0
 Names keys key = client_of keys key < length keys
 
-abbrev pub IsDefault : Key × Notice Unit → Type 0
-IsDefault entry = entry.1.additional ≡ false
+abbrev pub IsOf : Bool → Key × Notice Unit → Type 0
+IsOf kind entry = entry.1.additional ≡ kind
 
 none_is : {X : Type 0} (o : Option X) → is_some o ≡ false → o ≡ None
 none_is None none = refl
 none_is (Some x) none = absurd (cc)
 
-module _ (q : Queue Unit ℕ) (keys : List (Option Key)) (awake : List Bool) (tied : IsTied q keys awake) where
+module _ (kind : Bool) (q : Queue Unit ℕ) (keys : List (Option Key)) (awake : List Bool) (tied : IsTied kind q keys awake) where
   told-names : AllByRecursion (Names keys) (keys_of q.told)
   told-names = All-front (Names keys) (keys_of q.told) (keys_of q.waiting) tied.listed
 
@@ -80,8 +80,8 @@ module _ (q : Queue Unit ℕ) (keys : List (Option Key)) (awake : List Bool) (ti
   waiting-names = All-back (Names keys) (keys_of q.told) (keys_of q.waiting) tied.listed
 
   -- the same keys, in the same order, are tied as they were
-  pub kept : (q' : Queue Unit ℕ) (awake' : List Bool) → IsQueue q' → order_of q' ≡ order_of q → q'.next_serial ≡ q.next_serial → q'.spare ≡ q.spare → AllByRecursion (HasTask keys) q'.waiting → AllByRecursion IsDefault q'.told → length awake' ≡ length awake → IsTied q' keys awake'
-  kept q' awake' queue order next spare tasks default flags = record {
+  pub kept : (q' : Queue Unit ℕ) (awake' : List Bool) → IsQueue q' → order_of q' ≡ order_of q → q'.next_serial ≡ q.next_serial → q'.spare ≡ q.spare → AllByRecursion (HasTask keys) q'.waiting → AllByRecursion (IsOf kind) q'.told → length awake' ≡ length awake → IsTied kind q' keys awake'
+  kept q' awake' queue order next spare tasks kinds flags = record {
     queue = queue;
     listed = subst (AllByRecursion (Names keys)) (sym order) tied.listed;
     mapped =
@@ -93,13 +93,13 @@ module _ (q : Queue Unit ℕ) (keys : List (Option Key)) (awake : List Bool) (ti
           stands = ap (list_any (is_key key)) order ∙ was.stands;
         };
     tasks = tasks;
-    default = default;
+    kinds = kinds;
     room = omega (arith, tied.room, spare);
     flags = flags ∙ tied.flags;
   }
 
   module _ (client : ℕ) where
-    pub out-keyless : get_or keys client None ≡ None → IsOut client (line_of q keys awake)
+    pub out-keyless : get_or keys client None ≡ None → IsOut client (line_of kind q keys awake)
     out-keyless none =
         let others : (other : Key) → Names keys other → eqb client (client_of keys other) ≡ false =
         λ other names. not_client keys client other none names in
@@ -127,15 +127,15 @@ module _ (q : Queue Unit ℕ) (keys : List (Option Key)) (awake : List Bool) (ti
           All-implied (Names keys) (λ other. is_key key other ≡ eqb client (client_of keys other)) (keys_of q.waiting) named waiting-names
 
       -- the client is told, or waits, where its key is
-      pub told-found : is_told client (line_of q keys awake) ≡ is_some (lookup (is_key key) q.told)
+      pub told-found : is_told client (line_of kind q keys awake) ≡ is_some (lookup (is_key key) q.told)
       told-found = any-lookup (is_key key) client keys q.told told-are
 
-      pub waiting-found : is_waiting client (line_of q keys awake) ≡ is_some (lookup (is_key key) q.waiting)
+      pub waiting-found : is_waiting client (line_of kind q keys awake) ≡ is_some (lookup (is_key key) q.waiting)
       waiting-found =
           ap (list_any (eqb client)) (keys_of-waiting keys q.waiting)
           ∙ any-lookup (is_key key) client keys q.waiting waiting-are
 
-      pub out-absent : IsAbsent key q → IsOut client (line_of q keys awake)
+      pub out-absent : IsAbsent key q → IsOut client (line_of kind q keys awake)
       out-absent absent = record {
         untold = told-found ∙ ap is_some absent.untold;
         unwaiting = waiting-found ∙ ap is_some absent.unwaiting;
@@ -151,10 +151,10 @@ module _ (q : Queue Unit ℕ) (keys : List (Option Key)) (awake : List Bool) (ti
           both_ways (list_any (is_key key) (order_of q)) nowhere own.stands
 
       -- a waiting client stores its task
-      pub stores : (task : Option ℕ) → lookup (is_key key) q.waiting ≡ Some task → Changed (after_storing key client q) keys awake (registered client (line_of q keys awake))
+      pub stores : (task : Option ℕ) → lookup (is_key key) q.waiting ≡ Some task → Changed kind (after_storing key client q) keys awake (registered client (line_of kind q keys awake))
       stores task found = record {
-        tied = kept (after_storing key client q) awake (IsQueue-after_storing key client q tied.queue) (order_of-after_storing key client q) refl refl (tasks-set keys client key q.waiting own.own tied.tasks) tied.default refl;
-        is = ap (λ (ws : List (ℕ × Bool)). record (line_of q keys awake) { waiting = ws }) (waiting-set keys (is_key key) client client q.waiting waiting-are);
+        tied = kept (after_storing key client q) awake (IsQueue-after_storing key client q tied.queue) (order_of-after_storing key client q) refl refl (tasks-set keys client key q.waiting own.own tied.tasks) tied.kinds refl;
+        is = ap (λ (ws : List (ℕ × Bool)). record (line_of kind q keys awake) { waiting = ws }) (waiting-set keys (is_key key) client client q.waiting waiting-are);
       }
 
       -- a client leaves, and its key with it
@@ -205,47 +205,47 @@ module _ (q : Queue Unit ℕ) (keys : List (Option Key)) (awake : List Bool) (ti
                   other-key other k apart (sym (get_or-set_other keys client other None None apart) ∙ at')
             ]
 
-        pub leaves : AllByRecursion (HasTask keys) q'.waiting → AllByRecursion IsDefault q'.told → IsTied q' left awake
-        leaves tasks default = record {
+        pub leaves : AllByRecursion (HasTask keys) q'.waiting → AllByRecursion (IsOf kind) q'.told → IsTied kind q' left awake
+        leaves tasks kinds = record {
           queue = queue;
           listed = All-both (Names keys) Same (Names left) (order_of q') names' (subst (AllByRecursion (Names keys)) (sym order) (All-filter (Names keys) _ (order_of q) tied.listed)) same;
           mapped = mapped';
           tasks = tasks-same keys left q'.waiting waiting-same' tasks;
-          default = default;
+          kinds = kinds;
           room = omega (arith, tied.room, spare, keyless-leaves keys client key at);
           flags = tied.flags ∙ sym (length-set keys client None);
         }
 
-        pub same_line : line_of q' left awake ≡ line_of q' keys awake
+        pub same_line : line_of kind q' left awake ≡ line_of kind q' keys awake
         same_line =
             let told = clients-same keys left q'.told told-same in
             let waiting = waiting-same keys left q'.waiting waiting-same' in
-            λ i. record (line_of q' keys awake) { told = told i; waiting = waiting i }
+            λ i. record (line_of kind q' keys awake) { told = told i; waiting = waiting i }
 
-      pub told-leaves : (notice : Notice Unit) → client < length keys → lookup (is_key key) q.told ≡ Some notice → Changed (told_leaves key q) (set keys client None) awake (told_left client (line_of q keys awake))
+      pub told-leaves : (notice : Notice Unit) → client < length keys → lookup (is_key key) q.told ≡ Some notice → Changed kind (told_leaves key q) (set keys client None) awake (told_left client (line_of kind q keys awake))
       told-leaves notice within found =
           let queue = IsQueue-told_leaves key q notice tied.queue found in
           let order = order_of-told_leaves key q notice tied.queue found in
           record {
-            tied = leaves (told_leaves key q) within queue order refl refl tied.tasks (All-remove IsDefault (is_key key) q.told tied.default);
+            tied = leaves (told_leaves key q) within queue order refl refl tied.tasks (All-remove (IsOf kind) (is_key key) q.told tied.kinds);
             is =
                 same_line (told_leaves key q) within queue order refl refl
-                ∙ ap (λ (cs : List ℕ). record (line_of q keys awake) { told = cs }) (clients-remove (is_key key) client keys q.told told-are);
+                ∙ ap (λ (cs : List ℕ). record (line_of kind q keys awake) { told = cs }) (clients-remove (is_key key) client keys q.told told-are);
           }
 
-      pub waiting-leaves : (task : Option ℕ) → client < length keys → lookup (is_key key) q.waiting ≡ Some task → Changed (waiting_leaves key q) (set keys client None) awake (waiting_left client (line_of q keys awake))
+      pub waiting-leaves : (task : Option ℕ) → client < length keys → lookup (is_key key) q.waiting ≡ Some task → Changed kind (waiting_leaves key q) (set keys client None) awake (waiting_left client (line_of kind q keys awake))
       waiting-leaves task within found =
           let queue = IsQueue-waiting_leaves key q task tied.queue found in
           let order = order_of-waiting_leaves key q task tied.queue found in
           record {
-            tied = leaves (waiting_leaves key q) within queue order refl refl (All-remove (HasTask keys) (is_key key) q.waiting tied.tasks) tied.default;
+            tied = leaves (waiting_leaves key q) within queue order refl refl (All-remove (HasTask keys) (is_key key) q.waiting tied.tasks) tied.kinds;
             is =
                 same_line (waiting_leaves key q) within queue order refl refl
-                ∙ ap (λ (ws : List (ℕ × Bool)). record (line_of q keys awake) { waiting = ws }) (waiting-remove keys (is_key key) client q.waiting waiting-are);
+                ∙ ap (λ (ws : List (ℕ × Bool)). record (line_of kind q keys awake) { waiting = ws }) (waiting-remove keys (is_key key) client q.waiting waiting-are);
           }
 
     -- a client that is out has no key
-    pub keyless-out : IsOut client (line_of q keys awake) → get_or keys client None ≡ None
+    pub keyless-out : IsOut client (line_of kind q keys awake) → get_or keys client None ≡ None
     keyless-out out = by_option (get_or keys client None) refl
       where
         absent : (key : Key) → get_or keys client None ≡ Some key → IsAbsent key q

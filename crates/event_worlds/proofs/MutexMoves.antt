@@ -11,9 +11,10 @@ use Rattle.event_worlds.specs.ClientTable.{is_listening}
 use Rattle.event_worlds.specs.Line.{Line, empty_line, is_told, is_waiting}
 use Rattle.event_worlds.specs.Standing.{times, standing, FitsAt}
 use Rattle.event_worlds.specs.Mutex.{MutexState, from, next, after}
-use Rattle.event_worlds.specs.MutexInvariant.{is_parked, IsSound}
-use Rattle.event_worlds.specs.MutexMove.{MayBeAt, Moves, moved}
-use Rattle.event_worlds.proofs.StandingLemmas.{times-any}
+use Rattle.event_worlds.specs.Served.{is_parked, MayBeAt}
+use Rattle.event_worlds.specs.MutexInvariant.{IsSound}
+use Rattle.event_worlds.specs.MutexMove.{Moves, moved}
+use Rattle.event_worlds.proofs.InLineLemmas.{out_at}
 use Rattle.event_worlds.proofs.MutexSteps.{next-keeps, start-sound}
 
 -- from a move to the world's step
@@ -35,45 +36,16 @@ module _ (holder : Option ℕ) (places : List Place) (line : Line) (client : ℕ
   next-past past =
       ap (λ (o : Option Place). option_and_then (λ p. from p act client state) o) (slice_get_past places client past)
 
+  -- who is about to listen is not in line
+  pub may_be_at : (place : Place) → IsSound state → slice_get places client ≡ Some place → MayBeAt place client line
+  may_be_at place sound at listens =
+      out_at is_listening is_parked places line sound.served.fit client place at (ap is_listening listens)
+
   pub made-sound : IsSound state → (new : MutexState) → next client act state ≡ Some new → IsSound new
   made-sound sound new is =
       subst (λ (o : Option MutexState). IfSome o IsSound) is (next-keeps client act state sound)
 
-  pub made-after : (new : MutexState) → next client act state ≡ Some new → new ≡ after client act state
-  made-after new is = sym (ap (λ (o : Option MutexState). unwrap_or o state) is)
-
-  pub none-after : next client act state ≡ None → state ≡ after client act state
-  none-after is = sym (ap (λ (o : Option MutexState). unwrap_or o state) is)
-
-  pub made-answer : (new : MutexState) → next client act state ≡ Some new → true ≡ is_some (next client act state)
-  made-answer new is = sym (ap is_some is)
-
-  pub none-answer : next client act state ≡ None → false ≡ is_some (next client act state)
-  none-answer is = sym (ap is_some is)
-
-  -- who is about to listen is not in line
-  pub may_be_at : (place : Place) → IsSound state → slice_get places client ≡ Some place → MayBeAt place client line
-  may_be_at place sound at listens =
-      let fits : FitsAt is_listening is_parked (Some ToListen) (standing client line) =
-      subst (λ (o : Option Place). FitsAt is_listening is_parked o (standing client line)) (at ∙ ap Some listens) (sound.fit client) in
-      let once : times client line.told + times client (keys_of line.waiting) ≡ 0 = fits.once in
-      or_from (is_told client line) (is_waiting client line) (false_from_ne_true (is_told client line) (λ told.
-      omega (arith, times-any client line.told told))) (false_from_ne_true (is_waiting client line) (λ waiting.
-      omega (arith, times-any client (keys_of line.waiting) waiting)))
-
-  -- the same of the world's value
-
-  pub made-now : (value : MutexState) → state ≡ value → (new : MutexState) → next client act state ≡ Some new → (new ≡ after client act value) × (true ≡ is_some (next client act value))
-  made-now value is new made =
-      subst (λ (s : MutexState). (new ≡ after client act s) × (true ≡ is_some (next client act s))) is (made-after new made, made-answer new made)
-
-  pub none-now : (value : MutexState) → state ≡ value → (new : Line) → new ≡ line → next client act state ≡ None → (◌≡◌ {A = MutexState} (record { holder = holder; places = places; line = new }) (after client act value)) × (false ≡ is_some (next client act value))
-  none-now value is new same none =
-      let unchanged : ◌≡◌ {A = MutexState} (record { holder = holder; places = places; line = new }) state =
-      ap (λ (l : Line). record { holder = holder; places = places; line = l }) same in
-      subst (λ (s : MutexState). (◌≡◌ {A = MutexState} (record { holder = holder; places = places; line = new }) (after client act s)) × (false ≡ is_some (next client act s))) is (unchanged ∙ none-after none, none-answer none)
-
 -- a new world
-pub made-start : (clients first : ℕ) (places : List Place) (line : Line) → places ≡ replicate clients Idle → line ≡ empty_line clients first → IsSound (record { holder = None; places = places; line = line })
+pub made-start : (clients first : ℕ) (places : List Place) (line : Line) → places ≡ replicate clients Idle → line ≡ empty_line false clients first → IsSound (record { holder = None; places = places; line = line })
 made-start clients first places line all_idle nobody =
     subst (λ (ps : List Place). IsSound (record { holder = None; places = ps; line = line })) (sym all_idle) (subst (λ (l : Line). IsSound (record { holder = None; places = replicate clients Idle; line = l })) (sym nobody) (start-sound clients first))

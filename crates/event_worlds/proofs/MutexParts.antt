@@ -1,4 +1,4 @@
--- What one step changes of each part of the mutex world's invariant: the holder, and who is on its way.
+-- What one step changes of who has the lock.
 use Rattle.std.proofs.Common.{◌≡◌, ◌≢◌, ℕ, ◌+◌, ◌<◌, ◌≤◌, ◌⊎◌, Bool, true, false, cond, eqb, List, [], ◌∷◌, length, set, slice_get, Option, Some, None, is_none, refl, sym, ap, ◌∙◌, subst, arith, inl, inr, eq-eqb, ne_eqb, eqb-true}
 use Rattle.std.proofs.lemmas.Bool.{cases_Bool, cases_eq}
 use Rattle.std.specs.Map.{keys_of}
@@ -7,7 +7,8 @@ use Rattle.event_worlds.specs.declared.world.place.Place.TheVariants.{Idle, Firs
 use Rattle.event_worlds.specs.ClientTable.{is_listening}
 use Rattle.event_worlds.specs.Line.{Line}
 use Rattle.event_worlds.specs.Standing.{times, standing, Fits, FitsAt, AllFit, number}
-use Rattle.event_worlds.specs.MutexInvariant.{is_parked, is_inside, is_past_second, is_on_its_way, is_inside_at, is_holder}
+use Rattle.event_worlds.specs.Served.{is_inside}
+use Rattle.event_worlds.specs.MutexInvariant.{is_inside_at, is_holder}
 use Rattle.event_worlds.proofs.PlaceLemmas.{slice_get-set, slice_get-set_other, number-set, number-at, number-found}
 
 -- the holder
@@ -67,53 +68,3 @@ module _ (places : List Place) (client : ℕ) (p q : Place) (at : slice_get plac
   holder-frees holder inside outside fits =
       at_all None (sym outside) (λ other differs.
       sym (only_holder client other holder (is_holder-inside holder inside fits) differs) ∙ fits other)
-
-  -- who is on its way
-
-  -- where somebody was told or on its way, somebody still is
-  pub moving-kept : (told told' : ℕ) → cond (is_past_second q) 1 0 ≤ cond (is_past_second p) 1 0 → cond (is_on_its_way p) 1 0 ≤ cond (is_on_its_way q) 1 0 → told ≤ told' → (0 < number is_past_second places → 0 < told + number is_on_its_way places) → 0 < number is_past_second (set places client q) → 0 < told' + number is_on_its_way (set places client q)
-  moving-kept told told' past way more moving some =
-      let pasts = number-set is_past_second places client p q at in
-      let ways = number-set is_on_its_way places client p q at in
-      let had : 0 < told + number is_on_its_way places = moving (omega arith) in
-      omega arith
-
-  -- the client itself is on its way
-  pub moving-client : (told : ℕ) → is_on_its_way q ≡ true → 0 < told + number is_on_its_way (set places client q)
-  moving-client told way =
-      let some = number-at is_on_its_way (set places client q) client q (slice_get-set places client p q at) way in
-      omega arith
-
-past_listens : (place : Place) → is_past_second place ≡ true → is_listening place ≡ true
-past_listens Idle past = absurd (cc)
-past_listens (First woken) past = absurd (cc)
-past_listens ToListen past = absurd (cc)
-past_listens Second past = absurd (cc)
-past_listens Ending past = absurd (cc)
-past_listens ToRegister past = refl
-past_listens Parked past = refl
-past_listens Holding past = absurd (cc)
-past_listens Releasing past = absurd (cc)
-
-times-le-length : (client : ℕ) (xs : List ℕ) → times client xs ≤ length xs
-times-le-length client [] = omega arith
-times-le-length client (x ∷ xs) =
-    let rest = times-le-length client xs in
-    elim (cases_Bool (eqb client x)) [ inl here ↦ rw here (omega arith) | inr other ↦ rw other (omega arith) ]
-
--- who listens stands in line
-pub fits-listening : (place : Place) (client : ℕ) (line : Line) → is_listening place ≡ true → Fits (is_listening place) (is_parked place) (standing client line) → times client line.told + times client (keys_of line.waiting) ≡ 1
-fits-listening place client line listens fits =
-    subst (λ (b : Bool). times client line.told + times client (keys_of line.waiting) ≡ cond b 1 0) listens fits.once
-
--- somebody is told where anybody is in line
-pub moving-someone : (places : List Place) (line : Line) → AllFit is_listening is_parked places line → (0 < length line.told) ⊎ (line.waiting ≡ []) → 0 < number is_past_second places → 0 < length line.told + number is_on_its_way places
-moving-someone places line fit (inl told) some = omega arith
-moving-someone places line fit (inr nobody) some =
-    let (client, place, at, past) = number-found is_past_second places some in
-    let fits : FitsAt is_listening is_parked (Some place) (standing client line) =
-    subst (λ (o : Option Place). FitsAt is_listening is_parked o (standing client line)) at (fit client) in
-    let once = fits-listening place client line (past_listens place past) fits in
-    let none : times client (keys_of line.waiting) ≡ 0 =
-    ap (λ (waiting : List (ℕ × Bool)). times client (keys_of waiting)) nobody in
-    omega (arith, times-le-length client line.told)

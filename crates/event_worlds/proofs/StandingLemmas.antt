@@ -1,13 +1,13 @@
 -- What each change of a line does to how the clients stand in it, and that telling one keeps them fitting their
 -- places, whatever the type of places.
-use Rattle.std.proofs.Common.{◌≡◌, ◌≢◌, ℕ, zero, suc, ◌+◌, ◌-◌, ◌<◌, ◌≤◌, min, ◌⊎◌, Bool, true, false, cond, eqb, List, [], ◌∷◌, ◌++◌, length, set, get_or, slice_get, Option, Some, None, refl, sym, ap, ◌∙◌, subst, arith, inl, inr, eq-eqb, ne_eqb, eqb-true, length-append, length-set, get_or-set_same, get_or-set_other}
-use Rattle.std.proofs.lemmas.Bool.{cases_Bool, cases_eq, or_cases, or_parts}
+use Rattle.std.proofs.Common.{◌≡◌, ◌≢◌, ℕ, zero, suc, ◌+◌, ◌-◌, ◌<◌, ◌≤◌, min, ◌⊎◌, Bool, true, false, cond, eqb, List, [], ◌∷◌, ◌++◌, length, set, get_or, replicate, slice_get, Option, Some, None, refl, sym, ap, ◌∙◌, subst, arith, inl, inr, eq-eqb, ne_eqb, eqb-true, length-append, length-set, get_or-set_same, get_or-set_other}
+use Rattle.std.proofs.lemmas.Bool.{cases_Bool, cases_eq, cond_both, or_cases, or_parts}
 use Rattle.std.proofs.lemmas.List.{map-append}
 use Rattle.std.proofs.lemmas.Map.{keys-set_value}
 use Rattle.std.proofs.lemmas.Option.{slice_get_within}
 use Rattle.std.specs.List.{list_any}
 use Rattle.std.specs.Map.{keys_of, remove_entry, set_value}
-use Rattle.event_worlds.specs.Line.{Line, is_told, joined, registered, without, told_left, waiting_left, wake_lost, woken, first_told_of, first_told, tell, notified}
+use Rattle.event_worlds.specs.Line.{Line, empty_line, is_told, joined, registered, without, told_left, waiting_left, wake_lost, woken, first_told_of, first_told, tell, wanted, notified, dropped}
 use Rattle.event_worlds.specs.Standing.{times, times_unregistered, Standing, standing, Fits, FitsAt, AllFit}
 use Rattle.event_worlds.proofs.PlaceLemmas.{one_if, none_if, slice_get-set, slice_get-set_other}
 
@@ -60,6 +60,23 @@ length-without client (x ∷ xs) =
       | inl here ↦ rw here (omega arith)
       | inr no_match ↦ rw no_match (omega (arith, length-without client xs))
     ]
+
+pub length-without_one : (client : ℕ) (xs : List ℕ) → 0 < times client xs → length (without client xs) + 1 ≡ length xs
+length-without_one client [] some = absurd (omega arith)
+length-without_one client (x ∷ xs) some =
+    elim (cases_Bool (eqb client x)) [
+      | inl here ↦ rw here (omega arith)
+      | inr other ↦
+          let none = none_if (eqb client x) other in
+          let rest = length-without_one client xs (omega arith) in
+          rw other (omega arith)
+    ]
+
+pub times-le-length : (client : ℕ) (xs : List ℕ) → times client xs ≤ length xs
+times-le-length client [] = omega arith
+times-le-length client (x ∷ xs) =
+    let rest = times-le-length client xs in
+    elim (cases_Bool (eqb client x)) [ inl here ↦ rw here (omega arith) | inr other ↦ rw other (omega arith) ]
 
 -- a client among waiting clients
 
@@ -143,6 +160,9 @@ pub record IsSame (old new : Standing) : Type 0 where
   pub waiting : new.waiting ≡ old.waiting
   pub unregistered : new.unregistered ≡ old.unregistered
   pub awake : new.awake ≡ old.awake
+
+pub same-itself : (client : Standing) → IsSame client client
+same-itself client = record { told = refl; waiting = refl; unregistered = refl; awake = refl }
 
 module _ (client other : ℕ) (line : Line) (differs : other ≢ client) where
   pub same-joined : IsSame (standing other line) (standing other (joined client line))
@@ -260,9 +280,9 @@ length-woken : (r : Bool) (client : ℕ) (awake : List Bool) → length (woken c
 length-woken true client awake = length-set awake client true
 length-woken false client awake = refl
 
-module _ (first : ℕ × Bool) (rest : List (ℕ × Bool)) (told : List ℕ) (awake : List Bool) (next : ℕ) where
+module _ (first : ℕ × Bool) (rest : List (ℕ × Bool)) (told : List ℕ) (awake : List Bool) (next : ℕ) (kind : Bool) where
   abbrev before : Line
-  before = record { told = told; waiting = first ∷ rest; awake = awake; next = next }
+  before = record { told = told; waiting = first ∷ rest; awake = awake; next = next; additional = kind }
 
   same-first_told : (other : ℕ) → other ≢ first.0 → IsSame (standing other before) (standing other (first_told_of (first ∷ rest) before))
   same-first_told other differs =
@@ -327,22 +347,22 @@ module _ {P : Type 0} (listens parks : P → Bool) where
 
   -- the first waiting client is told
 
-  tells_first : (place : Option P) (first : ℕ × Bool) (rest : List (ℕ × Bool)) (told : List ℕ) (awake : List Bool) (next : ℕ) → ((p : P) → place ≡ Some p → first.0 < length awake) → FitsAt listens parks place (standing first.0 (before first rest told awake next)) → FitsAt listens parks place (standing first.0 (first_told_of (first ∷ rest) (before first rest told awake next)))
-  tells_first None first rest told awake next within fits = absurd (nobody-first_told first rest told awake next fits)
-  tells_first (Some p) first rest told awake next within fits =
-      fits-first_told first rest told awake next (listens p) (parks p) (within p refl) fits
+  tells_first : (place : Option P) (first : ℕ × Bool) (rest : List (ℕ × Bool)) (told : List ℕ) (awake : List Bool) (next : ℕ) (kind : Bool) → ((p : P) → place ≡ Some p → first.0 < length awake) → FitsAt listens parks place (standing first.0 (before first rest told awake next kind)) → FitsAt listens parks place (standing first.0 (first_told_of (first ∷ rest) (before first rest told awake next kind)))
+  tells_first None first rest told awake next kind within fits = absurd (nobody-first_told first rest told awake next kind fits)
+  tells_first (Some p) first rest told awake next kind within fits =
+      fits-first_told first rest told awake next kind (listens p) (parks p) (within p refl) fits
 
-  fit-first_told_of : (places : List P) (waiting : List (ℕ × Bool)) (told : List ℕ) (awake : List Bool) (next : ℕ) → length awake ≡ length places → AllFit listens parks places (record { told = told; waiting = waiting; awake = awake; next = next }) → AllFit listens parks places (first_told_of waiting (record { told = told; waiting = waiting; awake = awake; next = next }))
-  fit-first_told_of places [] told awake next flags fit other = fit other
-  fit-first_told_of places (first ∷ rest) told awake next flags fit other =
+  fit-first_told_of : (places : List P) (waiting : List (ℕ × Bool)) (told : List ℕ) (awake : List Bool) (next : ℕ) (kind : Bool) → length awake ≡ length places → AllFit listens parks places (record { told = told; waiting = waiting; awake = awake; next = next; additional = kind }) → AllFit listens parks places (first_told_of waiting (record { told = told; waiting = waiting; awake = awake; next = next; additional = kind }))
+  fit-first_told_of places [] told awake next kind flags fit other = fit other
+  fit-first_told_of places (first ∷ rest) told awake next kind flags fit other =
       elim (cases_eq other first.0) [
         | inl is ↦
             subst
-            (λ (x : ℕ). FitsAt listens parks (slice_get places x) (standing x (first_told_of (first ∷ rest) (before first rest told awake next))))
+            (λ (x : ℕ). FitsAt listens parks (slice_get places x) (standing x (first_told_of (first ∷ rest) (before first rest told awake next kind))))
             (sym is)
-            (tells_first (slice_get places first.0) first rest told awake next (λ p at. omega (arith, slice_get_within places first.0 p at)) (fit first.0))
+            (tells_first (slice_get places first.0) first rest told awake next kind (λ p at. omega (arith, slice_get_within places first.0 p at)) (fit first.0))
         | inr differs ↦
-            fits-same (slice_get places other) (standing other (before first rest told awake next)) (standing other (first_told_of (first ∷ rest) (before first rest told awake next))) (same-first_told first rest told awake next other differs) (fit other)
+            fits-same (slice_get places other) (standing other (before first rest told awake next kind)) (standing other (first_told_of (first ∷ rest) (before first rest told awake next kind))) (same-first_told first rest told awake next kind other differs) (fit other)
       ]
 
 -- how many are told, and how many flags there are
@@ -363,28 +383,22 @@ tell-lengths (suc count) line =
     (flags' ∙ flags, omega arith, omega arith)
 
 pub notified-flags : (count : ℕ) (line : Line) → length (notified count line).awake ≡ length line.awake
-notified-flags count line = (tell-lengths (min (count - length line.told) (length line.waiting)) line).0
+notified-flags count line = (tell-lengths (min (wanted count line) (length line.waiting)) line).0
 
--- a notification of one leaves at most one told where there was at most one
-pub notified-one_told : (line : Line) → length line.told ≤ 1 → length (notified 1 line).told ≤ 1
-notified-one_told line one =
-    let (flags, more, rest) = tell-lengths (min (1 - length line.told) (length line.waiting)) line in
-    omega arith
+pub tell-kind : (count : ℕ) (line : Line) → (tell count line).additional ≡ line.additional
+tell-kind zero line = refl
+tell-kind (suc count) line = tell-kind count (first_told line) ∙ first-kind line.waiting line
+  where
+    first-kind : (waiting : List (ℕ × Bool)) (line : Line) → (first_told_of waiting line).additional ≡ line.additional
+    first-kind [] line = refl
+    first-kind (first ∷ rest) line = refl
 
--- after a notification of one somebody is told, or nobody waits
-notified-someone_of : (told : List ℕ) (waiting : List (ℕ × Bool)) (awake : List Bool) (next : ℕ) → let line : Line = record { told = told; waiting = waiting; awake = awake; next = next } in (0 < length (notified 1 line).told) ⊎ ((notified 1 line).waiting ≡ [])
-notified-someone_of [] [] awake next = inr refl
-notified-someone_of [] (first ∷ rest) awake next =
-    let line : Line = record { told = []; waiting = first ∷ rest; awake = awake; next = next } in
-    let one : min 1 (length (first ∷ rest)) ≡ 1 = omega arith in
-    inl (subst (λ (count : ℕ). 0 < length (tell count line).told) (sym one) (omega arith))
-notified-someone_of (client ∷ told) waiting awake next =
-    let line : Line = record { told = client ∷ told; waiting = waiting; awake = awake; next = next } in
-    let (flags, more, rest) = tell-lengths (min (1 - length line.told) (length line.waiting)) line in
-    inl (omega arith)
+pub notified-kind : (count : ℕ) (line : Line) → (notified count line).additional ≡ line.additional
+notified-kind count line = tell-kind (min (wanted count line) (length line.waiting)) line
 
-pub notified-someone : (line : Line) → (0 < length (notified 1 line).told) ⊎ ((notified 1 line).waiting ≡ [])
-notified-someone line = notified-someone_of line.told line.waiting line.awake line.next
+pub dropped-kind : (client : ℕ) (line : Line) → (dropped client line).additional ≡ line.additional
+dropped-kind client line =
+    cond_both (is_told client line) (notified 1 (told_left client line)) (waiting_left client line) (λ (new : Line). new.additional ≡ line.additional) (λ _. notified-kind 1 (told_left client line)) (λ _. refl)
 
 module _ {P : Type 0} (listens parks : P → Bool) where
   -- telling any number of clients keeps all fitting
@@ -392,8 +406,28 @@ module _ {P : Type 0} (listens parks : P → Bool) where
   fit-tell zero places line flags fit = fit
   fit-tell (suc count) places line flags fit =
       let lengths = first_told_of-lengths line.waiting line in
-      fit-tell count places (first_told line) (lengths.0 ∙ flags) (fit-first_told_of listens parks places line.waiting line.told line.awake line.next flags fit)
+      fit-tell count places (first_told line) (lengths.0 ∙ flags) (fit-first_told_of listens parks places line.waiting line.told line.awake line.next line.additional flags fit)
 
   pub fit-notified : (count : ℕ) (places : List P) (line : Line) → length line.awake ≡ length places → AllFit listens parks places line → AllFit listens parks places (notified count line)
   fit-notified count places line flags fit =
-      fit-tell (min (count - length line.told) (length line.waiting)) places line flags fit
+      fit-tell (min (wanted count line) (length line.waiting)) places line flags fit
+
+  -- all clients fit one place where nobody listens, in a line where nobody stands
+  pub fit-start : (place : P) → listens place ≡ false → (kind : Bool) (clients first : ℕ) → AllFit listens parks (replicate clients place) (empty_line kind clients first)
+  fit-start place unlistening kind clients first client = replicated clients client
+    where
+      nowhere : (b : Bool) → Fits b false (standing client (empty_line kind clients first)) → Fits b (parks place) (standing client (empty_line kind clients first))
+      nowhere b fits = record {
+        once = fits.once;
+        registered = λ _. refl;
+        awake = λ _ (told : 0 < 0). absurd (omega arith);
+      }
+
+      out : Fits false false (standing client (empty_line kind clients first))
+      out = record { once = refl; registered = λ _. refl; awake = λ _ (told : 0 < 0). absurd (omega arith) }
+
+      replicated : (n i : ℕ) → FitsAt listens parks (slice_get (replicate n place) i) (standing client (empty_line kind clients first))
+      replicated zero i = out
+      replicated (suc n) zero =
+          subst (λ (b : Bool). Fits b (parks place) (standing client (empty_line kind clients first))) (sym unlistening) (nowhere false out)
+      replicated (suc n) (suc i) = replicated n i

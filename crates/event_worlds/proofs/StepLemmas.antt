@@ -37,25 +37,26 @@ same_test false true both = both.1 refl
 same_test false false both = refl
 
 -- an answer, and the line that the call leaves
-pub record Answered (given asked : Bool) (q : Queue Unit ℕ) (keys : List (Option Key)) (awake : List Bool) (line : Line) : Type 0 where
+pub record Answered (given asked kind : Bool) (q : Queue Unit ℕ) (keys : List (Option Key)) (awake : List Bool) (line : Line) : Type 0 where
   pub answer : given ≡ asked
-  pub changed : Changed q keys awake line
+  pub changed : Changed kind q keys awake line
 
-module _ (q : Queue Unit ℕ) (keys : List (Option Key)) (awake : List Bool) (tied : IsTied q keys awake) (now : Line) (view_is : line_of q keys awake ≡ now) where
+module _ (kind : Bool) (q : Queue Unit ℕ) (keys : List (Option Key)) (awake : List Bool) (tied : IsTied kind q keys awake) (now : Line) (view_is : line_of kind q keys awake ≡ now) where
   pub is_line : IsLine now
-  is_line = subst IsLine view_is (line_is q keys awake tied.queue)
+  is_line = subst IsLine view_is (line_is kind q keys awake tied.queue)
 
-  pub clears : (awake' : List Bool) (client : ℕ) → awake' ≡ set awake client false → Changed q keys awake' (wake_lost client now)
+  pub clears : (awake' : List Bool) (client : ℕ) → awake' ≡ set awake client false → Changed kind q keys awake' (wake_lost client now)
   clears awake' client cleared = record {
-    tied = kept q keys awake tied q awake' tied.queue refl refl refl tied.tasks tied.default (ap length cleared ∙ length-set awake client false);
+    tied = kept kind q keys awake tied q awake' tied.queue refl refl refl tied.tasks tied.kinds (ap length cleared ∙ length-set awake client false);
     is =
-        ap (λ (a : List Bool). record (line_of q keys awake) { awake = a }) cleared
+        ap (λ (a : List Bool). record (line_of kind q keys awake) { awake = a }) cleared
         ∙ ap (wake_lost client) view_is;
   }
 
-  pub notifies-now : {N : Type 0} (gives : N → Result Unit AllocError → N → Type 0) (count : ℕ) (source source' : N) (result : Result ℕ NotifyError) (q' : Queue Unit ℕ) (awake' : List Bool) → Notifies gives count false q source result q' source' → IsOk result → FoldsTo Wakes awake (tasks_of (told_by result) q) awake' → Changed q' keys awake' (notified count now)
-  notifies-now gives count source source' result q' awake' step ok wakes =
-      let changed = notifies q keys awake tied gives count source source' result q' awake' step ok wakes in
+  pub notifies-now : {N : Type 0} (gives : N → Result Unit AllocError → N → Type 0) (count : ℕ) (additional : Bool) → kind ≡ additional → (source source' : N) (result : Result ℕ NotifyError) (q' : Queue Unit ℕ) (awake' : List Bool) → Notifies gives count additional q source result q' source' → IsOk result → FoldsTo Wakes awake (tasks_of (told_by result) q) awake' → Changed kind q' keys awake' (notified count now)
+  notifies-now gives count additional is source source' result q' awake' step ok wakes =
+      let step' = subst (λ (b : Bool). Notifies gives count b q source result q' source') (sym is) step in
+      let changed = notifies kind q keys awake tied gives count source source' result q' awake' step' ok wakes in
       record { tied = changed.tied; is = changed.is ∙ ap (notified count) view_is }
 
   module _ (client : ℕ) (within : client < length now.awake) where
@@ -69,20 +70,20 @@ module _ (q : Queue Unit ℕ) (keys : List (Option Key)) (awake : List Bool) (ti
     module _ (absent : is_in_line client now ≡ false) where
       keyless : get_or keys client None ≡ None
       keyless =
-          keyless-out q keys awake tied client (is_out client (line_of q keys awake) (ap (is_in_line client) view_is ∙ absent))
+          keyless-out kind q keys awake tied client (is_out client (line_of kind q keys awake) (ap (is_in_line client) view_is ∙ absent))
 
-      pub refused-now : (error : ListenError) (q' : Queue Unit ℕ) → Inserts q (Err error) q' → Answered false (has_serial_left now) q' keys awake (if has_serial_left now then joined client now else now)
+      pub refused-now : (error : ListenError) (q' : Queue Unit ℕ) → Inserts q (Err error) q' → Answered false (has_serial_left now) kind q' keys awake (if has_serial_left now then joined client now else now)
       refused-now error q' step =
-          let refused = refused-line q keys awake tied client key-within keyless error q' step in
+          let refused = refused-line kind q keys awake tied client key-within keyless error q' step in
           let none : has_serial_left now ≡ false = ap has_serial_left (sym view_is) ∙ refused.0 in
           record {
             answer = sym none;
-            changed = rw none (moves q q' keys awake awake (line_of q keys awake) now refused.1 refl view_is (record { tied = tied; is = refl }));
+            changed = rw none (moves kind q q' keys awake awake (line_of kind q keys awake) now refused.1 refl view_is (record { tied = tied; is = refl }));
           }
 
-      pub joins-now : (key : Key) (q' : Queue Unit ℕ) (awake' : List Bool) → IsQueue q' → Joins q key q' → order_of q' ≡ order_of q ++ key ∷ [] → awake' ≡ set awake client false → Answered true (has_serial_left now) q' (set keys client (Some key)) awake' (if has_serial_left now then joined client now else now)
+      pub joins-now : (key : Key) (q' : Queue Unit ℕ) (awake' : List Bool) → IsQueue q' → Joins q key q' → order_of q' ≡ order_of q ++ key ∷ [] → awake' ≡ set awake client false → Answered true (has_serial_left now) kind q' (set keys client (Some key)) awake' (if has_serial_left now then joined client now else now)
       joins-now key q' awake' queue joins order cleared =
-          let changed = joins-line q keys awake tied client key-within keyless key q' awake' queue joins order cleared in
+          let changed = joins-line kind q keys awake tied client key-within keyless key q' awake' queue joins order cleared in
           let next = ap (λ (l : Line). l.next) view_is in
           let has = joined-if client now (omega (arith, joins.serial_left, next)) in
           record {
@@ -96,44 +97,44 @@ module _ (q : Queue Unit ℕ) (keys : List (Option Key)) (awake : List Bool) (ti
       at = read_key keys client held key-within read
 
       pub out-now : held ≡ None → IsOut client now
-      out-now none = subst (IsOut client) view_is (out-keyless q keys awake tied client (at ∙ none))
+      out-now none = subst (IsOut client) view_is (out-keyless kind q keys awake tied client (at ∙ none))
 
       module _ (key : Key) (some : held ≡ Some key) where
         pub told-now : is_told client now ≡ is_some (lookup (is_key key) q.told)
         told-now =
-            ap (is_told client) (sym view_is) ∙ told-found q keys awake tied client key (at ∙ some)
+            ap (is_told client) (sym view_is) ∙ told-found kind q keys awake tied client key (at ∙ some)
 
-        pub registers-told : (q' : Queue Unit ℕ) (tag : Unit) → IsSomeAnd (lookup (is_key key) q.told) (λ notice. notice.tag ≡ tag) × (q' ≡ told_leaves key q) → Answered true (is_told client now) q' (set keys client None) awake (if is_told client now then told_left client now else registered client now)
+        pub registers-told : (q' : Queue Unit ℕ) (tag : Unit) → IsSomeAnd (lookup (is_key key) q.told) (λ notice. notice.tag ≡ tag) × (q' ≡ told_leaves key q) → Answered true (is_told client now) kind q' (set keys client None) awake (if is_told client now then told_left client now else registered client now)
         registers-told q' tag step =
             let (notice, found, _) = found_value (lookup (is_key key) q.told) (λ notice. notice.tag ≡ tag) step.0 in
             let told : is_told client now ≡ true = told-now ∙ ap is_some found in
-            let changed = told-leaves q keys awake tied client key (at ∙ some) notice key-within found in
+            let changed = told-leaves kind q keys awake tied client key (at ∙ some) notice key-within found in
             record {
               answer = sym told;
-              changed = rw told (moves (told_leaves key q) q' (set keys client None) awake awake (told_left client (line_of q keys awake)) (told_left client now) step.1 refl (ap (told_left client) view_is) changed);
+              changed = rw told (moves kind (told_leaves key q) q' (set keys client None) awake awake (told_left client (line_of kind q keys awake)) (told_left client now) step.1 refl (ap (told_left client) view_is) changed);
             }
 
-        pub registers-waiting : (q' : Queue Unit ℕ) → IsSome (lookup (is_key key) q.waiting) × (q' ≡ after_storing key client q) → Answered false (is_told client now) q' keys awake (if is_told client now then told_left client now else registered client now)
+        pub registers-waiting : (q' : Queue Unit ℕ) → IsSome (lookup (is_key key) q.waiting) × (q' ≡ after_storing key client q) → Answered false (is_told client now) kind q' keys awake (if is_told client now then told_left client now else registered client now)
         registers-waiting q' step =
             let (task, found) = some_value (lookup (is_key key) q.waiting) step.0 in
             let untold : is_told client now ≡ false = told-now ∙ ap is_some (untold-waiting key q task tied.queue found) in
-            let changed = stores q keys awake tied client key (at ∙ some) task found in
+            let changed = stores kind q keys awake tied client key (at ∙ some) task found in
             record {
               answer = sym untold;
-              changed = rw untold (moves (after_storing key client q) q' keys awake awake (registered client (line_of q keys awake)) (registered client now) step.1 refl (ap (registered client) view_is) changed);
+              changed = rw untold (moves kind (after_storing key client q) q' keys awake awake (registered client (line_of kind q keys awake)) (registered client now) step.1 refl (ap (registered client) view_is) changed);
             }
 
-        pub registers-absent : (q' : Queue Unit ℕ) → IsAbsent key q × (q' ≡ q) → Answered false (is_told client now) q' keys awake (if is_told client now then told_left client now else registered client now)
+        pub registers-absent : (q' : Queue Unit ℕ) → IsAbsent key q × (q' ≡ q) → Answered false (is_told client now) kind q' keys awake (if is_told client now then told_left client now else registered client now)
         registers-absent q' step =
-            let out : IsOut client now = subst (IsOut client) view_is (out-absent q keys awake tied client key (at ∙ some) step.0) in
+            let out : IsOut client now = subst (IsOut client) view_is (out-absent kind q keys awake tied client key (at ∙ some) step.0) in
             record {
               answer = sym out.untold;
-              changed = moves q q' keys awake awake (line_of q keys awake) _ step.1 refl (view_is ∙ out-registers client now out) (record { tied = tied; is = refl });
+              changed = moves kind q q' keys awake awake (line_of kind q keys awake) _ step.1 refl (view_is ∙ out-registers client now out) (record { tied = tied; is = refl });
             }
 
-        pub leaves-now : (result : Option (State Unit ℕ)) (q' : Queue Unit ℕ) (awake' : List Bool) → Removes q key false result q' → FoldsTo Wakes awake (woken_by_removal key false q) awake' → Changed q' (set keys client None) awake' (if is_told client now then told_left client now else waiting_left client now)
+        pub leaves-now : (result : Option (State Unit ℕ)) (q' : Queue Unit ℕ) (awake' : List Bool) → Removes q key false result q' → FoldsTo Wakes awake (woken_by_removal key false q) awake' → Changed kind q' (set keys client None) awake' (if is_told client now then told_left client now else waiting_left client now)
         leaves-now result q' awake' step wakes =
-            let changed = leaves-line q keys awake tied client key (at ∙ some) key-within q' awake' result step wakes in
+            let changed = leaves-line kind q keys awake tied client key (at ∙ some) key-within q' awake' result step wakes in
             record {
               tied = changed.tied;
               is =
@@ -141,7 +142,7 @@ module _ (q : Queue Unit ℕ) (keys : List (Option Key)) (awake : List Bool) (ti
                   ∙ ap (λ (l : Line). if is_told client l then told_left client l else waiting_left client l) view_is;
             }
 
-        pub drops-now : (result : Option (State Unit ℕ)) (q' : Queue Unit ℕ) (awake' : List Bool) → Removes q key true result q' → FoldsTo Wakes awake (woken_by_removal key true q) awake' → Changed q' (set keys client None) awake' (dropped client now)
+        pub drops-now : (result : Option (State Unit ℕ)) (q' : Queue Unit ℕ) (awake' : List Bool) → Removes q key true result q' → FoldsTo Wakes awake (woken_by_removal key true q) awake' → Changed kind q' (set keys client None) awake' (dropped client now)
         drops-now result q' awake' step wakes =
-            let changed = drops-line q keys awake tied client key (at ∙ some) key-within q' awake' result step wakes in
+            let changed = drops-line kind q keys awake tied client key (at ∙ some) key-within q' awake' result step wakes in
             record { tied = changed.tied; is = changed.is ∙ ap (dropped client) view_is }

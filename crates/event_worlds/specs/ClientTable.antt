@@ -33,3 +33,8 @@ is_listening Ending = true
 is_listening ToRegister = true
 is_listening Parked = true
 is_listening _ = false
+
+-- a notification brought a client at this place to try
+abbrev pub is_woken : Place → Bool
+is_woken (First woken) = woken
+is_woken _ = false

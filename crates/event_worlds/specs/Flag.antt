@@ -23,7 +23,7 @@ start clients setters first = record {
   flag = false;
   places = replicate clients Check1;
   setters = replicate setters ToSet;
-  line = empty_line clients first;
+  line = empty_line false clients first;
 }
 
 -- the table of a client: from this place, with the flag set or not, where it goes, and the line then; none where

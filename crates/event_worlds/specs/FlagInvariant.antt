@@ -10,7 +10,7 @@ use Rattle.event_worlds.specs.Line.{Line, IsLine, is_in_line}
 use Rattle.event_worlds.specs.Standing.{times, AllFit, number}
 use Rattle.event_worlds.specs.declared.world.flag.SetterMove.{SetterMove}
 use Rattle.event_worlds.specs.Flag.{FlagState, from, from_setter}
-use Rattle.event_worlds.specs.FlagSafety.{is_listening}
+use Rattle.event_worlds.specs.FlagSafety.{is_listening, NotifiesDefault}
 
 abbrev pub is_parked : FlagPlace → Bool
 is_parked Parked = true
@@ -42,6 +42,7 @@ pub record IsSound (state : FlagState) : Type 0 where
   pub settled : IsSettled state.flag state.setters state.places state.line
   pub flags : length state.line.awake ≡ length state.places
   pub line : IsLine state.line
+  pub kind : NotifiesDefault state
 
 -- the client may be at this place: where it is about to listen, it is not in line
 abbrev pub MayBeAt : FlagPlace → ℕ → Line → Type 0

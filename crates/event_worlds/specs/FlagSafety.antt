@@ -24,6 +24,10 @@ IsSafe state =
     → IsAt client ToRegister state ⊎ IsAt client Parked state
     → IsTrue (is_told client state.line) × (IsAt client Parked state → IsTrue (has_wake client state.line))
 
+-- every notification is default
+abbrev pub NotifiesDefault : FlagState → Type 0
+NotifiesDefault state = state.line.additional ≡ false
+
 -- a client at this place has a listener
 abbrev pub is_listening : FlagPlace → Bool
 is_listening Check2 = true

@@ -2,10 +2,14 @@ pub mod ClientTable
 pub mod Line
 pub mod LineKeys
 pub mod Standing
+pub mod Served
 pub mod Mutex
 pub mod MutexSafety
 pub mod MutexInvariant
 pub mod MutexMove
+pub mod Semaphore
+pub mod SemaphoreSafety
+pub mod SemaphoreInvariant
 pub mod Flag
 pub mod FlagSafety
 pub mod FlagInvariant

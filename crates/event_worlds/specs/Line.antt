@@ -4,17 +4,23 @@ use Rattle.std.specs.List.{list_any}
 use Rattle.std.specs.Map.{keys_of, remove_entry, set_value}
 
 -- the clients told, and the clients waiting, each with whether it is registered, both in order of joining; for
--- each client whether it has a wake-up; the serial of the next that joins
+-- each client whether it has a wake-up; the serial of the next that joins; whether all notifications are additional
 pub record Line : Type 0 where
   pub told : List ℕ
   pub waiting : List (ℕ × Bool)
   pub awake : List Bool
   pub next : ℕ
+  pub additional : Bool
 
--- a line of so many clients in which nobody stands
-abbrev pub empty_line : ℕ → ℕ → Line
-empty_line clients first =
-    record { told = []; waiting = []; awake = replicate clients false; next = first }
+-- a line of so many clients in which nobody stands, and whose notifications are of that kind
+abbrev pub empty_line : Bool → ℕ → ℕ → Line
+empty_line additional clients first = record {
+  told = [];
+  waiting = [];
+  awake = replicate clients false;
+  next = first;
+  additional = additional;
+}
 
 -- whether the client is told
 abbrev pub is_told : ℕ → Line → Bool
@@ -86,11 +92,15 @@ abbrev pub tell : ℕ → Line → Line
 tell zero line = line
 tell (suc count) line = tell count (first_told line)
 
--- a default notification of so many clients: those told already count towards it
-abbrev pub notified : ℕ → Line → Line
-notified count line = tell (min (count - length line.told) (length line.waiting)) line
+-- how many a notification of so many clients wants told anew: those told already count towards a default one
+abbrev pub wanted : ℕ → Line → ℕ
+wanted count line = if line.additional then count else count - length line.told
 
--- a client leaves; a told one passes its notification on, which is default and of one
+-- a notification of so many clients
+abbrev pub notified : ℕ → Line → Line
+notified count line = tell (min (wanted count line) (length line.waiting)) line
+
+-- a client leaves; a told one passes its notification on, which is of one
 abbrev pub dropped : ℕ → Line → Line
 dropped client line =
     if is_told client line then notified 1 (told_left client line) else waiting_left client line

@@ -24,13 +24,14 @@ told_clients keys told = map (λ entry. client_of keys entry.0) told
 abbrev pub waiting_clients : List (Option Key) → List (Key × Option ℕ) → List (ℕ × Bool)
 waiting_clients keys waiting = map (λ entry. (client_of keys entry.0, is_some entry.1)) waiting
 
--- the line that a queue, the clients' keys and their wake-ups are
-abbrev pub line_of : Queue Unit ℕ → List (Option Key) → List Bool → Line
-line_of q keys awake = record {
+-- the line that a queue, the clients' keys and their wake-ups are, where notifications are of that kind
+abbrev pub line_of : Bool → Queue Unit ℕ → List (Option Key) → List Bool → Line
+line_of kind q keys awake = record {
   told = told_clients keys q.told;
   waiting = waiting_clients keys q.waiting;
   awake = awake;
   next = q.next_serial;
+  additional = kind;
 }
 
 -- how many clients have no key
@@ -45,12 +46,13 @@ pub record IsKeyOf (q : Queue Unit ℕ) (keys : List (Option Key)) (client : ℕ
   pub given : key.serial < q.next_serial
   pub stands : list_any (is_key key) (order_of q) ≡ true
 
--- the listeners are the clients that have keys, each with its own number for a task; there is room for the others
-pub record IsTied (q : Queue Unit ℕ) (keys : List (Option Key)) (awake : List Bool) : Type 0 where
+-- the listeners are the clients that have keys, each with its own number for a task; all told were told by a
+-- notification of that kind; there is room for the others
+pub record IsTied (kind : Bool) (q : Queue Unit ℕ) (keys : List (Option Key)) (awake : List Bool) : Type 0 where
   pub queue : IsQueue q
   pub listed : AllByRecursion (λ key. client_of keys key < length keys) (order_of q)
   pub mapped : (client : ℕ) (key : Key) → get_or keys client None ≡ Some key → IsKeyOf q keys client key
   pub tasks : AllByRecursion (λ entry. IfSome entry.1 (λ task. task ≡ client_of keys entry.0)) q.waiting
-  pub default : AllByRecursion (λ entry. entry.1.additional ≡ false) q.told
+  pub kinds : AllByRecursion (λ entry. entry.1.additional ≡ kind) q.told
   pub room : keyless keys ≤ q.spare
   pub flags : length awake ≡ length keys

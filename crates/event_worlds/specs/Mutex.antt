@@ -16,7 +16,7 @@ pub record MutexState : Type 0 where
 -- nobody has the lock, nobody wants it, and nobody is in line
 abbrev pub start : ℕ → ℕ → MutexState
 start clients first =
-    record { holder = None; places = replicate clients Idle; line = empty_line clients first }
+    record { holder = None; places = replicate clients Idle; line = empty_line false clients first }
 
 -- nobody has the lock
 abbrev pub is_free : MutexState → Bool

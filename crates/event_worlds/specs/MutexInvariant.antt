@@ -1,35 +1,11 @@
 -- What the mutex world keeps in its type: each step of the table keeps it, and what `MutexSafety` says follows. No
 -- public clause cites this module.
-use Rattle.std.specs.Prelude.{◌≡◌, ℕ, ◌+◌, ◌<◌, ◌≤◌, Bool, true, false, eqb, length, slice_get, Option, Some, None}
+use Rattle.std.specs.Prelude.{◌≡◌, ℕ, ◌≤◌, Bool, true, false, eqb, length, slice_get, Option, Some, None}
 use Rattle.event_worlds.specs.declared.world.place.Place.{Place}
-use Rattle.event_worlds.specs.declared.world.place.Place.TheVariants.{First, Ending, ToRegister, Parked, Holding, Releasing}
-use Rattle.event_worlds.specs.ClientTable.{is_listening}
-use Rattle.event_worlds.specs.Standing.{AllFit, number}
+use Rattle.event_worlds.specs.Standing.{number}
+use Rattle.event_worlds.specs.Served.{is_inside, is_releasing, IsServed}
 use Rattle.event_worlds.specs.Mutex.{MutexState}
-
--- places by what matters of them
-
-abbrev pub is_parked : Place → Bool
-is_parked Parked = true
-is_parked _ = false
-
--- it has the lock
-abbrev pub is_inside : Place → Bool
-is_inside Ending = true
-is_inside Holding = true
-is_inside _ = false
-
--- it listens past its second failed try
-abbrev pub is_past_second : Place → Bool
-is_past_second ToRegister = true
-is_past_second Parked = true
-is_past_second _ = false
-
--- it is about to try the lock or to notify, without having to be woken for it
-abbrev pub is_on_its_way : Place → Bool
-is_on_its_way (First woken) = woken
-is_on_its_way Releasing = true
-is_on_its_way _ = false
+use Rattle.event_worlds.specs.MutexSafety.{AtMostOneTold, NotifiesDefault}
 
 abbrev pub is_inside_at : Option Place → Bool
 is_inside_at None = false
@@ -40,16 +16,14 @@ abbrev pub is_holder : ℕ → Option ℕ → Bool
 is_holder client None = false
 is_holder client (Some holder) = eqb client holder
 
--- where the lock is free and somebody listens past its second failed try, somebody is told or on its way
-abbrev pub IsMoving : MutexState → Type 0
-IsMoving state =
-    state.holder ≡ None
-    → 0 < number is_past_second state.places
-    → 0 < length state.line.told + number is_on_its_way state.places
+-- how often the lock can be taken
+abbrev pub free_of : Option ℕ → ℕ
+free_of None = 1
+free_of (Some holder) = 0
 
+-- a lock that is free can be taken once, and whoever is releasing is still to notify of one
 pub record IsSound (state : MutexState) : Type 0 where
-  pub fit : AllFit is_listening is_parked state.places state.line
+  pub served : IsServed (free_of state.holder) (number is_releasing state.places) state.places state.line
   pub inside : (client : ℕ) → is_holder client state.holder ≡ is_inside_at (slice_get state.places client)
-  pub one_told : length state.line.told ≤ 1
-  pub moving : IsMoving state
-  pub flags : length state.line.awake ≡ length state.places
+  pub one_told : AtMostOneTold state
+  pub kind : NotifiesDefault state

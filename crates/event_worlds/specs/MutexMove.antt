@@ -1,15 +1,10 @@
 -- What a step of the mutex world does to its parts. No public clause cites this module.
-use Rattle.std.specs.Prelude.{◌≡◌, ℕ, false, List, slice_set, Option, Some, None}
+use Rattle.std.specs.Prelude.{◌≡◌, ℕ, List, slice_set, Option, Some, None}
 use Rattle.event_worlds.specs.declared.world.acts.Act.{Act}
 use Rattle.event_worlds.specs.declared.world.mutex.Move.{Move}
 use Rattle.event_worlds.specs.declared.world.place.Place.{Place}
-use Rattle.event_worlds.specs.declared.world.place.Place.TheVariants.{ToListen}
-use Rattle.event_worlds.specs.Line.{Line, is_in_line}
+use Rattle.event_worlds.specs.Line.{Line}
 use Rattle.event_worlds.specs.Mutex.{MutexState, from}
-
--- the client may be at this place: where it is about to listen, it is not in line
-abbrev pub MayBeAt : Place → ℕ → Line → Type 0
-MayBeAt place client line = place ≡ ToListen → is_in_line client line ≡ false
 
 -- the state in which the client has made this move
 abbrev pub moved : ℕ → List Place → Line → Move → MutexState

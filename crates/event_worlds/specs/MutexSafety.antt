@@ -1,5 +1,5 @@
 -- What holds of the mutex world after every schedule.
-use Rattle.std.specs.Prelude.{◌≡◌, ◌↔◌, ◌⊎◌, ℕ, ◌<◌, ◌≤◌, true, length, slice_get, Some, None, IsTrue, IsSomeAnd}
+use Rattle.std.specs.Prelude.{◌≡◌, ◌↔◌, ◌⊎◌, ℕ, ◌<◌, ◌≤◌, true, false, length, slice_get, Some, None, IsTrue, IsSomeAnd}
 use Rattle.event_worlds.specs.declared.world.place.Place.{Place}
 use Rattle.event_worlds.specs.declared.world.place.Place.TheVariants.{First, Ending, ToRegister, Parked, Holding, Releasing}
 use Rattle.event_worlds.specs.ClientTable.{is_listening}
@@ -37,6 +37,10 @@ HolderIsInside state =
 -- at most one client is told
 abbrev pub AtMostOneTold : MutexState → Type 0
 AtMostOneTold state = length state.line.told ≤ 1
+
+-- every notification is default
+abbrev pub NotifiesDefault : MutexState → Type 0
+NotifiesDefault state = state.line.additional ≡ false
 
 -- the clients told or waiting are exactly those at listening places
 abbrev pub InLineAreListening : MutexState → Type 0

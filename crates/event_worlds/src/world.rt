@@ -1,8 +1,10 @@
 //! What worlds are made of: the places of a client, the acts of a schedule, and the line in which clients stand.
 
 pub mod acts;
+mod client;
 pub mod flag;
 mod line;
 pub mod mutex;
 pub mod place;
+pub mod semaphore;
 mod wakes;

@@ -1,7 +1,6 @@
 //! Every schedule of a length.
-use crate::watched::{Size, Watched};
+use crate::watched::{Size, Step, Watched};
 use anyhow::Result;
-use event_worlds::{Act, Step};
 use std::alloc::Global;
 use std::io::Print;
 
@@ -42,9 +41,9 @@ impl Search {
             return Ok(true);
         }
         let actors = size.world(alloc)?.actors();
-        for client in 0..actors {
-            for act in [Act::Go, Act::Poll, Act::TimeOut, Act::Cancel] {
-                match self.make(alloc, size, Step { client, act })? {
+        for actor in 0..actors {
+            for act in size.acts() {
+                match self.make(alloc, size, Step { actor, act })? {
                     Made::NotTaken => {}
                     Made::Lost => return Ok(false),
                     Made::Safe => {

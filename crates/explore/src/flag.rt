@@ -1,6 +1,6 @@
 //! The world of a flag's clients and setters.
-use crate::watched::{Shared, Size, Spot, Standing, Watched, how_it_stands};
-use event_worlds::{FlagPlace, FlagWorld, SetterPlace, Step};
+use crate::watched::{Act, LOCK_ACTS, Shared, Size, Spot, Standing, Step, Watched, how_it_stands};
+use event_worlds::{FlagPlace, FlagWorld, SetterPlace};
 use std::alloc::{AllocError, Global};
 
 /// How many clients and setters a flag has.
@@ -13,6 +13,10 @@ pub struct FlagSize {
 impl Size for FlagSize {
     type World = FlagWorld;
 
+    fn acts(self) -> [Act; 4] {
+        LOCK_ACTS
+    }
+
     fn world(self, alloc: Global) -> Result<FlagWorld, AllocError> {
         FlagWorld::new(alloc, self.clients, self.setters)
     }
@@ -24,7 +28,10 @@ impl Watched for FlagWorld {
     }
 
     fn make(&mut self, step: Step) -> bool {
-        self.step(step.client, step.act)
+        match step.act.of_lock() {
+            Some(act) => self.step(step.actor, act),
+            None => false,
+        }
     }
 
     fn spot(&self, actor: usize) -> Option<Spot> {
@@ -32,6 +39,7 @@ impl Watched for FlagWorld {
             let place = self.place(actor);
             return Some(Spot {
                 place: name(place),
+                permits: None,
                 standing: how_it_stands(self.is_told(actor), is_listening(place)),
                 has_wake: self.has_wake(actor),
             });
@@ -42,6 +50,7 @@ impl Watched for FlagWorld {
         }
         Some(Spot {
             place: setter_name(self.setter(number)),
+            permits: None,
             standing: Standing::Absent,
             has_wake: false,
         })

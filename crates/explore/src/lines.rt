@@ -1,15 +1,15 @@
 //! The lines of the input, and what is answered to each.
 use crate::all::Search;
-use crate::request::{Request, RequestError, World};
+use crate::request::{Request, Unreadable, World};
 use crate::table::write_run;
-use crate::watched::Size;
+use crate::watched::{Size, Step};
 use anyhow::Result;
-use event_worlds::Step;
 use std::alloc::Global;
 use std::io::{BufRead, Print, Write};
 
 /// Answers each line of the input, in order: the line itself, what it asks for, and an empty line. A line that asks for
-/// nothing is answered `invalid`. Answers whether no wake-up was lost in all of them.
+/// nothing is answered `invalid`, and which word of it is wrong. Answers whether each of them asked for something and
+/// no wake-up was lost in any.
 pub fn answer_all<P: Print, R: BufRead + Drop, W: Write>(
     progress: &P,
     alloc: Global,
@@ -24,10 +24,10 @@ pub fn answer_all<P: Print, R: BufRead + Drop, W: Write>(
         let is_safe = match Request::read(alloc, line) {
             Ok(Request::Run { world, steps }) => run(alloc, world, steps.as_slice(), output)?,
             Ok(Request::All { world, depth }) => search(progress, alloc, world, depth, output)?,
-            Err(error @ RequestError::Memory) => return Err(error.into()),
-            Err(RequestError::Invalid) => {
-                writeln!(output, "invalid")?;
-                true
+            Err(Unreadable::Memory(error)) => return Err(error.into()),
+            Err(Unreadable::Word(word)) => {
+                writeln!(output, "invalid: {word}")?;
+                false
             }
         };
         writeln!(output)?;
@@ -40,6 +40,7 @@ fn run<W: Write>(alloc: Global, world: World, steps: &[Step], output: &mut W) ->
     match world {
         World::Mutex(size) => run_in(alloc, size, steps, output),
         World::Flag(size) => run_in(alloc, size, steps, output),
+        World::Semaphore(size) => run_in(alloc, size, steps, output),
     }
 }
 
@@ -63,6 +64,7 @@ fn search<P: Print, W: Write>(
     match world {
         World::Mutex(size) => search_in(progress, alloc, size, depth, output),
         World::Flag(size) => search_in(progress, alloc, size, depth, output),
+        World::Semaphore(size) => search_in(progress, alloc, size, depth, output),
     }
 }
 

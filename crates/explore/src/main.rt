@@ -5,9 +5,13 @@ mod all;
 mod flag;
 mod lines;
 mod mutex;
+mod places;
 mod request;
+mod semaphore;
 mod table;
 mod watched;
+#[cfg(test)]
+mod wrong_words;
 
 use anyhow::Result;
 use std::io::{self, BufReader, BufWriter, Write};

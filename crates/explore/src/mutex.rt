@@ -1,6 +1,7 @@
 //! The world of a lock's clients.
-use crate::watched::{Shared, Size, Spot, Watched, how_it_stands};
-use event_worlds::{MutexWorld, Place, Step};
+use crate::places::{is_listening, name};
+use crate::watched::{Act, LOCK_ACTS, Shared, Size, Spot, Step, Watched, how_it_stands};
+use event_worlds::{MutexWorld, Place};
 use std::alloc::{AllocError, Global};
 
 /// How many clients a lock has.
@@ -11,6 +12,10 @@ pub struct MutexSize {
 
 impl Size for MutexSize {
     type World = MutexWorld;
+
+    fn acts(self) -> [Act; 4] {
+        LOCK_ACTS
+    }
 
     fn world(self, alloc: Global) -> Result<MutexWorld, AllocError> {
         MutexWorld::new(alloc, self.clients)
@@ -23,7 +28,10 @@ impl Watched for MutexWorld {
     }
 
     fn make(&mut self, step: Step) -> bool {
-        self.step(step.client, step.act)
+        match step.act.of_lock() {
+            Some(act) => self.step(step.actor, act),
+            None => false,
+        }
     }
 
     fn spot(&self, actor: usize) -> Option<Spot> {
@@ -33,6 +41,7 @@ impl Watched for MutexWorld {
         let place = self.place(actor);
         Some(Spot {
             place: name(place),
+            permits: None,
             standing: how_it_stands(self.is_told(actor), is_listening(place)),
             has_wake: self.has_wake(actor),
         })
@@ -67,26 +76,4 @@ impl Watched for MutexWorld {
             || is_on_its_way
             || (somebody_is_told && !told_client_sleeps)
     }
-}
-
-fn name(place: Place) -> &'static str {
-    match place {
-        Place::Idle => "Idle",
-        Place::First { woken: false } => "First",
-        Place::First { woken: true } => "First, woken",
-        Place::ToListen => "ToListen",
-        Place::Second => "Second",
-        Place::Ending => "Ending",
-        Place::ToRegister => "ToRegister",
-        Place::Parked => "Parked",
-        Place::Holding => "Holding",
-        Place::Releasing => "Releasing",
-    }
-}
-
-fn is_listening(place: Place) -> bool {
-    matches!(
-        place,
-        Place::Second | Place::Ending | Place::ToRegister | Place::Parked
-    )
 }

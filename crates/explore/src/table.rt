@@ -1,7 +1,6 @@
 //! A run of a world as a table.
-use crate::watched::{Shared, Spot, Standing, Watched};
+use crate::watched::{Shared, Spot, Standing, Step, Watched};
 use anyhow::Result;
-use event_worlds::{Act, Step};
 use std::io::Write;
 
 /// Makes the steps in order, and writes a line for each: what was done, and where everybody is then. A step that is not
@@ -20,11 +19,11 @@ pub fn write_run<V: Watched, W: Write>(
         let is_step = world.make(*step);
         made = made.saturating_add(u64::from(is_step));
         let mark = if is_step { "" } else { "not taken" };
-        let act = name(step.act);
+        let act = step.act.name();
         write!(
             output,
             "| {number:>4} | {:>4} {act:<9} {mark:<9} |",
-            step.client
+            step.actor
         )?;
         write_state(world, output)?;
         is_safe = is_safe && world.is_safe();
@@ -37,10 +36,14 @@ fn write_header<V: Watched, W: Write>(world: &V, output: &mut W) -> Result<()> {
     let shared = match world.shared() {
         Shared::Lock { .. } => "lock",
         Shared::Flag { .. } => "flag",
+        Shared::Permits { .. } => "free",
     };
     write!(output, "| step | {:<24} | {shared:<7} |", "act")?;
     for actor in 0..world.actors() {
-        write!(output, " {actor:<22} |")?;
+        match world.shared() {
+            Shared::Permits { .. } => write!(output, " {actor:<27} |")?,
+            _ => write!(output, " {actor:<23} |")?,
+        }
     }
     write!(output, "\n|---|---|---|")?;
     for _ in 0..world.actors() {
@@ -59,6 +62,7 @@ fn write_state<V: Watched, W: Write>(world: &V, output: &mut W) -> Result<()> {
         } => write!(output, " {client:<7} |")?,
         Shared::Flag { is_set: false } => write!(output, " {:<7} |", "not set")?,
         Shared::Flag { is_set: true } => write!(output, " {:<7} |", "set")?,
+        Shared::Permits { free } => write!(output, " {free:<7} |")?,
     }
     for actor in 0..world.actors() {
         if let Some(spot) = world.spot(actor) {
@@ -76,15 +80,12 @@ fn write_spot<W: Write>(spot: Spot, output: &mut W) -> Result<()> {
         Standing::Told => "told",
     };
     let wake = if spot.has_wake { "wake" } else { "" };
-    write!(output, " {:<11} {standing:<5} {wake:<4} |", spot.place)?;
-    Ok(())
-}
-
-fn name(act: Act) -> &'static str {
-    match act {
-        Act::Go => "Go",
-        Act::Poll => "Poll",
-        Act::TimeOut => "TimeOut",
-        Act::Cancel => "Cancel",
+    write!(output, " {:<12}", spot.place)?;
+    match spot.permits {
+        None => {}
+        Some(0) => write!(output, " {:>3}", "")?,
+        Some(permits) => write!(output, " {permits:>3}")?,
     }
+    write!(output, " {standing:<5} {wake:<4} |")?;
+    Ok(())
 }

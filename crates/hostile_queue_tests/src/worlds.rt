@@ -1,10 +1,12 @@
 //! Worlds of too many, and acts of those that are not there.
 use crate::checks::check;
-use event_worlds::{Act, FlagWorld, MutexWorld, Place, Step};
+use event_worlds::{Act, FlagWorld, MutexWorld, Place, SemAct, SemStep, SemaphoreWorld, Step};
 use std::alloc::AllocGlobal;
 use std::process::Abort;
 
 const ACTS: [Act; 4] = [Act::Go, Act::Poll, Act::TimeOut, Act::Cancel];
+
+const SEM_ACTS: [SemAct; 4] = [SemAct::Go, SemAct::More, SemAct::TimeOut, SemAct::Cancel];
 
 fn no_mutex_world<R: Abort + AllocGlobal>(rt: &R, clients: usize, first: u64) {
     let world = MutexWorld::starting_at(rt.alloc(), clients, first);
@@ -14,6 +16,11 @@ fn no_mutex_world<R: Abort + AllocGlobal>(rt: &R, clients: usize, first: u64) {
 fn no_flag_world<R: Abort + AllocGlobal>(rt: &R, clients: usize, setters: usize) {
     let world = FlagWorld::new(rt.alloc(), clients, setters);
     check(rt, ("flag", clients, setters), world.is_err(), true);
+}
+
+fn no_semaphore_world<R: Abort + AllocGlobal>(rt: &R, clients: usize, permits: usize) {
+    let world = SemaphoreWorld::new(rt.alloc(), clients, permits);
+    check(rt, ("semaphore", clients, permits), world.is_err(), true);
 }
 
 // The world of worked row 52, and others.
@@ -32,6 +39,9 @@ fn worlds_of_too_many_are_refused(rt: HostRuntime) {
     no_flag_world(&rt, usize::MAX, 1);
     no_flag_world(&rt, 1, usize::MAX);
     no_flag_world(&rt, usize::MAX, usize::MAX);
+    no_semaphore_world(&rt, usize::MAX, 1);
+    no_semaphore_world(&rt, usize::MAX, usize::MAX);
+    no_semaphore_world(&rt, usize::MAX / 2 + 1, 0);
 }
 
 // No act of a client that is not there is a step of either world.
@@ -76,4 +86,44 @@ fn a_client_without_a_serial_goes_on(rt: HostRuntime) {
     if world.clients() == 2 {
         check(&rt, "place", world.place(1), Place::Idle);
     }
+}
+
+// No act of a client that is not there is a step of a semaphore.
+fn no_permit_is_taken<R: Abort>(rt: &R, world: &mut SemaphoreWorld, client: usize) {
+    for act in SEM_ACTS {
+        check(rt, (client, act), world.step(client, act), false);
+        let steps = [SemStep { client, act }, SemStep { client, act }];
+        check(rt, (client, act), world.run(&steps), 0);
+    }
+}
+
+#[test]
+fn nobody_takes_a_permit_who_is_not_there(rt: HostRuntime) {
+    let mut world = SemaphoreWorld::new(rt.alloc(), 2, usize::MAX).expect(&rt, "a world");
+    for client in [2, 3, usize::MAX - 1, usize::MAX] {
+        no_permit_is_taken(&rt, &mut world, client);
+    }
+    check(&rt, "free", world.free(), usize::MAX);
+    let mut nobody = SemaphoreWorld::new(rt.alloc(), 0, 1).expect(&rt, "a world");
+    no_permit_is_taken(&rt, &mut nobody, 0);
+    check(&rt, "free", nobody.free(), 1);
+}
+
+// As many permits as a number can say: two clients take some, and give all back.
+#[test]
+fn the_greatest_number_of_permits(rt: HostRuntime) {
+    let mut world = SemaphoreWorld::new(rt.alloc(), 2, usize::MAX).expect(&rt, "a world");
+    let step = |client, act| SemStep { client, act };
+    let taking = [
+        step(0, SemAct::Go),
+        step(0, SemAct::Go),
+        step(0, SemAct::More),
+        step(1, SemAct::Go),
+        step(1, SemAct::Go),
+    ];
+    check(&rt, "taken", world.run(&taking), 5);
+    check(&rt, "free", world.free(), usize::MAX - 3);
+    let freeing = [step(0, SemAct::Go), step(1, SemAct::Go)];
+    check(&rt, "freed", world.run(&freeing), 2);
+    check(&rt, "free", world.free(), usize::MAX);
 }

@@ -11,3 +11,5 @@ mod mutex_world;
 mod queue;
 #[cfg(test)]
 mod room;
+#[cfg(test)]
+mod semaphore_world;

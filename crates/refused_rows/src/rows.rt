@@ -5,7 +5,7 @@ use crate::support::{Runtime, check};
 use rows_events::{EventRow, IdentityRow, TagRow, WaitRow};
 use rows_queue::QueueRow;
 use rows_recorded::RecordedRow;
-use rows_worlds::{FlagRow, MutexRow};
+use rows_worlds::{FlagRow, MutexRow, SemaphoreRow};
 use std::process::Abort;
 use worked_rows::{Request, Row};
 
@@ -78,6 +78,8 @@ fn rows_on_worlds(rt: HostRuntime) {
     at_least(&rt, &counts, Request::World, 6);
     let counts = refused::<FlagRow, _>(&rt);
     at_least(&rt, &counts, Request::World, 3);
+    let counts = refused::<SemaphoreRow, _>(&rt);
+    at_least(&rt, &counts, Request::World, 3);
 }
 
 // So many calls, or more, allocate nothing.
@@ -99,4 +101,5 @@ fn calls_that_allocate_nothing(rt: HostRuntime) {
     starved::<RecordedRow, _>(&rt, 10);
     starved::<MutexRow, _>(&rt, 26);
     starved::<FlagRow, _>(&rt, 10);
+    starved::<SemaphoreRow, _>(&rt, 30);
 }

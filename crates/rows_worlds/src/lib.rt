@@ -5,7 +5,10 @@ mod flag;
 mod flag_calls;
 mod mutex;
 mod mutex_calls;
+mod semaphore;
+mod semaphore_calls;
 mod worlds;
 
 pub use flag::FlagRow;
 pub use mutex::MutexRow;
+pub use semaphore::SemaphoreRow;

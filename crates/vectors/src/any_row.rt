@@ -1,7 +1,7 @@
 use rows_events::{EventRow, IdentityRow, TagRow, WaitRow};
 use rows_queue::QueueRow;
 use rows_recorded::RecordedRow;
-use rows_worlds::{FlagRow, MutexRow};
+use rows_worlds::{FlagRow, MutexRow, SemaphoreRow};
 use std::sync::Wait;
 use std::time::Clock;
 use worked_rows::{Harness, Hook, Row};
@@ -17,6 +17,7 @@ pub enum AnyRow {
     Recorded(RecordedRow),
     Mutex(MutexRow),
     Flag(FlagRow),
+    Semaphore(SemaphoreRow),
 }
 
 impl Row for AnyRow {
@@ -45,6 +46,9 @@ impl Row for AnyRow {
         if let Some(row) = FlagRow::numbered(number) {
             return Some(AnyRow::Flag(row));
         }
+        if let Some(row) = SemaphoreRow::numbered(number) {
+            return Some(AnyRow::Semaphore(row));
+        }
         None
     }
 
@@ -62,6 +66,7 @@ impl Row for AnyRow {
             AnyRow::Recorded(row) => row.run(harness),
             AnyRow::Mutex(row) => row.run(harness),
             AnyRow::Flag(row) => row.run(harness),
+            AnyRow::Semaphore(row) => row.run(harness),
         }
     }
 }

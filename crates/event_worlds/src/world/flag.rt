@@ -4,7 +4,7 @@ ghost use Rattle.event_worlds.specs.declared.world.acts.Act.TheVariants.{Go};
 ghost use Rattle.event_worlds.specs.Line.{IsLine, is_told, is_in_line, has_wake, has_serial_left, joined, registered, told_left};
 ghost use Rattle.event_worlds.specs.Flag.{start, next, next_of_setter, after, after_all, taken};
 ghost use Rattle.event_worlds.specs.FlagInvariant.{IsSound, MayBeAt, Moves, SetterMoves};
-ghost use Rattle.event_worlds.specs.FlagSafety.{IsSafe, InLineAreListening};
+ghost use Rattle.event_worlds.specs.FlagSafety.{IsSafe, NotifiesDefault, InLineAreListening};
 
 use super::acts::{Act, Step};
 use super::line::ClientLine;
@@ -79,9 +79,10 @@ impl FlagWorld {
     pub fn new(alloc: Global, clients: usize, setters: usize) -> Result<Self, AllocError>
         ensures start { IfOk result (λ world. world ≡ start clients setters 0) }
         ensures safe { IfOk result IsSafe }
+        ensures notifies_default { IfOk result NotifiesDefault }
         ensures in_line_are_those_listening { IfOk result InLineAreListening }
     {
-        Self::make(alloc, clients, setters, 0)
+        Self::starting_at(alloc, clients, setters, 0)
     }
 
     /// The same with a line whose first listener gets the serial `first`. No listener gets `u64::MAX`, so a world that
@@ -94,6 +95,7 @@ impl FlagWorld {
     ) -> Result<Self, AllocError>
         ensures start { IfOk result (λ world. world ≡ start clients setters first) }
         ensures safe { IfOk result IsSafe }
+        ensures notifies_default { IfOk result NotifiesDefault }
         ensures in_line_are_those_listening { IfOk result InLineAreListening }
     {
         Self::make(alloc, clients, setters, first)
@@ -105,7 +107,7 @@ impl FlagWorld {
     {
         let places = vec![in alloc; FlagPlace::Check1; clients]?;
         let setters = vec![in alloc; SetterPlace::ToSet; setters]?;
-        let line = ClientLine::new(alloc, clients, first)?;
+        let line = ClientLine::new(alloc, false, clients, first)?;
         Ok(FlagWorld {
             flag: false,
             places,
@@ -121,6 +123,7 @@ impl FlagWorld {
         ensures step { self.new ≡ after actor act self.old }
         ensures answer { result ≡ is_some (next actor act self.old) }
         ensures safe { IsSafe self.new }
+        ensures notifies_default { NotifiesDefault self.new }
         ensures in_line_are_those_listening { InLineAreListening self.new }
     {
         self.take_step(actor, act)
@@ -188,6 +191,7 @@ impl FlagWorld {
         ensures state { self.new ≡ after_all steps.now self.old }
         ensures taken { result ≡ taken steps.now self.old }
         ensures safe { IsSafe self.new }
+        ensures notifies_default { NotifiesDefault self.new }
         ensures in_line_are_those_listening { InLineAreListening self.new }
     {
         self.is_sound();

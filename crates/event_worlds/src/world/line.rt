@@ -7,12 +7,14 @@ use event_queue::{IntoNotification, Key, List, RegisterResult};
 use std::alloc::{AllocError, Global};
 use std::marker::Model;
 
-/// A line of clients, by their numbers. After [`new`](ClientLine::new) no call allocates.
+/// A line of clients, by their numbers, all of whose notifications are of one kind. After [`new`](ClientLine::new) no
+/// call allocates.
 #[derive(Drop)]
 pub(super) struct ClientLine {
     list: List<(), usize>,
     keys: Vec<Option<Key>>,
     wakes: Wakes,
+    additional: bool,
 }
 
 impl Model for ClientLine {
@@ -21,16 +23,21 @@ impl Model for ClientLine {
 
     ghost Value = { Line };
 
-    ghost view = { λ line. line_of line.list line.keys.items line.wakes };
+    ghost view = { λ line. line_of line.additional line.list line.keys.items line.wakes };
 
-    ghost invariant = { λ line. IsTied line.list line.keys.items line.wakes };
+    ghost invariant = { λ line. IsTied line.additional line.list line.keys.items line.wakes };
 }
 
 impl ClientLine {
-    /// A line of so many clients, in which nobody stands; the first that joins gets the serial `first`. It has room
-    /// for all of them.
-    pub(super) fn new(alloc: Global, clients: usize, first: u64) -> Result<Self, AllocError>
-        ensures empty { IfOk result (λ line. line ≡ empty_line clients first) }
+    /// A line of so many clients, in which nobody stands; the first that joins gets the serial `first`. Its
+    /// notifications are additional or default. It has room for all clients.
+    pub(super) fn new(
+        alloc: Global,
+        additional: bool,
+        clients: usize,
+        first: u64,
+    ) -> Result<Self, AllocError>
+        ensures empty { IfOk result (λ line. line ≡ empty_line additional clients first) }
     {
         let mut list = List::starting_at(alloc, first);
         list.reserve(clients)?;
@@ -38,6 +45,7 @@ impl ClientLine {
             list,
             keys: vec![in alloc; None; clients]?,
             wakes: Wakes::new(alloc, clients)?,
+            additional,
         })
     }
 
@@ -135,14 +143,21 @@ impl ClientLine {
         self.wakes.clear(client);
     }
 
-    /// Notifies the line of so many clients, those told already among them.
+    /// Notifies the line of so many clients. Those told already are among them where its notifications are default.
     pub(super) fn notify(&mut self, count: usize)
         ensures changed { self.new ≡ notified count self.old }
         ensures line { IsLine self.new }
     {
-        let mut notification = count.into_notification();
-        let _told = self
-            .list
-            .notify_uncounted(&mut notification, &mut self.wakes);
+        if self.additional {
+            let mut notification = count.additional();
+            let _told = self
+                .list
+                .notify_uncounted(&mut notification, &mut self.wakes);
+        } else {
+            let mut notification = count.into_notification();
+            let _told = self
+                .list
+                .notify_uncounted(&mut notification, &mut self.wakes);
+        }
     }
 }

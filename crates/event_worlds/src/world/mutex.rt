@@ -6,10 +6,12 @@ ghost use Rattle.event_worlds.specs.ClientTable.{place_after};
 ghost use Rattle.event_worlds.specs.Line.{is_told, is_in_line, has_wake, has_serial_left, joined, registered, told_left, waiting_left, dropped};
 ghost use Rattle.event_worlds.specs.Mutex.{start, next, after, after_all, taken};
 ghost use Rattle.event_worlds.specs.MutexInvariant.{IsSound};
-ghost use Rattle.event_worlds.specs.MutexMove.{MayBeAt, Moves};
-ghost use Rattle.event_worlds.specs.MutexSafety.{IsSafe, HolderIsInside, AtMostOneTold, InLineAreListening};
+ghost use Rattle.event_worlds.specs.MutexMove.{Moves};
+ghost use Rattle.event_worlds.specs.MutexSafety.{IsSafe, HolderIsInside, AtMostOneTold, NotifiesDefault, InLineAreListening};
+ghost use Rattle.event_worlds.specs.Served.{MayBeAt};
 
 use super::acts::{Act, Step};
+use super::client::{drops_out, hears, listens, registers, times_out, wakes};
 use super::line::ClientLine;
 use super::place::{News, Place};
 use std::alloc::{AllocError, Global};
@@ -61,9 +63,10 @@ impl MutexWorld {
         ensures safe { IfOk result IsSafe }
         ensures holder_is_the_one_inside { IfOk result HolderIsInside }
         ensures at_most_one_told { IfOk result AtMostOneTold }
+        ensures notifies_default { IfOk result NotifiesDefault }
         ensures in_line_are_those_listening { IfOk result InLineAreListening }
     {
-        Self::make(alloc, clients, 0)
+        Self::starting_at(alloc, clients, 0)
     }
 
     /// The same with a line whose first listener gets the serial `first`. No listener gets `u64::MAX`, so a world that
@@ -73,6 +76,7 @@ impl MutexWorld {
         ensures safe { IfOk result IsSafe }
         ensures holder_is_the_one_inside { IfOk result HolderIsInside }
         ensures at_most_one_told { IfOk result AtMostOneTold }
+        ensures notifies_default { IfOk result NotifiesDefault }
         ensures in_line_are_those_listening { IfOk result InLineAreListening }
     {
         Self::make(alloc, clients, first)
@@ -83,7 +87,7 @@ impl MutexWorld {
         ensures sound { IfOk result IsSound }
     {
         let places = vec![in alloc; Place::Idle; clients]?;
-        let line = ClientLine::new(alloc, clients, first)?;
+        let line = ClientLine::new(alloc, false, clients, first)?;
         Ok(MutexWorld {
             holder: None,
             places,
@@ -99,6 +103,7 @@ impl MutexWorld {
         ensures safe { IsSafe self.new }
         ensures holder_is_the_one_inside { HolderIsInside self.new }
         ensures at_most_one_told { AtMostOneTold self.new }
+        ensures notifies_default { NotifiesDefault self.new }
         ensures in_line_are_those_listening { InLineAreListening self.new }
     {
         self.take_step(client, act)
@@ -131,6 +136,7 @@ impl MutexWorld {
         ensures safe { IsSafe self.new }
         ensures holder_is_the_one_inside { HolderIsInside self.new }
         ensures at_most_one_told { AtMostOneTold self.new }
+        ensures notifies_default { NotifiesDefault self.new }
         ensures in_line_are_those_listening { InLineAreListening self.new }
     {
         self.is_sound();
@@ -202,7 +208,7 @@ fn moves(
     match act {
         Act::Go => goes(holder, place, client, line),
         Act::Poll => is_polled(holder, place, client, line),
-        Act::TimeOut => times_out(holder, place, client, line),
+        Act::TimeOut => is_late(holder, place, client, line),
         Act::Cancel => cancels(holder, place, client, line),
     }
 }
@@ -221,8 +227,7 @@ fn goes(holder: Option<usize>, place: Place, client: usize, line: &mut ClientLin
         Place::ToRegister => Some(Move::to(registers(client, line), holder)),
         Place::Parked => {
             if line.has_wake(client) {
-                line.lose_wake(client);
-                Some(Move::to(hears(place, News::Woke), holder))
+                Some(Move::to(wakes(client, line), holder))
             } else {
                 None
             }
@@ -232,17 +237,6 @@ fn goes(holder: Option<usize>, place: Place, client: usize, line: &mut ClientLin
             line.notify(1);
             Some(Move::to(hears(place, News::Notified), holder))
         }
-    }
-}
-
-// Where this news takes a client from a place where it may come. No client of the world goes elsewhere.
-fn hears(place: Place, news: News) -> Place
-    requires may_come { IsSome (place_after place news) }
-    ensures { result ≡ unwrap_or (place_after place news) place }
-{
-    match place.after(news) {
-        Some(place) => place,
-        None => unreachable!(),
     }
 }
 
@@ -258,31 +252,6 @@ fn tries(holder: Option<usize>, place: Place, client: usize) -> Move
     }
 }
 
-fn listens(client: usize, line: &mut ClientLine) -> Place
-    requires client { client < length line.old.awake }
-    requires absent { IsFalse (is_in_line client line.old) }
-    ensures place { result ≡ (if has_serial_left line.old then Second else Idle) }
-    ensures line { line.new ≡ (if has_serial_left line.old then joined client line.old else line.old) }
-{
-    if line.join(client) {
-        hears(Place::ToListen, News::Listening)
-    } else {
-        hears(Place::ToListen, News::Refused)
-    }
-}
-
-fn registers(client: usize, line: &mut ClientLine) -> Place
-    requires client { client < length line.old.awake }
-    ensures place { result ≡ (if is_told client line.old then First true else Parked) }
-    ensures line { line.new ≡ (if is_told client line.old then told_left client line.old else registered client line.old) }
-{
-    if line.register(client) {
-        hears(Place::ToRegister, News::Told)
-    } else {
-        hears(Place::ToRegister, News::Registered)
-    }
-}
-
 fn is_polled(
     holder: Option<usize>,
     place: Place,
@@ -293,15 +262,12 @@ fn is_polled(
     ensures moves { Moves holder place client Poll line.old result line.new }
 {
     match place {
-        Place::Parked => {
-            line.lose_wake(client);
-            Some(Move::to(hears(place, News::Woke), holder))
-        }
+        Place::Parked => Some(Move::to(wakes(client, line), holder)),
         _ => None,
     }
 }
 
-fn times_out(
+fn is_late(
     holder: Option<usize>,
     place: Place,
     client: usize,
@@ -311,20 +277,8 @@ fn times_out(
     ensures moves { Moves holder place client TimeOut line.old result line.new }
 {
     match place {
-        Place::Parked => Some(Move::to(leaves(client, line), holder)),
+        Place::Parked => Some(Move::to(times_out(client, line), holder)),
         _ => None,
-    }
-}
-
-fn leaves(client: usize, line: &mut ClientLine) -> Place
-    requires client { client < length line.old.awake }
-    ensures place { result ≡ (if is_told client line.old then First true else Idle) }
-    ensures line { line.new ≡ (if is_told client line.old then told_left client line.old else waiting_left client line.old) }
-{
-    if line.leave(client) {
-        hears(Place::Parked, News::Told)
-    } else {
-        hears(Place::Parked, News::TimedOut)
     }
 }
 
@@ -342,15 +296,4 @@ fn cancels(
         Place::Parked => Some(Move::to(drops_out(place, client, line), holder)),
         _ => None,
     }
-}
-
-// The listener is dropped, which passes its notification on.
-fn drops_out(place: Place, client: usize, line: &mut ClientLine) -> Place
-    requires client { client < length line.old.awake }
-    requires may_drop { IsSome (place_after place Dropped) }
-    ensures place { result ≡ unwrap_or (place_after place Dropped) place }
-    ensures line { line.new ≡ dropped client line.old }
-{
-    line.drop_out(client);
-    hears(place, News::Dropped)
 }

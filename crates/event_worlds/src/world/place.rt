@@ -1,43 +1,43 @@
 ghost use Rattle.std.specs.Prelude.{◌≡◌};
 ghost use Rattle.event_worlds.specs.ClientTable.{place_after};
 
-/// Where a client of a lock is. [`Place::after`] says how it goes on.
+/// Where a client of a lock is, or of a semaphore. [`Place::after`] says how it goes on.
 ///
-/// A client tries the lock, listens, tries again, and only then waits: a lock that was freed before it listened would
-/// not have told it.
+/// A client tries to take the lock, or a permit, listens, tries again, and only then waits: whoever freed one before the
+/// client listened would not have told it.
 #[derive(Clone, Copy, Debug, PartialEq, Eq)]
 pub enum Place {
-    /// It doesn't want the lock.
+    /// It doesn't want the lock, or a permit.
     Idle,
-    /// It is about to try the lock, with no listener.
+    /// It is about to try to take the lock, or a permit, with no listener.
     First {
         /// Whether a notification brought it here.
         woken: bool,
     },
-    /// It found the lock held, and is about to listen.
+    /// It found the lock held, or no permit free, and is about to listen.
     ToListen,
-    /// It listens, and is about to try the lock again.
+    /// It listens, and is about to try again.
     Second,
-    /// Its second try took the lock, and its listener is still to be dropped.
+    /// Its second try took the lock, or a permit, and its listener is still to be dropped.
     Ending,
-    /// Its second try found the lock held, or it woke: it is about to register.
+    /// Its second try found the lock held, or no permit free, or it woke: it is about to register.
     ToRegister,
     /// It has registered, and waits for its wake-up.
     Parked,
-    /// It has the lock, and no listener.
+    /// It has the lock, or one permit or several, and no listener.
     Holding,
-    /// It has freed the lock, and is about to notify.
+    /// It has freed the lock, or all its permits, and is about to notify.
     Releasing,
 }
 
-/// What a client of a lock learns.
+/// What a client of a lock learns, or of a semaphore.
 #[derive(Clone, Copy, Debug, PartialEq, Eq)]
 pub enum News {
-    /// It wants the lock.
+    /// It wants the lock, or a permit.
     Begin,
-    /// A try took the lock.
+    /// A try took the lock, or a permit.
     Got,
-    /// A try found the lock held.
+    /// A try found the lock held, or no permit free.
     Busy,
     /// It listens.
     Listening,
@@ -47,15 +47,15 @@ pub enum News {
     Told,
     /// Registering stored its task.
     Registered,
-    /// Its wake-up came while it was parked, or its lock was polled without one.
+    /// Its wake-up came while it was parked, or it was polled without one.
     Woke,
     /// The removal at a deadline gave no tag.
     TimedOut,
     /// Its listener was dropped, which passes a notification on.
     Dropped,
-    /// It freed the lock.
+    /// It freed the lock, or all its permits.
     Freed,
-    /// Its notification after freeing the lock returned.
+    /// Its notification after that returned.
     Notified,
 }
 

@@ -3,7 +3,8 @@ use Rattle.std.proofs.lemmas.Option.{slice_get_read}
 use Rattle.event_worlds.specs.declared.world.acts.Act.TheVariants.{Go}
 use Rattle.event_worlds.specs.Flag.{FlagState, goes, next}
 use Rattle.event_worlds.proofs.FlagSteps.{sound-moves}
-use Rattle.event_worlds.proofs.FlagMoves.{may_be_at, next-made, next-none, is_made, is_none_made}
+use Rattle.event_worlds.proofs.MadeLemmas.{is_made, is_none_made}
+use Rattle.event_worlds.proofs.FlagMoves.{may_be_at, next-made, next-none}
 use Rattle.event_worlds.proofs.world.flag.FlagWorld.client_goes.Goals as goal
 
 pub moves-requires-clause-client : goal.moves-requires-clause-client

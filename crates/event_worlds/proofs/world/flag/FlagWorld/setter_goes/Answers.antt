@@ -2,7 +2,8 @@ use Rattle.std.proofs.Common.{length, refl, sym, ap, arith}
 use Rattle.std.proofs.lemmas.Option.{slice_get_read}
 use Rattle.event_worlds.specs.Flag.{FlagState, setter_goes, next_of_setter}
 use Rattle.event_worlds.proofs.FlagSteps.{sound-setter_moves}
-use Rattle.event_worlds.proofs.FlagMoves.{setter-made, setter-none, setter-past, is_made, is_none_made}
+use Rattle.event_worlds.proofs.MadeLemmas.{is_made, is_none_made}
+use Rattle.event_worlds.proofs.FlagMoves.{setter-made, setter-none, setter-past}
 use Rattle.event_worlds.proofs.world.flag.FlagWorld.setter_goes.Goals as goal
 
 pub returns-then-setter-len-clause-step : goal.returns-then-setter-len-clause-step

@@ -1,7 +1,7 @@
 use Rattle.std.proofs.lemmas.Result.{IfOk-weaker}
 use Rattle.event_worlds.specs.MutexInvariant.{IsSound}
-use Rattle.event_worlds.specs.MutexSafety.{IsSafe, HolderIsInside, AtMostOneTold, InLineAreListening}
-use Rattle.event_worlds.proofs.MutexSafetyLemmas.{safe, holder_is_inside, at_most_one_told, in_line_are_listening}
+use Rattle.event_worlds.specs.MutexSafety.{IsSafe, HolderIsInside, AtMostOneTold, NotifiesDefault, InLineAreListening}
+use Rattle.event_worlds.proofs.MutexSafetyLemmas.{safe, holder_is_inside, at_most_one_told, notifies_default, in_line_are_listening}
 use Rattle.event_worlds.proofs.world.mutex.MutexWorld.starting_at.Goals as goal
 
 pub returns-clause-safe : goal.returns-clause-safe
@@ -14,6 +14,10 @@ returns-clause-holder_is_the_one_inside c =
 pub returns-clause-at_most_one_told : goal.returns-clause-at_most_one_told
 returns-clause-at_most_one_told c =
     IfOk-weaker c.make.result IsSound AtMostOneTold at_most_one_told c.make.ensures.sound
+
+pub returns-clause-notifies_default : goal.returns-clause-notifies_default
+returns-clause-notifies_default c =
+    IfOk-weaker c.make.result IsSound NotifiesDefault notifies_default c.make.ensures.sound
 
 pub returns-clause-in_line_are_those_listening : goal.returns-clause-in_line_are_those_listening
 returns-clause-in_line_are_those_listening c =
