@@ -3,7 +3,7 @@ use crate::checks::check;
 use crate::support::{
     check_woken, hold, is_given, is_held, is_refused, new_mutex, new_task, waits,
 };
-use example_mutex::MutexError;
+use example_locks::MutexError;
 
 #[test]
 fn pending_while_it_is_held_and_ready_once_it_is_free(rt: HostRuntime) {

@@ -2,7 +2,7 @@
 use crate::checks::check;
 use crate::support::new_id;
 use example_flag::wait_for_setter;
-use example_mutex::count;
+use example_locks::count;
 
 const ROUNDS: u32 = 100;
 

@@ -3,7 +3,7 @@ use crate::checks::{check, reads};
 use crate::support::{hold, is_given, is_refused, new_mutex, new_task};
 use event_listener::ListenError;
 use example_flag::MeetingError;
-use example_mutex::{CountError, MutexError};
+use example_locks::{CountError, MutexError};
 use listener_examples::flag::FlagError;
 use std::alloc::AllocError;
 use std::time::Duration;

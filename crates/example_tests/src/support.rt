@@ -1,7 +1,7 @@
 //! What the tests share: the calls that have to succeed. Each ends the test where it does not.
 use crate::checks::check;
 use event_listener::{EventId, EventIds};
-use example_mutex::{Mutex, MutexError, MutexGuard, PolledLock};
+use example_locks::{Mutex, MutexError, MutexGuard, PolledLock};
 use futures::task::{Poll, Waker};
 use futures::test::MockTask;
 use std::alloc::AllocGlobal;

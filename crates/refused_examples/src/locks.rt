@@ -3,7 +3,7 @@ use crate::support::{
     Outcome, Runtime, check, hold, leave, lock, lock_in_time, new_budget, new_mutex,
     nobody_listens, poll, poll_with,
 };
-use example_mutex::{Mutex, MutexError};
+use example_locks::{Mutex, MutexError};
 use futures::test::MockTask;
 use std::process::Abort;
 use test_support::Budget;

@@ -1,7 +1,7 @@
 //! The example programs, of which each request for memory is refused: what they print then is the text of the refusal.
 use crate::support::{check, leave, new_budget, new_id};
 use example_flag::{MeetingError, wait_for_setter};
-use example_mutex::{CountError, count};
+use example_locks::{CountError, count};
 use std::alloc::AllocError;
 use std::process::Abort;
 use test_support::Budget;

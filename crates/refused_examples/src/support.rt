@@ -1,6 +1,6 @@
 //! What the tests share. Each function ends the test where it fails.
 use event_listener::{EventId, EventIds};
-use example_mutex::{Mutex, MutexError, MutexGuard, PolledLock};
+use example_locks::{Mutex, MutexError, MutexGuard, PolledLock};
 use futures::task::Poll;
 use futures::test::MockTask;
 use std::alloc::AllocGlobal;

@@ -1,4 +1,4 @@
-//! A client of the lock, at the places where it has no listener.
+//! A client, at the places where it has no listener.
 ghost use Rattle.std.specs.Prelude.{◌≡◌, IsSome, Some, false};
 ghost use Rattle.event_worlds.specs.declared.world.place.News.TheVariants as news;
 ghost use Rattle.event_worlds.specs.declared.world.place.Place.TheVariants as place;
@@ -7,10 +7,10 @@ ghost use Rattle.event_worlds.specs.ClientTable.{place_after};
 use event_worlds::{News, Place};
 use std::marker::Model;
 
-/// One client of the lock, by its place. A new one is idle; from then on its place is what
+/// One client, by its place. A new one is idle; from then on its place is what
 /// [`Place::after`] says of the one before.
 #[derive(Drop)]
-pub(crate) struct Client {
+pub(super) struct Client {
     place: Place,
 }
 
@@ -30,7 +30,7 @@ impl Client {
     }
 
     /// Goes on by this news.
-    pub(crate) fn hears(&mut self, news: News)
+    pub(super) fn hears(&mut self, news: News)
         requires { IsSome (place_after self.old news) }
         ensures { place_after self.old news ≡ Some self.new }
     {
@@ -41,7 +41,7 @@ impl Client {
     }
 }
 
-/// A client that is about to try the lock, and has no listener.
+/// A client that is about to try, and has no listener.
 #[derive(Drop)]
 pub(crate) struct Trying {
     client: Client,
@@ -50,7 +50,7 @@ pub(crate) struct Trying {
 }
 
 impl Trying {
-    /// A new client, which wants the lock.
+    /// A new client, which wants what there is.
     pub(crate) fn begin() -> Self {
         let mut client = Client::new();
         client.hears(News::Begin);
@@ -58,7 +58,7 @@ impl Trying {
     }
 
     /// A client that registers, and finds that it was told. It has no listener any more.
-    pub(crate) fn told(client: Client) -> Self
+    pub(super) fn told(client: Client) -> Self
         requires { client ≡ place.ToRegister }
     {
         let mut client = client;
@@ -66,33 +66,11 @@ impl Trying {
         Trying { client }
     }
 
-    pub(crate) fn into_client(self) -> Client
+    pub(super) fn into_client(self) -> Client
         ensures got { place_after result news.Got ≡ Some place.Holding }
         ensures busy { place_after result news.Busy ≡ Some place.ToListen }
     {
         let Trying { client } = self;
-        client
-    }
-}
-
-/// A client that has the lock, and no listener.
-#[derive(Drop)]
-pub(crate) struct Holder {
-    client: Client,
-    ghost holds: { client ≡ place.Holding },
-}
-
-impl Holder {
-    pub(crate) fn new(client: Client) -> Self
-        requires { client ≡ place.Holding }
-    {
-        Holder { client }
-    }
-
-    pub(crate) fn into_client(self) -> Client
-        ensures { result ≡ place.Holding }
-    {
-        let Holder { client } = self;
         client
     }
 }
