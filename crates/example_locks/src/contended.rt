@@ -7,6 +7,7 @@
 ghost use Rattle.std.specs.Prelude.{◌≡◌, IsSome, IsNone, IfOk, IfSome, Some};
 ghost use Rattle.event_worlds.specs.ClientTable.{place_after};
 ghost use Rattle.event_worlds.specs.declared.world.place.News.TheVariants as news;
+ghost use Rattle.example_locks.specs.Turn.{IfHolds};
 
 mod client;
 mod held;
@@ -161,6 +162,7 @@ pub(crate) fn try_twice<'a, C, R>(
 where
     C: Contended<'a>,
     R: Wait + Clock + Clone,
+    ensures { IfOk result (λ turn. IfHolds turn C.is_new) }
 {
     let clients = contended.clients();
     let mut client = trying.into_client();

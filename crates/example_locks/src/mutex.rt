@@ -82,8 +82,10 @@ impl<T> Mutex<T> {
     where
         R: Wait + Clock + Clone,
     {
-        let answer = take_timeout(self, rt, alloc, timeout)?;
-        Ok(answer.map(|held| MutexGuard::new(rt, held)))
+        let Some(held) = take_timeout(self, rt, alloc, timeout)? else {
+            return Ok(None);
+        };
+        Ok(Some(MutexGuard::new(rt, held)))
     }
 
     /// A lock to be polled.
@@ -112,7 +114,9 @@ impl<'a, T> Contended<'a> for &'a Mutex<T> {
 }
 
 impl<T> Taken for sync::MutexGuard<'_, T> {
-    ghost owed = { λ _. Owed.One };
+    ghost use Rattle.example_locks.specs.declared.contended.held.Owed.TheVariants.{One};
+
+    ghost owed = { λ _. One };
 
     fn free(self) -> Owed {
         drop(self);

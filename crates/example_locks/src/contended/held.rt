@@ -60,7 +60,7 @@ impl<'a, V> Held<'a, V> {
     pub fn free(self) -> Releasing<'a>
     where
         V: Taken,
-        ensures { result.owed ≡ V.owed self.taken }
+        ensures { result.owed ≡ V.owed self.entry.taken }
     {
         let Held {
             clients,

@@ -26,7 +26,7 @@ impl<'a, R: Wait> Model for Permit<'a, R> {
 
 impl<'a, R: Wait> Permit<'a, R> {
     pub(super) fn new(rt: &'a R, held: Held<'a, Permits<'a>>) -> Self
-        ensures { result ≡ held.taken }
+        ensures { result ≡ held.entry.taken }
     {
         Permit { rt, held }
     }
@@ -97,7 +97,9 @@ impl<'a> Permits<'a> {
 }
 
 impl Taken for Permits<'_> {
-    ghost owed = { λ permits. Owed.Additional permits };
+    ghost use Rattle.example_locks.specs.declared.contended.held.Owed.TheVariants.{Additional};
+
+    ghost owed = { λ permits. Additional permits };
 
     fn free(self) -> Owed {
         let Permits { semaphore, count } = self;
