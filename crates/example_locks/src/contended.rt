@@ -22,8 +22,8 @@ use std::alloc::Global;
 use std::marker::Model;
 use std::sync::Wait;
 use std::time::{Clock, Duration};
+use waiting::Limit;
 pub(crate) use waiting::{Parked, Registered, Waiting};
-use waiting::{Limit, Listening};
 
 /// What clients want, and a try takes if it is free.
 pub trait Contended<'a>: Copy {
@@ -179,7 +179,7 @@ where
     client.hears(News::Listening);
     match try_take(contended, &mut client) {
         Some(taken) => {
-            let client = Listening::new(client, listener).drops();
+            client.drops(listener);
             Ok(Turn::Holds(Held::new(clients, taken, client)))
         }
         None => Ok(Turn::Waits(Waiting::new(client, listener))),

@@ -1,11 +1,14 @@
 //! A client, at the places where it has no listener.
-ghost use Rattle.std.specs.Prelude.{◌≡◌, IsSome, Some, false};
+ghost use Rattle.std.specs.Prelude.{◌≡◌, ◌≢◌, IsSome, Some, false};
 ghost use Rattle.event_worlds.specs.declared.world.place.News.TheVariants as news;
 ghost use Rattle.event_worlds.specs.declared.world.place.Place.TheVariants as place;
 ghost use Rattle.event_worlds.specs.ClientTable.{place_after};
 
+use event_listener::EventListener;
 use event_worlds::{News, Place};
 use std::marker::Model;
+use std::sync::Wait;
+use std::time::Clock;
 
 /// One client, by its place. A new one is idle; from then on its place is what
 /// [`Place::after`] says of the one before.
@@ -29,8 +32,26 @@ impl Client {
         Client { place: Place::Idle }
     }
 
-    /// Goes on by this news.
+    /// Goes on by this news. That its listener was dropped is no such news: a client hears that from
+    /// [`drops`](Client::drops), which drops it.
     pub(super) fn hears(&mut self, news: News)
+        requires comes_here { IsSome (place_after self.old news) }
+        requires keeps_its_listener { news ≢ News.Dropped }
+        ensures { place_after self.old news ≡ Some self.new }
+    {
+        self.goes_on(news);
+    }
+
+    /// Drops its listener, and hears that. If it was told, that tells another one.
+    pub(super) fn drops<R: Wait + Clock + Clone>(&mut self, listener: EventListener<(), R>)
+        requires { IsSome (place_after self.old news.Dropped) }
+        ensures { place_after self.old news.Dropped ≡ Some self.new }
+    {
+        drop(listener);
+        self.goes_on(News::Dropped);
+    }
+
+    fn goes_on(&mut self, news: News)
         requires { IsSome (place_after self.old news) }
         ensures { place_after self.old news ≡ Some self.new }
     {

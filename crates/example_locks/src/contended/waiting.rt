@@ -1,7 +1,5 @@
 //! A client that listens, and waits to be told.
-ghost use Rattle.std.specs.Prelude.{◌≡◌, IsSome, IfOk, Some};
-ghost use Rattle.event_worlds.specs.ClientTable.{place_after};
-ghost use Rattle.event_worlds.specs.declared.world.place.News.TheVariants as news;
+ghost use Rattle.std.specs.Prelude.{◌≡◌, IsSome, IfOk};
 ghost use Rattle.event_worlds.specs.declared.world.place.Place.TheVariants as place;
 
 use super::client::{Client, Trying};
@@ -10,35 +8,6 @@ use event_worlds::News;
 use futures::task::{Poll, Waker};
 use std::sync::Wait;
 use std::time::{Clock, Duration, Instant};
-
-/// A client whose listener is to be dropped.
-pub(super) struct Listening<R: Wait + Clock + Clone> {
-    client: Client,
-    listener: EventListener<(), R>,
-    ghost drops: { IsSome (place_after client news.Dropped) },
-}
-
-impl<R: Wait + Clock + Clone> Listening<R> {
-    pub(super) fn new(client: Client, listener: EventListener<(), R>) -> Self
-        requires { IsSome (place_after client news.Dropped) }
-        ensures { result.client ≡ client }
-    {
-        Listening { client, listener }
-    }
-
-    /// Drops the listener. If it was told, that tells another one.
-    pub(super) fn drops(self) -> Client
-        ensures { place_after self.client news.Dropped ≡ Some result }
-    {
-        let Listening {
-            mut client,
-            listener,
-        } = self;
-        drop(listener);
-        client.hears(News::Dropped);
-        client
-    }
-}
 
 /// A client that found nothing free twice, and listened in between. It is about to register.
 #[derive(Drop)]
@@ -116,7 +85,7 @@ impl<R: Wait + Clock + Clone> Waiting<R> {
                 Ok(None)
             }
             Err(WaitError::Memory(listener)) => {
-                Listening::new(client, listener).drops();
+                client.drops(listener);
                 Err(ListenError::Memory)
             }
         }
