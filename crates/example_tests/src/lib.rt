@@ -1,10 +1,16 @@
-//! Tests of the example lock and of the example flag by their public calls.
+//! Tests of the example locks and of the example flag by their public calls.
 #![tactic(auto)]
 
 #[cfg(test)]
 mod blocking;
 #[cfg(test)]
 mod checks;
+#[cfg(test)]
+mod deadlines;
+#[cfg(test)]
+mod orders;
+#[cfg(test)]
+mod permits;
 #[cfg(test)]
 mod polled;
 #[cfg(test)]
