@@ -4,8 +4,8 @@ use crate::support::{new_semaphore, take_permit};
 use example_locks::{Permit, Semaphore};
 use std::alloc::AllocGlobal;
 use std::process::Abort;
-use std::sync::Wait;
 use std::sync::atomic::{AtomicUsize, Ordering};
+use std::sync::{Barrier, Wait};
 use std::thread;
 use std::time::{Clock, Duration, Instant};
 use test_support::NoClock;
@@ -105,20 +105,30 @@ fn a_deadline_that_cannot_be_represented_never_comes(rt: HostRuntime) {
     check(&rt, "whether it is given", given, true);
 }
 
-// Each of the two keeps its permit until both have one, so nobody else than the first drop can have told the second.
+// Waits for a permit, and keeps it until both threads have ended their wait: so the first permit that is given back can't
+// have told the second.
+fn acquire_beside<R>(rt: &R, semaphore: &Semaphore, both: &Barrier) -> bool
+where
+    R: Abort + AllocGlobal + Wait + Clock + Clone,
+{
+    let permit = acquire_within(rt, semaphore, Duration::from_secs(LONG));
+    both.wait(rt);
+    permit.is_some()
+}
+
 #[test]
 fn all_permits_of_one_go_to_those_who_wait(rt: HostRuntime) {
     let semaphore = new_semaphore(&rt, 2);
-    let mut both = take_permit(&rt, &semaphore);
-    check(&rt, "more", both.more(), true);
-    let wait = || acquire_within(&rt, &semaphore, Duration::from_secs(LONG));
-    let ((first, second), ()) = thread::join(
+    let both = Barrier::new(2);
+    let mut permit = take_permit(&rt, &semaphore);
+    check(&rt, "more", permit.more(), true);
+    let wait = || acquire_beside(&rt, &semaphore, &both);
+    let (given, ()) = thread::join(
         &rt,
         || thread::join(&rt, wait, wait),
-        move || drop_later(&rt, both),
+        move || drop_later(&rt, permit),
     );
-    let given = [first.is_some(), second.is_some()];
-    check(&rt, "whether they are given", given, [true, true]);
+    check(&rt, "whether they are given", given, (true, true));
 }
 
 #[test]
