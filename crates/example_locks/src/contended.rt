@@ -25,7 +25,7 @@ use std::time::{Clock, Duration};
 use waiting::Limit;
 pub(crate) use waiting::{Parked, Registered, Waiting};
 
-/// What clients want, and a try takes if it is free.
+/// What clients want: a lock, or one of a semaphore's permits.
 pub trait Contended<'a>: Copy {
     /// What a try takes.
     type Taken: Taken;
@@ -33,15 +33,15 @@ pub trait Contended<'a>: Copy {
     // What a try may have taken.
     ghost is_new: { Self.Taken → Type 0 };
 
-    /// Those who want it.
+    /// The clients that want it.
     fn clients(self) -> &'a Clients;
 
-    /// Takes it if it is free. The call neither allocates nor waits.
+    /// Takes it if it is free: one try. The call neither allocates nor waits.
     fn try_take(self) -> Option<Self::Taken>
         ensures { IfSome result is_new };
 }
 
-/// Those who want one thing: the event that they listen to while they wait for it.
+/// The clients that want one lock, or permits of one semaphore: the event that they listen to while they wait.
 ///
 /// A contract sees it as the number of the event.
 #[derive(Drop)]
@@ -70,7 +70,7 @@ impl Clients {
     }
 }
 
-/// Takes it if it is free. A client that finds it taken goes no further.
+/// Takes what is wanted if it is free. A client that finds it taken goes no further.
 ///
 /// The call neither allocates nor waits.
 pub fn try_once<'a, C: Contended<'a>>(contended: C) -> Option<Held<'a, C::Taken>>
@@ -81,7 +81,7 @@ pub fn try_once<'a, C: Contended<'a>>(contended: C) -> Option<Held<'a, C::Taken>
     Some(Held::new(contended.clients(), taken, client))
 }
 
-/// Blocks the calling thread until it has taken it.
+/// Blocks the calling thread until it has taken what is wanted.
 ///
 /// Where a listener, or what the thread parks on, is refused, the error is that refusal, and no listener is left.
 pub fn take<'a, C, R>(
@@ -100,7 +100,7 @@ where
     }
 }
 
-/// Blocks the calling thread until it has taken it or so much time has passed. Then the answer is `None`.
+/// Blocks the calling thread until it has taken what is wanted or so much time has passed. Then the answer is `None`.
 ///
 /// Where the present moment and the timeout add up to one that can't be represented, it waits without a limit. A clock
 /// that can't be read counts as one that shows the deadline. Refusals are those of [`take`].

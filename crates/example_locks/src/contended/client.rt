@@ -1,4 +1,4 @@
-//! A client, at the places where it has no listener.
+//! A client, and what it is at the places where it has no listener.
 ghost use Rattle.std.specs.Prelude.{◌≡◌, ◌≢◌, IsSome, Some, false};
 ghost use Rattle.event_worlds.specs.declared.world.place.News.TheVariants as news;
 ghost use Rattle.event_worlds.specs.declared.world.place.Place.TheVariants as place;
@@ -71,7 +71,7 @@ pub(crate) struct Trying {
 }
 
 impl Trying {
-    /// A new client, which wants what there is.
+    /// A new client, which begins to want something.
     pub(crate) fn begin() -> Self {
         let mut client = Client::new();
         client.hears(News::Begin);
