@@ -6,12 +6,6 @@ mod blocking;
 #[cfg(test)]
 mod checks;
 #[cfg(test)]
-mod deadlines;
-#[cfg(test)]
-mod orders;
-#[cfg(test)]
-mod permits;
-#[cfg(test)]
 mod polled;
 #[cfg(test)]
 mod programs;

