@@ -1,5 +1,5 @@
 use event_listener::{IdsUsedUp, ListenError, RecordError};
-use example_mutex::CountError;
+use example_locks::CountError;
 use std::alloc::{AllocError, AllocFailed};
 use std::io;
 use thiserror::Error;

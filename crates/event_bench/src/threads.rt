@@ -3,7 +3,7 @@ use crate::error::BenchError;
 use crate::measure::Run;
 use crate::watch::Watch;
 use event_listener::{Event, EventIds, Listener};
-use example_mutex::{Mutex, MutexError};
+use example_locks::{Mutex, MutexError};
 use std::alloc::Global;
 use std::sync::Wait;
 use std::sync::atomic::{AtomicU64, Ordering};
@@ -86,7 +86,7 @@ fn wait_until<R: Wait + Clock + Clone>(
     }
 }
 
-/// As many threads as listeners count under the lock of `example_mutex`. An operation is one lock.
+/// As many threads as listeners count under the lock of `example_locks`. An operation is one lock.
 pub fn mutex_threads<R>(run: &Run<'_, R>) -> Result<Watch, BenchError>
 where
     R: Threads + Wait + Clock + Clone + Sync,

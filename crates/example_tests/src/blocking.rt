@@ -1,7 +1,7 @@
 //! Locks that block the thread.
 use crate::checks::check;
 use crate::support::{check_woken, hold, new_mutex, new_task, waits};
-use example_mutex::{Mutex, MutexGuard};
+use example_locks::{Mutex, MutexGuard};
 use std::alloc::AllocGlobal;
 use std::process::Abort;
 use std::sync::Wait;

@@ -1,4 +1,4 @@
-//! Tests of the example lock and of the example flag by their public calls.
+//! Tests of the example locks and of the example flag by their public calls.
 #![tactic(auto)]
 
 #[cfg(test)]

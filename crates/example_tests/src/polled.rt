@@ -3,7 +3,7 @@ use crate::checks::check;
 use crate::support::{
     check_woken, hold, is_given, is_held, is_refused, new_mutex, new_task, waits,
 };
-use example_mutex::MutexError;
+use example_locks::MutexError;
 
 #[test]
 fn pending_while_it_is_held_and_ready_once_it_is_free(rt: HostRuntime) {
@@ -77,5 +77,27 @@ fn a_told_lock_that_is_dropped_passes_its_turn_on(rt: HostRuntime) {
     drop(gives_up);
     check_woken(&rt, &second, true);
     let guard = is_given(&rt, &mut stays, &second);
+    check(&rt, "the value", *guard, 7);
+}
+
+// The notification of a guard counts whoever is told already.
+#[test]
+fn a_second_guard_wakes_nobody_while_one_is_told(rt: HostRuntime) {
+    let mutex = new_mutex(&rt, 7);
+    let first = new_task(&rt);
+    let second = new_task(&rt);
+    let held = hold(&rt, &mutex);
+    let mut in_front = mutex.polled_lock(&rt, rt.alloc());
+    let mut behind = mutex.polled_lock(&rt, rt.alloc());
+    waits(&rt, &mut in_front, &first);
+    waits(&rt, &mut behind, &second);
+    drop(held);
+    check_woken(&rt, &first, true);
+    check_woken(&rt, &second, false);
+    drop(hold(&rt, &mutex));
+    check_woken(&rt, &second, false);
+    drop(is_given(&rt, &mut in_front, &first));
+    check_woken(&rt, &second, true);
+    let guard = is_given(&rt, &mut behind, &second);
     check(&rt, "the value", *guard, 7);
 }

@@ -2,7 +2,7 @@
 use crate::checks::check;
 use crate::support::new_id;
 use example_flag::wait_for_setter;
-use example_mutex::count;
+use example_locks::{count, count_with_permits};
 
 const ROUNDS: u32 = 100;
 
@@ -18,6 +18,20 @@ fn ten_threads_count_to_ten(rt: HostRuntime) {
 #[test]
 fn no_threads_count_to_nothing(rt: HostRuntime) {
     let counted = count(rt, rt.alloc(), new_id(&rt), 0);
+    check(&rt, "the count", counted, Ok(0));
+}
+
+#[test]
+fn ten_threads_count_with_three_permits(rt: HostRuntime) {
+    for _ in 0..2 * ROUNDS {
+        let counted = count_with_permits(rt, rt.alloc(), new_id(&rt), 10, 3);
+        check(&rt, "the count", counted, Ok(10));
+    }
+}
+
+#[test]
+fn no_threads_need_no_permits(rt: HostRuntime) {
+    let counted = count_with_permits(rt, rt.alloc(), new_id(&rt), 0, 0);
     check(&rt, "the count", counted, Ok(0));
 }
 

@@ -1,9 +1,9 @@
 //! Locks that are refused.
 use crate::checks::{check, reads};
-use crate::support::{hold, is_given, is_refused, new_mutex, new_task};
+use crate::support::{hold, is_given, is_refused, new_mutex, new_semaphore, new_task, take_permit};
 use event_listener::ListenError;
 use example_flag::MeetingError;
-use example_mutex::{CountError, MutexError};
+use example_locks::{CountError, MutexError, SemaphoreError};
 use listener_examples::flag::FlagError;
 use std::alloc::AllocError;
 use std::time::Duration;
@@ -14,8 +14,16 @@ fn texts(rt: HostRuntime) {
     reads(&rt, MutexError::Memory, "no memory for a listener");
     reads(&rt, MutexError::SerialsUsedUp, "serial numbers are used up");
     reads(&rt, MutexError::Finished, "the lock was given");
+    reads(&rt, SemaphoreError::Memory, "no memory for a listener");
+    reads(
+        &rt,
+        SemaphoreError::SerialsUsedUp,
+        "serial numbers are used up",
+    );
     let fault = CountError::from(MutexError::SerialsUsedUp);
     reads(&rt, fault, "serial numbers are used up");
+    let fault = CountError::from(SemaphoreError::Memory);
+    reads(&rt, fault, "no memory for a listener");
     let fault = CountError::from(AllocError);
     reads(&rt, fault, "no memory for the program");
     let fault = MeetingError::from(FlagError::Memory);
@@ -30,6 +38,10 @@ fn a_refused_listening_is_told_apart(rt: HostRuntime) {
     check(&rt, "no memory", memory, MutexError::Memory);
     let serials = MutexError::from(ListenError::SerialsUsedUp);
     check(&rt, "no serials", serials, MutexError::SerialsUsedUp);
+    let memory = SemaphoreError::from(ListenError::Memory);
+    check(&rt, "no memory", memory, SemaphoreError::Memory);
+    let serials = SemaphoreError::from(ListenError::SerialsUsedUp);
+    check(&rt, "no serials", serials, SemaphoreError::SerialsUsedUp);
 }
 
 // A listener keeps a clone of the runtime value, so one that cannot be cloned refuses every listening.
@@ -49,4 +61,20 @@ fn a_lock_that_may_not_listen_is_refused_while_it_is_held(rt: HostRuntime) {
     drop(held);
     let guard = is_given(&rt, &mut polled, &task);
     check(&rt, "the value", *guard, 7);
+}
+
+#[test]
+fn who_may_not_listen_is_refused_while_no_permit_is_free(rt: HostRuntime) {
+    let semaphore = new_semaphore(&rt, 1);
+    let unshared = Unshared { rt };
+    let refused = Some(SemaphoreError::Memory);
+    let permit = take_permit(&rt, &semaphore);
+    let refusal = semaphore.acquire(&unshared, rt.alloc()).err();
+    check(&rt, "without a limit", refusal, refused);
+    let second = Duration::from_secs(1);
+    let answer = semaphore.acquire_timeout(&unshared, rt.alloc(), second);
+    check(&rt, "with a limit", answer.err(), refused);
+    drop(permit);
+    let given = semaphore.acquire(&unshared, rt.alloc()).is_ok();
+    check(&rt, "whether it is given once it is free", given, true);
 }

@@ -1,7 +1,7 @@
 //! A lock that is freed between a client's first try and its listening.
 use crate::checks::check;
 use crate::support::{check_woken, hold, is_held, new_mutex, new_task, waits};
-use example_mutex::MutexGuard;
+use example_locks::MutexGuard;
 use std::alloc::AllocError;
 use std::io;
 use std::sync::{self, Wait};

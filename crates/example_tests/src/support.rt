@@ -1,7 +1,7 @@
 //! What the tests share: the calls that have to succeed. Each ends the test where it does not.
 use crate::checks::check;
 use event_listener::{EventId, EventIds};
-use example_mutex::{Mutex, MutexError, MutexGuard, PolledLock};
+use example_locks::{Mutex, MutexError, MutexGuard, Permit, PolledLock, Semaphore};
 use futures::task::{Poll, Waker};
 use futures::test::MockTask;
 use std::alloc::AllocGlobal;
@@ -24,6 +24,16 @@ pub fn new_mutex<R: Abort>(rt: &R, value: u64) -> Mutex<u64> {
 /// The lock, which is free.
 pub fn hold<'a, R: Abort + Wait>(rt: &'a R, mutex: &'a Mutex<u64>) -> MutexGuard<'a, u64, R> {
     mutex.try_lock(rt).expect(rt, "the lock")
+}
+
+/// A semaphore with so many permits.
+pub fn new_semaphore<R: Abort>(rt: &R, permits: usize) -> Semaphore {
+    Semaphore::new(new_id(rt), permits)
+}
+
+/// A permit, of which one is free.
+pub fn take_permit<'a, R: Abort + Wait>(rt: &'a R, semaphore: &'a Semaphore) -> Permit<'a, R> {
+    semaphore.try_acquire(rt).expect(rt, "a permit")
 }
 
 /// Whether a try finds the lock held.

@@ -2,7 +2,7 @@
 #![tactic(auto)]
 
 use event_listener::EventIds;
-use example_mutex::count;
+use example_locks::count;
 use std::process::ExitCode;
 
 const THREADS: usize = 10;

@@ -3,15 +3,19 @@ use crate::support::{
     Outcome, Runtime, check, hold, leave, lock, lock_in_time, new_budget, new_mutex,
     nobody_listens, poll, poll_with,
 };
-use example_mutex::{Mutex, MutexError};
+use example_locks::{Mutex, MutexError, MutexGuard, PolledLock};
 use futures::test::MockTask;
+use std::cell::Cell;
+use std::io;
 use std::process::Abort;
-use test_support::Budget;
+use std::sync::{self, Wait};
+use std::time::Duration;
+use test_support::{Budget, OwnClock, WithClock};
 
-const REFUSED: Outcome = Outcome::Refused(MutexError::Memory);
+const REFUSED: Outcome<MutexError> = Outcome::Refused(MutexError::Memory);
 
 // Waits for a new lock, which is held, with so many bytes of memory. After a refusal the lock works, and nobody listens.
-fn timed_with<R: Runtime>(rt: &R, budget: &mut Budget, bytes: usize) -> Outcome {
+fn timed_with<R: Runtime>(rt: &R, budget: &mut Budget, bytes: usize) -> Outcome<MutexError> {
     let mutex = new_mutex(rt);
     let held = hold(rt, &mutex);
     leave(rt, budget, bytes);
@@ -89,7 +93,7 @@ fn a_refused_parker_leaves_no_listener(rt: HostRuntime) {
 }
 
 // Polls a new lock, which is held, with so many bytes of memory, and then with all.
-fn polled_with<R: Runtime>(rt: &R, budget: &mut Budget, bytes: usize) -> Outcome {
+fn polled_with<R: Runtime>(rt: &R, budget: &mut Budget, bytes: usize) -> Outcome<MutexError> {
     let mutex = new_mutex(rt);
     let task = MockTask::new(rt).expect(rt, "a task");
     let held = hold(rt, &mutex);
@@ -130,4 +134,58 @@ fn a_polled_lock_with_a_spare_slot_needs_no_memory(rt: HostRuntime) {
     check(&rt, "without memory", outcome, Outcome::NotYet);
     drop(polled);
     nobody_listens(&rt, &mutex, held);
+}
+
+// A clock that can't be read. A client that waits reads it before it makes what its thread parks on. Then another one
+// listens behind it, the lock is freed, which tells the client, and no memory is left.
+#[derive(Drop)]
+struct RefusesOnceTold<'a, R: Runtime> {
+    rt: &'a R,
+    held: sync::Mutex<Option<MutexGuard<'a, u64, R>>>,
+    behind: sync::Mutex<PolledLock<'a, u64, R>>,
+    task: &'a MockTask,
+    budget: sync::Mutex<Budget>,
+    reads: Cell<u32>,
+}
+
+impl<'a, R: Runtime> OwnClock for RefusesOnceTold<'a, R> {
+    fn read(&self) -> io::Result<Duration> {
+        let reads = self.reads.get();
+        self.reads.set(reads.saturating_add(1));
+        if reads == 1 {
+            let polled = poll(self.rt, &mut self.behind.lock(self.rt), self.task);
+            check(self.rt, "a poll", polled, Outcome::NotYet);
+            drop(self.held.lock(self.rt).take());
+            leave(self.rt, &mut self.budget.lock(self.rt), 0);
+        }
+        Err(io::ErrorKind::Unsupported.into())
+    }
+}
+
+#[test]
+fn a_told_client_that_is_refused_a_parker_tells_another_one(rt: HostRuntime) {
+    let mutex = used_mutex(&rt);
+    let task = MockTask::new(&rt).expect(&rt, "a task");
+    let refuses = RefusesOnceTold {
+        rt: &rt,
+        held: sync::Mutex::new(Some(hold(&rt, &mutex))),
+        behind: sync::Mutex::new(mutex.polled_lock(&rt, rt.alloc())),
+        task: &task,
+        budget: sync::Mutex::new(new_budget(&rt)),
+        reads: Cell::new(0),
+    };
+    let clock = WithClock {
+        rt: &rt,
+        clock: &refuses,
+    };
+    let refusal = mutex.lock_timeout(&clock, rt.alloc(), Duration::ZERO).err();
+    refuses.budget.lock(&rt).give_back();
+    check(&rt, "the refusal", refusal, Some(MutexError::Memory));
+    check(&rt, "whether the task is woken", task.is_woken(), true);
+    check(
+        &rt,
+        "whether it is free",
+        mutex.try_lock(&rt).is_some(),
+        true,
+    );
 }

@@ -13,7 +13,7 @@ mod wakers;
 
 pub use awaited::Awaited;
 pub use budget::Budget;
-pub use clocks::{BackwardClock, CountedClock, FailingClock, NoClock};
+pub use clocks::{BackwardClock, CountedClock, FailingClock, NoClock, OwnClock, WithClock};
 pub use hog::Hog;
 pub use kinds::{Borrowing, ListenerKind, Sharing};
 pub use runtimes::Unshared;

@@ -75,6 +75,24 @@ fn a_flag_set_between_the_first_look_and_the_queue_is_seen(rt: HostRuntime) {
     nobody_listens(&rt, &flag);
 }
 
+// Which of two who listen to the flag are told once it is set.
+fn are_told<R>(rt: &R, flag: &Flag) -> [bool; 2]
+where
+    R: Abort + AllocGlobal + Wait + Clock + Clone,
+{
+    let first = flag.set.listen(rt, rt.alloc()).expect(rt, "a listener");
+    let second = flag.set.listen(rt, rt.alloc()).expect(rt, "a listener");
+    flag.set(rt);
+    [first.discard(), second.discard()]
+}
+
+#[test]
+fn setting_tells_all_who_listen(rt: HostRuntime) {
+    let flag = Flag::new(new_id(&rt));
+    let told = are_told(&rt, &flag);
+    check(&rt, "who is told", told, [true, true]);
+}
+
 #[test]
 fn each_flag_of_a_pair_is_set_alone(rt: HostRuntime) {
     let mut ids = EventIds::new();

@@ -1,16 +1,19 @@
-//! A client of the lock, at the places where it has no listener.
-ghost use Rattle.std.specs.Prelude.{◌≡◌, IsSome, Some, false};
+//! A client, and what it is at the places where it has no listener.
+ghost use Rattle.std.specs.Prelude.{◌≡◌, ◌≢◌, IsSome, Some, false};
 ghost use Rattle.event_worlds.specs.declared.world.place.News.TheVariants as news;
 ghost use Rattle.event_worlds.specs.declared.world.place.Place.TheVariants as place;
 ghost use Rattle.event_worlds.specs.ClientTable.{place_after};
 
+use event_listener::EventListener;
 use event_worlds::{News, Place};
 use std::marker::Model;
+use std::sync::Wait;
+use std::time::Clock;
 
-/// One client of the lock, by its place. A new one is idle; from then on its place is what
+/// One client, by its place. A new one is idle; from then on its place is what
 /// [`Place::after`] says of the one before.
 #[derive(Drop)]
-pub(crate) struct Client {
+pub(super) struct Client {
     place: Place,
 }
 
@@ -29,8 +32,26 @@ impl Client {
         Client { place: Place::Idle }
     }
 
-    /// Goes on by this news.
-    pub(crate) fn hears(&mut self, news: News)
+    /// Goes on by this news. That its listener was dropped is no such news: a client hears that from
+    /// [`drops`](Client::drops), which drops it.
+    pub(super) fn hears(&mut self, news: News)
+        requires comes_here { IsSome (place_after self.old news) }
+        requires keeps_its_listener { news ≢ News.Dropped }
+        ensures { place_after self.old news ≡ Some self.new }
+    {
+        self.goes_on(news);
+    }
+
+    /// Drops its listener, and hears that. If it was told, that tells another one.
+    pub(super) fn drops<R: Wait + Clock + Clone>(&mut self, listener: EventListener<(), R>)
+        requires { IsSome (place_after self.old news.Dropped) }
+        ensures { place_after self.old news.Dropped ≡ Some self.new }
+    {
+        drop(listener);
+        self.goes_on(News::Dropped);
+    }
+
+    fn goes_on(&mut self, news: News)
         requires { IsSome (place_after self.old news) }
         ensures { place_after self.old news ≡ Some self.new }
     {
@@ -41,7 +62,7 @@ impl Client {
     }
 }
 
-/// A client that is about to try the lock, and has no listener.
+/// A client that is about to try, and has no listener.
 #[derive(Drop)]
 pub(crate) struct Trying {
     client: Client,
@@ -50,7 +71,7 @@ pub(crate) struct Trying {
 }
 
 impl Trying {
-    /// A new client, which wants the lock.
+    /// A new client, which begins to want something.
     pub(crate) fn begin() -> Self {
         let mut client = Client::new();
         client.hears(News::Begin);
@@ -58,7 +79,7 @@ impl Trying {
     }
 
     /// A client that registers, and finds that it was told. It has no listener any more.
-    pub(crate) fn told(client: Client) -> Self
+    pub(super) fn told(client: Client) -> Self
         requires { client ≡ place.ToRegister }
     {
         let mut client = client;
@@ -66,33 +87,11 @@ impl Trying {
         Trying { client }
     }
 
-    pub(crate) fn into_client(self) -> Client
+    pub(super) fn into_client(self) -> Client
         ensures got { place_after result news.Got ≡ Some place.Holding }
         ensures busy { place_after result news.Busy ≡ Some place.ToListen }
     {
         let Trying { client } = self;
-        client
-    }
-}
-
-/// A client that has the lock, and no listener.
-#[derive(Drop)]
-pub(crate) struct Holder {
-    client: Client,
-    ghost holds: { client ≡ place.Holding },
-}
-
-impl Holder {
-    pub(crate) fn new(client: Client) -> Self
-        requires { client ≡ place.Holding }
-    {
-        Holder { client }
-    }
-
-    pub(crate) fn into_client(self) -> Client
-        ensures { result ≡ place.Holding }
-    {
-        let Holder { client } = self;
         client
     }
 }

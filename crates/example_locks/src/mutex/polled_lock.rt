@@ -1,13 +1,12 @@
 //! A lock that is polled.
-use crate::client::Trying;
-use crate::error::MutexError;
-use crate::guard::MutexGuard;
-use crate::mutex::{Mutex, Turn};
-use crate::waiting::{Parked, Registered, Waiting};
+use super::Mutex;
+use super::error::MutexError;
+use super::guard::MutexGuard;
+use crate::contended::{Parked, Registered, Trying, Turn, Waiting, try_twice};
 use futures::task::{Poll, Waker};
 use std::alloc::Global;
 use std::mem;
-use std::sync::Wait;
+use std::sync::{self, Wait};
 use std::time::Clock;
 
 /// A lock that is polled until it gives its guard. Dropping it before that gives up: if it was told, another one is.
@@ -51,7 +50,7 @@ impl<'a, T, R: Wait + Clock + Clone> PolledLock<'a, T, R> {
     pub fn poll(&mut self, waker: Waker) -> Result<Poll<MutexGuard<'a, T, R>>, MutexError> {
         match mem::replace(&mut self.stage, Stage::Idle) {
             Stage::Idle => match self.try_twice(Trying::begin())? {
-                Turn::Locked(guard) => Ok(Poll::Ready(guard)),
+                Turn::Holds(held) => Ok(Poll::Ready(MutexGuard::new(self.rt, held))),
                 Turn::Waits(waiting) => self.register(waiting, waker),
             },
             Stage::Waits(waiting) => self.register(waiting, waker),
@@ -71,7 +70,7 @@ impl<'a, T, R: Wait + Clock + Clone> PolledLock<'a, T, R> {
     ) -> Result<Poll<MutexGuard<'a, T, R>>, MutexError> {
         self.stage = match waiting.register(waker) {
             Registered::Told(trying) => match self.try_twice(trying)? {
-                Turn::Locked(guard) => return Ok(Poll::Ready(guard)),
+                Turn::Holds(held) => return Ok(Poll::Ready(MutexGuard::new(self.rt, held))),
                 // The waker was let go when the listener gave its tag, and a waker that is let go wakes its task. So
                 // the lock is polled again, and registers then.
                 Turn::Waits(waiting) => Stage::Waits(waiting),
@@ -82,9 +81,12 @@ impl<'a, T, R: Wait + Clock + Clone> PolledLock<'a, T, R> {
     }
 
     // A lock that is taken finishes this one.
-    fn try_twice(&mut self, trying: Trying) -> Result<Turn<'a, T, R>, MutexError> {
-        let turn = self.mutex.try_twice(self.rt, self.alloc, trying)?;
-        if let Turn::Locked(_) = &turn {
+    fn try_twice(
+        &mut self,
+        trying: Trying,
+    ) -> Result<Turn<'a, sync::MutexGuard<'a, T>, R>, MutexError> {
+        let turn = try_twice(self.mutex, self.rt, self.alloc, trying)?;
+        if let Turn::Holds(_) = &turn {
             self.stage = Stage::Finished;
         }
         Ok(turn)

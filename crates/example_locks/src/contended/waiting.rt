@@ -1,16 +1,15 @@
-//! A client of the lock that listens, and waits to be told.
+//! A client that listens, and waits to be told.
 ghost use Rattle.std.specs.Prelude.{◌≡◌, IsSome, IfOk};
 ghost use Rattle.event_worlds.specs.declared.world.place.Place.TheVariants as place;
 
-use crate::client::{Client, Trying};
-use crate::error::MutexError;
-use event_listener::{EventListener, Listener, NeverInserted, WaitError};
+use super::client::{Client, Trying};
+use event_listener::{EventListener, ListenError, Listener, NeverInserted, WaitError};
 use event_worlds::News;
 use futures::task::{Poll, Waker};
 use std::sync::Wait;
 use std::time::{Clock, Duration, Instant};
 
-/// A client that found the lock held twice, and listened in between. It is about to register.
+/// A client that found nothing free twice, and listened in between. It is about to register.
 #[derive(Drop)]
 pub(crate) struct Waiting<R: Wait + Clock + Clone> {
     client: Client,
@@ -29,7 +28,7 @@ pub(crate) struct Parked<R: Wait + Clock + Clone> {
 /// What a client found when it registered.
 #[derive(Drop)]
 pub(crate) enum Registered<R: Wait + Clock + Clone> {
-    /// It was told, and tries the lock again.
+    /// It was told, and tries again.
     Told(Trying),
     /// It was not, and its task is stored.
     Stored(Parked<R>),
@@ -37,7 +36,7 @@ pub(crate) enum Registered<R: Wait + Clock + Clone> {
 
 /// How long a client waits.
 #[derive(Clone, Copy)]
-pub(crate) enum Limit {
+pub(super) enum Limit {
     Never,
     At(Instant),
     Past,
@@ -46,7 +45,7 @@ pub(crate) enum Limit {
 impl Limit {
     /// The moment so long from now. One that can't be represented never comes, and a clock that can't be read counts as
     /// one that shows a later time.
-    pub(crate) fn after<R: Clock>(clock: &R, timeout: Duration) -> Self {
+    pub(super) fn after<R: Clock>(clock: &R, timeout: Duration) -> Self {
         match Instant::now(clock) {
             Ok(now) => match now.checked_add(timeout) {
                 Some(moment) => Limit::At(moment),
@@ -58,14 +57,14 @@ impl Limit {
 }
 
 impl<R: Wait + Clock + Clone> Waiting<R> {
-    pub(crate) fn new(client: Client, listener: EventListener<(), R>) -> Self
+    pub(super) fn new(client: Client, listener: EventListener<(), R>) -> Self
         requires { client ≡ place.ToRegister }
     {
         Waiting { client, listener }
     }
 
     /// Blocks the calling thread until the client is told, or until the limit: then the answer is `None`.
-    pub(crate) fn wait(self, limit: Limit) -> Result<Option<Trying>, MutexError>
+    pub(super) fn wait(self, limit: Limit) -> Result<Option<Trying>, ListenError>
         ensures { limit ≡ Limit.Never → IfOk result IsSome }
     {
         let Waiting {
@@ -86,10 +85,8 @@ impl<R: Wait + Clock + Clone> Waiting<R> {
                 Ok(None)
             }
             Err(WaitError::Memory(listener)) => {
-                // If it was told meanwhile, this tells another one.
-                drop(listener);
-                client.hears(News::Dropped);
-                Err(MutexError::Memory)
+                client.drops(listener);
+                Err(ListenError::Memory)
             }
         }
     }

@@ -1,0 +1,81 @@
+//! What the tests share: the calls that have to succeed. Each ends the test where it does not.
+use crate::checks::check;
+use event_listener::{EventId, EventIds};
+use example_locks::contended::{Contended, Held, Taken, try_once};
+use example_locks::{Mutex, MutexGuard, Permit, PolledLock, Semaphore};
+use futures::task::Poll;
+use futures::test::MockTask;
+use std::alloc::AllocGlobal;
+use std::process::Abort;
+use std::random::RandomSource;
+use std::sync::Wait;
+use std::time::Clock;
+use test_support::waker_of;
+
+/// The first identity of a source.
+pub fn new_id<R: Abort>(rt: &R) -> EventId {
+    EventIds::new().next().expect(rt, "an identity")
+}
+
+/// A free lock round this value.
+pub fn new_mutex<R: Abort>(rt: &R, value: u64) -> Mutex<u64> {
+    Mutex::new(new_id(rt), value)
+}
+
+/// The lock, which is free.
+pub fn hold<'a, R: Abort + Wait>(rt: &'a R, mutex: &'a Mutex<u64>) -> MutexGuard<'a, u64, R> {
+    mutex.try_lock(rt).expect(rt, "the lock")
+}
+
+/// A semaphore with so many permits.
+pub fn new_semaphore<R: Abort>(rt: &R, permits: usize) -> Semaphore {
+    Semaphore::new(new_id(rt), permits)
+}
+
+/// A permit, of which one is free.
+pub fn take_permit<'a, R: Abort + Wait>(rt: &'a R, semaphore: &'a Semaphore) -> Permit<'a, R> {
+    semaphore.try_acquire(rt).expect(rt, "a permit")
+}
+
+/// What somebody has taken and gives back when it is dropped, be it a lock or a permit.
+pub struct Keeper<'a, V: Taken, R: Wait> {
+    rt: &'a R,
+    held: Held<'a, V>,
+}
+
+impl<'a, V: Taken, R: Wait> Drop for Keeper<'a, V, R> {
+    fn drop(self) {
+        let Self { rt, held } = self;
+        held.free().notify(rt);
+    }
+}
+
+/// Takes it, where it is free.
+pub fn keep<'a, C, R>(rt: &'a R, contended: C) -> Option<Keeper<'a, C::Taken, R>>
+where
+    C: Contended<'a>,
+    R: Wait,
+{
+    let held = try_once(contended)?;
+    Some(Keeper { rt, held })
+}
+
+/// A task that is not woken.
+pub fn new_task<R: Abort + RandomSource + AllocGlobal>(rt: &R) -> MockTask {
+    MockTask::new(rt).expect(rt, "a task")
+}
+
+/// Since its last poll the task was woken, or was not.
+pub fn check_woken<R: Abort>(rt: &R, task: &MockTask, expected: bool) {
+    check(rt, "whether the task is woken", task.is_woken(), expected);
+}
+
+/// The task polls the lock, and has to wait.
+pub fn waits<H: Abort, R>(host: &H, polled: &mut PolledLock<'_, u64, R>, task: &MockTask)
+where
+    R: Wait + Clock + Clone,
+{
+    let answer = polled.poll(waker_of(task).expect(host, "a waker"));
+    let pending = matches!(answer, Ok(Poll::Pending));
+    check(host, "whether the poll is pending", pending, true);
+}
