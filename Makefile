@@ -2,8 +2,10 @@
 # so the next one of the same sources takes seconds; `make test` takes nothing that was kept.
 #
 # run       compiles and runs the worked rows, with every check at run time, and proves nothing: under a minute
-# test      the whole gate: proofs from nothing, edits and programs that must be refused, tests and programs: some 45 minutes
-#           where four processors are two cores
+# test      proves everything from nothing, and runs all tests and programs, those that must not compile among them: some
+#           25 minutes where four processors are two cores
+# edits     tries the wrong bodies that the prover must refuse, many at a time: some 15 minutes from nothing; those of one
+#           crate by `make edits CRATE=event_queue`. A merge asks for `make test` and `make edits`, as .ci/run runs them
 # prove     proves every crate and its tests, and runs tests and programs, but tries no edits: some 25 minutes with
 #           `make prove JOBS=4`, which works on four crates at a time in 10 GB; without JOBS it chooses one or two
 # vectors   proves and runs the program of the worked rows, and keeps it as crates/vectors/out/vectors: 12 minutes
@@ -22,13 +24,16 @@
 #           scripts/bench says. It writes the tables of docs/BENCHMARKS.md: some ten minutes, and the proof of the program
 # diff      compares the queue with the Rust crate, where what that answers is at hand: `make diff ORACLE=FOLDER`, with
 #           a folder as crates/replies/README.md says
-.PHONY: run test prove vectors check refused quoted explore fuzz soak starved fmt bench diff
+.PHONY: run test edits prove vectors check refused quoted explore fuzz soak starved fmt bench diff
 
 run:
 	@scripts/run
 
 test:
 	@scripts/gate
+
+edits:
+	@scripts/edits $(CRATE)
 
 prove:
 	@rt all test $(if $(JOBS),--jobs $(JOBS))

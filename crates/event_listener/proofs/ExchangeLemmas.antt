@@ -1,6 +1,6 @@
 -- A registration whose task is made of the one stored is a registration with some task.
-use Rattle.std.proofs.Common.{◌≡◌, refl}
-use Rattle.std.specs.Prelude.{Option, Some}
+use Rattle.std.proofs.Common.{refl}
+use Rattle.std.specs.Prelude.{Option}
 use Rattle.event_queue.specs.declared.key.Key.{Key}
 use Rattle.event_queue.specs.declared.reply.RegisterResult.{RegisterResult}
 use Rattle.event_queue.specs.declared.reply.RegisterResult.TheVariants.{Notified, Registered, NeverInserted}

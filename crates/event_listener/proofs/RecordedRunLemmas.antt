@@ -17,7 +17,8 @@ use Rattle.event_queue.specs.Key.{is_key}
 use Rattle.event_queue.specs.Queue.{Queue, IsQueue, order_of, listeners_of, how_many, after_telling, told_leaves, waiting_leaves}
 use Rattle.event_queue.specs.Insert.{Inserts}
 use Rattle.event_queue.specs.Register.{Registers, after_storing}
-use Rattle.event_queue.specs.Remove.{Removes, after_passing}
+use Rattle.event_queue.specs.Remove.{Removes, PassesTo, told_by_passing, after_passing}
+use Rattle.event_queue.proofs.LawLemmas.{Propagates, propagates-passed, propagates-lost, one_told_at_most}
 use Rattle.event_queue.proofs.OrderLemmas.{Rises, All-implied}
 use Rattle.event_queue.proofs.QueueLemmas.{rises_along, IsQueue-from_Rises, IsQueue-push, IsQueue-told_leaves, IsQueue-waiting_leaves, IsQueue-after_storing}
 use Rattle.event_queue.proofs.TellingLemmas.{IsQueue-after_telling}
@@ -71,6 +72,11 @@ module _ {T W : Type 0} where
       subst IsQueue (ap unspared (sym step.1)) (IsQueue-after_storing key task (unspared old) queue)
   keeps_registering old key task register.NeverInserted new queue step = subst IsQueue (ap unspared (sym step.1)) queue
 
+  keeps_propagating : (old : Queue T W) (key : Key) (propagate : Bool) (new : Queue T W) → IsQueue (unspared old) → Propagates old key propagate new → IsQueue (unspared new)
+  keeps_propagating old key propagate new queue step =
+      let left = IsQueue-told_leaves key (unspared old) step.notice queue step.found in
+      subst IsQueue (ap unspared (sym step.queue)) (with_no_spare _ (IsQueue-after_telling step.notice.additional _ (told_leaves key (unspared old)) left))
+
   keeps_removing : (old : Queue T W) (key : Key) (propagate : Bool) (was : Option (State T W)) (new : Queue T W) → IsQueue (unspared old) → Removes old key propagate was new → IsQueue (unspared new)
   keeps_removing old key propagate None new queue step = subst IsQueue (ap unspared (sym step.1)) queue
   keeps_removing old key propagate (Some state.Created) new queue step =
@@ -79,10 +85,10 @@ module _ {T W : Type 0} where
       subst IsQueue (ap unspared (sym step.1)) (with_no_spare _ (IsQueue-waiting_leaves key (unspared old) (Some task) queue step.0))
   keeps_removing old key propagate (Some (state.Notified additional tag)) new queue step =
       subst IsQueue (ap unspared (sym step.2)) (with_no_spare _ (IsQueue-told_leaves key (unspared old) _ queue step.1))
-  keeps_removing old key propagate (Some state.NotifiedTaken) new queue step =
-      let found = found_value (lookup (is_key key) old.told) (λ n. new ≡ after_passing n (told_leaves key old)) step.1 in
-      let left = IsQueue-told_leaves key (unspared old) found.0 queue found.1 in
-      subst IsQueue (ap unspared (sym found.2)) (with_no_spare _ (IsQueue-after_telling found.0.additional _ (told_leaves key (unspared old)) left))
+  keeps_removing old key propagate (Some (state.Passed to)) new queue step =
+      keeps_propagating old key propagate new queue (propagates-passed old key propagate to new step)
+  keeps_removing old key propagate (Some (state.Lost additional tag)) new queue step =
+      keeps_propagating old key propagate new queue (propagates-lost old key propagate additional tag new step)
 
   keeps_queue : (old : Queue T W) (call : RecordedCall T) (task : Option W) (reply : RecordedReply T) (new : Queue T W) → IsQueue (unspared old) → Steps old call task reply new → IsQueue (unspared new)
   keeps_queue old call.Listen None (reply.Listened answer) new queue step = keeps_inserting old answer new queue step
@@ -176,9 +182,21 @@ module _ {T W : Type 0} where
         leaves = refl;
       }
 
+  -- a notification that is passed on tells one or nobody
+  makes_passing : (old : Queue T W) (key : Key) (slot : ℕ) (notice : Notice T) (keys : List Key) → lookup (is_key key) old.told ≡ Some notice → told_by_passing notice (told_leaves key old) ≡ keys → length keys ≤ 1 → Makes old (call.Remove key true) slot
+  makes_passing old key slot notice [] found told one =
+      let new = after_passing notice (told_leaves key old) in
+      let passes : PassesTo [] notice (told_leaves key old) new = record { told = told; queue = refl } in
+      removed_so old key true slot (Some (state.Lost notice.additional notice.tag)) new (refl, found, passes)
+  makes_passing old key slot notice (to ∷ []) found told one =
+      let new = after_passing notice (told_leaves key old) in
+      let passes : PassesTo (to ∷ []) notice (told_leaves key old) new = record { told = told; queue = refl } in
+      removed_so old key true slot (Some (state.Passed to)) new (refl, rw found passes)
+  makes_passing old key slot notice (to ∷ other ∷ more) found told one = absurd (omega (arith, one))
+
   makes_removing : (old : Queue T W) (key : Key) (propagate : Bool) (slot : ℕ) (told : Option (Notice T)) (waiting : Option (Option W)) → lookup (is_key key) old.told ≡ told → lookup (is_key key) old.waiting ≡ waiting → Makes old (call.Remove key propagate) slot
   makes_removing old key true slot (Some notice) waiting found w =
-      removed_so old key true slot (Some state.NotifiedTaken) (after_passing notice (told_leaves key old)) (refl, rw found refl)
+      makes_passing old key slot notice (told_by_passing notice (told_leaves key old)) found refl (one_told_at_most notice (told_leaves key old))
   makes_removing old key false slot (Some notice) waiting found w =
       removed_so old key false slot (Some (state.Notified notice.additional notice.tag)) (told_leaves key old) (refl, found, refl)
   makes_removing old key propagate slot None (Some None) none found =

@@ -16,7 +16,8 @@ use Rattle.event_queue.specs.Key.{is_key}
 use Rattle.event_queue.specs.Queue.{Queue, IsQueue, IsAbsent, listeners_of, told_leaves, waiting_leaves}
 use Rattle.event_queue.specs.Insert.{Inserts}
 use Rattle.event_queue.specs.Register.{Registers}
-use Rattle.event_queue.specs.Remove.{Removes, after_passing}
+use Rattle.event_queue.specs.Remove.{Removes}
+use Rattle.event_queue.proofs.LawLemmas.{Propagates, propagates-passed, propagates-lost}
 use Rattle.event_queue.proofs.OrderLemmas.{length-remove_entry}
 use Rattle.event_queue.proofs.TellingLemmas.{listeners_of-after_telling}
 use Rattle.event_listener.specs.declared.task.Task.{Task}
@@ -26,8 +27,7 @@ use Rattle.event_listener.specs.declared.recorded.entry.Entry.{Entry}
 use Rattle.event_listener.specs.declared.recorded.reply.RecordedReply.{RecordedReply}
 use Rattle.event_listener.specs.declared.recorded.reply.RecordedReply.TheVariants as reply
 use Rattle.event_listener.specs.declared.recorded.reply.Former.{Former}
-use Rattle.event_listener.specs.declared.recorded.reply.Former.TheVariants as former
-use Rattle.event_listener.specs.RecordedStep.{Steps, StepsAnySpare, RemovesAs, IsReplyTo, former_of, newcomers_of}
+use Rattle.event_listener.specs.RecordedStep.{Steps, StepsAnySpare, RemovesAs, IsReplyTo, WasKept, former_of, newcomers_of}
 use Rattle.event_listener.specs.Replay.{ReplaysTo, shape_of}
 use Rattle.event_listener.specs.Recording.{IsRecording, unspared}
 use Rattle.event_listener.proofs.StepLemmas.{step_follows, found_value}
@@ -41,17 +41,18 @@ module _ {T W : Type 0} where
   room_for_one old (Err Memory) new room step = λ h. omega (arith, step.1)
   room_for_one old (Err SerialsUsedUp) new room step = λ h. (cc)
 
-  not_passed_on : (old : Queue T W) (key : Key) (was : Option (State T W)) (new : Queue T W) → Removes old key false was new → option_map former_of was ≢ Some former.NotifiedTaken
-  not_passed_on old key None new step = λ h. (cc)
-  not_passed_on old key (Some state.Created) new step = λ h. (cc)
-  not_passed_on old key (Some (state.Task task)) new step = λ h. (cc)
-  not_passed_on old key (Some (state.Notified additional tag)) new step = λ h. (cc)
-  not_passed_on old key (Some state.NotifiedTaken) new step = λ h. let e = step.0 in cc
+  not_passed_on : (old : Queue T W) (key : Key) (was : Option (State T W)) (new : Queue T W) → Removes old key false was new → WasKept (option_map former_of was)
+  not_passed_on old key None new step = tt
+  not_passed_on old key (Some state.Created) new step = tt
+  not_passed_on old key (Some (state.Task task)) new step = tt
+  not_passed_on old key (Some (state.Notified additional tag)) new step = tt
+  not_passed_on old key (Some (state.Passed to)) new step = absurd (let e = step.0 in cc)
+  not_passed_on old key (Some (state.Lost additional tag)) new step = absurd (let e = step.0 in cc)
 
   pub removal_kind : (old : Queue T W) (key : Key) (propagate : Bool) (answer : Option (Former T)) (new : Queue T W) → RemovesAs old key propagate answer new → IsReplyTo (call.Remove key propagate) (reply.Removed answer)
   removal_kind old key true answer new step = tt
   removal_kind old key false answer new step =
-      λ taken. not_passed_on old key step.was new step.removes (sym step.answered ∙ taken)
+      subst WasKept (sym step.answered) (not_passed_on old key step.was new step.removes)
 
   pub step_kind : (old : Queue T W) (call : RecordedCall T) (task : Option W) (reply : RecordedReply T) (new : Queue T W) → newcomers_of call ≤ old.spare → Steps old call task reply new → IsReplyTo call reply
   step_kind old call.Listen None (reply.Listened answer) new room step = room_for_one old answer new room step
@@ -71,14 +72,19 @@ module _ {T W : Type 0} where
   listeners_of-waiting_leaves : (key : Key) (q : Queue T W) (task : Option W) → lookup (is_key key) q.waiting ≡ Some task → listeners_of (waiting_leaves key q) + 1 ≡ listeners_of q
   listeners_of-waiting_leaves key q task found = omega (arith, length-remove_entry key q.waiting task found)
 
+  one_propagated : (old : Queue T W) (key : Key) (propagate : Bool) (new : Queue T W) → Propagates old key propagate new → listeners_of new + 1 ≡ listeners_of old
+  one_propagated old key propagate new step =
+      let passed = ap listeners_of step.queue ∙ listeners_of-after_telling step.notice.additional _ (told_leaves key old) in
+      omega (arith, passed, listeners_of-told_leaves key old step.notice step.found)
+
   pub one_left : (old : Queue T W) (key : Key) (propagate : Bool) (was : State T W) (new : Queue T W) → Removes old key propagate (Some was) new → listeners_of new + 1 ≡ listeners_of old
   one_left old key propagate state.Created new step = rw step.1 (listeners_of-waiting_leaves key old None step.0)
   one_left old key propagate (state.Task task) new step = rw step.1 (listeners_of-waiting_leaves key old (Some task) step.0)
   one_left old key propagate (state.Notified additional tag) new step = rw step.2 (listeners_of-told_leaves key old _ step.1)
-  one_left old key propagate state.NotifiedTaken new step =
-      let found = found_value (lookup (is_key key) old.told) (λ n. new ≡ after_passing n (told_leaves key old)) step.1 in
-      let passed = ap listeners_of found.2 ∙ listeners_of-after_telling found.0.additional _ (told_leaves key old) in
-      omega (arith, passed, listeners_of-told_leaves key old found.0 found.1)
+  one_left old key propagate (state.Passed to) new step =
+      one_propagated old key propagate new (propagates-passed old key propagate to new step)
+  one_left old key propagate (state.Lost additional tag) new step =
+      one_propagated old key propagate new (propagates-lost old key propagate additional tag new step)
 
   no_more_left : (old : Queue T W) (key : Key) (propagate : Bool) (was : Option (State T W)) (new : Queue T W) → Removes old key propagate was new → listeners_of new ≤ listeners_of old
   no_more_left old key propagate None new step = omega (arith, ap listeners_of step.1)
@@ -132,13 +138,18 @@ module _ {T W : Type 0} where
   pub nobody_removed : (old : Queue T W) (key : Key) (propagate : Bool) (answer : Option (Former T)) (new : Queue T W) → RemovesAs old key propagate answer new → answer ≡ None → IsAbsent key old × (new ≡ old)
   nobody_removed old key propagate answer new step none = absent_only old key propagate step.was new step.removes (sym none ∙ step.answered)
 
+  found_told : (old : Queue T W) (key : Key) (propagate : Bool) (new : Queue T W) → Propagates old key propagate new → ¬ IsAbsent key old
+  found_told old key propagate new step =
+      λ absent. let no : None ≡ Some step.notice = sym absent.untold ∙ step.found in absurd (cc)
+
   found_one : (old : Queue T W) (key : Key) (propagate : Bool) (was : State T W) (new : Queue T W) → Removes old key propagate (Some was) new → ¬ IsAbsent key old
   found_one old key propagate state.Created new step = λ absent. let none : Option W = None in let no : None ≡ Some none = sym absent.unwaiting ∙ step.0 in absurd (cc)
   found_one old key propagate (state.Task task) new step = λ absent. let no : None ≡ Some (Some task) = sym absent.unwaiting ∙ step.0 in absurd (cc)
   found_one old key propagate (state.Notified additional tag) new step = λ absent. let notice : Notice T = record { additional = additional; tag = tag } in let no : None ≡ Some notice = sym absent.untold ∙ step.1 in absurd (cc)
-  found_one old key propagate state.NotifiedTaken new step =
-      let found = found_value (lookup (is_key key) old.told) (λ n. new ≡ after_passing n (told_leaves key old)) step.1 in
-      λ absent. let no : None ≡ Some found.0 = sym absent.untold ∙ found.1 in absurd (cc)
+  found_one old key propagate (state.Passed to) new step =
+      found_told old key propagate new (propagates-passed old key propagate to new step)
+  found_one old key propagate (state.Lost additional tag) new step =
+      found_told old key propagate new (propagates-lost old key propagate additional tag new step)
 
   pub record RemovedOne (old : Queue T W) (key : Key) (new : Queue T W) : Type 0 where
     pub present : ¬ IsAbsent key old

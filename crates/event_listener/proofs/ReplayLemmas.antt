@@ -9,6 +9,7 @@ use Rattle.event_queue.specs.declared.reply.ListenError.{ListenError}
 use Rattle.event_queue.specs.declared.reply.ListenError.TheVariants.{Memory, SerialsUsedUp}
 use Rattle.event_queue.specs.declared.reply.RegisterResult.{RegisterResult}
 use Rattle.event_queue.specs.declared.reply.RegisterResult.TheVariants as register
+use Rattle.event_queue.specs.Key.{is_key}
 use Rattle.event_queue.specs.Queue.{Queue}
 use Rattle.event_listener.specs.declared.recorded.entry.Entry.{Entry}
 use Rattle.event_listener.specs.declared.recorded.reply.RecordedReply.{RecordedReply}
@@ -21,11 +22,15 @@ use Rattle.event_listener.proofs.StepLemmas.{Follows}
 both_true : (a b : Bool) → a ≡ true → b ≡ true → a && b ≡ true
 both_true a b h k = rw h k
 
+same_key-refl : (key : Key) → is_key key key ≡ true
+same_key-refl key =
+    both_true (nat_eq key.slot key.slot) (nat_eq key.serial key.serial) (nat_eq_equiv.refl key.slot) (nat_eq_equiv.refl key.serial)
+
 module _ {T : Type 0} (eq : T → T → Bool) where
   -- a reply is equal to itself
   module _ (equivalence : IsEquivalence eq) where
     same_listening-refl : (answer : Result Key ListenError) → same_listening eq answer answer ≡ true
-    same_listening-refl (Ok key) = both_true (nat_eq key.slot key.slot) (nat_eq key.serial key.serial) (nat_eq_equiv.refl key.slot) (nat_eq_equiv.refl key.serial)
+    same_listening-refl (Ok key) = same_key-refl key
     same_listening-refl (Err Memory) = refl
     same_listening-refl (Err SerialsUsedUp) = refl
 
@@ -39,7 +44,8 @@ module _ {T : Type 0} (eq : T → T → Bool) where
     same_removal-refl (Some former.Created) = refl
     same_removal-refl (Some (former.Notified additional tag)) = both_true _ _ (bool_eq_equiv.refl additional) (equivalence.refl tag)
     same_removal-refl (Some former.Task) = refl
-    same_removal-refl (Some former.NotifiedTaken) = refl
+    same_removal-refl (Some (former.Passed to)) = same_key-refl to
+    same_removal-refl (Some (former.Lost additional tag)) = both_true _ _ (bool_eq_equiv.refl additional) (equivalence.refl tag)
 
     pub same_reply-refl : (r : RecordedReply T) → same_reply eq r r ≡ true
     same_reply-refl (reply.Listened answer) = same_listening-refl answer

@@ -39,7 +39,8 @@ module _ (row : RattleType) (bound : Ghosts row.Denot) (dict : Dict) where
   same_former former.Created former.Created = refl
   same_former (former.Notified additional tag) (former.Notified additional' tag') = refl
   same_former former.Task former.Task = refl
-  same_former former.NotifiedTaken former.NotifiedTaken = refl
+  same_former (former.Passed to) (former.Passed to') = refl
+  same_former (former.Lost additional tag) (former.Lost additional' tag') = refl
   same_former _ _ = refl
 
   same_removal : (a b : Option (Former row.Denot)) → IsSame (reply.Removed a) (reply.Removed b)

@@ -3,13 +3,14 @@ use Rattle.std.proofs.Common.{◌≡◌, ℕ, zero, suc, ◌-◌, ◌≤◌, min
 use Rattle.std.specs.Prelude.{is_some, option_map}
 use Rattle.std.proofs.lemmas.List.{length-map, drop-map, length-replicate}
 use Rattle.std.proofs.lemmas.Map.Made.{lookup-map_values}
-use Rattle.std.specs.Map.{lookup, remove_entry, set_value}
+use Rattle.std.specs.Map.{keys_of, lookup, remove_entry, set_value}
 use Rattle.event_queue.specs.declared.key.Key.{Key}
 use Rattle.event_queue.specs.declared.notice.Notice.{Notice}
 use Rattle.event_queue.specs.Key.{is_key}
 use Rattle.event_queue.specs.Queue.{Queue, how_many, told_with, after_telling, told_leaves, waiting_leaves}
 use Rattle.event_queue.specs.Register.{after_storing}
-use Rattle.event_listener.specs.Replay.{shape_of, tells, waiting_at, after_notice, without_told}
+use Rattle.event_queue.specs.Remove.{told_by_passing}
+use Rattle.event_listener.specs.Replay.{shape_of, tells, waiting_at, after_notice, without_told, told_by_passing_at}
 
 module _ {K X Y : Type 0} (test : K → Bool) (f : X → Y) where
   abbrev mapped : List (K × X) → List (K × Y)
@@ -61,6 +62,11 @@ module _ {K X : Type 0} (test : K → Bool) where
 abbrev pub flags : {W : Type 0} → List (Key × Option W) → List (Key × Bool)
 flags waiting = map (λ e. (e.0, is_some e.1)) waiting
 
+first_keys : {W : Type 0} (count : ℕ) (waiting : List (Key × Option W)) → keys_of (take count (flags waiting)) ≡ keys_of (take count waiting)
+first_keys zero waiting = refl
+first_keys (suc count) [] = refl
+first_keys (suc count) (first ∷ rest) = ap (λ keys. first.0 ∷ keys) (first_keys count rest)
+
 module _ {T W : Type 0} where
   pub waiting_at-shape : (key : Key) (q : Queue T W) → waiting_at key (shape_of q) ≡ option_map is_some (lookup (is_key key) q.waiting)
   waiting_at-shape key q = lookup-map_values is_some (is_key key) q.waiting
@@ -68,6 +74,11 @@ module _ {T W : Type 0} where
   pub tells-shape : (count : ℕ) (additional : Bool) (q : Queue T W) → tells count additional (shape_of q) ≡ how_many count additional q
   tells-shape count true q = ap (λ n. min count n) (length-map q.waiting (λ e. (e.0, is_some e.1)))
   tells-shape count false q = ap (λ n. min (count - length q.told) n) (length-map q.waiting (λ e. (e.0, is_some e.1)))
+
+  -- the same are told by a notice that is passed on
+  pub told_by_passing-shape : (notice : Notice T) (q : Queue T W) → told_by_passing_at notice (shape_of q) ≡ told_by_passing notice q
+  told_by_passing-shape notice q =
+      ap (λ n. keys_of (take n (flags q.waiting))) (tells-shape 1 notice.additional q) ∙ first_keys (how_many 1 notice.additional q) q.waiting
 
   -- a listener leaves, or stores a task
 

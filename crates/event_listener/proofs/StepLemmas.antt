@@ -1,6 +1,6 @@
 -- What a step of a queue says of its shape: the reply is the one that the shape answers, and the shape after it is that of
 -- the queue that the step leaves.
-use Rattle.std.proofs.Common.{◌≡◌, ◌≢◌, ◌↔◌, ℕ, zero, suc, ◌+◌, ◌-◌, ◌<◌, ◌≤◌, ◌^◌, min, if◌then◌else◌, Bool, true, false, nat_lt, [], ◌∷◌, ◌++◌, length, take, replicate, refl, sym, ap, ◌∙◌, arith, Option, Some, None, Result, Ok, Err, IsSomeAnd, IsSome, IsTrue}
+use Rattle.std.proofs.Common.{◌≡◌, ◌≢◌, ◌↔◌, ℕ, zero, suc, ◌+◌, ◌-◌, ◌<◌, ◌≤◌, ◌^◌, min, if◌then◌else◌, Bool, true, false, nat_lt, List, [], ◌∷◌, ◌++◌, length, take, replicate, refl, sym, ap, ◌∙◌, arith, Option, Some, None, Result, Ok, Err, IsSomeAnd, IsSome, IsTrue}
 use Rattle.std.specs.Prelude.{is_some, option_map}
 use Rattle.std.specs.Map.{lookup}
 use Rattle.std.proofs.lemmas.Bool.{eqb-true, false_from_ne_true, ltb-true, lt-ltb}
@@ -17,7 +17,7 @@ use Rattle.event_queue.specs.Key.{is_key}
 use Rattle.event_queue.specs.Queue.{Queue, IsQueue, listeners_of, how_many, after_telling, told_leaves}
 use Rattle.event_queue.specs.Insert.{Inserts, Joins}
 use Rattle.event_queue.specs.Register.{Registers}
-use Rattle.event_queue.specs.Remove.{Removes, after_passing}
+use Rattle.event_queue.specs.Remove.{Removes, PassesTo, after_passing}
 use Rattle.event_queue.proofs.LawLemmas.{untold-waiting}
 use Rattle.event_listener.specs.declared.recorded.call.RecordedCall.{RecordedCall}
 use Rattle.event_listener.specs.declared.recorded.call.RecordedCall.TheVariants as call
@@ -26,8 +26,8 @@ use Rattle.event_listener.specs.declared.recorded.reply.RecordedReply.TheVariant
 use Rattle.event_listener.specs.declared.recorded.reply.Former.{Former}
 use Rattle.event_listener.specs.RecordedStep.{Steps, RemovesAs, IsReplyTo, former_of}
 use Rattle.event_listener.specs.Recording.{unspared}
-use Rattle.event_listener.specs.Replay.{shape_of, serials_used_up, newcomer, tells, waiting_at, answer_at, after_notice, after_call, slot_in}
-use Rattle.event_listener.proofs.ShapeLemmas.{waiting_at-shape, tells-shape, shape-waiting_leaves, shape-after_storing, shape-nobody_leaves, shape-nobody_stores, shape-after_telling}
+use Rattle.event_listener.specs.Replay.{shape_of, serials_used_up, newcomer, tells, waiting_at, answer_at, after_notice, after_call, slot_in, passed}
+use Rattle.event_listener.proofs.ShapeLemmas.{waiting_at-shape, tells-shape, told_by_passing-shape, shape-waiting_leaves, shape-after_storing, shape-nobody_leaves, shape-nobody_stores, shape-after_telling}
 
 -- what a look-up finds
 pub found_value : {X : Type 0} (o : Option X) (P : X → Type 0) → IsSomeAnd o P → (x : X) × (o ≡ Some x) × P x
@@ -122,6 +122,14 @@ module _ {T W : Type 0} where
       ∙ shape-after_telling notice.additional notice.tag count q
       ∙ ap (λ tags. shape_of (after_telling notice.additional tags q)) (sym (one_copy count notice.tag one))
 
+  passing_follows : (old : Queue T W) (key : Key) (propagate : Bool) (notice : Notice T) (keys : List Key) (new : Queue T W) → propagate ≡ true → lookup (is_key key) old.told ≡ Some notice → PassesTo keys notice (told_leaves key old) new → Follows old (call.Remove key propagate) (reply.Removed (Some (passed notice keys))) new
+  passing_follows old key propagate notice keys new propagates found passes =
+      let left = told_leaves key old in
+      record {
+        answers = rw (propagates, found) (ap (λ ks. reply.Removed (Some (passed notice ks))) (told_by_passing-shape notice left ∙ passes.told));
+        leaves = rw (propagates, found) (passed_shape left notice ∙ ap shape_of (sym passes.queue));
+      }
+
   removal_follows : (old : Queue T W) (key : Key) (propagate : Bool) (was : Option (State T W)) (new : Queue T W) → IsQueue (unspared old) → Removes old key propagate was new → Follows old (call.Remove key propagate) (reply.Removed (option_map former_of was)) new
   removal_follows old key propagate None new queue step =
       let here : waiting_at key (shape_of old) ≡ None = waiting_at-shape key old ∙ ap (option_map is_some) step.0.unwaiting in
@@ -148,12 +156,11 @@ module _ {T W : Type 0} where
         answers = rw (step.0, step.1) refl;
         leaves = rw (step.0, step.1) (ap shape_of (sym step.2));
       }
-  removal_follows old key propagate (Some state.NotifiedTaken) new queue step =
-      let found = found_value (lookup (is_key key) old.told) (λ n. new ≡ after_passing n (told_leaves key old)) step.1 in
-      record {
-        answers = rw (step.0, found.1) refl;
-        leaves = rw (step.0, found.1) (passed_shape (told_leaves key old) found.0 ∙ ap shape_of (sym found.2));
-      }
+  removal_follows old key propagate (Some (state.Passed to)) new queue step =
+      let found = found_value (lookup (is_key key) old.told) (λ n. PassesTo (to ∷ []) n (told_leaves key old) new) step.1 in
+      passing_follows old key propagate found.0 (to ∷ []) new step.0 found.1 found.2
+  removal_follows old key propagate (Some (state.Lost additional tag)) new queue step =
+      passing_follows old key propagate _ [] new step.0 step.1 step.2
 
   remove_follows : (old : Queue T W) (key : Key) (propagate : Bool) (answer : Option (Former T)) (new : Queue T W) → IsQueue (unspared old) → RemovesAs old key propagate answer new → Follows old (call.Remove key propagate) (reply.Removed answer) new
   remove_follows old key propagate answer new queue step =

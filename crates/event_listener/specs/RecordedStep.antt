@@ -42,7 +42,8 @@ abbrev pub former_of : {T W : Type 0} → State T W → Former T
 former_of state.Created = former.Created
 former_of (state.Notified additional tag) = former.Notified additional tag
 former_of (state.Task task) = former.Task
-former_of state.NotifiedTaken = former.NotifiedTaken
+former_of (state.Passed to) = former.Passed to
+former_of (state.Lost additional tag) = former.Lost additional tag
 
 module _ {T W : Type 0} where
   -- a removal by `Removes`, answered without the task
@@ -76,13 +77,19 @@ module _ {T W : Type 0} where
   woken_by_call (call.Notify count additional tag) old = tasks_of (how_many count additional old) old
   woken_by_call _ old = []
 
+-- a removal that answers this passed no notification on
+abbrev pub WasKept : {T : Type 0} → Option (Former T) → Type 0
+WasKept (Some (former.Passed to)) = ⊥
+WasKept (Some (former.Lost additional tag)) = ⊥
+WasKept _ = ⊤
+
 -- the reply is one that a record has of this call: room is made first, so no listener is refused for memory, and only a
--- removal that propagates answers that the notification was taken
+-- removal that propagates answers where a notification went
 abbrev pub IsReplyTo : {T : Type 0} → RecordedCall T → RecordedReply T → Type 0
 IsReplyTo call.Listen (reply.Listened answer) = answer ≢ Err Memory
 IsReplyTo (call.Register key) (reply.Registered answer) = ⊤
 IsReplyTo (call.Remove key true) (reply.Removed answer) = ⊤
-IsReplyTo (call.Remove key false) (reply.Removed answer) = answer ≢ Some former.NotifiedTaken
+IsReplyTo (call.Remove key false) (reply.Removed answer) = WasKept answer
 IsReplyTo (call.Notify count additional tag) (reply.Notified told) = ⊤
 IsReplyTo call.TotalListeners (reply.TotalListeners total) = ⊤
 IsReplyTo call.IsNotified (reply.IsNotified told) = ⊤

@@ -1,7 +1,7 @@
 -- When a record replays: its calls and replies are those of a queue that was empty, with next serial 0.
 use Rattle.std.specs.Prelude.{◌≡◌, ◌==◌, ◌&&◌, ◌+◌, ◌-◌, ◌^◌, ℕ, min, Bool, true, false, nat_lt, if◌then◌else◌, List, [], ◌∷◌, ◌++◌, map, length, take, drop, Option, Some, None, is_some, option_and_then, Result, Ok, Err}
 use Rattle.std.specs.Bool.{beq}
-use Rattle.std.specs.Map.{lookup, remove_entry, set_value}
+use Rattle.std.specs.Map.{keys_of, lookup, remove_entry, set_value}
 use Rattle.event_queue.specs.declared.key.Key.{Key}
 use Rattle.event_queue.specs.declared.notice.Notice.{Notice}
 use Rattle.event_queue.specs.declared.reply.ListenError.{ListenError}
@@ -61,13 +61,26 @@ module _ {T : Type 0} where
   registered None (Some has_task) = register.Registered
   registered None None = register.NeverInserted
 
+  -- once the told listener of that key has left
+  abbrev pub without_told : Key → Shape T → Shape T
+  without_told key shape = record shape { told = remove_entry (is_key key) shape.told }
+
+  -- the listeners that are told once a notice is passed on: one, or none
+  abbrev pub told_by_passing_at : Notice T → Shape T → List Key
+  told_by_passing_at notice shape = keys_of (take (tells 1 notice.additional shape) shape.waiting)
+
+  -- what is said of a notice that was passed on, by whom it told
+  abbrev pub passed : Notice T → List Key → Former T
+  passed notice [] = former.Lost notice.additional notice.tag
+  passed notice (to ∷ _) = former.Passed to
+
   -- what a removal answers by what is found
-  abbrev pub removed : Bool → Option (Notice T) → Option Bool → Option (Former T)
-  removed true (Some notice) waiting = Some former.NotifiedTaken
-  removed false (Some notice) waiting = Some (former.Notified notice.additional notice.tag)
-  removed propagate None (Some true) = Some former.Task
-  removed propagate None (Some false) = Some former.Created
-  removed propagate None None = None
+  abbrev pub removed : Key → Bool → Option (Notice T) → Option Bool → Shape T → Option (Former T)
+  removed key true (Some notice) waiting shape = Some (passed notice (told_by_passing_at notice (without_told key shape)))
+  removed key false (Some notice) waiting shape = Some (former.Notified notice.additional notice.tag)
+  removed key propagate None (Some true) shape = Some former.Task
+  removed key propagate None (Some false) shape = Some former.Created
+  removed key propagate None None shape = None
 
   -- what a call answers at a shape, where a newcomer gets this slot
   abbrev pub answer_at : Shape T → ℕ → RecordedCall T → RecordedReply T
@@ -75,7 +88,7 @@ module _ {T : Type 0} where
       reply.Listened (if serials_used_up shape then Err SerialsUsedUp else Ok (newcomer shape slot))
   answer_at shape slot (call.Register key) = reply.Registered (registered (told_at key shape) (waiting_at key shape))
   answer_at shape slot (call.Remove key propagate) =
-      reply.Removed (removed propagate (told_at key shape) (waiting_at key shape))
+      reply.Removed (removed key propagate (told_at key shape) (waiting_at key shape) shape)
   answer_at shape slot (call.Notify count additional tag) = reply.Notified (tells count additional shape)
   answer_at shape slot call.TotalListeners = reply.TotalListeners (length shape.told + length shape.waiting)
   answer_at shape slot call.IsNotified = reply.IsNotified (nat_lt 0 (length shape.told))
@@ -86,10 +99,6 @@ module _ {T : Type 0} where
     told = shape.told ++ map (λ entry. (entry.0, notice)) (take count shape.waiting);
     waiting = drop count shape.waiting;
   }
-
-  -- once the told listener of that key has left
-  abbrev pub without_told : Key → Shape T → Shape T
-  without_told key shape = record shape { told = remove_entry (is_key key) shape.told }
 
   -- once the task of that key was registered, by what is found among the told
   abbrev pub after_register : Key → Option (Notice T) → Shape T → Shape T
@@ -135,7 +144,9 @@ module _ {T : Type 0} where
     same_former (former.Notified additional tag) (former.Notified additional' tag') =
         beq additional additional' && eq tag tag'
     same_former former.Task former.Task = true
-    same_former former.NotifiedTaken former.NotifiedTaken = true
+    same_former (former.Passed to) (former.Passed to') = is_key to to'
+    same_former (former.Lost additional tag) (former.Lost additional' tag') =
+        beq additional additional' && eq tag tag'
     same_former _ _ = false
 
     abbrev pub same_removal : Option (Former T) → Option (Former T) → Bool

@@ -1,7 +1,7 @@
 -- How a wait ends.
 use Rattle.std.specs.Prelude.{◌≡◌, ◌≢◌, ◌⊎◌, ℕ, zero, suc, Option, Some, None, Result, Ok, Err, ⊤}
 use Rattle.event_queue.specs.declared.reply.State.{State}
-use Rattle.event_queue.specs.declared.reply.State.TheVariants.{Created, Notified, Task, NotifiedTaken}
+use Rattle.event_queue.specs.declared.reply.State.TheVariants.{Created, Notified, Task, Passed, Lost}
 use Rattle.event_listener.specs.declared.listener.wait_error.WaitError.{WaitError}
 use Rattle.event_listener.specs.declared.listener.wait_error.WaitError.TheVariants.{NeverInserted, Memory}
 use Rattle.event_listener.specs.declared.listener.wait_error.WaitReason.{WaitReason}
@@ -24,14 +24,21 @@ module _ {T : Type 0} where
   abbrev pub IsFault : WaitOutcome T → Type 0
   IsFault outcome = (outcome ≡ Absent) ⊎ (outcome ≡ Refused)
 
+  -- a removal that answers this passed no notification on
+  abbrev pub IsKept : {W : Type 0} → Option (State T W) → Type 0
+  IsKept (Some (Passed to)) = ⊥
+  IsKept (Some (Lost additional tag)) = ⊥
+  IsKept _ = ⊤
+
   -- what the listener was when it left the queue at its deadline says how its wait ended; a tag that came in time is
-  -- given; a removal at a deadline passes nothing on, so it never answers the last of these
+  -- given; a removal at a deadline passes nothing on, so it never answers the last two of these
   abbrev pub outcome_at_deadline : {W : Type 0} → Option (State T W) → WaitOutcome T
   outcome_at_deadline None = Absent
   outcome_at_deadline (Some Created) = TimedOut
   outcome_at_deadline (Some (Task task)) = TimedOut
   outcome_at_deadline (Some (Notified additional tag)) = Told tag
-  outcome_at_deadline (Some NotifiedTaken) = TimedOut
+  outcome_at_deadline (Some (Passed to)) = TimedOut
+  outcome_at_deadline (Some (Lost additional tag)) = TimedOut
 
   -- what the wait answers
   abbrev pub answer_of : {L : Type 0} → L → WaitOutcome T → Result (Option T) (WaitError L)

@@ -22,8 +22,8 @@ use std::time::Clock;
 ///
 /// Its listeners stand in one queue, in order of listening. The first of them, or the first
 /// [`StackSlot`](crate::StackSlot), makes the queue. Each call that reads or changes the queue is one step under a lock
-/// that no other event has, and may wait for that lock. Inside that step tags are made, lost tags are dropped and tasks
-/// are woken: calling the same event from a tag's function, clone or drop there deadlocks.
+/// that no other event has, and may wait for that lock. Inside that step tags are made and tasks are woken: calling the
+/// same event from a tag's function or clone there deadlocks. A lost tag is dropped after the step.
 ///
 /// A contract sees an event as the number of its identity. No contract can name what stands in its queue, since other
 /// threads may change it at any time.

@@ -1,16 +1,17 @@
 -- What users rely on, from the steps: who is gone, in which order the others stand, and how many are told.
 use Rattle.std.proofs.Common.{◌≡◌, ◌+◌, ◌-◌, ◌≤◌, min, max, Bool, true, false, [], ◌∷◌, take, length, refl, sym, ap, ◌∙◌, subst, arith, Option, Some, None, IsSomeAnd, OnSome, length-take}
 use Rattle.std.specs.Map.{keys_of, lookup}
+use Rattle.std.proofs.lemmas.Map.Entries.{length-keys_of}
 use Rattle.event_queue.specs.declared.key.Key.{Key}
 use Rattle.event_queue.specs.declared.notice.Notice.{Notice}
 use Rattle.event_queue.specs.declared.reply.RegisterResult.{RegisterResult}
 use Rattle.event_queue.specs.declared.reply.RegisterResult.TheVariants.{Notified, Registered, NeverInserted}
 use Rattle.event_queue.specs.declared.reply.State.{State}
-use Rattle.event_queue.specs.declared.reply.State.TheVariants.{Created, Notified as WasNotified, Task, NotifiedTaken}
+use Rattle.event_queue.specs.declared.reply.State.TheVariants.{Created, Notified as WasNotified, Task, Passed, Lost}
 use Rattle.event_queue.specs.Key.{is_key, without}
 use Rattle.event_queue.specs.Queue.{Queue, IsQueue, IsGone, IsToldAs, order_of, listeners_of, how_many, told_leaves}
 use Rattle.event_queue.specs.Register.{Registers, OnNotified, UnlessNotified}
-use Rattle.event_queue.specs.Remove.{Removes, after_passing}
+use Rattle.event_queue.specs.Remove.{Removes, PassesTo, told_by_passing, after_passing}
 use Rattle.event_queue.proofs.OrderLemmas.{NoneIs, All-append, without-none, none_is-from_lookup, lookup-none_is, none_before, length-remove_entry}
 use Rattle.event_queue.proofs.QueueLemmas.{rises_along, order_of-told_leaves, order_of-waiting_leaves, order_of-after_storing, IsGone-without, told_serial, waiting_serial}
 use Rattle.event_queue.proofs.TellingLemmas.{order_of-after_telling, length-after_telling}
@@ -55,10 +56,30 @@ module _ {T W : Type 0} where
   Registers-order_kept old key task Registered new step = ap order_of step.1 ∙ order_of-after_storing key task old
   Registers-order_kept old key task NeverInserted new step = ap order_of step.1
 
+  -- a told listener left with propagation, and its notification told somebody or nobody
+  pub record Propagates (old : Queue T W) (key : Key) (propagate : Bool) (new : Queue T W) : Type 0 where
+    pub propagates : propagate ≡ true
+    pub notice : Notice T
+    pub found : lookup (is_key key) old.told ≡ Some notice
+    pub queue : new ≡ after_passing notice (told_leaves key old)
+
+  pub propagates-passed : (old : Queue T W) (key : Key) (propagate : Bool) (to : Key) (new : Queue T W) → Removes old key propagate (Some (Passed to)) new → Propagates old key propagate new
+  propagates-passed old key propagate to new step =
+      let found = found_value (lookup (is_key key) old.told) (λ n. PassesTo (to ∷ []) n (told_leaves key old) new) step.1 in
+      record { propagates = step.0; notice = found.0; found = found.1; queue = found.2.queue }
+
+  pub propagates-lost : (old : Queue T W) (key : Key) (propagate : Bool) (additional : Bool) (tag : T) (new : Queue T W) → Removes old key propagate (Some (Lost additional tag)) new → Propagates old key propagate new
+  propagates-lost old key propagate additional tag new step =
+      record { propagates = step.0; notice = record { additional = additional; tag = tag }; found = step.1; queue = step.2.queue }
+
   -- the order once a told listener has left and its notification was passed on
   order_of-passed : (key : Key) (old : Queue T W) (notice : Notice T) → IsQueue old → lookup (is_key key) old.told ≡ Some notice → order_of (after_passing notice (told_leaves key old)) ≡ without key (order_of old)
   order_of-passed key old notice queue found =
       order_of-after_telling notice.additional _ (told_leaves key old) ∙ order_of-told_leaves key old notice queue found
+
+  order_of-propagated : (old : Queue T W) (key : Key) (propagate : Bool) (new : Queue T W) → IsQueue old → Propagates old key propagate new → order_of new ≡ without key (order_of old)
+  order_of-propagated old key propagate new queue step =
+      ap order_of step.queue ∙ order_of-passed key old step.notice queue step.found
 
   pub Removes-order : (old : Queue T W) (key : Key) (propagate : Bool) (reply : Option (State T W)) (new : Queue T W) → IsQueue old → Removes old key propagate reply new → order_of new ≡ without key (order_of old)
   Removes-order old key propagate None new queue step =
@@ -71,9 +92,14 @@ module _ {T W : Type 0} where
       ap order_of step.1 ∙ order_of-waiting_leaves key old (Some task) queue step.0
   Removes-order old key propagate (Some (WasNotified additional tag)) new queue step =
       ap order_of step.2 ∙ order_of-told_leaves key old _ queue step.1
-  Removes-order old key propagate (Some NotifiedTaken) new queue step =
-      let found = found_value (lookup (is_key key) old.told) (λ n. new ≡ after_passing n (told_leaves key old)) step.1 in
-      ap order_of found.2 ∙ order_of-passed key old found.0 queue found.1
+  Removes-order old key propagate (Some (Passed to)) new queue step =
+      order_of-propagated old key propagate new queue (propagates-passed old key propagate to new step)
+  Removes-order old key propagate (Some (Lost additional tag)) new queue step =
+      order_of-propagated old key propagate new queue (propagates-lost old key propagate additional tag new step)
+
+  gone-propagated : (old : Queue T W) (key : Key) (propagate : Bool) (new : Queue T W) → IsQueue old → Propagates old key propagate new → IsGone key new
+  gone-propagated old key propagate new queue step =
+      IsGone-without key new (order_of old) (order_of-propagated old key propagate new queue step) (rw step.queue (told_serial key old step.notice queue step.found))
 
   pub Removes-gone : (old : Queue T W) (key : Key) (propagate : Bool) (reply : Option (State T W)) (new : Queue T W) → IsQueue old → Removes old key propagate reply new → OnSome reply (IsGone key new)
   Removes-gone old key propagate None new queue step = tt
@@ -83,9 +109,16 @@ module _ {T W : Type 0} where
       IsGone-without key new (order_of old) (Removes-order old key propagate (Some (Task task)) new queue step) (rw step.1 (waiting_serial key old (Some task) queue step.0))
   Removes-gone old key propagate (Some (WasNotified additional tag)) new queue step =
       IsGone-without key new (order_of old) (Removes-order old key propagate (Some (WasNotified additional tag)) new queue step) (rw step.2 (told_serial key old _ queue step.1))
-  Removes-gone old key propagate (Some NotifiedTaken) new queue step =
-      let found = found_value (lookup (is_key key) old.told) (λ n. new ≡ after_passing n (told_leaves key old)) step.1 in
-      IsGone-without key new (order_of old) (Removes-order old key propagate (Some NotifiedTaken) new queue step) (rw found.2 (told_serial key old found.0 queue found.1))
+  Removes-gone old key propagate (Some (Passed to)) new queue step =
+      gone-propagated old key propagate new queue (propagates-passed old key propagate to new step)
+  Removes-gone old key propagate (Some (Lost additional tag)) new queue step =
+      gone-propagated old key propagate new queue (propagates-lost old key propagate additional tag new step)
+
+  the_notice : (old : Queue T W) (key : Key) (propagate : Bool) (new : Queue T W) (notice : Notice T) → Propagates old key propagate new → lookup (is_key key) old.told ≡ Some notice → new ≡ after_passing notice (told_leaves key old)
+  the_notice old key propagate new notice step told =
+      let both : Some step.notice ≡ Some notice = sym step.found ∙ told in
+      let same : step.notice ≡ notice = cc in
+      step.queue ∙ ap (λ n. after_passing n (told_leaves key old)) same
 
   -- a told listener's removal with propagation passes its notification on
   passed_on : (old : Queue T W) (key : Key) (reply : Option (State T W)) (new : Queue T W) (notice : Notice T) → IsQueue old → Removes old key true reply new → lookup (is_key key) old.told ≡ Some notice → new ≡ after_passing notice (told_leaves key old)
@@ -96,15 +129,19 @@ module _ {T W : Type 0} where
   passed_on old key (Some (Task task)) new notice queue step told =
       let none : None ≡ Some notice = sym (untold-waiting key old (Some task) queue step.0) ∙ told in absurd (cc)
   passed_on old key (Some (WasNotified additional tag)) new notice queue step told = absurd (let e = step.0 in cc)
-  passed_on old key (Some NotifiedTaken) new notice queue step told =
-      let found = found_value (lookup (is_key key) old.told) (λ n. new ≡ after_passing n (told_leaves key old)) step.1 in
-      let both : Some found.0 ≡ Some notice = sym found.1 ∙ told in
-      let same : found.0 ≡ notice = cc in
-      found.2 ∙ ap (λ n. after_passing n (told_leaves key old)) same
+  passed_on old key (Some (Passed to)) new notice queue step told =
+      the_notice old key true new notice (propagates-passed old key true to new step) told
+  passed_on old key (Some (Lost additional tag)) new notice queue step told =
+      the_notice old key true new notice (propagates-lost old key true additional tag new step) told
 
   at_most_one : (additional : Bool) (q : Queue T W) → how_many 1 additional q ≤ 1
   at_most_one true q = omega arith
   at_most_one false q = omega arith
+
+  pub one_told_at_most : (notice : Notice T) (q : Queue T W) → length (told_by_passing notice q) ≤ 1
+  one_told_at_most notice q =
+      let passed = how_many 1 notice.additional q in
+      omega (arith, length-keys_of (take passed q.waiting), length-take passed q.waiting, at_most_one notice.additional q)
 
   told_after_passing : (key : Key) (old : Queue T W) (notice : Notice T) → lookup (is_key key) old.told ≡ Some notice → length (after_passing notice (told_leaves key old)).told + 1 ≡ length old.told + how_many 1 notice.additional (told_leaves key old)
   told_after_passing key old notice found =

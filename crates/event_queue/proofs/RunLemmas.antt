@@ -1,27 +1,27 @@
 -- Runs of calls: one more step, a list of tags as a source, and who is gone stays gone.
-use Rattle.std.proofs.Common.{◌≡◌, ℕ, ◌<◌, ◌≤◌, Bool, List, [], ◌∷◌, ◌++◌, take, length, refl, sym, ap, ◌∙◌, subst, arith, Option, Some, None, Result, Ok, Err, IsSomeAnd, append_assoc, append-nil, length-append}
+use Rattle.std.proofs.Common.{◌≡◌, ℕ, ◌<◌, ◌≤◌, Bool, List, [], ◌∷◌, ◌++◌, take, length, refl, sym, ap, ◌∙◌, subst, arith, Option, Some, None, Result, Ok, Err, append_assoc, append-nil, length-append}
 use Rattle.std.specs.List.{FoldsTo, AllByRecursion}
-use Rattle.std.specs.Map.{keys_of, lookup, remove_entry}
+use Rattle.std.specs.Map.{keys_of, remove_entry}
 use Rattle.std.proofs.lemmas.Bool.{cond_both}
 use Rattle.event_queue.specs.declared.key.Key.{Key}
 use Rattle.event_queue.specs.declared.call.Call.{Call}
 use Rattle.event_queue.specs.declared.call.Reply.{Reply}
-use Rattle.event_queue.specs.declared.notice.Notice.{Notice}
 use Rattle.event_queue.specs.declared.reply.ListenError.{ListenError}
 use Rattle.event_queue.specs.declared.reply.ListenError.TheVariants.{Memory, SerialsUsedUp}
 use Rattle.event_queue.specs.declared.reply.NotifyError.{NotifyError}
 use Rattle.event_queue.specs.declared.reply.RegisterResult.{RegisterResult}
 use Rattle.event_queue.specs.declared.reply.RegisterResult.TheVariants.{Notified, Registered, NeverInserted}
 use Rattle.event_queue.specs.declared.reply.State.{State}
-use Rattle.event_queue.specs.declared.reply.State.TheVariants.{Created, Notified as WasNotified, Task, NotifiedTaken}
+use Rattle.event_queue.specs.declared.reply.State.TheVariants.{Created, Notified as WasNotified, Task, Passed, Lost}
 use Rattle.event_queue.specs.Key.{is_key}
 use Rattle.event_queue.specs.Queue.{Queue, IsQueue, IsGone, order_of, after_telling, told_leaves, waiting_leaves}
 use Rattle.event_queue.specs.Insert.{Inserts}
 use Rattle.event_queue.specs.Register.{Registers, after_storing}
-use Rattle.event_queue.specs.Remove.{Removes, after_passing}
+use Rattle.event_queue.specs.Remove.{Removes}
 use Rattle.event_queue.specs.Notify.{Notifies, GivesTags}
 use Rattle.event_queue.specs.Run.{NotifiesWith, Step, Runs, RunsAll, woken_by}
 use Rattle.event_queue.specs.TagList.{TakesFirst}
+use Rattle.event_queue.proofs.LawLemmas.{Propagates, propagates-passed, propagates-lost}
 use Rattle.event_queue.proofs.OrderLemmas.{NoneIs, All-append, All-front, All-back, none_is-from_lookup, lookup-none_is, other_serial}
 use Rattle.event_queue.proofs.QueueLemmas.{order_of-push, order_of-after_storing}
 use Rattle.event_queue.proofs.TellingLemmas.{FoldsTo-append, order_of-after_telling}
@@ -109,10 +109,9 @@ module _ {T W : Type 0} where
       rw step.1 (same_order key old (after_storing other task old) (order_of-after_storing other task old) refl gone)
   gone-Registers key old other task NeverInserted new step gone = rw step.1 gone
 
-  passed_queue : (key other : Key) (old new : Queue T W) (o : Option (Notice T)) → IsSomeAnd o (λ notice. new ≡ after_passing notice (told_leaves other old)) → IsGone key old → IsGone key new
-  passed_queue key other old new None step gone = absurd step
-  passed_queue key other old new (Some notice) step gone =
-      rw step (gone-after_telling key notice.additional _ (told_leaves other old) (gone-told_leaves key other old gone))
+  gone-propagated : (key : Key) (old : Queue T W) (other : Key) (propagate : Bool) (new : Queue T W) → Propagates old other propagate new → IsGone key old → IsGone key new
+  gone-propagated key old other propagate new step gone =
+      rw step.queue (gone-after_telling key step.notice.additional _ (told_leaves other old) (gone-told_leaves key other old gone))
 
   pub gone-Removes : (key : Key) (old : Queue T W) (other : Key) (propagate : Bool) (reply : Option (State T W)) (new : Queue T W) → Removes old other propagate reply new → IsGone key old → IsGone key new
   gone-Removes key old other propagate None new step gone = rw step.1 gone
@@ -120,8 +119,10 @@ module _ {T W : Type 0} where
   gone-Removes key old other propagate (Some (Task task)) new step gone = rw step.1 (gone-waiting_leaves key other old gone)
   gone-Removes key old other propagate (Some (WasNotified additional tag)) new step gone =
       rw step.2 (gone-told_leaves key other old gone)
-  gone-Removes key old other propagate (Some NotifiedTaken) new step gone =
-      passed_queue key other old new (lookup (is_key other) old.told) step.1 gone
+  gone-Removes key old other propagate (Some (Passed to)) new step gone =
+      gone-propagated key old other propagate new (propagates-passed old other propagate to new step) gone
+  gone-Removes key old other propagate (Some (Lost additional tag)) new step gone =
+      gone-propagated key old other propagate new (propagates-lost old other propagate additional tag new step) gone
 
   -- a run with one more step
 

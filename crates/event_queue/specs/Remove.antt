@@ -1,10 +1,10 @@
 -- The remove step: a listener leaves, and where it was told its notification may be passed on.
 use Rattle.std.specs.Prelude.{◌≡◌, Bool, true, false, List, [], ◌∷◌, take, Option, Some, None, IsSomeAnd}
-use Rattle.std.specs.Map.{lookup}
+use Rattle.std.specs.Map.{keys_of, lookup}
 use Rattle.event_queue.specs.declared.key.Key.{Key}
 use Rattle.event_queue.specs.declared.notice.Notice.{Notice}
 use Rattle.event_queue.specs.declared.reply.State.{State}
-use Rattle.event_queue.specs.declared.reply.State.TheVariants.{Created, Notified, Task, NotifiedTaken}
+use Rattle.event_queue.specs.declared.reply.State.TheVariants.{Created, Notified, Task, Passed, Lost}
 use Rattle.event_queue.specs.Key.{is_key}
 use Rattle.event_queue.specs.Queue.{Queue, IsAbsent, how_many, after_telling, tasks_of, told_leaves, waiting_leaves}
 
@@ -18,7 +18,17 @@ module _ {T W : Type 0} where
   abbrev pub woken_by_passing : Notice T → Queue T W → List W
   woken_by_passing notice q = tasks_of (how_many 1 notice.additional q) q
 
-  -- what a removal answers, and the queue that it leaves
+  -- the listeners that this tells: one, or none
+  abbrev pub told_by_passing : Notice T → Queue T W → List Key
+  told_by_passing notice q = keys_of (take (how_many 1 notice.additional q) q.waiting)
+
+  -- the notice was passed on: the queue was notified of one, and these were told by it
+  pub record PassesTo (to : List Key) (notice : Notice T) (old new : Queue T W) : Type 0 where
+    pub told : told_by_passing notice old ≡ to
+    pub queue : new ≡ after_passing notice old
+
+  -- what a removal answers, and the queue that it leaves; a notification that is passed on went to the one listener
+  -- that was told by it, or nobody was, and it is lost
   abbrev pub Removes : Queue T W → Key → Bool → Option (State T W) → Queue T W → Type 0
   Removes old key propagate None new = IsAbsent key old × (new ≡ old)
   Removes old key propagate (Some Created) new =
@@ -29,9 +39,20 @@ module _ {T W : Type 0} where
       (propagate ≡ false)
       × (lookup (is_key key) old.told ≡ Some (record { additional = additional; tag = tag }))
       × (new ≡ told_leaves key old)
-  Removes old key propagate (Some NotifiedTaken) new =
+  Removes old key propagate (Some (Passed to)) new =
       (propagate ≡ true)
-      × IsSomeAnd (lookup (is_key key) old.told) (λ notice. new ≡ after_passing notice (told_leaves key old))
+      × IsSomeAnd (lookup (is_key key) old.told) (λ notice. PassesTo (to ∷ []) notice (told_leaves key old) new)
+  Removes old key propagate (Some (Lost additional tag)) new =
+      (propagate ≡ true)
+      × (lookup (is_key key) old.told ≡ Some (record { additional = additional; tag = tag }))
+      × PassesTo [] (record { additional = additional; tag = tag }) (told_leaves key old) new
+
+  -- what is answered of a notice that was passed on: whom it told, or what it had
+  abbrev pub PassedAs : Notice T → Queue T W → State T W → Type 0
+  PassedAs notice q (Passed to) = told_by_passing notice q ≡ to ∷ []
+  PassedAs notice q (Lost additional tag) =
+      (notice ≡ record { additional = additional; tag = tag }) × (told_by_passing notice q ≡ [])
+  PassedAs notice q _ = ⊥
 
   -- the tasks that a removal wakes
   abbrev pub woken_by_leaving : Option (Notice T) → Bool → Key → Queue T W → List W

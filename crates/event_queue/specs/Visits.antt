@@ -34,4 +34,5 @@ module _ {T W : Type 0} where
   visits_of_removal (Some state.Created) key q = 3
   visits_of_removal (Some (state.Task task)) key q = 3
   visits_of_removal (Some (state.Notified additional tag)) key q = 2
-  visits_of_removal (Some state.NotifiedTaken) key q = 2 + visits_of_passing (lookup (is_key key) q.told) key q
+  visits_of_removal (Some (state.Passed to)) key q = 2 + visits_of_passing (lookup (is_key key) q.told) key q
+  visits_of_removal (Some (state.Lost additional tag)) key q = 2 + visits_of_passing (lookup (is_key key) q.told) key q

@@ -1,13 +1,13 @@
 //! The queue: listeners in order of listening, a front of them told.
-ghost use Rattle.std.specs.Prelude.{◌≡◌, ◌≢◌, ◌+◌, ◌-◌, ◌<◌, ◌≤◌, ◌^◌, ◌↔◌, min, max, true, false, [], ◌∷◌, ◌++◌, length, IsTrue, IsFalse, IsOk, IsSome, OnOk, OnErr, IfOk, IfSome, OnSome};
+ghost use Rattle.std.specs.Prelude.{◌≡◌, ◌≢◌, ◌+◌, ◌-◌, ◌<◌, ◌≤◌, ◌^◌, ◌↔◌, min, max, true, false, [], ◌∷◌, ◌++◌, length, take, IsTrue, IsFalse, IsOk, IsSome, OnOk, OnErr, IfOk, IfErr, IfSome, OnSome};
 ghost use Rattle.std.specs.List.{FoldsTo};
-ghost use Rattle.std.specs.Map.{lookup};
+ghost use Rattle.std.specs.Map.{keys_of, lookup};
 ghost use Rattle.event_queue.specs.Key.{is_key, without};
 ghost use Rattle.event_queue.specs.Queue.{IsQueue, IsGone, IsToldAs, order_of, listeners_of, how_many, after_telling, tasks_of};
 ghost use Rattle.event_queue.specs.Insert.{Inserts};
 ghost use Rattle.event_queue.specs.Register.{Registers, OnNotified, UnlessNotified, after_storing};
 ghost use Rattle.event_queue.specs.Exchange.{RegistersWith};
-ghost use Rattle.event_queue.specs.Remove.{Removes, woken_by_removal, woken_by_passing, after_passing};
+ghost use Rattle.event_queue.specs.Remove.{Removes, PassedAs, woken_by_removal, woken_by_passing, after_passing};
 ghost use Rattle.event_queue.specs.Notify.{Notifies, NeverRefuses, told_by};
 ghost use Rattle.event_queue.specs.Visits.{visits_of_insertion, visits_of_registration, visits_of_removal};
 
@@ -259,9 +259,10 @@ impl<T, W> List<T, W> {
     /// Removes a listener from the queue, and returns what it was, or `None` where no listener has that key.
     ///
     /// With `propagate`, the notification of a told listener is propagated: the queue is notified of one, of the same
-    /// kind and with the same tag. So a default notification is lost while another listener stays told, and an
-    /// additional one only where nobody waits. The call drops a lost tag. It allocates nothing. It adds its visits to
-    /// `steps`, three at most.
+    /// kind and with the same tag. The answer says where it went: [`State::Passed`] names the listener that was told by
+    /// it, and [`State::Lost`] hands the tag back where nobody was. So a default notification is lost while another
+    /// listener stays told, and an additional one only where nobody waits. The call allocates nothing, and neither
+    /// clones nor drops a tag. It adds its visits to `steps`, three at most.
     #[inline(always)]
     pub fn remove<S: WakeSink<W>, L: Ledger>(
         &mut self,
@@ -270,8 +271,6 @@ impl<T, W> List<T, W> {
         sink: &mut S,
         steps: &mut Steps<L>,
     ) -> Option<State<T, W>>
-    where
-        T: Drop,
         ensures step { Removes self.old key propagate result self.new }
         ensures wakes { FoldsTo S.woke sink.old (woken_by_removal key propagate self.old) sink.new }
         ensures queue { IsQueue self.new }
@@ -299,8 +298,6 @@ impl<T, W> List<T, W> {
         sink: &mut S,
         steps: &mut Steps<L>,
     ) -> Option<State<T, W>>
-    where
-        T: Drop,
         ensures step { Removes self.old key propagate result self.new }
         ensures wakes { FoldsTo S.woke sink.old (woken_by_removal key propagate self.old) sink.new }
         ensures was_queue { IsQueue self.old }
@@ -316,33 +313,53 @@ impl<T, W> List<T, W> {
         }
         let notice = self.chain.take_before(key, steps)?;
         if propagate {
-            self.pass_on(notice, sink, steps);
-            return Some(State::NotifiedTaken);
+            return Some(self.pass_on(notice, sink, steps));
         }
         let Notice { additional, tag } = notice;
         Some(State::Notified { additional, tag })
     }
 
-    // Propagates a notification: notifies one, of that notice's kind and with its tag. It stands apart, so that the drop
-    // of a listener, which stands in many places, is short.
-    #[cold]
-    #[inline(never)]
+    // Propagates a notification: notifies one, of that notice's kind and with its tag. The answer says who was told;
+    // where nobody was, it has what the notice had.
+    #[inline(always)]
     fn pass_on<S: WakeSink<W>, L: Ledger>(
         &mut self,
         notice: Notice<T>,
         sink: &mut S,
         steps: &mut Steps<L>,
-    )
-    where
-        T: Drop,
+    ) -> State<T, W>
+        ensures answer { PassedAs notice self.old result }
         ensures passed { self.new ≡ after_passing notice self.old }
         ensures wakes { FoldsTo S.woke sink.old (woken_by_passing notice self.old) sink.new }
         ensures queue { IsQueue self.new }
         ensures visits { steps.new ≡ steps.old + how_many 1 notice.additional self.old }
     {
         if self.how_many(1, notice.additional) == 1 {
-            self.tell_next(notice, sink, steps);
+            let to = self.tell_apart(notice, sink, steps);
+            return State::Passed { to };
         }
+        let Notice { additional, tag } = notice;
+        State::Lost { additional, tag }
+    }
+
+    // Tells the first waiting listener. It stands apart, so that the drop of a listener, which stands in many places, is
+    // short.
+    #[cold]
+    #[inline(never)]
+    fn tell_apart<S: WakeSink<W>, L: Ledger>(
+        &mut self,
+        notice: Notice<T>,
+        sink: &mut S,
+        steps: &mut Steps<L>,
+    ) -> Key
+        requires { 0 < length self.old.waiting }
+        ensures first { keys_of (take 1 self.old.waiting) ≡ result ∷ [] }
+        ensures told { self.new ≡ after_telling notice.additional (notice.tag ∷ []) self.old }
+        ensures wakes { FoldsTo S.woke sink.old (tasks_of 1 self.old) sink.new }
+        ensures queue { IsQueue self.new }
+        ensures visits { steps.new ≡ steps.old + 1 }
+    {
+        self.tell_next(notice, sink, steps)
     }
 
     /// Tells the first of the waiting listeners, as many as the notification is for, in order, each with the next tag
@@ -417,24 +434,26 @@ impl<T, W> List<T, W> {
         wanted.min(self.chain.after_len())
     }
 
-    // Tells the first waiting listener, and wakes its task if it has one.
+    // Tells the first waiting listener, and wakes its task if it has one. Its key is the answer.
     #[inline(always)]
     fn tell_next<S: WakeSink<W>, L: Ledger>(
         &mut self,
         notice: Notice<T>,
         sink: &mut S,
         steps: &mut Steps<L>,
-    )
+    ) -> Key
         requires { 0 < length self.old.waiting }
+        ensures first { keys_of (take 1 self.old.waiting) ≡ result ∷ [] }
         ensures told { self.new ≡ after_telling notice.additional (notice.tag ∷ []) self.old }
         ensures wakes { FoldsTo S.woke sink.old (tasks_of 1 self.old) sink.new }
         ensures queue { IsQueue self.new }
         ensures visits { steps.new ≡ steps.old + 1 }
     {
-        let (_, task) = self.chain.advance(notice, steps);
+        let (key, task) = self.chain.advance(notice, steps);
         if let Some(task) = task {
             sink.wake(task);
         }
+        key
     }
 
     // What the type keeps, for code that reads none of its fields.

@@ -1,3 +1,4 @@
+use crate::key::Key;
 use thiserror::Error;
 
 /// What a listener was when it left the queue.
@@ -14,8 +15,18 @@ pub enum State<T, W> {
     },
     /// Waiting, with the task that was stored last.
     Task(W),
-    /// Told, and its notification was propagated, or lost where it told nobody.
-    NotifiedTaken,
+    /// Told, and its notification was propagated: another listener was told by it.
+    Passed {
+        /// The listener that was told.
+        to: Key,
+    },
+    /// Told, and its notification was lost: nobody was told by it, so it comes back.
+    Lost {
+        /// Whether the notification was an additional one.
+        additional: bool,
+        /// The tag that came with it.
+        tag: T,
+    },
 }
 
 /// What [`List::register`](crate::List::register) found.

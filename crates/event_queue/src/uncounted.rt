@@ -122,8 +122,6 @@ impl<T, W> List<T, W> {
         propagate: bool,
         sink: &mut S,
     ) -> Option<State<T, W>>
-    where
-        T: Drop,
         ensures step { Removes self.old key propagate result self.new }
         ensures wakes { FoldsTo S.woke sink.old (woken_by_removal key propagate self.old) sink.new }
         ensures queue { IsQueue self.new }
@@ -148,8 +146,6 @@ impl<T, W> List<T, W> {
         sink: &mut S,
         blank: Blank,
     ) -> Option<State<T, W>>
-    where
-        T: Drop,
         requires name { blank.name ≡ L.name }
         requires parts { blank.parts ≡ L.parts }
         requires has_a_part { 0 < blank.parts }

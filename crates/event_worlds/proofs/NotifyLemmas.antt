@@ -8,14 +8,14 @@ use Rattle.event_queue.specs.declared.key.Key.{Key}
 use Rattle.event_queue.specs.declared.notice.Notice.{Notice}
 use Rattle.event_queue.specs.declared.reply.NotifyError.{NotifyError}
 use Rattle.event_queue.specs.declared.reply.State.{State}
-use Rattle.event_queue.specs.declared.reply.State.TheVariants.{Created, Notified, Task, NotifiedTaken}
+use Rattle.event_queue.specs.declared.reply.State.TheVariants.{Created, Notified, Task, Passed, Lost}
 use Rattle.event_queue.specs.Key.{is_key}
 use Rattle.event_queue.specs.Queue.{Queue, how_many, told_with, after_telling, tasks_of, told_leaves, waiting_leaves}
 use Rattle.event_queue.specs.Remove.{Removes, after_passing, woken_by_leaving, woken_by_removal}
 use Rattle.event_queue.specs.Notify.{Notifies, told_by}
 use Rattle.event_queue.proofs.OrderLemmas.{All-append}
 use Rattle.event_queue.proofs.TellingLemmas.{order_of-after_telling, IsQueue-after_telling}
-use Rattle.event_queue.proofs.LawLemmas.{untold-waiting}
+use Rattle.event_queue.proofs.LawLemmas.{untold-waiting, propagates-passed, propagates-lost}
 use Rattle.event_worlds.specs.Line.{Line, is_told, told_left, waiting_left, woken, tell, notified, dropped}
 use Rattle.event_worlds.specs.LineKeys.{client_of, told_clients, waiting_clients, line_of, IsTied}
 use Rattle.event_worlds.proofs.ClientLemmas.{HasTask}
@@ -171,7 +171,8 @@ module _ (kind : Bool) (q : Queue Unit ℕ) (keys : List (Option Key)) (awake : 
         let notice : Notice Unit = record { additional = additional; tag = tag } in
         let still : awake ≡ awake' = subst (λ (ts : List ℕ). FoldsTo Wakes awake ts awake') (none-woken (lookup (is_key key) q.told) key q) wakes in
         moves kind (told_leaves key q) q' (set keys client None) awake awake' (told_left client line) _ step.2 (sym still) (rw (told-if notice step.1) refl) (told-leaves kind q keys awake tied client key at notice within step.1)
-    leaves-line (Some NotifiedTaken) step wakes = absurd (cc)
+    leaves-line (Some (Passed to)) step wakes = absurd (let e = step.0 in cc)
+    leaves-line (Some (Lost additional tag)) step wakes = absurd (let e = step.0 in cc)
 
     -- a told listener leaves, and its notification is passed on
     passes : (notice : Notice Unit) → lookup (is_key key) q.told ≡ Some notice → q' ≡ after_passing notice (told_leaves key q) → FoldsTo Wakes awake (woken_by_removal key true q) awake' → Changed kind q' (set keys client None) awake' (dropped client line)
@@ -201,6 +202,9 @@ module _ (kind : Bool) (q : Queue Unit ℕ) (keys : List (Option Key)) (awake : 
     drops-line (Some (Task task)) step wakes =
         waiting-leaves' true (Some task) _ step.0 step.1 wakes (rw (untold-if (Some task) step.0) refl)
     drops-line (Some (Notified additional tag)) step wakes = absurd (cc)
-    drops-line (Some NotifiedTaken) step wakes =
-        let (notice, found, same) = found_value (lookup (is_key key) q.told) _ step.1 in
-        passes notice found same wakes
+    drops-line (Some (Passed to)) step wakes =
+        let passed = propagates-passed q key true to q' step in
+        passes passed.notice passed.found passed.queue wakes
+    drops-line (Some (Lost additional tag)) step wakes =
+        let lost = propagates-lost q key true additional tag q' step in
+        passes lost.notice lost.found lost.queue wakes

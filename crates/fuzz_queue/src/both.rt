@@ -1,7 +1,7 @@
 //! Both queues, and the calls on them.
 use crate::draw::{Drawn, DrawnKey, Part};
 use anyhow::Result;
-use event_queue::{Key, List, ListenError, TagList, Woken};
+use event_queue::{Key, List, ListenError, State, TagList, Woken};
 use plain_queue::PlainQueue;
 use std::alloc::Global;
 use std::fmt::Debug;
@@ -114,6 +114,13 @@ impl Both {
         let answer = self
             .queue
             .remove_uncounted(key, propagate, &mut self.queue_woken);
+        // Who was told in its place has another slot in the plain queue.
+        let answer = match answer {
+            Some(State::Passed { to }) => Some(State::Passed {
+                to: self.plain_key(to),
+            }),
+            answer => answer,
+        };
         let expected = self
             .plain
             .remove(plain_key, propagate, &mut self.plain_woken);

@@ -97,7 +97,7 @@ impl QueueSubject {
             .list
             .remove_uncounted(taken.key, propagate, &mut self.woken)
         {
-            Some(State::Notified { .. } | State::NotifiedTaken) => Some(true),
+            Some(State::Notified { .. } | State::Passed { .. } | State::Lost { .. }) => Some(true),
             Some(State::Task(task)) => {
                 self.let_go = Some(task);
                 Some(false)

@@ -75,19 +75,30 @@ fn a_notification_that_is_always_refused_tells_nobody(rt: HostRuntime) {
     check(&rt, "told", queue.is_notified(), false);
 }
 
+// What became of a notification that was propagated.
+#[derive(Clone, Copy, Debug, PartialEq, Eq)]
+enum Went {
+    To(Key),
+    Nowhere,
+}
+
 // Removes a told listener with propagation.
 fn removes_and_propagates<R: Abort + AllocGlobal>(
     rt: &R,
     queue: &mut List<Refusing<'_>, u32>,
     key: Key,
+    expected: Went,
 ) {
     let mut woken = Woken::with_room(rt.alloc(), 0).expect(rt, "room");
-    let left = queue.remove_uncounted(key, true, &mut woken);
-    check(rt, key, matches!(left, Some(State::Notified { .. })), false);
-    check(rt, key, left.is_some(), true);
+    let went = match queue.remove_uncounted(key, true, &mut woken) {
+        Some(State::Passed { to }) => Some(Went::To(to)),
+        Some(State::Lost { .. }) => Some(Went::Nowhere),
+        _ => None,
+    };
+    check(rt, key, went, Some(expected));
 }
 
-// The tag is moved, so it is passed on even where no clone of it is given.
+// The tag is moved, so it is passed on and comes back even where no clone of it is given.
 #[test]
 fn a_tag_is_passed_on_without_a_clone(rt: HostRuntime) {
     let asked = Cell::new(0);
@@ -97,9 +108,10 @@ fn a_tag_is_passed_on_without_a_clone(rt: HostRuntime) {
     check(&rt, "first", answer, Ok(1));
     let second = insert(&rt, &mut queue);
     let third = insert(&rt, &mut queue);
-    removes_and_propagates(&rt, &mut queue, first);
+    removes_and_propagates(&rt, &mut queue, first, Went::To(second));
     check(&rt, "passed on", queue.is_told(second), true);
-    removes_and_propagates(&rt, &mut queue, second);
+    removes_and_propagates(&rt, &mut queue, second, Went::To(third));
     check(&rt, "passed on", queue.is_told(third), true);
+    removes_and_propagates(&rt, &mut queue, third, Went::Nowhere);
     check(&rt, "clones", asked.get(), 1);
 }

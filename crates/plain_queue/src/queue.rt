@@ -1,12 +1,12 @@
 //! The queue as its definitions say it: two plain lists, searched from the front.
-ghost use Rattle.std.specs.Prelude.{◌≡◌, ◌+◌, ◌-◌, ◌<◌, ◌≤◌, ◌^◌, ◌↔◌, min, max, true, false, [], ◌∷◌, ◌++◌, length, IsTrue, IsFalse, IsOk, IsSome, OnOk, OnErr, IfOk, IfNone, OnSome, vec_len, vec_capacity};
+ghost use Rattle.std.specs.Prelude.{◌≡◌, ◌+◌, ◌-◌, ◌<◌, ◌≤◌, ◌^◌, ◌↔◌, min, max, true, false, [], ◌∷◌, ◌++◌, length, take, IsTrue, IsFalse, IsOk, IsSome, OnOk, OnErr, IfOk, IfErr, IfNone, OnSome, vec_len, vec_capacity};
 ghost use Rattle.std.specs.List.{FoldsTo, position};
-ghost use Rattle.std.specs.Map.{lookup, remove_entry, set_value};
+ghost use Rattle.std.specs.Map.{keys_of, lookup, remove_entry, set_value};
 ghost use Rattle.event_queue.specs.Key.{is_key, without};
 ghost use Rattle.event_queue.specs.Queue.{IsQueue, IsGone, IsToldAs, order_of, listeners_of, how_many, after_telling, tasks_of};
 ghost use Rattle.event_queue.specs.Insert.{Inserts, Joins};
 ghost use Rattle.event_queue.specs.Register.{Registers, OnNotified, UnlessNotified};
-ghost use Rattle.event_queue.specs.Remove.{Removes, woken_by_removal, woken_by_passing, after_passing};
+ghost use Rattle.event_queue.specs.Remove.{Removes, woken_by_removal, woken_by_passing, told_by_passing, after_passing};
 ghost use Rattle.event_queue.specs.Notify.{Notifies, NeverRefuses, told_by};
 
 use event_queue::{
@@ -198,15 +198,14 @@ impl<T, W> PlainQueue<T, W> {
     /// Removes a listener from the queue, and returns what it was, or `None` where no listener has that key.
     ///
     /// With `propagate`, the notification of a told listener is propagated: the queue is notified of one, of the same
-    /// kind and with the same tag. The call drops a lost tag. It allocates nothing.
+    /// kind and with the same tag, and the answer says who was told by it. A lost tag comes back. The call allocates
+    /// nothing.
     pub fn remove<S: WakeSink<W>>(
         &mut self,
         key: Key,
         propagate: bool,
         sink: &mut S,
     ) -> Option<State<T, W>>
-    where
-        T: Drop,
         ensures step { Removes self.old key propagate result self.new }
         ensures wakes { FoldsTo S.woke sink.old (woken_by_removal key propagate self.old) sink.new }
         ensures queue { IsQueue self.new }
@@ -229,8 +228,6 @@ impl<T, W> PlainQueue<T, W> {
         propagate: bool,
         sink: &mut S,
     ) -> Option<State<T, W>>
-    where
-        T: Drop,
         ensures step { Removes self.old key propagate result self.new }
         ensures wakes { FoldsTo S.woke sink.old (woken_by_removal key propagate self.old) sink.new }
         ensures was_queue { IsQueue self.old }
@@ -246,23 +243,33 @@ impl<T, W> PlainQueue<T, W> {
         let notice = take_entry(&mut self.told, key)?;
         self.spare += 1;
         if propagate {
-            self.pass_on(notice, sink);
-            return Some(State::NotifiedTaken);
+            return Some(match self.pass_on(notice, sink) {
+                Ok(to) => State::Passed { to },
+                Err(Notice { additional, tag }) => State::Lost { additional, tag },
+            });
         }
         let Notice { additional, tag } = notice;
         Some(State::Notified { additional, tag })
     }
 
-    // Propagates a notification: notifies one, of that notice's kind and with its tag.
-    fn pass_on<S: WakeSink<W>>(&mut self, notice: Notice<T>, sink: &mut S)
-    where
-        T: Drop,
+    // Propagates a notification: notifies one, of that notice's kind and with its tag. Who was told is the answer; where
+    // nobody was, the notice comes back.
+    fn pass_on<S: WakeSink<W>>(
+        &mut self,
+        notice: Notice<T>,
+        sink: &mut S,
+    ) -> Result<Key, Notice<T>>
         ensures passed { self.new ≡ after_passing notice self.old }
+        ensures told { IfOk result (λ to. told_by_passing notice self.old ≡ to ∷ []) }
+        ensures nobody { OnErr result (told_by_passing notice self.old ≡ []) }
+        ensures returned { IfErr result (λ lost. lost ≡ notice) }
         ensures wakes { FoldsTo S.woke sink.old (woken_by_passing notice self.old) sink.new }
         ensures queue { IsQueue self.new }
     {
         if self.how_many(1, notice.additional) == 1 {
-            self.tell_first(notice, sink);
+            Ok(self.tell_first(notice, sink))
+        } else {
+            Err(notice)
         }
     }
 
@@ -326,9 +333,10 @@ impl<T, W> PlainQueue<T, W> {
         wanted.min(self.waiting.len())
     }
 
-    // Tells the first waiting listener, and wakes its task if it has one.
-    fn tell_first<S: WakeSink<W>>(&mut self, notice: Notice<T>, sink: &mut S)
+    // Tells the first waiting listener, and wakes its task if it has one. Its key is the answer.
+    fn tell_first<S: WakeSink<W>>(&mut self, notice: Notice<T>, sink: &mut S) -> Key
         requires { 0 < length self.old.waiting }
+        ensures first { keys_of (take 1 self.old.waiting) ≡ result ∷ [] }
         ensures told { self.new ≡ after_telling notice.additional (notice.tag ∷ []) self.old }
         ensures wakes { FoldsTo S.woke sink.old (tasks_of 1 self.old) sink.new }
         ensures queue { IsQueue self.new }
@@ -338,6 +346,7 @@ impl<T, W> PlainQueue<T, W> {
         if let Some(task) = task {
             sink.wake(task);
         }
+        key
     }
 
     /// How many slots are spare: as many more insertions allocate nothing. The call allocates nothing.

@@ -16,7 +16,7 @@ const CALLS: u32 = 60;
 const ROOM: usize = 60;
 
 // How many kinds of reply there are.
-const KINDS: usize = 15;
+const KINDS: usize = 16;
 
 // Numbers by a fixed rule: the high bits of a linear congruence.
 #[derive(Drop)]
@@ -254,10 +254,12 @@ where
     outcome
 }
 
-// The slot of a new listener is the queue's own choice.
+// The slot of a listener is the queue's own choice.
 fn forget_slot(reply: &mut Reply<u32, u32>) {
-    if let Reply::Inserted(Ok(key)) = reply {
-        key.slot = 0;
+    match reply {
+        Reply::Inserted(Ok(key)) => key.slot = 0,
+        Reply::Removed(Some(State::Passed { to })) => to.slot = 0,
+        _ => {}
     }
 }
 
@@ -275,12 +277,13 @@ fn kind(reply: &Reply<u32, u32>) -> usize
         Reply::Removed(Some(State::Created)) => 6,
         Reply::Removed(Some(State::Task(_))) => 7,
         Reply::Removed(Some(State::Notified { .. })) => 8,
-        Reply::Removed(Some(State::NotifiedTaken)) => 9,
-        Reply::Notified(Ok(_)) => 10,
-        Reply::Notified(Err(_)) => 11,
-        Reply::TotalListeners(_) => 12,
-        Reply::IsNotified(true) => 13,
-        Reply::IsNotified(false) => 14,
+        Reply::Removed(Some(State::Passed { .. })) => 9,
+        Reply::Removed(Some(State::Lost { .. })) => 10,
+        Reply::Notified(Ok(_)) => 11,
+        Reply::Notified(Err(_)) => 12,
+        Reply::TotalListeners(_) => 13,
+        Reply::IsNotified(true) => 14,
+        Reply::IsNotified(false) => 15,
     }
 }
 

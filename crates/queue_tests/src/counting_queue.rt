@@ -21,7 +21,8 @@ pub enum Removal {
     Created,
     Task,
     Notified,
-    NotifiedTaken,
+    Passed(Key),
+    Lost,
 }
 
 /// A queue, and a sink without room, which drops each task that it is handed.
@@ -101,7 +102,8 @@ impl<'a, R: Abort> CountingQueue<'a, R> {
             Some(State::Created) => Removal::Created,
             Some(State::Task(_)) => Removal::Task,
             Some(State::Notified { .. }) => Removal::Notified,
-            Some(State::NotifiedTaken) => Removal::NotifiedTaken,
+            Some(State::Passed { to }) => Removal::Passed(*to),
+            Some(State::Lost { .. }) => Removal::Lost,
         };
         check(self.rt, ("remove", key, propagate), removal, expected);
         answer
@@ -112,9 +114,14 @@ impl<'a, R: Abort> CountingQueue<'a, R> {
         drop(self.registers(key, drops, Registration::Registered));
     }
 
-    /// The told listener leaves, and its tag is passed on or lost.
-    pub fn passes_on(&mut self, key: Key) {
-        drop(self.removes(key, true, Removal::NotifiedTaken));
+    /// The told listener leaves, and its tag is passed on to this one.
+    pub fn passes_on(&mut self, key: Key, to: Key) {
+        drop(self.removes(key, true, Removal::Passed(to)));
+    }
+
+    /// The told listener leaves, and its tag is lost, and comes back with the answer.
+    pub fn loses(&mut self, key: Key) -> Option<State<Counted<'a>, Counted<'a>>> {
+        self.removes(key, true, Removal::Lost)
     }
 
     /// Whether the listener is told.

@@ -82,21 +82,23 @@ fn propagated_tag<R: Abort + AllocGlobal>(rt: &R, additional: bool) {
     queue.tells_one(1, additional, &tag);
 
     // The second listener gets the tag, and leaves it to nobody.
-    queue.passes_on(first);
+    queue.passes_on(first, second);
     queue.is_told(second, true);
     dropped(rt, "the tag", &tag, 0);
-    queue.passes_on(second);
+    let answer = queue.loses(second);
+    dropped(rt, "the tag", &tag, 0);
+    drop(answer);
     dropped(rt, "the tag", &tag, 1);
 }
 
 #[test]
-fn propagated_tag_is_dropped_once_nobody_is_left_to_tell(rt: HostRuntime) {
+fn propagated_tag_comes_back_once_nobody_is_left_to_tell(rt: HostRuntime) {
     propagated_tag(&rt, false);
     propagated_tag(&rt, true);
 }
 
 #[test]
-fn default_tag_is_dropped_while_another_listener_stays_told(rt: HostRuntime) {
+fn default_tag_comes_back_while_another_listener_stays_told(rt: HostRuntime) {
     let tag = Cell::new(0);
     let other = Cell::new(0);
     let mut queue = CountingQueue::new(&rt);
@@ -106,7 +108,9 @@ fn default_tag_is_dropped_while_another_listener_stays_told(rt: HostRuntime) {
     queue.tells_one(1, false, &tag);
     queue.tells_one(2, false, &other);
 
-    queue.passes_on(first);
+    let answer = queue.loses(first);
+    dropped(&rt, "the tag", &tag, 0);
+    drop(answer);
     dropped(&rt, "the tag", &tag, 1);
     dropped(&rt, "the other tag", &other, 0);
     queue.is_told(second, true);

@@ -16,7 +16,11 @@ mod drops;
 #[cfg(test)]
 mod many;
 #[cfg(test)]
+mod marked;
+#[cfg(test)]
 mod notifications;
+#[cfg(test)]
+mod passing;
 #[cfg(test)]
 mod queue;
 #[cfg(test)]

@@ -2,7 +2,7 @@
 use crate::checked_queue::CheckedQueue;
 use crate::checks::{check, reads};
 use crate::doubles::Tagged;
-use event_queue::{ListenError, State, equal_keys};
+use event_queue::{Key, ListenError, State, equal_keys};
 
 fn default(count: usize, tag: u32) -> Tagged {
     Tagged {
@@ -23,6 +23,16 @@ fn additional(count: usize, tag: u32) -> Tagged {
 // Told, and not passed on.
 fn notified(additional: bool, tag: u32) -> State<u32, u32> {
     State::Notified { additional, tag }
+}
+
+// Told, and passed on to this one.
+fn passed(to: Key) -> State<u32, u32> {
+    State::Passed { to }
+}
+
+// Told, and nobody was told in its place.
+fn lost(additional: bool, tag: u32) -> State<u32, u32> {
+    State::Lost { additional, tag }
 }
 
 #[test]
@@ -95,11 +105,11 @@ fn default_notification_is_lost_while_another_listener_stays_told(rt: HostRuntim
     queue.notifies(default(2, 7), Ok(2));
     queue.woke(&[1, 2]);
 
-    queue.removes(first, true, State::NotifiedTaken);
+    queue.removes(first, true, lost(false, 7));
     queue.is_told(third, false);
     queue.woke(&[1, 2]);
 
-    queue.removes(second, true, State::NotifiedTaken);
+    queue.removes(second, true, passed(third));
     queue.woke(&[1, 2, 3]);
     queue.takes(third, 7);
     queue.counts(0, 0);
@@ -115,13 +125,13 @@ fn additional_notification_is_passed_on_whoever_stays_told(rt: HostRuntime) {
     queue.notifies(additional(1, 8), Ok(1));
     queue.woke(&[1, 2]);
 
-    queue.removes(second, true, State::NotifiedTaken);
+    queue.removes(second, true, passed(third));
     queue.woke(&[1, 2, 3]);
     queue.is_told(first, true);
     queue.removes(third, false, notified(true, 8));
 
     // Nobody waits any more, so this one is lost.
-    queue.removes(first, true, State::NotifiedTaken);
+    queue.removes(first, true, lost(false, 7));
     queue.counts(0, 0);
     queue.woke(&[1, 2, 3]);
 }

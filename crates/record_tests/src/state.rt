@@ -29,7 +29,7 @@ fn a_told_listener_that_is_dropped_passes_on_and_wakes(rt: HostRuntime) {
     recorded.counts(2, 0);
     recorded.ends(first);
     recorded.counts(1, 1);
-    recorded.has_recorded(5, ended(first, Former::NotifiedTaken));
+    recorded.has_recorded(5, ended(first, Former::Passed { to: second }));
     recorded.registers(second, RegisterResult::Notified(9));
 }
 

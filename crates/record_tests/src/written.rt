@@ -171,40 +171,62 @@ fn a_removal_answers_what_the_listener_was(rt: HostRuntime) {
     ]);
 }
 
+// The removal of the first listener with propagation, whose notification told this one.
+fn passed(to: Key) -> Note<u8> {
+    removed(key(0, 0), true, Some(Former::Passed { to }))
+}
+
+// The removal of the first listener with propagation, whose notification told nobody.
+fn lost(additional: bool, tag: u8) -> Note<u8> {
+    removed(key(0, 0), true, Some(Former::Lost { additional, tag }))
+}
+
 #[test]
 fn a_removal_passes_an_additional_notification_on(rt: HostRuntime) {
     let records = Records { rt: &rt };
-    let taken = removed(key(0, 0), true, Some(Former::NotifiedTaken));
-    let tagged = registered(key(1, 1), RegisterResult::Notified(5));
-    let start = [
-        listened(key(0, 0)),
-        listened(key(1, 1)),
-        listened(key(2, 2)),
-    ];
-    records.replays(&[
-        start[0],
-        start[1],
-        notified(1, true, 5, 1),
-        taken,
-        tagged,
-        total(0),
-    ]);
-    records.differs(&[
-        start[0],
-        start[1],
-        notified(1, true, 5, 1),
-        taken,
-        is_notified(false),
-    ]);
-    // A default one is lost while another listener stays told.
-    records.replays(&[
-        start[0],
-        start[1],
-        start[2],
-        notified(2, false, 5, 2),
-        taken,
-        registered(key(2, 2), RegisterResult::Registered),
-    ]);
+    let first = listened(key(0, 0));
+    let second = listened(key(1, 1));
+    let told = notified(1, true, 5, 1);
+    let taken = registered(key(1, 1), RegisterResult::Notified(5));
+    records.replays(&[first, second, told, passed(key(1, 1)), taken, total(0)]);
+    records.differs(&[first, second, told, passed(key(1, 1)), is_notified(false)]);
+    // It names who was told, by slot and by serial.
+    records.differs(&[first, second, told, passed(key(0, 0))]);
+    records.differs(&[first, second, told, passed(key(0, 1))]);
+    records.differs(&[first, second, told, passed(key(1, 0))]);
+    // And is not lost.
+    records.differs(&[first, second, told, lost(true, 5)]);
+    let kept = Former::Notified {
+        additional: true,
+        tag: 5,
+    };
+    records.differs(&[first, second, told, removed(key(0, 0), true, Some(kept))]);
+}
+
+#[test]
+fn a_removal_loses_a_default_notification_while_another_stays_told(rt: HostRuntime) {
+    let records = Records { rt: &rt };
+    let first = listened(key(0, 0));
+    let second = listened(key(1, 1));
+    let third = listened(key(2, 2));
+    let told = notified(2, false, 5, 2);
+    let waits = registered(key(2, 2), RegisterResult::Registered);
+    records.replays(&[first, second, third, told, lost(false, 5), waits]);
+    records.differs(&[first, second, third, told, lost(true, 5)]);
+    records.differs(&[first, second, third, told, lost(false, 6)]);
+    records.differs(&[first, second, third, told, passed(key(2, 2))]);
+}
+
+#[test]
+fn a_removal_loses_an_additional_notification_where_nobody_waits(rt: HostRuntime) {
+    let records = Records { rt: &rt };
+    let first = listened(key(0, 0));
+    let told = notified(1, true, 5, 1);
+    records.replays(&[first, told, lost(true, 5), total(0)]);
+    records.differs(&[first, told, lost(false, 5)]);
+    records.differs(&[first, told, lost(true, 6)]);
+    records.differs(&[first, told, passed(key(0, 0))]);
+    records.differs(&[first, lost(true, 5)]);
 }
 
 fn replays_whoever_called<R: Runtime>(rt: &R, hand: Option<usize>) {

@@ -179,7 +179,7 @@ fn the_drop_of_a_told_listener_passes_on_and_a_discard_does_not(rt: HostRuntime)
     let (additional, tag) = (false, 7);
     let told = Some(Former::Notified { additional, tag });
     reader.notified(1, false, 7, 1);
-    reader.dropped(dropped, Former::NotifiedTaken);
+    reader.dropped(dropped, Former::Passed { to: discarded });
     reader.asked(2, true);
     reader.discarded(discarded, told);
     reader.polled(waiting, RegisterResult::Registered);

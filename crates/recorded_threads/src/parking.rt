@@ -104,15 +104,23 @@ fn a_notification_wakes_a_thread_in_a_wait_without_a_limit(rt: HostRuntime) {
     is_woken_by_a_notification(&rt, WaitCall::GreatestTimeout);
 }
 
-// The drop of a told listener, which passes its notification on.
-fn drop_that_passes_on(key: Key) -> Entry<u32> {
+// The key of the listener that this hand made after it notified.
+fn key_after_telling(hand: &Hand<u32>) -> Option<Key> {
+    match hand.notes().get(1)?.reply {
+        RecordedReply::Listened(Ok(key)) => Some(key),
+        _ => None,
+    }
+}
+
+// The drop of a told listener, which passes its notification on to this one.
+fn drop_that_passes_on(key: Key, to: Key) -> Entry<u32> {
     Entry {
         hand: None,
         call: RecordedCall::Remove {
             key,
             propagate: true,
         },
-        reply: RecordedReply::Removed(Some(Former::NotifiedTaken)),
+        reply: RecordedReply::Removed(Some(Former::Passed { to })),
     }
 }
 
@@ -124,8 +132,9 @@ fn is_woken_by_a_drop<R: SharedRuntime>(rt: &R, wait: WaitCall) {
     let waiter = listen(rt, &event, waiting);
     let (waiting, dropping) = is_woken_by(rt, waiter, wait, || told.drop_listener());
     let key = first_key(&dropping).expect(rt, "a listening");
+    let to = key_after_telling(&waiting).expect(rt, "a listening");
     let record = close_with(rt, event, dropping, waiting);
-    let has_drop = record.entries().contains(&drop_that_passes_on(key));
+    let has_drop = record.entries().contains(&drop_that_passes_on(key, to));
     check(rt, record.entries(), has_drop, true);
 }
 

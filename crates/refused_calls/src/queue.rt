@@ -49,7 +49,8 @@ fn each_call_but_a_growth(rt: HostRuntime) {
     );
     // Another one is still told, so this notification is lost.
     let lost = list.remove_uncounted(first, true, &mut woken);
-    check(&rt, "lost", lost, Some(State::NotifiedTaken));
+    let (additional, tag) = (false, TAG);
+    check(&rt, "lost", lost, Some(State::Lost { additional, tag }));
     let mut one = 1.additional().tag(TAG);
     check(
         &rt,
@@ -59,8 +60,8 @@ fn each_call_but_a_growth(rt: HostRuntime) {
     );
     let given = list.register_uncounted(second, 4);
     check(&rt, "a tag", given, RegisterResult::Notified(TAG));
-    let passed_on = list.remove_uncounted(third, true, &mut woken).is_some();
-    check(&rt, "passed on", passed_on, true);
+    let passed_on = list.remove_uncounted(third, true, &mut woken);
+    check(&rt, "passed on", passed_on, Some(State::Passed { to: late }));
     check(&rt, "the last is told", list.is_told(late), true);
     let nobody = list.register_uncounted(third, 5);
     check(&rt, "a stale key", nobody, RegisterResult::NeverInserted);

@@ -80,6 +80,6 @@ fn write_removed<W: Write>(f: &mut Formatter<W>, state: Option<State<u64, usize>
             let kind = if additional { 'a' } else { 'd' };
             write!(f, "removed notified {kind} {tag}")
         }
-        Some(State::NotifiedTaken) => f.write_str("removed taken"),
+        Some(State::Passed { .. } | State::Lost { .. }) => f.write_str("removed taken"),
     }
 }

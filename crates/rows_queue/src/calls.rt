@@ -1,11 +1,66 @@
-//! The calls of a row on a queue without tags, whose tasks are numbers.
-use event_queue::{IntoNotification, Key, List, ListenError, Reply, Woken};
+//! The calls of a row on a queue whose tasks are numbers.
+use event_queue::{
+    IntoNotification, IntoTagged, Key, List, ListenError, NotifyError, Reply, Woken,
+};
 use std::sync::Wait;
 use worked_rows::{Difference, Harness, Hook, Refusal, Request, Subject, Wakers};
 
+/// What a row notifies its queue with, which says what the queue's tags are.
+pub trait Given: Copy {
+    /// The tag.
+    type Tag: Copy + PartialEq;
+
+    /// Notifies the queue.
+    fn notify(
+        self,
+        list: &mut List<Self::Tag, u32>,
+        woken: &mut Woken<u32>,
+    ) -> Result<usize, NotifyError>;
+}
+
+// A default notification of so many, without a tag.
+impl Given for usize {
+    type Tag = ();
+
+    fn notify(
+        self,
+        list: &mut List<(), u32>,
+        woken: &mut Woken<u32>,
+    ) -> Result<usize, NotifyError> {
+        let mut n = self.into_notification();
+        list.notify_uncounted(&mut n, woken)
+    }
+}
+
+/// A notification whose tag is a number.
+#[derive(Clone, Copy)]
+pub enum Tagged {
+    /// A default one of so many, with that tag.
+    Default(usize, u32),
+    /// An additional one of so many, with that tag.
+    Additional(usize, u32),
+}
+
+impl Given for Tagged {
+    type Tag = u32;
+
+    fn notify(
+        self,
+        list: &mut List<u32, u32>,
+        woken: &mut Woken<u32>,
+    ) -> Result<usize, NotifyError> {
+        match self {
+            Tagged::Default(count, tag) => list.notify_uncounted(&mut count.tag(tag), woken),
+            Tagged::Additional(count, tag) => {
+                list.notify_uncounted(&mut count.additional().tag(tag), woken)
+            }
+        }
+    }
+}
+
 /// A call of a row on its queue.
 #[derive(Clone, Copy)]
-pub enum QueueCall {
+pub enum QueueCall<N> {
     /// Inserts a listener.
     Insert,
     /// Registers a task for the listener of that key.
@@ -14,8 +69,8 @@ pub enum QueueCall {
     Remove(Key),
     /// Removes the listener of that key, and propagates its notification.
     RemoveAndPropagate(Key),
-    /// Notifies so many by a default notification.
-    Notify(usize),
+    /// Notifies.
+    Notify(N),
     /// Asks how many listeners there are.
     TotalListeners,
     /// Asks whether the listener of that key is told, which is answered by `IsNotified`.
@@ -24,12 +79,12 @@ pub enum QueueCall {
 
 /// The calls of a row on its queue. Each takes the answer that it must give. The row ends at the first that gives
 /// another or is refused.
-pub trait QueueCalls {
+pub trait QueueCalls<N: Given> {
     /// Inserts a listener, which gets that serial.
     fn insert(&mut self, serial: u64) -> Key;
 
     /// Makes a call.
-    fn make(&mut self, call: QueueCall, answer: Reply<(), u32>);
+    fn make(&mut self, call: QueueCall<N>, answer: Reply<N::Tag, u32>);
 
     /// Looks at the tasks that were woken, and at how many came after those that the sink has room for.
     fn woken(&mut self, tasks: &[u32], missed: usize);
@@ -37,19 +92,23 @@ pub trait QueueCalls {
 
 /// A queue with the sink of its tasks.
 #[derive(Drop)]
-pub struct Queue {
-    list: List<(), u32>,
+pub struct Queue<N: Given> {
+    list: List<N::Tag, u32>,
     woken: Woken<u32>,
 }
 
-impl Subject for Queue {
-    type Call = QueueCall;
+impl<N: Given> Subject for Queue<N> {
+    type Call = QueueCall<N>;
 
-    type Answer = Reply<(), u32>;
+    type Answer = Reply<N::Tag, u32>;
 
     type Shape = [usize; 3];
 
-    fn make(&mut self, call: QueueCall, _wakers: &mut Wakers) -> Result<Reply<(), u32>, Refusal> {
+    fn make(
+        &mut self,
+        call: QueueCall<N>,
+        _wakers: &mut Wakers,
+    ) -> Result<Reply<N::Tag, u32>, Refusal> {
         Ok(match call {
             QueueCall::Insert => match self.list.insert_uncounted() {
                 Err(ListenError::Memory) => return Err(Refusal::Listen(ListenError::Memory)),
@@ -64,16 +123,15 @@ impl Subject for Queue {
             QueueCall::RemoveAndPropagate(key) => {
                 Reply::Removed(self.list.remove_uncounted(key, true, &mut self.woken))
             }
-            QueueCall::Notify(count) => {
-                let mut n = count.into_notification();
-                Reply::Notified(self.list.notify_uncounted(&mut n, &mut self.woken))
+            QueueCall::Notify(given) => {
+                Reply::Notified(given.notify(&mut self.list, &mut self.woken))
             }
             QueueCall::TotalListeners => Reply::TotalListeners(self.list.total_listeners()),
             QueueCall::IsTold(key) => Reply::IsNotified(self.list.is_told(key)),
         })
     }
 
-    fn request(&self, call: QueueCall) -> Option<Request> {
+    fn request(&self, call: QueueCall<N>) -> Option<Request> {
         match call {
             QueueCall::Insert if self.list.spare() == 0 => Some(Request::Slot),
             _ => None,
@@ -91,12 +149,12 @@ impl Subject for Queue {
 
 /// What makes the calls of a row on its queue.
 #[derive(Drop)]
-pub struct QueueHarness<'h, 'a, R, H> {
+pub struct QueueHarness<'h, 'a, R, H, N: Given> {
     harness: &'h mut Harness<'a, R, H>,
-    queue: Queue,
+    queue: Queue<N>,
 }
 
-impl<'h, 'a, R: Wait, H: Hook> QueueHarness<'h, 'a, R, H> {
+impl<'h, 'a, R: Wait, H: Hook, N: Given> QueueHarness<'h, 'a, R, H, N> {
     /// Calls on an empty queue whose first listener gets that serial, or 0.
     pub fn new(harness: &'h mut Harness<'a, R, H>, first: Option<u64>, woken: Woken<u32>) -> Self {
         let alloc = harness.alloc();
@@ -111,18 +169,18 @@ impl<'h, 'a, R: Wait, H: Hook> QueueHarness<'h, 'a, R, H> {
     }
 
     /// Calls on a queue on which a row has made calls before.
-    pub fn on(harness: &'h mut Harness<'a, R, H>, queue: Queue) -> Self {
+    pub fn on(harness: &'h mut Harness<'a, R, H>, queue: Queue<N>) -> Self {
         QueueHarness { harness, queue }
     }
 
     /// The queue, for calls on another one to come between.
-    pub fn into_queue(self) -> Queue {
+    pub fn into_queue(self) -> Queue<N> {
         let QueueHarness { harness: _, queue } = self;
         queue
     }
 }
 
-impl<'h, 'a, R: Wait, H: Hook> QueueCalls for QueueHarness<'h, 'a, R, H> {
+impl<'h, 'a, R: Wait, H: Hook, N: Given> QueueCalls<N> for QueueHarness<'h, 'a, R, H, N> {
     fn insert(&mut self, serial: u64) -> Key {
         match self.harness.ask(&mut self.queue, QueueCall::Insert) {
             Some(Reply::Inserted(Ok(key))) => {
@@ -136,7 +194,7 @@ impl<'h, 'a, R: Wait, H: Hook> QueueCalls for QueueHarness<'h, 'a, R, H> {
         }
     }
 
-    fn make(&mut self, call: QueueCall, answer: Reply<(), u32>) {
+    fn make(&mut self, call: QueueCall<N>, answer: Reply<N::Tag, u32>) {
         self.harness.make(&mut self.queue, call, answer);
     }
 

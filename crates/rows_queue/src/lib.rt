@@ -3,6 +3,7 @@
 
 mod calls;
 mod integers;
+mod passing;
 mod programs;
 mod queue;
 mod run;
@@ -10,7 +11,7 @@ mod runs;
 mod sink;
 mod two_queues;
 
-use calls::{QueueCalls, QueueHarness};
+use calls::{QueueCalls, QueueHarness, Tagged};
 use sink::woken_with_room;
 use std::sync::Wait;
 use std::time::Clock;
@@ -41,6 +42,14 @@ pub enum QueueRow {
     TagsRunOut,
     /// The least and the greatest count, and the integers round them.
     CountsAtTheirEnds,
+    /// A notification is passed on to the listener that is named.
+    PassedOn,
+    /// A default notification is lost while another listener stays told.
+    LostDefault,
+    /// An additional notification is lost where nobody waits.
+    LostAdditional,
+    /// Notifications of both kinds are passed on and lost, whoever of the told leaves first.
+    PassedOnAndLost,
     /// A default notification counts the listeners that were told before.
     CountsTheTold,
 }
@@ -59,6 +68,10 @@ impl Row for QueueRow {
             48 => QueueRow::ForeignKey,
             50 => QueueRow::TagsRunOut,
             51 => QueueRow::CountsAtTheirEnds,
+            53 => QueueRow::PassedOn,
+            54 => QueueRow::LostDefault,
+            55 => QueueRow::LostAdditional,
+            56 => QueueRow::PassedOnAndLost,
             62 => QueueRow::CountsTheTold,
             _ => return None,
         };
@@ -83,6 +96,10 @@ impl Row for QueueRow {
             QueueRow::StaleKey => self.run_on_queue(harness, None, 0),
             QueueRow::Totals => self.run_on_queue(harness, None, 0),
             QueueRow::CountsTheTold => self.run_on_queue(harness, None, 0),
+            QueueRow::PassedOn
+            | QueueRow::LostDefault
+            | QueueRow::LostAdditional
+            | QueueRow::PassedOnAndLost => self.run_on_tagged_queue(harness),
         }
     }
 }
@@ -101,8 +118,27 @@ impl QueueRow {
         }
     }
 
-    // A row that makes no calls on one queue has none here.
-    fn make<C: QueueCalls>(self, queue: &mut C) {
+    // Makes the calls of the row on a queue with tags, whose sink keeps no task.
+    fn run_on_tagged_queue<R: Wait, H: Hook>(self, harness: &mut Harness<'_, R, H>) {
+        if let Some(woken) = woken_with_room(harness, 0) {
+            let mut queue = QueueHarness::new(harness, None, woken);
+            self.make_tagged(&mut queue);
+        }
+    }
+
+    // A row that makes no calls on a queue with tags has none here.
+    fn make_tagged<C: QueueCalls<Tagged>>(self, queue: &mut C) {
+        match self {
+            QueueRow::PassedOn => passing::passed_on(queue),
+            QueueRow::LostDefault => passing::lost_default(queue),
+            QueueRow::LostAdditional => passing::lost_additional(queue),
+            QueueRow::PassedOnAndLost => passing::passed_on_and_lost(queue),
+            _ => {}
+        }
+    }
+
+    // A row that makes no calls on one queue without tags has none here.
+    fn make<C: QueueCalls<usize>>(self, queue: &mut C) {
         match self {
             QueueRow::WakesInOrder => queue::in_order(queue),
             QueueRow::LastSerial => queue::last_serial(queue),

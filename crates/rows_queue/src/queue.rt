@@ -12,13 +12,13 @@ const STORED: Reply<(), u32> = Reply::Registered(Registered);
 const TOLD: Reply<(), u32> = Reply::Registered(Notified(()));
 
 /// Takes a queue whose next serial is the last one.
-pub fn last_serial<C: QueueCalls>(queue: &mut C) {
+pub fn last_serial<C: QueueCalls<usize>>(queue: &mut C) {
     queue.insert(18_446_744_073_709_551_614);
     queue.make(Insert, Reply::Inserted(Err(ListenError::SerialsUsedUp)));
     queue.make(TotalListeners, Reply::TotalListeners(1));
 }
 
-pub fn stale_key<C: QueueCalls>(queue: &mut C) {
+pub fn stale_key<C: QueueCalls<usize>>(queue: &mut C) {
     let first = queue.insert(0);
     queue.make(Remove(first), CREATED);
     let second = queue.insert(1);
@@ -29,7 +29,7 @@ pub fn stale_key<C: QueueCalls>(queue: &mut C) {
     queue.make(Remove(second), CREATED);
 }
 
-pub fn totals<C: QueueCalls>(queue: &mut C) {
+pub fn totals<C: QueueCalls<usize>>(queue: &mut C) {
     let first = queue.insert(0);
     let second = queue.insert(1);
     queue.insert(2);
@@ -40,7 +40,7 @@ pub fn totals<C: QueueCalls>(queue: &mut C) {
     queue.make(TotalListeners, Reply::TotalListeners(1));
 }
 
-pub fn counts_the_told<C: QueueCalls>(queue: &mut C) {
+pub fn counts_the_told<C: QueueCalls<usize>>(queue: &mut C) {
     let first = queue.insert(0);
     let second = queue.insert(1);
     let third = queue.insert(2);
@@ -55,7 +55,7 @@ pub fn counts_the_told<C: QueueCalls>(queue: &mut C) {
 }
 
 /// Takes a sink with room for three tasks.
-pub fn in_order<C: QueueCalls>(queue: &mut C) {
+pub fn in_order<C: QueueCalls<usize>>(queue: &mut C) {
     let first = queue.insert(0);
     queue.make(Register(first, 1), STORED);
     let second = queue.insert(1);
@@ -70,7 +70,7 @@ pub fn in_order<C: QueueCalls>(queue: &mut C) {
 }
 
 /// Takes a sink with room for two tasks.
-pub fn last_task<C: QueueCalls>(queue: &mut C) {
+pub fn last_task<C: QueueCalls<usize>>(queue: &mut C) {
     let key = queue.insert(0);
     queue.make(Register(key, 1), STORED);
     queue.make(Register(key, 2), STORED);
@@ -79,7 +79,7 @@ pub fn last_task<C: QueueCalls>(queue: &mut C) {
 }
 
 /// Takes a sink with room for one task.
-pub fn missed_tasks<C: QueueCalls>(queue: &mut C) {
+pub fn missed_tasks<C: QueueCalls<usize>>(queue: &mut C) {
     let first = queue.insert(0);
     queue.make(Register(first, 1), STORED);
     let second = queue.insert(1);

@@ -23,14 +23,14 @@ pub fn foreign_key<R: Wait, H: Hook>(harness: &mut Harness<'_, R, H>) {
 }
 
 // Takes an empty queue, and the key of another one.
-fn finds_nobody<C: QueueCalls>(queue: &mut C, key: Key) {
+fn finds_nobody<C: QueueCalls<usize>>(queue: &mut C, key: Key) {
     queue.make(Register(key, 1), Reply::Registered(NeverInserted));
     queue.make(RemoveAndPropagate(key), Reply::Removed(None));
     queue.make(TotalListeners, Reply::TotalListeners(0));
 }
 
 // Takes the queue that gave the key.
-fn still_waits<C: QueueCalls>(queue: &mut C, key: Key) {
+fn still_waits<C: QueueCalls<usize>>(queue: &mut C, key: Key) {
     queue.make(TotalListeners, Reply::TotalListeners(1));
     queue.make(IsTold(key), Reply::IsNotified(false));
     queue.make(Remove(key), CREATED);

@@ -55,7 +55,10 @@ fn drop_of_the_told(listened: Entry<u8>) -> Option<Entry<u8>> {
                 key,
                 propagate: true,
             },
-            reply: RecordedReply::Removed(Some(Former::NotifiedTaken)),
+            reply: RecordedReply::Removed(Some(Former::Lost {
+                additional: false,
+                tag: 5,
+            })),
         }),
         _ => None,
     }

@@ -26,6 +26,8 @@ pub enum Answer {
     Inserted,
     Registered(RegisterResult<u32>),
     Removed(Option<State<u32, u32>>),
+    /// A removal whose notification was passed on to a listener of a serial that is so much later.
+    Passed { later: u64 },
     Notified(Result<usize, NotifyError>),
 }
 
@@ -76,7 +78,12 @@ impl Call {
                 Answer::Registered(queue.register_with(key, &Replacing, &mut task, steps))
             }
             Call::Remove { propagate } => {
-                Answer::Removed(queue.remove(key, propagate, &mut no_room(rt), steps))
+                match queue.remove(key, propagate, &mut no_room(rt), steps) {
+                    Some(State::Passed { to }) => Answer::Passed {
+                        later: to.serial().wrapping_sub(key.serial()),
+                    },
+                    answer => Answer::Removed(answer),
+                }
             }
             Call::Notify(source) => {
                 let mut source = source;

@@ -8,22 +8,34 @@ use event_queue::State;
 use std::alloc::AllocGlobal;
 use std::process::Abort;
 
-// What a listener was when it left.
-type Left = Option<State<u32, u32>>;
+// What a removal answers.
 
-const WAITED: Left = Some(State::Task(TASK));
+const NOBODY: Answer = Answer::Removed(None);
 
-const TOLD_BY_DEFAULT: Left = Some(State::Notified {
+const WAITED: Answer = Answer::Removed(Some(State::Task(TASK)));
+
+const TOLD_BY_DEFAULT: Answer = Answer::Removed(Some(State::Notified {
     additional: false,
     tag: TAG,
-});
+}));
 
-const TOLD_BY_ADDITIONAL: Left = Some(State::Notified {
+const TOLD_BY_ADDITIONAL: Answer = Answer::Removed(Some(State::Notified {
     additional: true,
     tag: TAG,
-});
+}));
 
-const PROPAGATED: Left = Some(State::NotifiedTaken);
+// The next in order of listening was told in its place.
+const PASSED: Answer = Answer::Passed { later: 1 };
+
+const LOST_DEFAULT: Answer = Answer::Removed(Some(State::Lost {
+    additional: false,
+    tag: TAG,
+}));
+
+const LOST_ADDITIONAL: Answer = Answer::Removed(Some(State::Lost {
+    additional: true,
+    tag: TAG,
+}));
 
 // What an insertion visits: the last node.
 const INSERTIONS: [(Standing, u64); 4] = [
@@ -49,7 +61,7 @@ const REGISTRATIONS: [(Standing, RegisterResult<u32>, u64); 7] = [
 ];
 
 // What a removal with propagation or without answers and visits.
-const REMOVALS: [(Standing, bool, Left, u64); 13] = [
+const REMOVALS: [(Standing, bool, Answer, u64); 13] = [
     // The two neighbors, and the node at the cursor.
     (Waiting, false, WAITED, 3),
     (Waiting, true, WAITED, 3),
@@ -59,15 +71,15 @@ const REMOVALS: [(Standing, bool, Left, u64); 13] = [
     (LastTold { additional: false }, false, TOLD_BY_DEFAULT, 2),
     (AllTold { additional: true }, false, TOLD_BY_ADDITIONAL, 2),
     // The two neighbors, and who is told in its place.
-    (LastTold { additional: true }, true, PROPAGATED, 3),
+    (LastTold { additional: true }, true, PASSED, 3),
     // The two neighbors: nobody waits who could be told.
-    (AllTold { additional: true }, true, PROPAGATED, 2),
-    (AllTold { additional: false }, true, PROPAGATED, 2),
+    (AllTold { additional: true }, true, LOST_ADDITIONAL, 2),
+    (AllTold { additional: false }, true, LOST_DEFAULT, 2),
     // Nobody has the key.
-    (Absent, false, None, 0),
-    (Absent, true, None, 0),
-    (Replaced, false, None, 0),
-    (Replaced, true, None, 0),
+    (Absent, false, NOBODY, 0),
+    (Absent, true, NOBODY, 0),
+    (Replaced, false, NOBODY, 0),
+    (Replaced, true, NOBODY, 0),
 ];
 
 // The call answers so and makes so many visits, at every length and every place.
@@ -108,32 +120,38 @@ fn a_registration_visits_two_where_its_listener_leaves(rt: HostRuntime) {
 
 #[test]
 fn a_removal_visits_three_at_most(rt: HostRuntime) {
-    for (standing, propagate, left, visits) in REMOVALS {
+    for (standing, propagate, answer, visits) in REMOVALS {
         let call = Call::Remove { propagate };
-        counts_everywhere(&rt, standing, call, Answer::Removed(left), visits);
+        counts_everywhere(&rt, standing, call, answer, visits);
     }
 }
 
-// The removal of a listener told by a default notification, with propagation, makes so many visits.
-fn propagates_default<R: Abort + AllocGlobal>(rt: &R, length: usize, place: Place, visits: u64) {
+// The removal of a listener told by a default notification, with propagation, answers so and makes so many visits.
+fn propagates_default<R: Abort + AllocGlobal>(
+    rt: &R,
+    length: usize,
+    place: Place,
+    answer: Answer,
+    visits: u64,
+) {
     let setting = Setting {
         length,
         place,
         standing: LastTold { additional: false },
     };
     let call = Call::Remove { propagate: true };
-    counts(rt, setting, call, Answer::Removed(PROPAGATED), visits);
+    counts(rt, setting, call, answer, visits);
 }
 
 #[test]
 fn a_default_notification_is_passed_on_where_nobody_else_is_told(rt: HostRuntime) {
     // The two neighbors, and who is told in its place.
     for length in LENGTHS {
-        propagates_default(&rt, length, Place::Head, 3);
+        propagates_default(&rt, length, Place::Head, PASSED, 3);
     }
     // The two neighbors: those before it stay told, so nobody is told in its place.
     for length in [10, 1_000, 10_000] {
-        propagates_default(&rt, length, Place::Middle, 2);
-        propagates_default(&rt, length, Place::Tail, 2);
+        propagates_default(&rt, length, Place::Middle, LOST_DEFAULT, 2);
+        propagates_default(&rt, length, Place::Tail, LOST_DEFAULT, 2);
     }
 }

@@ -93,7 +93,17 @@ impl<R: Wait + Clock + Clone> InnerListener<R> {
             runtime,
             alloc: _,
         } = self;
-        let former = membership.remove(&runtime, shared, propagate);
-        matches!(former, Some(State::Notified { .. } | State::NotifiedTaken))
+        match membership.remove(&runtime, shared, propagate) {
+            Some(State::Notified { additional: _, tag } | State::Lost { additional: _, tag }) => {
+                drop(tag);
+                true
+            }
+            Some(State::Passed { to: _ }) => true,
+            Some(State::Task(task)) => {
+                drop(task);
+                false
+            }
+            Some(State::Created) | None => false,
+        }
     }
 }

@@ -2,7 +2,7 @@
 ghost use Rattle.std.specs.Prelude.{◌≡◌, ◌≢◌, true, false, Some, None};
 ghost use Rattle.event_queue.specs.declared.reply.RegisterResult.TheVariants.{Registered, NeverInserted};
 ghost use Rattle.futures.specs.Task.{Covers, Keeps};
-ghost use Rattle.event_queue.specs.declared.reply.State.TheVariants.{NotifiedTaken};
+ghost use Rattle.event_listener.specs.Waiting.{IsKept};
 
 use crate::event::Shared;
 use crate::locks::take_lock;
@@ -93,7 +93,7 @@ impl Membership {
     ) -> Option<State<T, Task>>
         ensures finished { self.old.is_finished ≡ true → result ≡ None }
         ensures leaves { self.new.is_finished ≡ true }
-        ensures kept { propagate ≡ false → result ≢ Some NotifiedTaken }
+        ensures kept { propagate ≡ false → IsKept result }
     {
         if self.is_finished {
             return None;

@@ -6,11 +6,10 @@
 //! That, and the wait of a recorded listener (`recorded/wait`), is [`wait_in`]: there is one wait, whatever it makes its
 //! steps on. [`WaitSteps`] is what it needs of a listener: a registration, and the removal at the deadline.
 ghost use Rattle.std.specs.Prelude.{◌≡◌, ◌≢◌, ◌⊎◌, Bool, true, false, Some, None, IsSome, IsErr, IfOk, IfErr, IfSome, IfNone};
-ghost use Rattle.event_queue.specs.declared.reply.State.TheVariants.{NotifiedTaken};
 ghost use Rattle.event_listener.specs.declared.listener.wait.Limit.TheVariants.{Never};
 ghost use Rattle.event_listener.specs.declared.listener.wait.Deadline.TheVariants.{Never as NoDeadline};
 ghost use Rattle.event_listener.specs.declared.listener.wait.WaitOutcome.TheVariants.{TimedOut, Refused};
-ghost use Rattle.event_listener.specs.Waiting.{HandsBack, IsFault, EndsWait, Waits, outcome_at_deadline, answer_of};
+ghost use Rattle.event_listener.specs.Waiting.{HandsBack, IsFault, IsKept, EndsWait, Waits, outcome_at_deadline, answer_of};
 
 use super::inner_listener::InnerListener;
 use super::membership::Membership;
@@ -246,7 +245,7 @@ impl Membership {
     ) -> Option<State<T, Task>>
         ensures finished { self.old.is_finished ≡ true → result ≡ None }
         ensures leaves { self.new.is_finished ≡ true }
-        ensures kept { result ≢ Some NotifiedTaken }
+        ensures kept { IsKept result }
     {
         self.remove(rt, shared, false)
     }
@@ -300,13 +299,13 @@ impl<T> WaitOutcome<T> {
     // How the wait of a listener ended that left the queue at its deadline, as what it left. Its notification was not
     // passed on.
     fn at_deadline<W: Drop>(former: Option<State<T, W>>) -> Self
-        requires kept { former ≢ Some NotifiedTaken }
+        requires kept { IsKept former }
         ensures { result ≡ outcome_at_deadline former }
     {
         match former {
             Some(State::Notified { additional: _, tag }) => WaitOutcome::Told(tag),
             Some(State::Created | State::Task(_)) => WaitOutcome::TimedOut,
-            Some(State::NotifiedTaken) => unreachable!(),
+            Some(State::Passed { .. } | State::Lost { .. }) => unreachable!(),
             None => WaitOutcome::Absent,
         }
     }

@@ -35,8 +35,18 @@ pub enum Former<T> {
     },
     /// Waiting, with a task.
     Task,
-    /// Told, and its notification was propagated, or lost where it told nobody.
-    NotifiedTaken,
+    /// Told, and its notification was propagated: another listener was told by it.
+    Passed {
+        /// The listener that was told.
+        to: Key,
+    },
+    /// Told, and its notification was lost: nobody was told by it.
+    Lost {
+        /// Whether the notification was an additional one.
+        additional: bool,
+        /// The tag that came with it.
+        tag: T,
+    },
 }
 
 impl<T> Former<T> {
@@ -48,7 +58,8 @@ impl<T> Former<T> {
             State::Created => Former::Created,
             State::Notified { additional, tag } => Former::Notified { additional, tag },
             State::Task(_) => Former::Task,
-            State::NotifiedTaken => Former::NotifiedTaken,
+            State::Passed { to } => Former::Passed { to },
+            State::Lost { additional, tag } => Former::Lost { additional, tag },
         }
     }
 }

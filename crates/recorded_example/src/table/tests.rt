@@ -25,14 +25,17 @@ fn a_table_has_a_line_for_each_entry(rt: HostRuntime) {
                 key,
                 propagate: true,
             },
-            reply: RecordedReply::Removed(Some(Former::NotifiedTaken)),
+            reply: RecordedReply::Removed(Some(Former::Lost {
+                additional: false,
+                tag: 7,
+            })),
         },
     ];
     let mut table = String::new(rt.alloc());
     write_table(&entries, &mut table).expect(&rt, "a table");
     let expected = "3 | Listen | Listened(Ok(Key { slot: 2, serial: 5 }))
 0 | Notify { count: 1, additional: false, tag: 7 } | Notified(1)
-- | Remove { key: Key { slot: 2, serial: 5 }, propagate: true } | Removed(Some(NotifiedTaken))
+- | Remove { key: Key { slot: 2, serial: 5 }, propagate: true } | Removed(Some(Lost { additional: false, tag: 7 }))
 ";
     assert_eq!(rt; table.as_str(), expected);
 }

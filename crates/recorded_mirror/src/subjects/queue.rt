@@ -46,7 +46,7 @@ impl<'a, R: Runtime> QueueSubject<'a, R> {
     fn remove(&mut self, place: usize, propagate: bool) -> bool {
         let Place { key, stored: _ } = take(self.rt, &mut self.places, place);
         match self.list.remove_uncounted(key, propagate, &mut self.woken) {
-            Some(State::Notified { .. } | State::NotifiedTaken) => true,
+            Some(State::Notified { .. } | State::Passed { .. } | State::Lost { .. }) => true,
             Some(State::Task(task)) => {
                 self.let_go = Some(task);
                 false

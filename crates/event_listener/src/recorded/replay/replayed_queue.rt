@@ -3,7 +3,7 @@ ghost use Rattle.std.specs.Prelude.{◌≡◌, ◌≤◌, ◌<◌, ◌^◌, ◌+
 ghost use Rattle.event_queue.specs.declared.notice.Notice.{Notice};
 ghost use Rattle.event_listener.specs.declared.recorded.call.RecordedCall.TheVariants.{Listen};
 ghost use Rattle.event_listener.specs.declared.recorded.reply.RecordedReply.TheVariants.{Listened};
-ghost use Rattle.event_listener.specs.Replay.{empty_shape, tells, after_notice, told_at, waiting_at, registered, after_register, removed, after_removal, answer_at, after_call};
+ghost use Rattle.event_listener.specs.Replay.{empty_shape, tells, after_notice, told_at, waiting_at, registered, after_register, removed, passed, told_by_passing_at, after_removal, answer_at, after_call};
 
 use super::entries::{set_entry, take_entry};
 use crate::recorded::call::RecordedCall;
@@ -101,7 +101,7 @@ impl<T: Copy> ReplayedQueue<T> {
     }
 
     fn remove(&mut self, key: Key, propagate: bool) -> Result<Option<Former<T>>, AllocError>
-        ensures answer { IfOk result (λ answer. answer ≡ removed propagate (told_at key self.old) (waiting_at key self.old)) }
+        ensures answer { IfOk result (λ answer. answer ≡ removed key propagate (told_at key self.old) (waiting_at key self.old) self.old) }
         ensures shape { OnOk result (self.new ≡ after_removal key propagate (told_at key self.old) self.old) }
     {
         if let Some(notice) = take_entry(&mut self.told, key) {
@@ -109,13 +109,25 @@ impl<T: Copy> ReplayedQueue<T> {
             if !propagate {
                 return Ok(Some(Former::Notified { additional, tag }));
             }
-            self.notify(1, additional, tag)?;
-            return Ok(Some(Former::NotifiedTaken));
+            return Ok(Some(self.pass_on(additional, tag)?));
         }
         Ok(match take_entry(&mut self.waiting, key) {
             Some(true) => Some(Former::Task),
             Some(false) => Some(Former::Created),
             None => None,
+        })
+    }
+
+    // Passes a notification on, and returns where it went.
+    fn pass_on(&mut self, additional: bool, tag: T) -> Result<Former<T>, AllocError>
+        ensures answer { IfOk result (λ former. former ≡ passed (record { additional = additional; tag = tag }) (told_by_passing_at (record { additional = additional; tag = tag }) self.old)) }
+        ensures shape { OnOk result (self.new ≡ after_notice (tells 1 additional self.old) (record { additional = additional; tag = tag }) self.old) }
+    {
+        let first = self.waiting.first().copied();
+        let told = self.notify(1, additional, tag)?;
+        Ok(match first {
+            Some((to, _)) if told == 1 => Former::Passed { to },
+            _ => Former::Lost { additional, tag },
         })
     }
 

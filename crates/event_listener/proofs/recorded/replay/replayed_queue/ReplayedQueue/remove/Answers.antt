@@ -17,7 +17,7 @@ pub returns-in-Some-clause-shape : goal.returns-in-Some-clause-shape
 returns-in-Some-clause-shape g c =
     let found : lookup (is_key c.args.key) c.self.inside.told.items ≡ Some c.in-Some.notice = sym c.take_entry.ensures.value ∙ c.in-Some.is in
     let passes : c.args.propagate ≡ true = c.if-not-propagate.false in
-    rw (← c.self.view_is, found, passes) (c.in_ok-notify.ensures.shape ∙ ap (after_one c.in-Some.notice c.self.inside.waiting.items c.self.inside.next_serial) c.take_entry.ensures.taken)
+    rw (← c.self.view_is, found, passes) (c.in_ok-pass_on.ensures.shape ∙ ap (after_one c.in-Some.notice c.self.inside.waiting.items c.self.inside.next_serial) c.take_entry.ensures.taken)
 
 pub returns-clause-shape : goal.returns-clause-shape
 returns-clause-shape g c =
