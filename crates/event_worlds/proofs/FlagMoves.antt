@@ -1,14 +1,11 @@
 -- From a move of one actor to the step of the flag world.
-use Rattle.std.proofs.Common.{◌≡◌, ℕ, ◌+◌, ◌-◌, ◌<◌, ◌≤◌, Bool, true, false, cond, ltb, length, slice_get, Option, Some, None, is_some, unwrap_or, option_and_then, option_map, sym, ap, ◌∙◌, subst, arith}
-use Rattle.std.proofs.lemmas.Bool.{or_from, false_from_ne_true, lt-ltb, le-ltb, cond-true, cond-false}
+use Rattle.std.proofs.Common.{◌≡◌, ℕ, ◌-◌, ◌<◌, ◌≤◌, Bool, true, false, cond, ltb, length, slice_get, Option, Some, None, option_and_then, option_map, sym, ap, ◌∙◌}
+use Rattle.std.proofs.lemmas.Bool.{lt-ltb, le-ltb, cond-true, cond-false}
 use Rattle.std.proofs.lemmas.Option.{slice_get_past}
-use Rattle.std.specs.Map.{keys_of}
 use Rattle.event_worlds.specs.declared.world.acts.Act.TheVariants.{Go}
 use Rattle.event_worlds.specs.declared.world.flag.FlagPlace.{FlagPlace}
-use Rattle.event_worlds.specs.declared.world.flag.FlagPlace.TheVariants.{ToListen}
 use Rattle.event_worlds.specs.declared.world.flag.SetterPlace.{SetterPlace}
-use Rattle.event_worlds.specs.Line.{Line, is_told, is_waiting}
-use Rattle.event_worlds.specs.Standing.{times, standing, FitsAt}
+use Rattle.event_worlds.specs.Line.{Line}
 use Rattle.event_worlds.specs.Flag.{FlagState, from, goes, from_setter, setter_goes, next, next_of_client, next_of_setter}
 use Rattle.event_worlds.specs.FlagSafety.{is_listening}
 use Rattle.event_worlds.specs.FlagInvariant.{is_parked, IsSound, MayBeAt}

@@ -1,13 +1,12 @@
 -- What the flag world keeps implies that it is safe.
-use Rattle.std.proofs.Common.{◌≡◌, ℕ, ◌+◌, ◌<◌, ◌⊎◌, Bool, true, cond, slice_get, Option, Some, None, Result, Ok, Err, IfOk, IsTrue, IsSomeAnd, refl, ap, ◌∙◌, subst, arith, inl, inr}
-use Rattle.std.proofs.lemmas.Bool.{cases_Bool, cases_lt}
-use Rattle.std.specs.Map.{keys_of}
+use Rattle.std.proofs.Common.{◌≡◌, ℕ, true, Some, IsTrue, refl, ap, ◌∙◌, arith, inl, inr}
+use Rattle.std.proofs.lemmas.Bool.{cases_lt}
 use Rattle.event_worlds.specs.declared.world.flag.FlagPlace.{FlagPlace}
 use Rattle.event_worlds.specs.declared.world.flag.FlagPlace.TheVariants.{ToRegister, Parked}
 use Rattle.event_worlds.specs.declared.world.flag.SetterPlace.{SetterPlace}
 use Rattle.event_worlds.specs.declared.world.flag.SetterPlace.TheVariants.{ToSet, ToNotify, Done as IsDone}
-use Rattle.event_worlds.specs.Line.{Line, is_told, is_waiting, has_wake}
-use Rattle.event_worlds.specs.Standing.{times, standing, Fits, FitsAt, number}
+use Rattle.event_worlds.specs.Line.{is_told, has_wake}
+use Rattle.event_worlds.specs.Standing.{number}
 use Rattle.event_worlds.specs.Flag.{FlagState}
 use Rattle.event_worlds.specs.FlagSafety.{IsAt, NoSetterNotifies, IsSafe, NotifiesDefault, is_listening, InLineAreListening}
 use Rattle.event_worlds.specs.FlagInvariant.{is_parked, is_past_second, is_to_notify, IsSound}

@@ -1,5 +1,5 @@
 -- Each step of the flag world's tables keeps the world's invariant.
-use Rattle.std.proofs.Common.{◌≡◌, ◌≢◌, ℕ, zero, suc, ◌-◌, ◌<◌, ◌≤◌, min, Bool, true, false, List, [], ◌∷◌, length, set, replicate, slice_get, Option, Some, None, IfSome, refl, sym, ap, ◌∙◌, subst, inl, inr, arith, length-set}
+use Rattle.std.proofs.Common.{◌≡◌, ◌≢◌, ℕ, zero, suc, ◌-◌, ◌≤◌, min, Bool, true, false, List, [], ◌∷◌, length, set, slice_get, Option, Some, None, IfSome, refl, sym, ap, ◌∙◌, subst, inl, inr, arith, length-set}
 use Rattle.std.specs.Map.{keys_of}
 use Rattle.std.proofs.lemmas.Bool.{cond_both, cases_eq}
 use Rattle.std.proofs.lemmas.List.{length-replicate}
@@ -9,8 +9,8 @@ use Rattle.event_worlds.specs.declared.world.flag.FlagPlace.{FlagPlace}
 use Rattle.event_worlds.specs.declared.world.flag.FlagPlace.TheVariants.{Check1, ToListen, Check2, Dropping, ToRegister, Parked, Done}
 use Rattle.event_worlds.specs.declared.world.flag.SetterPlace.{SetterPlace}
 use Rattle.event_worlds.specs.declared.world.flag.SetterPlace.TheVariants.{ToSet, ToNotify, Done as IsDone}
-use Rattle.event_worlds.specs.Line.{Line, IsLine, is_told, has_wake, has_serial_left, empty_line, joined, registered, told_left, waiting_left, wake_lost, first_told_of, first_told, tell, wanted, notified, dropped}
-use Rattle.event_worlds.specs.Standing.{Standing, times, standing, Fits, FitsAt, number}
+use Rattle.event_worlds.specs.Line.{Line, IsLine, is_told, has_wake, has_serial_left, joined, registered, told_left, waiting_left, wake_lost, first_told_of, first_told, tell, wanted, notified, dropped}
+use Rattle.event_worlds.specs.Standing.{times, standing, Fits, FitsAt, number}
 use Rattle.event_worlds.specs.Flag.{FlagState, start, from, from_setter, goes, setter_goes, everybody}
 use Rattle.event_worlds.specs.FlagSafety.{is_listening}
 use Rattle.event_worlds.specs.FlagInvariant.{is_parked, is_past_second, is_to_notify, IsSettled, IsSound}

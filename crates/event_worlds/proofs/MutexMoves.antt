@@ -1,16 +1,13 @@
 -- From a move of one client to the step of the world.
-use Rattle.std.proofs.Common.{◌≡◌, ℕ, ◌+◌, replicate, ◌≤◌, true, false, List, length, slice_get, Option, Some, None, is_some, unwrap_or, option_and_then, IfSome, sym, ap, ◌∙◌, subst, arith}
-use Rattle.std.proofs.lemmas.Bool.{or_from, false_from_ne_true}
+use Rattle.std.proofs.Common.{◌≡◌, ℕ, replicate, ◌≤◌, false, List, length, slice_get, Option, Some, None, option_and_then, IfSome, sym, ap, ◌∙◌, subst}
 use Rattle.std.proofs.lemmas.Option.{slice_get_past}
-use Rattle.std.specs.Map.{keys_of}
 use Rattle.event_worlds.specs.declared.world.acts.Act.{Act}
 use Rattle.event_worlds.specs.declared.world.mutex.Move.{Move}
 use Rattle.event_worlds.specs.declared.world.place.Place.{Place}
-use Rattle.event_worlds.specs.declared.world.place.Place.TheVariants.{Idle, ToListen}
+use Rattle.event_worlds.specs.declared.world.place.Place.TheVariants.{Idle}
 use Rattle.event_worlds.specs.ClientTable.{is_listening}
-use Rattle.event_worlds.specs.Line.{Line, empty_line, is_told, is_waiting}
-use Rattle.event_worlds.specs.Standing.{times, standing, FitsAt}
-use Rattle.event_worlds.specs.Mutex.{MutexState, from, next, after}
+use Rattle.event_worlds.specs.Line.{Line, empty_line}
+use Rattle.event_worlds.specs.Mutex.{MutexState, from, next}
 use Rattle.event_worlds.specs.Served.{is_parked, MayBeAt}
 use Rattle.event_worlds.specs.MutexInvariant.{IsSound}
 use Rattle.event_worlds.specs.MutexMove.{Moves, moved}

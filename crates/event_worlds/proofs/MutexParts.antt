@@ -1,29 +1,16 @@
 -- What one step changes of who has the lock.
-use Rattle.std.proofs.Common.{◌≡◌, ◌≢◌, ℕ, ◌+◌, ◌<◌, ◌≤◌, ◌⊎◌, Bool, true, false, cond, eqb, List, [], ◌∷◌, length, set, slice_get, Option, Some, None, is_none, refl, sym, ap, ◌∙◌, subst, arith, inl, inr, eq-eqb, ne_eqb, eqb-true}
-use Rattle.std.proofs.lemmas.Bool.{cases_Bool, cases_eq}
-use Rattle.std.specs.Map.{keys_of}
+use Rattle.std.proofs.Common.{◌≡◌, ◌≢◌, ℕ, true, false, List, set, slice_get, Option, Some, None, is_none, refl, sym, ap, ◌∙◌, subst, inl, inr, eq-eqb, ne_eqb, eqb-true}
+use Rattle.std.proofs.lemmas.Bool.{cases_eq}
 use Rattle.event_worlds.specs.declared.world.place.Place.{Place}
-use Rattle.event_worlds.specs.declared.world.place.Place.TheVariants.{Idle, First, ToListen, Second, Ending, ToRegister, Parked, Holding, Releasing}
-use Rattle.event_worlds.specs.ClientTable.{is_listening}
-use Rattle.event_worlds.specs.Line.{Line}
-use Rattle.event_worlds.specs.Standing.{times, standing, Fits, FitsAt, AllFit, number}
 use Rattle.event_worlds.specs.Served.{is_inside}
 use Rattle.event_worlds.specs.MutexInvariant.{is_inside_at, is_holder}
-use Rattle.event_worlds.proofs.PlaceLemmas.{slice_get-set, slice_get-set_other, number-set, number-at, number-found}
+use Rattle.event_worlds.proofs.PlaceLemmas.{slice_get-set, slice_get-set_other}
 
 -- the holder
-
-pub held : (client : ℕ) (holder : Option ℕ) → is_holder client holder ≡ true → holder ≡ None → ⊥
-held client None holds free = absurd (cc)
-held client (Some other) holds free = absurd (cc)
 
 pub free_is : (holder : Option ℕ) → is_none holder ≡ true → holder ≡ None
 free_is None free = refl
 free_is (Some client) free = absurd (cc)
-
-pub not_free_is : (holder : Option ℕ) → is_none holder ≡ false → holder ≡ None → ⊥
-not_free_is None taken free = absurd (cc)
-not_free_is (Some client) taken free = absurd (cc)
 
 only_holder : (client other : ℕ) (holder : Option ℕ) → is_holder client holder ≡ true → other ≢ client → is_holder other holder ≡ false
 only_holder client other None holds differs = absurd (cc)

@@ -1,11 +1,11 @@
 -- What the mutex world keeps implies that it is safe.
-use Rattle.std.proofs.Common.{◌≡◌, ℕ, ◌+◌, ◌<◌, ◌≤◌, ◌⊎◌, Bool, true, false, length, slice_get, Option, Some, None, IsTrue, refl, sym, ap, ◌∙◌, subst, arith, inl, inr, eq-eqb, eqb-true}
+use Rattle.std.proofs.Common.{◌≡◌, ℕ, ◌+◌, ◌<◌, ◌≤◌, ◌⊎◌, true, false, length, slice_get, Option, Some, None, IsTrue, refl, sym, ap, ◌∙◌, arith, inl, inr, eq-eqb, eqb-true}
 use Rattle.std.proofs.lemmas.Bool.{cases_Bool, cases_lt, false_from_ne_true}
 use Rattle.event_worlds.specs.declared.world.place.Place.{Place}
 use Rattle.event_worlds.specs.declared.world.place.Place.TheVariants.{Idle, First, ToListen, Second, Ending, ToRegister, Parked, Holding, Releasing}
 use Rattle.event_worlds.specs.ClientTable.{is_listening, is_woken}
 use Rattle.event_worlds.specs.Line.{is_told, has_wake}
-use Rattle.event_worlds.specs.Standing.{times, number}
+use Rattle.event_worlds.specs.Standing.{number}
 use Rattle.event_worlds.specs.Served.{is_parked, is_releasing}
 use Rattle.event_worlds.specs.Mutex.{MutexState}
 use Rattle.event_worlds.specs.MutexSafety.{IsAt, SomeClientIsAt, IsSafe, HolderIsInside, AtMostOneTold, NotifiesDefault, InLineAreListening}

@@ -1,5 +1,5 @@
 -- Each step of the mutex world's table keeps the world's invariant, so every schedule does.
-use Rattle.std.proofs.Common.{◌≡◌, ℕ, zero, suc, ◌+◌, ◌-◌, ◌<◌, ◌≤◌, min, Bool, true, false, cond, List, [], ◌∷◌, length, set, replicate, slice_get, Option, Some, None, is_none, IfSome, unwrap_or, option_and_then, refl, sym, ap, ◌∙◌, subst, inr, arith}
+use Rattle.std.proofs.Common.{◌≡◌, ℕ, zero, suc, ◌-◌, ◌≤◌, min, Bool, true, false, cond, List, [], ◌∷◌, length, set, replicate, slice_get, Option, Some, None, is_none, IfSome, unwrap_or, option_and_then, refl, sym, ap, ◌∙◌, inr, arith}
 use Rattle.std.proofs.lemmas.Bool.{cond_both}
 use Rattle.event_worlds.specs.declared.world.acts.Act.{Act}
 use Rattle.event_worlds.specs.declared.world.acts.Act.TheVariants.{Go, Poll, TimeOut, Cancel}

@@ -1,9 +1,8 @@
 -- From a move of one client to the step of the semaphore world.
-use Rattle.std.proofs.Common.{◌≡◌, ℕ, ◌+◌, ◌^◌, ◌<◌, ◌≤◌, Bool, true, false, replicate, length, slice_get, Option, Some, None, is_some, option_and_then, option_map, refl, sym, ap, ◌∙◌, subst, arith}
+use Rattle.std.proofs.Common.{◌≡◌, ℕ, ◌+◌, ◌^◌, ◌<◌, ◌≤◌, length, slice_get, Option, Some, None, option_and_then, option_map, ap, ◌∙◌, arith}
 use Rattle.std.proofs.lemmas.Option.{slice_get_past}
 use Rattle.event_worlds.specs.declared.world.acts.SemAct.{SemAct}
 use Rattle.event_worlds.specs.declared.world.semaphore.SemaphoreClient.{SemaphoreClient}
-use Rattle.event_worlds.specs.declared.world.place.Place.{Place}
 use Rattle.event_worlds.specs.ClientTable.{is_listening}
 use Rattle.event_worlds.specs.Line.{Line}
 use Rattle.event_worlds.specs.Served.{is_parked, MayBeAt}

@@ -1,10 +1,10 @@
 -- What the semaphore world keeps implies that it is safe.
-use Rattle.std.proofs.Common.{◌≡◌, ℕ, ◌+◌, ◌<◌, ◌≤◌, ◌⊎◌, Bool, true, false, cond, length, slice_get, Option, Some, None, IsTrue, IsSomeAnd, refl, sym, ap, ◌∙◌, subst, arith, inl, inr}
+use Rattle.std.proofs.Common.{◌≡◌, ℕ, ◌+◌, ◌≤◌, length, slice_get, Option, Some, None, IsTrue, IsSomeAnd, refl, ap, arith, inl, inr}
 use Rattle.std.proofs.lemmas.Bool.{cases_Bool}
 use Rattle.event_worlds.specs.declared.world.place.Place.{Place}
 use Rattle.event_worlds.specs.declared.world.place.Place.TheVariants.{ToRegister, Parked}
 use Rattle.event_worlds.specs.ClientTable.{is_listening, is_woken}
-use Rattle.event_worlds.specs.Line.{is_told, is_waiting, has_wake}
+use Rattle.event_worlds.specs.Line.{has_wake}
 use Rattle.event_worlds.specs.Served.{is_parked}
 use Rattle.event_worlds.specs.Semaphore.{SemaphoreState}
 use Rattle.event_worlds.specs.SemaphoreSafety.{IsAt, SomeUntoldWaits, clients_woken, all_owed, ToldRun, IsSafe, PermitsAddUp, NotifiesAdditional, InLineAreListening}

@@ -1,5 +1,5 @@
 -- Each step of the semaphore world's table keeps the world's invariant.
-use Rattle.std.proofs.Common.{◌≡◌, ℕ, ◌+◌, ◌-◌, ◌<◌, ◌≤◌, Bool, true, false, nat_lt, List, set, replicate, slice_get, Option, Some, None, IfSome, refl, sym, ap, ◌∙◌, subst, inl, inr, arith}
+use Rattle.std.proofs.Common.{◌≡◌, ℕ, ◌+◌, ◌-◌, ◌<◌, ◌≤◌, Bool, true, false, nat_lt, List, set, slice_get, Option, Some, None, IfSome, refl, sym, ap, ◌∙◌, subst, inl, arith}
 use Rattle.std.proofs.lemmas.Bool.{cond_both}
 use borrow.Author.Tests.{ltb-true, ltb-false}
 use Rattle.event_worlds.specs.declared.world.acts.SemAct.{SemAct}
@@ -10,8 +10,8 @@ use Rattle.event_worlds.specs.declared.world.semaphore.SemaphoreClient.{Semaphor
 use Rattle.event_worlds.specs.ClientTable.{is_listening, is_woken}
 use Rattle.event_worlds.specs.Line.{Line, is_told, has_wake, has_serial_left, joined, registered, told_left, waiting_left, wake_lost, notified, dropped}
 use Rattle.event_worlds.specs.Served.{is_inside, is_releasing, is_parked, is_past_second, IsServed}
-use Rattle.event_worlds.specs.Semaphore.{SemaphoreState, start, from, goes, moved, got, idle}
-use Rattle.event_worlds.specs.SemaphoreSafety.{all_owed, all_held}
+use Rattle.event_worlds.specs.Semaphore.{SemaphoreState, start, from, goes, moved, got}
+use Rattle.event_worlds.specs.SemaphoreSafety.{all_owed}
 use Rattle.event_worlds.specs.SemaphoreInvariant.{places_of, OwnFits, IsSound}
 use Rattle.event_worlds.proofs.SemaphoreClients.{place-at, places-set, places-idle, sum-set, sum-idle, all-set, all-at, all-idle}
 use Rattle.event_worlds.proofs.ServedSteps.{served-begins, served-gets, served-finds_none, served-listens, served-refused, served-gets_second, served-finds_none_second, served-told, served-registers, served-wakes, served-leaves, served-drops, served-takes_more, served-frees, served-notifies, served-start}

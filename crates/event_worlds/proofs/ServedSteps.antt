@@ -1,7 +1,7 @@
 -- What each step of a client of a lock does to what its clients keep, whatever the lock: what can be taken, what is
 -- still to come, the client's place and the line.
-use Rattle.std.proofs.Common.{◌≡◌, ◌≢◌, ℕ, zero, suc, ◌+◌, ◌-◌, ◌<◌, ◌≤◌, min, ◌⊎◌, Bool, true, false, cond, eqb, List, [], ◌∷◌, length, set, replicate, slice_get, Option, Some, None, refl, sym, ap, ◌∙◌, subst, arith, inl, inr, length-set, length-append}
-use Rattle.std.proofs.lemmas.Bool.{cases_Bool, cases_eq, cond_both, false_from_ne_true}
+use Rattle.std.proofs.Common.{◌≡◌, ◌≢◌, ℕ, zero, suc, ◌+◌, ◌-◌, ◌<◌, ◌≤◌, min, ◌⊎◌, Bool, true, false, cond, List, [], ◌∷◌, length, set, replicate, slice_get, Option, Some, refl, sym, ap, ◌∙◌, subst, arith, inl, inr, length-set, length-append}
+use Rattle.std.proofs.lemmas.Bool.{cases_eq, cond_both, false_from_ne_true}
 use Rattle.std.proofs.lemmas.Option.{none-some, same_Some}
 use Rattle.std.proofs.lemmas.List.{length-replicate}
 use Rattle.std.specs.Map.{keys_of}
@@ -9,10 +9,10 @@ use Rattle.event_worlds.specs.declared.world.place.Place.{Place}
 use Rattle.event_worlds.specs.declared.world.place.Place.TheVariants.{Idle, First, ToListen, Second, Ending, ToRegister, Parked, Holding, Releasing}
 use Rattle.event_worlds.specs.ClientTable.{is_listening, is_woken}
 use Rattle.event_worlds.specs.Line.{Line, empty_line, is_told, joined, registered, told_left, waiting_left, wake_lost, first_told_of, first_told, tell, wanted, notified, dropped}
-use Rattle.event_worlds.specs.Standing.{times, Standing, standing, Fits, FitsAt, number}
+use Rattle.event_worlds.specs.Standing.{times, standing, Fits, FitsAt, number}
 use Rattle.event_worlds.specs.Served.{is_parked, is_past_second, IsServed}
 use Rattle.event_worlds.proofs.PlaceLemmas.{slice_get-set, slice_get-set_other, number-set}
-use Rattle.event_worlds.proofs.StandingLemmas.{times-any, times-none, times-append, times-without, times-le-length, IsSame, same-joined, same-registered, same-told_left, same-waiting_left, same-wake_lost, fits-joined, fits-registered, fits-told_left, fits-waiting_left, fits-wake_lost, fit-changed, fit-notified, fit-start, same-itself, length-without_one, notified-flags}
+use Rattle.event_worlds.proofs.StandingLemmas.{times-any, times-none, times-append, times-le-length, IsSame, same-joined, same-registered, same-told_left, same-waiting_left, same-wake_lost, fits-joined, fits-registered, fits-told_left, fits-waiting_left, fits-wake_lost, fit-changed, fit-notified, fit-start, same-itself, length-without_one, notified-flags}
 
 at_most_one : (b : Bool) → cond {A = ℕ} b 1 0 ≤ 1
 at_most_one true = omega arith

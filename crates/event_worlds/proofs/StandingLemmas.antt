@@ -1,6 +1,6 @@
 -- What each change of a line does to how the clients stand in it, and that telling one keeps them fitting their
 -- places, whatever the type of places.
-use Rattle.std.proofs.Common.{◌≡◌, ◌≢◌, ℕ, zero, suc, ◌+◌, ◌-◌, ◌<◌, ◌≤◌, min, ◌⊎◌, Bool, true, false, cond, eqb, List, [], ◌∷◌, ◌++◌, length, set, get_or, replicate, slice_get, Option, Some, None, refl, sym, ap, ◌∙◌, subst, arith, inl, inr, eq-eqb, ne_eqb, eqb-true, length-append, length-set, get_or-set_same, get_or-set_other}
+use Rattle.std.proofs.Common.{◌≡◌, ◌≢◌, ℕ, zero, suc, ◌+◌, ◌<◌, ◌≤◌, min, Bool, true, false, cond, eqb, List, [], ◌∷◌, ◌++◌, length, set, get_or, replicate, slice_get, Option, Some, None, refl, sym, ap, ◌∙◌, subst, arith, inl, inr, eq-eqb, ne_eqb, eqb-true, length-append, length-set, get_or-set_same, get_or-set_other}
 use Rattle.std.proofs.lemmas.Bool.{cases_Bool, cases_eq, cond_both, or_cases, or_parts}
 use Rattle.std.proofs.lemmas.List.{map-append}
 use Rattle.std.proofs.lemmas.Map.{keys-set_value}
@@ -218,10 +218,6 @@ unparked listens client once = record {
   registered = λ parks. absurd (cc);
   awake = λ parks told. absurd (cc);
 }
-
--- a place where one is not parked asks no more than any other where one listens as well
-pub fits-unparked : (listens parks : Bool) (client : Standing) → Fits listens parks client → Fits listens false client
-fits-unparked listens parks client fits = unparked listens client fits.once
 
 module _ (client : ℕ) (line : Line) (parks : Bool) where
   pub fits-joined : Fits false parks (standing client line) → Fits true false (standing client (joined client line))

@@ -1,6 +1,6 @@
 -- What the mutex world keeps in its type: each step of the table keeps it, and what `MutexSafety` says follows. No
 -- public clause cites this module.
-use Rattle.std.specs.Prelude.{◌≡◌, ℕ, ◌≤◌, Bool, true, false, eqb, length, slice_get, Option, Some, None}
+use Rattle.std.specs.Prelude.{◌≡◌, ℕ, Bool, false, eqb, slice_get, Option, Some, None}
 use Rattle.event_worlds.specs.declared.world.place.Place.{Place}
 use Rattle.event_worlds.specs.Standing.{number}
 use Rattle.event_worlds.specs.Served.{is_inside, is_releasing, IsServed}

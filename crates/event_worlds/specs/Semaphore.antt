@@ -1,5 +1,5 @@
 -- The semaphore world: the clients of a lock of several permits, who stand in one line, and the table of their steps.
-use Rattle.std.specs.Prelude.{ℕ, ◌+◌, ◌-◌, Bool, true, false, nat_lt, if◌then◌else◌, List, [], ◌∷◌, replicate, slice_get, slice_set, Option, Some, None, is_some, unwrap_or, option_and_then, option_map}
+use Rattle.std.specs.Prelude.{ℕ, ◌+◌, ◌-◌, true, false, nat_lt, if◌then◌else◌, List, [], ◌∷◌, replicate, slice_get, slice_set, Option, Some, None, is_some, unwrap_or, option_and_then, option_map}
 use Rattle.event_worlds.specs.declared.world.acts.SemAct.{SemAct}
 use Rattle.event_worlds.specs.declared.world.acts.SemAct.TheVariants.{Go, More, TimeOut, Cancel}
 use Rattle.event_worlds.specs.declared.world.acts.SemStep.{SemStep}

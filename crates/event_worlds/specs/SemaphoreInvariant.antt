@@ -1,6 +1,6 @@
 -- What the semaphore world keeps in its type: each step of the table keeps it, and what `SemaphoreSafety` says
 -- follows. No public clause cites this module.
-use Rattle.std.specs.Prelude.{◌≡◌, ℕ, true, false, List, map, slice_get, Option, Some, None, IfSome}
+use Rattle.std.specs.Prelude.{◌≡◌, ℕ, false, List, map, slice_get, Option, Some, None, IfSome}
 use Rattle.event_worlds.specs.declared.world.acts.SemAct.{SemAct}
 use Rattle.event_worlds.specs.declared.world.place.Place.{Place}
 use Rattle.event_worlds.specs.declared.world.semaphore.SemaphoreClient.{SemaphoreClient}

@@ -1,4 +1,4 @@
-use Rattle.std.proofs.Common.{rules, ◌≡◌, replicate, sym, subst}
+use Rattle.std.proofs.Common.{◌≡◌, replicate, sym, subst}
 use Rattle.event_worlds.specs.Semaphore.{start, idle}
 use Rattle.event_worlds.specs.SemaphoreInvariant.{IsSound}
 use Rattle.event_worlds.proofs.SemaphoreSteps.{start-sound}
