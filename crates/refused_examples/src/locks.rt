@@ -148,6 +148,20 @@ struct RefusesOnceTold<'a, R: Runtime> {
     reads: Cell<u32>,
 }
 
+impl<'a, R: Runtime> RefusesOnceTold<'a, R> {
+    // The lock is free, and is held from now on.
+    fn new(rt: &'a R, mutex: &'a Mutex<u64>, task: &'a MockTask) -> Self {
+        RefusesOnceTold {
+            rt,
+            held: sync::Mutex::new(Some(hold(rt, mutex))),
+            behind: sync::Mutex::new(mutex.polled_lock(rt, rt.alloc())),
+            task,
+            budget: sync::Mutex::new(new_budget(rt)),
+            reads: Cell::new(0),
+        }
+    }
+}
+
 impl<'a, R: Runtime> OwnClock for RefusesOnceTold<'a, R> {
     fn read(&self) -> io::Result<Duration> {
         let reads = self.reads.get();
@@ -166,14 +180,7 @@ impl<'a, R: Runtime> OwnClock for RefusesOnceTold<'a, R> {
 fn a_told_client_that_is_refused_a_parker_tells_another_one(rt: HostRuntime) {
     let mutex = used_mutex(&rt);
     let task = MockTask::new(&rt).expect(&rt, "a task");
-    let refuses = RefusesOnceTold {
-        rt: &rt,
-        held: sync::Mutex::new(Some(hold(&rt, &mutex))),
-        behind: sync::Mutex::new(mutex.polled_lock(&rt, rt.alloc())),
-        task: &task,
-        budget: sync::Mutex::new(new_budget(&rt)),
-        reads: Cell::new(0),
-    };
+    let refuses = RefusesOnceTold::new(&rt, &mutex, &task);
     let clock = WithClock {
         rt: &rt,
         clock: &refuses,
