@@ -1,9 +1,9 @@
-//! Listeners that gave their tag, and listeners without their event.
+//! Listeners that gave their tag, listeners that a refused wait hands back, and listeners without their event.
 use crate::support::{
     Case, Runtime, Trial, assert_counts, assert_same, assert_woken, discard, new_event, notify,
     poll_finished, poll_told, share, waker, with_each_kind,
 };
-use event_listener::{Event, IntoNotification, IntoTagged, Listener};
+use event_listener::{Event, IntoNotification, IntoTagged, Listener, WaitError, WaitReason};
 use futures::task::Poll;
 use test_support::any_waker;
 
@@ -43,6 +43,29 @@ impl Case for NotInQueue {
 #[test]
 fn a_finished_listener_is_not_in_the_queue(rt: HostRuntime) {
     with_each_kind::<NotInQueue, _>(&rt);
+}
+
+struct RefusedWait;
+
+// Where the error of a refused wait becomes a reason, the listener that came back is dropped: it leaves the queue, and the
+// next one gets its notification.
+impl Case for RefusedWait {
+    type Tag = u32;
+
+    fn run<S: Trial<Tag = u32>>(trial: &S) {
+        let refused = trial.listen();
+        let mut next = trial.listen();
+        notify(trial, 1.tag(7), Ok(1));
+        let reason = WaitReason::from(WaitError::Memory(refused));
+        assert_same(trial.rt(), reason, WaitReason::Memory, "the reason");
+        assert_counts(trial, 1, true);
+        poll_told(trial, &mut next, 7);
+    }
+}
+
+#[test]
+fn a_reason_drops_the_listener_of_its_error(rt: HostRuntime) {
+    with_each_kind::<RefusedWait, _>(&rt);
 }
 
 // The event is dropped while three listeners stand in its queue.

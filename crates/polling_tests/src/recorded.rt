@@ -17,10 +17,12 @@ fn gives<R: Runtime>(
     check(rt, "a poll", task.poll(waiter), expected);
 }
 
-// However often it is polled, its task is woken only once it is told. Each poll is one registration.
-fn wakes_once_told<R: Runtime>(rt: &R) {
+// However often it is polled, its task is woken only once it is told. Each poll is one registration of the hand that
+// polls: the first of the event, or the second.
+fn wakes_once_told<R: Runtime>(rt: &R, is_first: bool) {
     let made = new_event_of_two(rt.alloc(), &mut EventIds::new());
-    let (event, waiting, mut telling) = made.expect(rt, "an event");
+    let (event, one, other) = made.expect(rt, "an event");
+    let (waiting, mut telling) = if is_first { (one, other) } else { (other, one) };
     let task = new_task(rt);
     let listening = Waiter::listen(rt, rt.alloc(), &event, waiting);
     let mut waiter = listening.expect(rt, "a listener");
@@ -51,5 +53,6 @@ fn wakes_once_told<R: Runtime>(rt: &R) {
 
 #[test]
 fn a_recorded_listener_wakes_nobody_until_it_is_told(rt: HostRuntime) {
-    wakes_once_told(&rt);
+    wakes_once_told(&rt, true);
+    wakes_once_told(&rt, false);
 }

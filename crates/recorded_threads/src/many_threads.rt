@@ -11,6 +11,9 @@ const HANDS: usize = 8;
 
 const ROUNDS: usize = 200;
 
+// How often a thread asks once its rounds are over, while others hold the lock again and again.
+const QUESTIONS: usize = 500;
+
 // A hand after some of its rounds, and how many of its listeners were dropped while they stood in the queue.
 #[derive(Drop)]
 struct Rounds {
@@ -72,7 +75,17 @@ fn play_round<R: Runtime>(
     }
 }
 
-// All rounds of one thread.
+// Asks both questions, each of which is a note of the hand.
+fn ask<R: Runtime>(rt: &R, event: &RecordedEvent<u32>, hand: &mut Hand<u32>) {
+    if !event.owns(hand) {
+        panic!(rt; "a hand of another event");
+    }
+    let total = event.total_listeners(rt, hand).expect(rt, "a number");
+    check(rt, total, total <= HANDS, true);
+    event.is_notified(rt, hand).expect(rt, "an answer");
+}
+
+// All rounds of one thread, and then its questions.
 fn play<R: Runtime>(rt: &R, event: &RecordedEvent<u32>, hand: Hand<u32>) -> Rounds {
     let mut rounds = Rounds { hand, dropped: 0 };
     for round in 0..ROUNDS {
@@ -82,6 +95,9 @@ fn play<R: Runtime>(rt: &R, event: &RecordedEvent<u32>, hand: Hand<u32>) -> Roun
             hand,
             dropped: dropped.saturating_add(usize::from(was_dropped)),
         };
+    }
+    for _ in 0..QUESTIONS {
+        ask(rt, event, &mut rounds.hand);
     }
     rounds
 }
@@ -115,10 +131,15 @@ fn count_entries(entries: &[Entry<u32>]) -> (usize, usize) {
     (of_hands, entries.len().saturating_sub(of_hands))
 }
 
-// The hands had so many notes and so many dropped listeners. Each round has two calls or more, and every fourth one drops
-// a listener that stands in the queue.
+// The hands had so many notes and so many dropped listeners. Each round has two calls or more, every fourth one drops a
+// listener that stands in the queue, and the questions are two calls each.
 fn played_all_rounds<R: Runtime>(rt: &R, notes: usize, dropped: usize) {
-    check(rt, ("notes", notes), notes >= 2 * HANDS * ROUNDS, true);
+    check(
+        rt,
+        ("notes", notes),
+        notes >= 2 * HANDS * (ROUNDS + QUESTIONS),
+        true,
+    );
     check(
         rt,
         ("dropped", dropped),
