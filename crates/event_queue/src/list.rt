@@ -334,12 +334,27 @@ impl<T, W> List<T, W> {
         ensures queue { IsQueue self.new }
         ensures visits { steps.new ≡ steps.old + how_many 1 notice.additional self.old }
     {
-        if self.how_many(1, notice.additional) == 1 {
+        if self.tells_one(notice.additional) {
             let to = self.tell_apart(notice, sink, steps);
             return State::Passed { to };
         }
         let Notice { additional, tag } = notice;
         State::Lost { additional, tag }
+    }
+
+    // Whether a notification of one tells somebody: `how_many` answers the same, in more instructions.
+    #[inline(always)]
+    fn tells_one(&self, additional: bool) -> bool
+        ensures somebody { IsTrue result → how_many 1 additional self.now ≡ 1 }
+        ensures nobody { IsFalse result → how_many 1 additional self.now ≡ 0 }
+        ensures queue { IsQueue self.now }
+    {
+        let somebody_waits = self.chain.after_len() > 0;
+        if additional {
+            somebody_waits
+        } else {
+            somebody_waits && self.chain.before_len() == 0
+        }
     }
 
     // Tells the first waiting listener. It stands apart, so that the drop of a listener, which stands in many places, is

@@ -254,11 +254,7 @@ impl<T, W> PlainQueue<T, W> {
 
     // Propagates a notification: notifies one, of that notice's kind and with its tag. Who was told is the answer; where
     // nobody was, the notice comes back.
-    fn pass_on<S: WakeSink<W>>(
-        &mut self,
-        notice: Notice<T>,
-        sink: &mut S,
-    ) -> Result<Key, Notice<T>>
+    fn pass_on<S: WakeSink<W>>(&mut self, notice: Notice<T>, sink: &mut S) -> Result<Key, Notice<T>>
         ensures passed { self.new ≡ after_passing notice self.old }
         ensures told { IfOk result (λ to. told_by_passing notice self.old ≡ to ∷ []) }
         ensures nobody { OnErr result (told_by_passing notice self.old ≡ []) }

@@ -24,17 +24,16 @@ fn come<R: Abort + AllocGlobal>(
 
 // The listeners up to this place are told by one notification each, whose tag is the number of their place. The last of
 // them is removed with propagation.
-fn tell_and_remove<R: Abort + AllocGlobal>(
-    rt: &R,
-    length: usize,
-    place: usize,
-    additional: bool,
-) {
+fn tell_and_remove<R: Abort + AllocGlobal>(rt: &R, length: usize, place: usize, additional: bool) {
     let mut queue: CheckedQueue<u32, _> = CheckedQueue::new(rt);
     let keys = come(rt, &mut queue, length);
     let leaving = keys.get(place).copied().expect(rt, "a listener");
     for told in 0..=place {
-        let count = if additional { 1 } else { told.saturating_add(1) };
+        let count = if additional {
+            1
+        } else {
+            told.saturating_add(1)
+        };
         let tag = u32::try_from(told).expect(rt, "a tag");
         queue.notifies(
             Tagged {
@@ -82,7 +81,12 @@ fn pass_ten_times<'a, R: Abort + AllocGlobal>(
     let mut woken = Woken::with_room(rt.alloc(), 0).expect(rt, "a sink");
     let mut leaving = queue.insert_uncounted().expect(rt, "a listener");
     let mut one = OneMarked::new(additional, tag);
-    check(rt, "notify", queue.notify_uncounted(&mut one, &mut woken), Ok(1));
+    check(
+        rt,
+        "notify",
+        queue.notify_uncounted(&mut one, &mut woken),
+        Ok(1),
+    );
     for passes in 0..10 {
         let next = queue.insert_uncounted().expect(rt, "a listener");
         let to = match queue.remove_uncounted(leaving, true, &mut woken) {
@@ -102,10 +106,12 @@ fn comes_back_after_ten_passes<R: Abort + AllocGlobal>(rt: &R, additional: bool)
     let marks = Marks::new();
     let answer = pass_ten_times(rt, additional, Marked::new(7, &marks));
     match &answer {
-        Some(State::Lost {
-            additional: kind,
-            tag,
-        }) => check(rt, "lost", (*kind, tag.number()), (additional, 7)),
+        Some(
+            State::Lost {
+                additional: kind,
+                tag,
+            },
+        ) => check(rt, "lost", (*kind, tag.number()), (additional, 7)),
         _ => check(rt, "whether it was lost", false, true),
     }
     marks.are(rt, 0, 0);

@@ -85,7 +85,7 @@ impl Membership {
     /// Takes the listener out of the queue, if it is there, and answers what it was. With `propagate` its notification
     /// is passed on.
     #[inline(always)]
-    pub(super) fn remove<T: Drop, R: Wait>(
+    pub(super) fn remove<T, R: Wait>(
         &mut self,
         rt: &R,
         shared: &Shared<T>,

@@ -238,7 +238,7 @@ impl<T: Drop> WaitSteps<T> for Membership {
 impl Membership {
     // At a deadline the listener leaves without passing a notification on. A tag that came since it last looked stays
     // its own.
-    fn remove_at_deadline<T: Drop, R: Wait>(
+    fn remove_at_deadline<T, R: Wait>(
         &mut self,
         rt: &R,
         shared: &Shared<T>,
