@@ -150,8 +150,12 @@ impl<'a> Words<'a> {
 
     fn act(&mut self, acts: [Act; 4]) -> Result<Act, Unreadable<'a>> {
         let text = self.word();
-        let act = acts.iter().find(|act| act.name() == text).copied();
-        act.ok_or(self.wrong(text))
+        for act in acts {
+            if act.name() == text {
+                return Ok(act);
+            }
+        }
+        Err(self.wrong(text))
     }
 
     // How often, which is once where nothing is said. No word is left.
@@ -159,7 +163,9 @@ impl<'a> Words<'a> {
         match self.next() {
             None => Ok(1),
             Some(text) => {
-                let times = text.parse().map_err(|_| self.wrong(text))?;
+                let Ok(times) = text.parse() else {
+                    return Err(self.wrong(text));
+                };
                 self.end()?;
                 Ok(times)
             }
@@ -171,7 +177,10 @@ impl<'a> Words<'a> {
         V::Err: Drop,
     {
         let text = self.word();
-        text.parse().map_err(|_| self.wrong(text))
+        match text.parse() {
+            Ok(value) => Ok(value),
+            Err(_) => Err(self.wrong(text)),
+        }
     }
 
     fn end(&mut self) -> Result<(), Unreadable<'a>> {
