@@ -77,8 +77,13 @@ pub fn try_once<'a, C: Contended<'a>>(contended: C) -> Option<Held<'a, C::Taken>
     ensures { IfSome result (λ held. C.is_new held.taken) }
 {
     let mut client = Trying::begin().into_client();
-    let taken = try_take(contended, &mut client)?;
-    Some(Held::new(contended.clients(), taken, client))
+    match try_take(contended, &mut client) {
+        Some(taken) => Some(Held::new(contended.clients(), taken, client)),
+        None => {
+            client.leaves();
+            None
+        }
+    }
 }
 
 /// Blocks the calling thread until it has taken what is wanted.
@@ -173,6 +178,7 @@ where
         Ok(listener) => listener,
         Err(refusal) => {
             client.hears(News::Refused);
+            client.leaves();
             return Err(refusal);
         }
     };

@@ -2,7 +2,7 @@
 ghost use Rattle.std.specs.Prelude.{◌≡◌, ◌≢◌, IsSome, Some, false};
 ghost use Rattle.event_worlds.specs.declared.world.place.News.TheVariants as news;
 ghost use Rattle.event_worlds.specs.declared.world.place.Place.TheVariants as place;
-ghost use Rattle.event_worlds.specs.ClientTable.{place_after};
+ghost use Rattle.event_worlds.specs.ClientTable.{place_after, is_listening};
 
 use event_listener::EventListener;
 use event_worlds::{News, Place};
@@ -12,7 +12,8 @@ use std::time::Clock;
 
 /// One client, by its place. A new one is idle; from then on its place is what
 /// [`Place::after`] says of the one before.
-#[derive(Drop)]
+///
+/// It is no `Drop`: a client that has a listener has to drop that before it [leaves](Client::leaves).
 pub(super) struct Client {
     place: Place,
 }
@@ -51,6 +52,13 @@ impl Client {
         self.goes_on(News::Dropped);
     }
 
+    /// Is a client no longer. It has no listener.
+    pub(super) fn leaves(self)
+        requires { is_listening self ≡ false }
+    {
+        let Client { place: _ } = self;
+    }
+
     fn goes_on(&mut self, news: News)
         requires { IsSome (place_after self.old news) }
         ensures { place_after self.old news ≡ Some self.new }
@@ -63,7 +71,6 @@ impl Client {
 }
 
 /// A client that is about to try, and has no listener.
-#[derive(Drop)]
 pub(crate) struct Trying {
     client: Client,
     ghost got: { place_after client news.Got ≡ Some place.Holding },

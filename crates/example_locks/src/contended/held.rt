@@ -102,5 +102,6 @@ impl Releasing<'_> {
             Owed::Additional(count) => clients.freed.notify(rt, count.additional()),
         };
         client.hears(News::Notified);
+        client.leaves();
     }
 }

@@ -9,16 +9,15 @@ use futures::task::{Poll, Waker};
 use std::sync::Wait;
 use std::time::{Clock, Duration, Instant};
 
-/// A client that found nothing free twice, and listened in between. It is about to register.
-#[derive(Drop)]
+/// A client that found nothing free twice, and listened in between. It is about to register. Dropping it drops its
+/// listener.
 pub(crate) struct Waiting<R: Wait + Clock + Clone> {
     client: Client,
     listener: EventListener<(), R>,
     ghost registers: { client ≡ place.ToRegister },
 }
 
-/// A client whose task is stored.
-#[derive(Drop)]
+/// A client whose task is stored. Dropping it drops its listener.
 pub(crate) struct Parked<R: Wait + Clock + Clone> {
     client: Client,
     listener: EventListener<(), R>,
@@ -26,7 +25,6 @@ pub(crate) struct Parked<R: Wait + Clock + Clone> {
 }
 
 /// What a client found when it registered.
-#[derive(Drop)]
 pub(crate) enum Registered<R: Wait + Clock + Clone> {
     /// It was told, and tries again.
     Told(Trying),
@@ -82,10 +80,12 @@ impl<R: Wait + Clock + Clone> Waiting<R> {
             Ok(None) => {
                 client.hears(News::Registered);
                 client.hears(News::TimedOut);
+                client.leaves();
                 Ok(None)
             }
             Err(WaitError::Memory(listener)) => {
                 client.drops(listener);
+                client.leaves();
                 Err(ListenError::Memory)
             }
         }
@@ -117,5 +117,27 @@ impl<R: Wait + Clock + Clone> Parked<R> {
         } = self;
         client.hears(News::Woke);
         Waiting { client, listener }
+    }
+}
+
+impl<R: Wait + Clock + Clone> Drop for Waiting<R> {
+    fn drop(self) {
+        let Self {
+            mut client,
+            listener,
+        } = self;
+        client.drops(listener);
+        client.leaves();
+    }
+}
+
+impl<R: Wait + Clock + Clone> Drop for Parked<R> {
+    fn drop(self) {
+        let Self {
+            mut client,
+            listener,
+        } = self;
+        client.drops(listener);
+        client.leaves();
     }
 }
