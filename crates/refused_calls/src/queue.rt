@@ -61,7 +61,12 @@ fn each_call_but_a_growth(rt: HostRuntime) {
     let given = list.register_uncounted(second, 4);
     check(&rt, "a tag", given, RegisterResult::Notified(TAG));
     let passed_on = list.remove_uncounted(third, true, &mut woken);
-    check(&rt, "passed on", passed_on, Some(State::Passed { to: late }));
+    check(
+        &rt,
+        "passed on",
+        passed_on,
+        Some(State::Passed { to: late }),
+    );
     check(&rt, "the last is told", list.is_told(late), true);
     let nobody = list.register_uncounted(third, 5);
     check(&rt, "a stale key", nobody, RegisterResult::NeverInserted);
