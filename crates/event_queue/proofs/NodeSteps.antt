@@ -13,7 +13,7 @@ use Rattle.event_queue.specs.Key.{is_key}
 use Rattle.event_queue.specs.Ring.{first_place, IsAt, AtNode}
 use Rattle.event_queue.specs.Nodes.{Node, Spare, Slots, times, slots_of, nodes_of, node_at, key_of, spare_entry, value_before, value_after, AreBefore, AreAfter, AreMapped, GrowsTo, HasCursor, IsLined, IsTable, IsSound}
 use Rattle.event_queue.proofs.NodeTable.{times_same, apart_from_times, times-slots_of-append, cut_at, once, within, linked_slot, leads_to, not_linked, spare_within, last_is_spare, IsTable-linked, IsTable-returned, IsTable-changed}
-use Rattle.event_queue.proofs.NodeLists.{entries, entries-append, entries_some, entries_none, entries_skip, all_other, lookup_absent, lookup_cut, remove_cut, set_cut, is_before, is_after, none_before, none_after, AreBefore-append, AreBefore-cut, AreAfter-append, AreAfter-cut, length-before, length-after}
+use Rattle.event_queue.proofs.NodeLists.{some_value, entries, entries-append, entries_some, entries_none, entries_skip, all_other, lookup_absent, lookup_cut, remove_cut, set_cut, is_before, is_after, none_before, none_after, AreBefore-append, AreBefore-cut, AreAfter-append, AreAfter-cut, length-before, length-after}
 
 -- ---- how many there are
 module _ {A B : Type 0} (line : Option (Line A B)) (slots : Slots A B) (spares : List (Spare A B)) (before_len after_len : ℕ) (sound : IsSound line slots spares before_len after_len) where
@@ -68,25 +68,27 @@ module _ {A B : Type 0} where
       (later.0, later.1, ap₂ (λ n ns. n ∷ ns) (sym same) later.2)
 
   -- ---- what the slot of a key leads to
-  -- the node at a place that has this slot, the nodes on both sides of it, none of which has the slot
-  pub record Lies (nodes : List (Node A B)) (slot : ℕ) (at : Ptr) : Type 0 where
+  -- the node at a place that has this key, the nodes on both sides of it, none of which has the slot
+  pub record Lies (nodes : List (Node A B)) (key : Key) (at : Ptr) : Type 0 where
     pub front : List (Node A B)
     pub node : Node A B
     pub rest : List (Node A B)
     pub is : nodes ≡ front ++ node ∷ rest
-    pub slot_is : node.entry.slot ≡ slot
+    pub slot_is : node.entry.slot ≡ key.slot
+    pub serial_is : node.entry.serial ≡ key.serial
     pub place : node.at ≡ at
-    pub off_front : times slot (slots_of front) ≡ 0
-    pub off_rest : times slot (slots_of rest) ≡ 0
+    pub off_front : times key.slot (slots_of front) ≡ 0
+    pub off_rest : times key.slot (slots_of rest) ≡ 0
 
   table_of : (slots : Slots A B) (nodes nodes' : List (Node A B)) (spares : List (Spare A B)) → nodes ≡ nodes' → IsTable slots nodes spares → IsTable slots nodes' spares
   table_of slots nodes nodes' spares same table = subst (λ (ns : List (Node A B)). IsTable slots ns spares) same table
 
-  lies_in : (slots : Slots A B) (nodes : List (Node A B)) (spares : List (Spare A B)) (slot : ℕ) (at : NodePtr (Entry A B)) → IsTable slots nodes spares → node_at slots slot ≡ Some at → Lies nodes slot at.ptr
-  lies_in slots nodes spares slot at table leads =
-      let cut = cut_at slot nodes (linked_slot slots nodes spares table slot at leads) in
-      let there = leads_to slots cut.front cut.rest cut.node (subst (λ (ns : List (Node A B)). AreMapped slots ns) cut.is table.mapped) in
-      let found : Some (record { ptr = cut.node.at }) ≡ Some at = sym there ∙ ap (λ s. node_at slots s) cut.at ∙ leads in
+  lies_in : (slots : Slots A B) (nodes : List (Node A B)) (spares : List (Spare A B)) (key : Key) (at : NodePtr (Entry A B)) → IsTable slots nodes spares → node_at slots key ≡ Some at → Lies nodes key at.ptr
+  lies_in slots nodes spares key at table leads =
+      let slot = key.slot in
+      let cut = cut_at slot nodes (linked_slot slots nodes spares table key at leads) in
+      let there = leads_to slots cut.front cut.rest cut.node key cut.at (subst (λ (ns : List (Node A B)). AreMapped slots ns) cut.is table.mapped) in
+      let found = found_there (eqb cut.node.entry.serial key.serial) cut.node.at at (sym there ∙ leads) in
       let counted = ap (λ (ns : List (Node A B)). times slot (slots_of ns)) cut.is ∙ times-slots_of-append slot cut.front (cut.node ∷ cut.rest) in
       let one = times_same slot cut.node.entry.slot (slots_of cut.rest) (sym cut.at) in
       let most = once slots nodes spares table slot in
@@ -96,31 +98,33 @@ module _ {A B : Type 0} where
         rest = cut.rest;
         is = cut.is;
         slot_is = cut.at;
-        place = same_place cut.node.at at found;
+        serial_is = eqb-true cut.node.entry.serial key.serial found.0;
+        place = found.1;
         off_front = omega (arith, counted, one, most);
         off_rest = omega (arith, counted, one, most);
       }
     where
-      same_place : (p : Ptr) (at : NodePtr (Entry A B)) → ◌≡◌ {A = Option (NodePtr (Entry A B))} (Some (record { ptr = p })) (Some at) → p ≡ at.ptr
-      same_place p at found =
+      found_there : (b : Bool) (p : Ptr) (at : NodePtr (Entry A B)) → ◌≡◌ {A = Option (NodePtr (Entry A B))} (cond b (Some (record { ptr = p })) None) (Some at) → (b ≡ true) × (p ≡ at.ptr)
+      found_there true p at found =
           let same : ◌≡◌ {A = NodePtr (Entry A B)} (record { ptr = p }) at = cc in
-          ap (λ (q : NodePtr (Entry A B)). q.ptr) same
+          (refl, ap (λ (q : NodePtr (Entry A B)). q.ptr) same)
+      found_there false p at found = absurd (cc)
 
   module _ (line : Line A B) (slots : Slots A B) (spares : List (Spare A B)) (before_len after_len : ℕ) (sound : IsSound (Some line) slots spares before_len after_len) where
     pub table_is : IsTable slots line.ring.nodes spares
     table_is =
         table_of slots (sound.before ++ sound.after) line.ring.nodes spares (sym sound.in_order) sound.table
 
-    module _ (key : Key) (at : NodePtr (Entry A B)) (leads : node_at slots key.slot ≡ Some at) where
-      pub lies : Lies line.ring.nodes key.slot at.ptr
-      lies = lies_in slots line.ring.nodes spares key.slot at table_is leads
+    module _ (key : Key) (at : NodePtr (Entry A B)) (leads : node_at slots key ≡ Some at) where
+      pub lies : Lies line.ring.nodes key at.ptr
+      lies = lies_in slots line.ring.nodes spares key at table_is leads
 
       pub stands_at : IsAt line.ring.nodes at.ptr
       stands_at = (lies.front, lies.node, lies.rest, lies.is, lies.place)
 
       pub slot_within : key.slot < length slots
       slot_within =
-          let some = linked_slot slots line.ring.nodes spares table_is key.slot at leads in
+          let some = linked_slot slots line.ring.nodes spares table_is key at leads in
           within slots line.ring.nodes spares table_is key.slot (omega arith)
 
       pub spare_room : length spares < length slots
@@ -129,15 +133,16 @@ module _ {A B : Type 0} where
 
       module _ {X : Type 0} (value : Held A B → Option X) where
         -- what a key finds
-        pub looked : lookup (is_key key) (entries value line.ring.nodes) ≡ cond (eqb key.serial lies.node.entry.serial) (value lies.node.entry.held) None
+        pub looked : lookup (is_key key) (entries value line.ring.nodes) ≡ value lies.node.entry.held
         looked =
             ap (λ nodes. lookup (is_key key) (entries value nodes)) lies.is
             ∙ lookup_cut value key lies.front lies.rest lies.node lies.off_front lies.off_rest lies.slot_is
+            ∙ ap (λ b. cond b (value lies.node.entry.held) None) (eq-eqb key.serial lies.node.entry.serial (sym lies.serial_is))
 
         -- a test of the node at the place
         abbrev pub Tests : Bool → Type 0
         Tests result =
-            AtNode line.ring.nodes at.ptr (λ _ n _. IsTrue result ↔ IsSome (cond (eqb key.serial n.entry.serial) (value n.entry.held) None))
+            AtNode line.ring.nodes at.ptr (λ _ n _. IsTrue result ↔ IsSome (value n.entry.held))
 
         pub tests_lookup : (result : Bool) → Tests result → IsTrue result ↔ IsSome (lookup (is_key key) (entries value line.ring.nodes))
         tests_lookup result tests =
@@ -153,43 +158,47 @@ module _ {A B : Type 0} where
 
   -- the node of a key with its value
   pub record Finds {X : Type 0} (value : Held A B → Option X) (nodes : List (Node A B)) (key : Key) (at : Ptr) : Type 0 where
-    pub lies : Lies nodes key.slot at
+    pub lies : Lies nodes key at
     pub key_is : key_of lies.node.entry ≡ key
     pub x : X
     pub held : value lies.node.entry.held ≡ Some x
     pub looked : lookup (is_key key) (entries value nodes) ≡ Some x
 
-  pub finds : (line : Line A B) (slots : Slots A B) (spares : List (Spare A B)) (before_len after_len : ℕ) (sound : IsSound (Some line) slots spares before_len after_len) (key : Key) (at : NodePtr (Entry A B)) (leads : node_at slots key.slot ≡ Some at) {X : Type 0} (value : Held A B → Option X) (result : Bool) → Tests line slots spares before_len after_len sound key at leads value result → result ≡ true → Finds value line.ring.nodes key at.ptr
+  pub finds : (line : Line A B) (slots : Slots A B) (spares : List (Spare A B)) (before_len after_len : ℕ) (sound : IsSound (Some line) slots spares before_len after_len) (key : Key) (at : NodePtr (Entry A B)) (leads : node_at slots key ≡ Some at) {X : Type 0} (value : Held A B → Option X) (result : Bool) → Tests line slots spares before_len after_len sound key at leads value result → result ≡ true → Finds value line.ring.nodes key at.ptr
   finds line slots spares before_len after_len sound key at leads {X} value result tests passes =
       let lies = lies line slots spares before_len after_len sound key at leads in
       let some = (tests lies.front lies.node lies.rest lies.is lies.place).0 passes in
-      let parts = both (eqb key.serial lies.node.entry.serial) (value lies.node.entry.held) some in
-      let serial : lies.node.entry.serial ≡ key.serial = sym (eqb-true key.serial lies.node.entry.serial parts.0) in
+      let held = some_value (value lies.node.entry.held) some in
       record {
         lies = lies;
-        key_is = ap₂ {C = Key} (λ a b. record { slot = a; serial = b }) lies.slot_is serial;
-        x = parts.1;
-        held = parts.2;
-        looked = looked line slots spares before_len after_len sound key at leads value ∙ parts.3;
+        key_is = ap₂ {C = Key} (λ a b. record { slot = a; serial = b }) lies.slot_is lies.serial_is;
+        x = held.0;
+        held = held.1;
+        looked = looked line slots spares before_len after_len sound key at leads value ∙ held.1;
       }
-    where
-      both : (b : Bool) (o : Option X) → IsSome (cond b o None) → (b ≡ true) × (x : X) × (o ≡ Some x) × (cond b o None ≡ Some x)
-      both true None some = absurd (true≢false (sym some))
-      both true (Some x) some = (refl, x, refl, refl)
-      both false o some = absurd (true≢false (sym some))
 
-  -- a slot that leads nowhere
-  pub leads_nowhere : (line : Option (Line A B)) (slots : Slots A B) (spares : List (Spare A B)) (before_len after_len : ℕ) (sound : IsSound line slots spares before_len after_len) (key : Key) → node_at slots key.slot ≡ None → {X : Type 0} (value : Held A B → Option X) → lookup (is_key key) (entries value (nodes_of line)) ≡ None
+  -- a key that leads nowhere
+  pub leads_nowhere : (line : Option (Line A B)) (slots : Slots A B) (spares : List (Spare A B)) (before_len after_len : ℕ) (sound : IsSound line slots spares before_len after_len) (key : Key) → node_at slots key ≡ None → {X : Type 0} (value : Held A B → Option X) → lookup (is_key key) (entries value (nodes_of line)) ≡ None
   leads_nowhere line slots spares before_len after_len sound key nowhere value =
       elim (cases_lt 0 (times key.slot (slots_of (nodes_of line)))) [
         | inl some ↦
             let cut = cut_at key.slot (nodes_of line) some in
             let table = table_of slots (sound.before ++ sound.after) (cut.front ++ cut.node ∷ cut.rest) spares (sym sound.in_order ∙ cut.is) sound.table in
-            let there = leads_to slots cut.front cut.rest cut.node table.mapped in
-            let never : ◌≡◌ {A = Option (NodePtr (Entry A B))} (Some (record { ptr = cut.node.at })) None = sym there ∙ ap (λ s. node_at slots s) cut.at ∙ nowhere in
-            absurd (cc)
+            let there = leads_to slots cut.front cut.rest cut.node key cut.at table.mapped in
+            let fails = nothing_there (eqb cut.node.entry.serial key.serial) (record { ptr = cut.node.at }) (sym there ∙ nowhere) in
+            let other = ne_eqb key.serial cut.node.entry.serial (λ same. true≢false (sym (eq-eqb cut.node.entry.serial key.serial (sym same)) ∙ fails)) in
+            let split = times-slots_of-append key.slot cut.front (cut.node ∷ cut.rest) in
+            let one = times_same key.slot cut.node.entry.slot (slots_of cut.rest) (sym cut.at) in
+            let most = once slots (cut.front ++ cut.node ∷ cut.rest) spares table key.slot in
+            ap (λ nodes. lookup (is_key key) (entries value nodes)) cut.is
+            ∙ lookup_cut value key cut.front cut.rest cut.node (omega (arith, split, one, most)) (omega (arith, split, one, most)) cut.at
+            ∙ ap (λ b. cond b (value cut.node.entry.held) None) other
         | inr none ↦ lookup_absent value key (nodes_of line) (omega arith)
       ]
+    where
+      nothing_there : (b : Bool) (p : NodePtr (Entry A B)) → ◌≡◌ {A = Option (NodePtr (Entry A B))} (cond b (Some p) None) None → b ≡ false
+      nothing_there true p nothing = absurd (cc)
+      nothing_there false p nothing = refl
 
   -- ---- an entry before the cursor leaves
   module _ (line : Line A B) (slots : Slots A B) (spares : List (Spare A B)) (before_len after_len : ℕ) (sound : IsSound (Some line) slots spares before_len after_len) (key : Key) (at : Ptr) (finds : Finds value_before line.ring.nodes key at) where
@@ -345,8 +354,7 @@ module _ {A B : Type 0} where
             let order : lies.front ++ other ∷ lies.rest ≡ sound.before ++ (split.0 ++ other ∷ lies.rest) =
             ap (λ ns. ns ++ other ∷ lies.rest) split.2 ∙ append_assoc sound.before split.0 (other ∷ lies.rest) in
             let table = table_of slots (sound.before ++ sound.after) (lies.front ++ lies.node ∷ lies.rest) spares (sym sound.in_order ∙ lies.is) sound.table in
-            let same_slot : other.entry.slot ≡ lies.node.entry.slot = ap (λ (k : Key). k.slot) same_key in
-            let changed = IsTable-changed slots lies.front lies.rest lies.node other spares same_place same_slot table in
+            let changed = IsTable-changed slots lies.front lies.rest lies.node other spares same_place same_key table in
             let some : IsSome (value_after other.entry.held) = rw held refl in
             record {
               before = sound.before;
@@ -378,8 +386,7 @@ module _ {A B : Type 0} where
             let order : sound.before ++ other ∷ cursor.others ≡ (sound.before ++ other ∷ []) ++ cursor.others =
             sym (append_assoc sound.before (other ∷ []) cursor.others) in
             let table = table_of slots (sound.before ++ sound.after) (sound.before ++ cursor.first ∷ cursor.others) spares (ap (λ ns. sound.before ++ ns) cursor.after_is) sound.table in
-            let same_slot : other.entry.slot ≡ cursor.first.entry.slot = ap (λ (k : Key). k.slot) same_key in
-            let changed = IsTable-changed slots sound.before cursor.others cursor.first other spares same_place same_slot table in
+            let changed = IsTable-changed slots sound.before cursor.others cursor.first other spares same_place same_key table in
             let some : IsSome (value_before other.entry.held) = rw held refl in
             record {
               before = sound.before ++ other ∷ [];
@@ -442,7 +449,7 @@ module _ {A B : Type 0} where
           let some : length (a ∷ as') ≢ 0 = λ none. omega arith in
           moved ∙ ap (λ b. cond b node.at cursor) (ne_eqb (length (a ∷ as')) 0 some) ∙ at
 
-      pub IsSound-pushed : (spare : Spare A B) (others : List (Spare A B)) → spares ≡ others ++ spare ∷ [] → node.at ≡ spare.at → node.entry.slot ≡ spare.entry.slot → later.ring.at ≡ line.ring.at → later.cursor.ptr ≡ cond (eqb after_len 0) node.at line.cursor.ptr → IsSound (Some later) (set slots spare.entry.slot (Some (record { ptr = spare.at }))) others before_len (after_len + 1)
+      pub IsSound-pushed : (spare : Spare A B) (others : List (Spare A B)) → spares ≡ others ++ spare ∷ [] → node.at ≡ spare.at → node.entry.slot ≡ spare.entry.slot → later.ring.at ≡ line.ring.at → later.cursor.ptr ≡ cond (eqb after_len 0) node.at line.cursor.ptr → IsSound (Some later) (set slots spare.entry.slot (Some (node.entry.serial, record { ptr = spare.at }))) others before_len (after_len + 1)
       IsSound-pushed spare others spares_are same_place same_slot root moved =
           let order : line.ring.nodes ++ node ∷ [] ≡ sound.before ++ (sound.after ++ node ∷ []) =
           ap (λ ns. ns ++ node ∷ []) sound.in_order ∙ append_assoc sound.before sound.after (node ∷ []) in
@@ -457,7 +464,7 @@ module _ {A B : Type 0} where
             are_after = AreAfter-append sound.after (node ∷ []) sound.are_after (some, tt);
             before_len_is = sound.before_len_is;
             after_len_is = omega (arith, sound.after_len_is, length-append sound.after (node ∷ []));
-            table = table_of (set slots spare.entry.slot (Some (record { ptr = spare.at }))) (line.ring.nodes ++ node ∷ []) (sound.before ++ (sound.after ++ node ∷ [])) others order linked;
+            table = table_of (set slots spare.entry.slot (Some (node.entry.serial, record { ptr = spare.at }))) (line.ring.nodes ++ node ∷ []) (sound.before ++ (sound.after ++ node ∷ [])) others order linked;
             cursor = pushed_cursor sound.after line.ring.at line.cursor.ptr later.cursor.ptr sound.cursor (moved ∙ ap (λ n. cond (eqb n 0) node.at line.cursor.ptr) sound.after_len_is)
                 ∙ ap (λ (p : Ptr). first_place (sound.after ++ node ∷ []) p) (sym root);
           }

@@ -1,12 +1,13 @@
 -- The table of slots: each slot is that of one node, which is linked or spare.
-use Rattle.std.proofs.Common.{◌≡◌, ◌≢◌, ℕ, zero, suc, ◌+◌, ◌<◌, ◌≤◌, cond, ltb, List, [], ◌∷◌, ◌++◌, length, set, Option, Some, None, slice_get, refl, sym, ap, ◌∙◌, inl, inr, arith, length-append}
+use Rattle.std.proofs.Common.{◌≡◌, ◌≢◌, ℕ, zero, suc, ◌+◌, ◌<◌, ◌≤◌, cond, eqb, ltb, List, [], ◌∷◌, ◌++◌, length, set, Option, Some, None, slice_get, refl, sym, ap, ◌∙◌, inl, inr, arith, length-append}
 use Rattle.std.proofs.lemmas.Bool.{cases_eq, eq-eqb, ne_eqb, lt-ltb, le-ltb, cases_lt}
 use Rattle.std.proofs.lemmas.List.{map-append, length-set}
 use Rattle.std.proofs.lemmas.Option.{slice_get_past}
+use Rattle.event_queue.specs.declared.key.Key.{Key}
 use Rattle.event_queue.specs.declared.node.ring.pointers.NodePtr.{NodePtr}
 use Rattle.event_queue.specs.declared.node.line.Held.TheVariants.{Nothing}
 use Rattle.event_queue.specs.declared.node.line.Entry.{Entry}
-use Rattle.event_queue.specs.Nodes.{Node, Spare, Slots, times, slots_of, spare_slots, node_at, spare_entry, AreMapped, AreSpare, IsTable}
+use Rattle.event_queue.specs.Nodes.{Node, Spare, Slots, times, slots_of, spare_slots, node_at, key_of, spare_entry, AreMapped, AreSpare, IsTable}
 
 -- ---- one place of a list
 module _ {X : Type 0} where
@@ -114,7 +115,7 @@ module _ {A B : Type 0} where
       let later = AreMapped-cut slots xs ys mapped.1 in
       ((mapped.0, later.0), later.1)
 
-  AreMapped-set : (slots : Slots A B) (slot : ℕ) (place : Option (NodePtr (Entry A B))) (nodes : List (Node A B)) → times slot (slots_of nodes) ≡ 0 → AreMapped slots nodes → AreMapped (set slots slot place) nodes
+  AreMapped-set : (slots : Slots A B) (slot : ℕ) (place : Option (ℕ × NodePtr (Entry A B))) (nodes : List (Node A B)) → times slot (slots_of nodes) ≡ 0 → AreMapped slots nodes → AreMapped (set slots slot place) nodes
   AreMapped-set slots slot place [] off mapped = tt
   AreMapped-set slots slot place (n ∷ ns) off mapped =
       let apart = apart_from_times slot n.entry.slot (slots_of ns) off in
@@ -136,7 +137,7 @@ module _ {A B : Type 0} where
       let later = AreSpare-cut slots xs ys spare.1 in
       ((spare.0, later.0), later.1)
 
-  AreSpare-set : (slots : Slots A B) (slot : ℕ) (place : Option (NodePtr (Entry A B))) (spares : List (Spare A B)) → times slot (spare_slots spares) ≡ 0 → AreSpare slots spares → AreSpare (set slots slot place) spares
+  AreSpare-set : (slots : Slots A B) (slot : ℕ) (place : Option (ℕ × NodePtr (Entry A B))) (spares : List (Spare A B)) → times slot (spare_slots spares) ≡ 0 → AreSpare slots spares → AreSpare (set slots slot place) spares
   AreSpare-set slots slot place [] off spare = tt
   AreSpare-set slots slot place (s ∷ ss) off spare =
       let apart = apart_from_times slot s.entry.slot (spare_slots ss) off in
@@ -192,8 +193,9 @@ module _ {A B : Type 0} where
     within slot some = below_from_counted slot (length slots) _ (table.counted slot) some
 
     -- a slot that leads to a place is that of a linked node
-    pub linked_slot : (slot : ℕ) (place : NodePtr (Entry A B)) → node_at slots slot ≡ Some place → 0 < times slot (slots_of nodes)
-    linked_slot slot place leads =
+    pub linked_slot : (key : Key) (place : NodePtr (Entry A B)) → node_at slots key ≡ Some place → 0 < times key.slot (slots_of nodes)
+    linked_slot key place leads =
+        let slot = key.slot in
         elim (cases_lt 0 (times slot (slots_of nodes))) [
           | inl some ↦ some
           | inr none ↦
@@ -206,17 +208,18 @@ module _ {A B : Type 0} where
               ]
         ]
       where
-        leads_nowhere : slice_get slots slot ≡ Some None → ⊥
+        leads_nowhere : slice_get slots key.slot ≡ Some None → ⊥
         leads_nowhere nowhere = let none : None ≡ Some place = rw nowhere at leads in absurd (cc)
 
-        leads_past : slice_get slots slot ≡ None → ⊥
+        leads_past : slice_get slots key.slot ≡ None → ⊥
         leads_past past = let none : None ≡ Some place = rw past at leads in absurd (cc)
 
-  -- ---- the place in the slot of a linked node
-  pub leads_to : (slots : Slots A B) (front rest : List (Node A B)) (node : Node A B) → AreMapped slots (front ++ node ∷ rest) → node_at slots node.entry.slot ≡ Some (record { ptr = node.at })
-  leads_to slots front rest node mapped =
+  -- ---- what stands in the slot of a linked node
+  pub leads_to : (slots : Slots A B) (front rest : List (Node A B)) (node : Node A B) (key : Key) → node.entry.slot ≡ key.slot → AreMapped slots (front ++ node ∷ rest) → node_at slots key ≡ cond (eqb node.entry.serial key.serial) (Some (record { ptr = node.at })) None
+  leads_to slots front rest node key same mapped =
       let here = (AreMapped-cut slots front (node ∷ rest) mapped).1.0 in
-      rw here refl
+      let there : slice_get slots key.slot ≡ Some (Some (node.entry.serial, record { ptr = node.at })) = rw (← same) here in
+      rw there refl
 
   -- no linked node has the slot of a spare one, which is a slot of the table
   module _ (slots : Slots A B) (nodes : List (Node A B)) (spares : List (Spare A B)) (spare : Spare A B) (table : IsTable slots nodes (spares ++ spare ∷ [])) where
@@ -239,17 +242,17 @@ module _ {A B : Type 0} where
 
   -- ---- what the steps keep
   -- a spare node is linked in at the end, and its place goes into its slot
-  pub IsTable-linked : (slots : Slots A B) (nodes : List (Node A B)) (spares : List (Spare A B)) (spare : Spare A B) (node : Node A B) → node.at ≡ spare.at → node.entry.slot ≡ spare.entry.slot → IsTable slots nodes (spares ++ spare ∷ []) → IsTable (set slots spare.entry.slot (Some (record { ptr = spare.at }))) (nodes ++ node ∷ []) spares
+  pub IsTable-linked : (slots : Slots A B) (nodes : List (Node A B)) (spares : List (Spare A B)) (spare : Spare A B) (node : Node A B) → node.at ≡ spare.at → node.entry.slot ≡ spare.entry.slot → IsTable slots nodes (spares ++ spare ∷ []) → IsTable (set slots spare.entry.slot (Some (node.entry.serial, record { ptr = spare.at }))) (nodes ++ node ∷ []) spares
   IsTable-linked slots nodes spares spare node same_place same_slot table =
       let slot = spare.entry.slot in
-      let place : Option (NodePtr (Entry A B)) = Some (record { ptr = spare.at }) in
+      let place : Option (ℕ × NodePtr (Entry A B)) = Some (node.entry.serial, record { ptr = spare.at }) in
       let one = times_same slot slot [] refl in
       let split = times-spare_slots slot spares (spare ∷ []) in
       let most = once slots nodes (spares ++ spare ∷ []) table slot in
       let off_nodes : times slot (slots_of nodes) ≡ 0 = omega (arith, split, one, most) in
       let off_spares : times slot (spare_slots spares) ≡ 0 = omega (arith, split, one, most) in
       let below = within slots nodes (spares ++ spare ∷ []) table slot (omega (arith, split, one)) in
-      let here : slice_get (set slots slot place) node.entry.slot ≡ Some (Some (record { ptr = node.at })) =
+      let here : slice_get (set slots slot place) node.entry.slot ≡ Some (Some (node.entry.serial, record { ptr = node.at })) =
       rw (same_slot, same_place) (slice_get-set_same slots slot place below) in
       record {
         mapped = AreMapped-append (set slots slot place) nodes (node ∷ []) (AreMapped-set slots slot place nodes off_nodes table.mapped) (here, tt);
@@ -285,11 +288,13 @@ module _ {A B : Type 0} where
       }
 
   -- a linked node carries something else
-  pub IsTable-changed : (slots : Slots A B) (front rest : List (Node A B)) (node other : Node A B) (spares : List (Spare A B)) → other.at ≡ node.at → other.entry.slot ≡ node.entry.slot → IsTable slots (front ++ node ∷ rest) spares → IsTable slots (front ++ other ∷ rest) spares
-  IsTable-changed slots front rest node other spares same_place same_slot table =
+  pub IsTable-changed : (slots : Slots A B) (front rest : List (Node A B)) (node other : Node A B) (spares : List (Spare A B)) → other.at ≡ node.at → key_of other.entry ≡ key_of node.entry → IsTable slots (front ++ node ∷ rest) spares → IsTable slots (front ++ other ∷ rest) spares
+  IsTable-changed slots front rest node other spares same_place same_key table =
+      let same_slot : other.entry.slot ≡ node.entry.slot = ap (λ (k : Key). k.slot) same_key in
+      let same_serial : other.entry.serial ≡ node.entry.serial = ap (λ (k : Key). k.serial) same_key in
       let mapped = AreMapped-cut slots front (node ∷ rest) table.mapped in
-      let here : slice_get slots other.entry.slot ≡ Some (Some (record { ptr = other.at })) =
-      rw (same_slot, same_place) mapped.1.0 in
+      let here : slice_get slots other.entry.slot ≡ Some (Some (other.entry.serial, record { ptr = other.at })) =
+      rw (same_slot, same_serial, same_place) mapped.1.0 in
       record {
         mapped = AreMapped-append slots front (other ∷ rest) mapped.0 (here, mapped.1.1);
         are_spare = table.are_spare;

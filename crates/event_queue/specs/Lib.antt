@@ -6,6 +6,7 @@ pub mod Register
 pub mod Exchange
 pub mod Remove
 pub mod Notify
+pub mod Counts
 pub mod Visits
 pub mod Run
 pub mod Woken

@@ -14,7 +14,7 @@ abbrev pub times : ℕ → List ℕ → ℕ
 times slot [] = 0
 times slot (first ∷ rest) = cond (eqb slot first) 1 0 + times slot rest
 
--- a node of a line, a spare node, and the slots: each has the place of its node, or nothing
+-- a node of a line, a spare node, and the slots: each has an entry's serial and the place of its node, or nothing
 abbrev pub Node : Type 0 → Type 0 → Type 0
 Node A B = Placed (Entry A B)
 
@@ -22,11 +22,16 @@ abbrev pub Spare : Type 0 → Type 0 → Type 0
 Spare A B = Ring (Entry A B)
 
 abbrev pub Slots : Type 0 → Type 0 → Type 0
-Slots A B = List (Option (NodePtr (Entry A B)))
+Slots A B = List (Option (ℕ × NodePtr (Entry A B)))
 
--- the place that stands in a slot
-abbrev pub node_at : {E : Type 0} → List (Option (NodePtr E)) → ℕ → Option (NodePtr E)
-node_at slots slot = option_and_then (λ place. place) (slice_get slots slot)
+-- the place that stands beside this serial
+abbrev pub place_of : {E : Type 0} → ℕ → ℕ × NodePtr E → Option (NodePtr E)
+place_of serial used = cond (eqb used.0 serial) (Some used.1) None
+
+-- the place that stands in the slot of a key, beside its serial
+abbrev pub node_at : {E : Type 0} → List (Option (ℕ × NodePtr E)) → Key → Option (NodePtr E)
+node_at slots key =
+    option_and_then (place_of key.serial) (option_and_then (λ used. used) (slice_get slots key.slot))
 
 module _ {A B : Type 0} where
   -- the value of an entry before the cursor
@@ -47,13 +52,6 @@ module _ {A B : Type 0} where
   -- what a spare node of that slot carries
   abbrev pub spare_entry : ℕ → Entry A B
   spare_entry slot = record { slot = slot; serial = 0; held = Nothing }
-
-  -- what a key of that serial finds before the cursor, where it leads to this entry, and after it
-  abbrev pub before_in : ℕ → Entry A B → Option A
-  before_in serial entry = cond (eqb serial entry.serial) (value_before entry.held) None
-
-  abbrev pub after_in : ℕ → Entry A B → Option B
-  after_in serial entry = cond (eqb serial entry.serial) (value_after entry.held) None
 
   -- the entry on a node, if it is before the cursor, and if it is after it
   abbrev pub entry_before : Node A B → Option (Key × A)
@@ -80,11 +78,11 @@ module _ {A B : Type 0} where
   abbrev pub spare_slots : List (Spare A B) → List ℕ
   spare_slots spares = map (λ spare. spare.entry.slot) spares
 
-  -- each node's slot leads to it
+  -- each node's slot leads to it, with the serial of its entry
   abbrev pub AreMapped : Slots A B → List (Node A B) → Type 0
   AreMapped slots [] = Unit {0}
   AreMapped slots (node ∷ rest) =
-      (slice_get slots node.entry.slot ≡ Some (Some (record { ptr = node.at }))) × AreMapped slots rest
+      (slice_get slots node.entry.slot ≡ Some (Some (node.entry.serial, record { ptr = node.at }))) × AreMapped slots rest
 
   -- each spare node is a ring of its own that holds nothing, and its slot leads nowhere
   abbrev pub AreSpare : Slots A B → List (Spare A B) → Type 0

@@ -9,7 +9,8 @@ ghost use Rattle.event_queue.specs.Register.{Registers, OnNotified, UnlessNotifi
 ghost use Rattle.event_queue.specs.Exchange.{RegistersWith};
 ghost use Rattle.event_queue.specs.Remove.{Removes, PassedAs, woken_by_removal, woken_by_passing, after_passing};
 ghost use Rattle.event_queue.specs.Notify.{Notifies, NeverRefuses, told_by};
-ghost use Rattle.event_queue.specs.Visits.{visits_of_insertion, visits_of_registration, visits_of_removal};
+ghost use Rattle.event_queue.specs.Counts.{counted_on};
+ghost use Rattle.event_queue.specs.Visits.{visits_of_insertion, visits_of_registration, visits_of_removal, looks_of_registration, looks_of_exchange, looks_of_removal};
 
 use crate::exchange::TaskExchange;
 use crate::key::Key;
@@ -19,16 +20,16 @@ use crate::notify::Notification;
 use crate::reply::{ListenError, NotifyError, RegisterResult, State};
 use crate::wake::WakeSink;
 use std::alloc::{AllocError, AllocFailed, Global};
-use std::marker::Model;
-use std::sync::ledger::Ledger;
+use std::marker::{Brand, Model};
+use std::sync::ledger::{Blank, Ledger};
 
 /// A queue of listeners.
 ///
 /// A front of the queue is told, each listener of it with a tag; the others wait, each with a task if it stored one.
 /// No call takes a lock, waits or panics.
 ///
-/// Five calls count in [`Steps`] how many nodes of other listeners they visit. Each has a namesake for callers that
-/// count nothing, as [`insert_uncounted`](List::insert_uncounted).
+/// Five calls count in [`Steps`] how many nodes of other listeners they visit, and how often they look up a key. Each
+/// has a namesake for callers that count nothing, as [`insert_uncounted`](List::insert_uncounted).
 #[derive(Drop)]
 pub struct List<T, W> {
     chain: Chain<Notice<T>, Option<W>>,
@@ -104,15 +105,16 @@ impl<T, W> List<T, W> {
     ///
     /// It allocates only where [`spare`](List::spare) is 0, and returns [`ListenError::Memory`] where that is refused.
     /// Where the serials are used up it returns [`ListenError::SerialsUsedUp`] and allocates nothing. Both leave the
-    /// queue as it was. It adds its visits to `steps`, three at most.
+    /// queue as it was. It adds its visits to `steps`, three at most, and looks up no key.
     #[inline(always)]
     pub fn insert<L: Ledger>(&mut self, steps: &mut Steps<L>) -> Result<Key, ListenError>
         ensures step { Inserts self.old result self.new }
         ensures queue { IsQueue self.new }
         ensures order { IfOk result (λ key. order_of self.new ≡ order_of self.old ++ key ∷ []) }
         ensures serial { self.old.next_serial ≤ self.new.next_serial }
-        ensures visits { steps.new ≤ steps.old + 3 }
-        ensures counted { steps.new ≡ steps.old + visits_of_insertion result }
+        ensures visits { steps.new.visits ≤ steps.old.visits + 3 }
+        ensures counted { steps.new.visits ≡ steps.old.visits + visits_of_insertion result }
+        ensures looks { steps.new.looks ≡ steps.old.looks }
     {
         if self.next_serial == u64::MAX {
             return Err(ListenError::SerialsUsedUp);
@@ -136,7 +138,7 @@ impl<T, W> List<T, W> {
     /// the task, in place of any that it stored before.
     ///
     /// The call drops a task that it doesn't store, and one that it replaces. It allocates nothing. It adds its visits
-    /// to `steps`, three at most.
+    /// to `steps`, three at most, and its looks by key, two at most.
     #[inline(always)]
     pub fn register<L: Ledger>(
         &mut self,
@@ -154,8 +156,10 @@ impl<T, W> List<T, W> {
         ensures order_without { OnNotified result (order_of self.new ≡ without key (order_of self.old)) }
         ensures order_kept { UnlessNotified result (order_of self.new ≡ order_of self.old) }
         ensures serial { self.new.next_serial ≡ self.old.next_serial }
-        ensures visits { steps.new ≤ steps.old + 3 }
-        ensures counted { steps.new ≡ steps.old + visits_of_registration result }
+        ensures visits { steps.new.visits ≤ steps.old.visits + 3 }
+        ensures counted { steps.new.visits ≡ steps.old.visits + visits_of_registration result }
+        ensures looks { steps.new.looks ≤ steps.old.looks + 2 }
+        ensures looked { steps.new.looks ≡ counted_on steps.old.looks (looks_of_registration result) }
     {
         self.register_step(key, task, steps)
     }
@@ -172,14 +176,16 @@ impl<T, W> List<T, W> {
         ensures step { Registers self.old key task result self.new }
         ensures was_queue { IsQueue self.old }
         ensures queue { IsQueue self.new }
-        ensures visits { steps.new ≤ steps.old + 3 }
-        ensures counted { steps.new ≡ steps.old + visits_of_registration result }
+        ensures visits { steps.new.visits ≤ steps.old.visits + 3 }
+        ensures counted { steps.new.visits ≡ steps.old.visits + visits_of_registration result }
+        ensures looks { steps.new.looks ≤ steps.old.looks + 2 }
+        ensures looked { steps.new.looks ≡ counted_on steps.old.looks (looks_of_registration result) }
     {
         if let Some(notice) = self.chain.take_before(key, steps) {
             let Notice { additional: _, tag } = notice;
             return RegisterResult::Notified(tag);
         }
-        match self.chain.replace_after(key, Some(task)) {
+        match self.chain.replace_after(key, Some(task), steps) {
             Ok(_) => RegisterResult::Registered,
             Err(_) => RegisterResult::NeverInserted,
         }
@@ -189,7 +195,8 @@ impl<T, W> List<T, W> {
     /// leaves the queue; of one that waits, the stored task, if it has one, is exchanged, and what comes back is stored.
     ///
     /// Nothing is exchanged where the listener was told, or where no listener has that key. The call drops no task, and
-    /// allocates and waits only where the exchange does. It adds its visits to `steps`, three at most.
+    /// allocates and waits only where the exchange does. It adds its visits to `steps`, three at most, and its looks by
+    /// key, three at most.
     pub fn register_with<C, X: TaskExchange<W, C>, L: Ledger>(
         &mut self,
         key: Key,
@@ -205,8 +212,10 @@ impl<T, W> List<T, W> {
         ensures order_without { OnNotified result (order_of self.new ≡ without key (order_of self.old)) }
         ensures order_kept { UnlessNotified result (order_of self.new ≡ order_of self.old) }
         ensures serial { self.new.next_serial ≡ self.old.next_serial }
-        ensures visits { steps.new ≤ steps.old + 3 }
-        ensures counted { steps.new ≡ steps.old + visits_of_registration result }
+        ensures visits { steps.new.visits ≤ steps.old.visits + 3 }
+        ensures counted { steps.new.visits ≡ steps.old.visits + visits_of_registration result }
+        ensures looks { steps.new.looks ≤ steps.old.looks + 3 }
+        ensures looked { steps.new.looks ≡ counted_on steps.old.looks (looks_of_exchange result) }
     {
         self.register_with_step(key, exchange, on, steps)
     }
@@ -221,17 +230,19 @@ impl<T, W> List<T, W> {
         ensures step { RegistersWith (X.exchanged exchange.now) self.old key on.old result self.new on.new }
         ensures was_queue { IsQueue self.old }
         ensures queue { IsQueue self.new }
-        ensures visits { steps.new ≤ steps.old + 3 }
-        ensures counted { steps.new ≡ steps.old + visits_of_registration result }
+        ensures visits { steps.new.visits ≤ steps.old.visits + 3 }
+        ensures counted { steps.new.visits ≡ steps.old.visits + visits_of_registration result }
+        ensures looks { steps.new.looks ≤ steps.old.looks + 3 }
+        ensures looked { steps.new.looks ≡ counted_on steps.old.looks (looks_of_exchange result) }
     {
         if let Some(notice) = self.chain.take_before(key, steps) {
             let Notice { additional: _, tag } = notice;
             return RegisterResult::Notified(tag);
         }
-        match self.chain.replace_after(key, None) {
+        match self.chain.replace_after(key, None, steps) {
             Ok(stored) => {
                 let task = exchange_stored(exchange, on, stored);
-                self.store(key, task);
+                self.store(key, task, steps);
                 RegisterResult::Registered
             }
             Err(nothing) => match nothing {
@@ -242,12 +253,14 @@ impl<T, W> List<T, W> {
     }
 
     // Stores the task of a waiting listener that has none.
-    fn store(&mut self, key: Key, task: W)
+    fn store<L: Ledger>(&mut self, key: Key, task: W, steps: &mut Steps<L>)
         requires { lookup (is_key key) self.old.waiting ≡ Some None }
         ensures stored { self.new ≡ after_storing key task self.old }
         ensures queue { IsQueue self.new }
+        ensures visits { steps.new.visits ≡ steps.old.visits }
+        ensures looks { steps.new.looks ≡ counted_on steps.old.looks 1 }
     {
-        match self.chain.replace_after(key, Some(task)) {
+        match self.chain.replace_after(key, Some(task), steps) {
             Ok(former) => match former {
                 None => {}
                 _ => unreachable!(),
@@ -262,7 +275,7 @@ impl<T, W> List<T, W> {
     /// kind and with the same tag. The answer says where it went: [`State::Passed`] names the listener that was told by
     /// it, and [`State::Lost`] hands the tag back where nobody was. So a default notification is lost while another
     /// listener stays told, and an additional one only where nobody waits. The call allocates nothing, and neither
-    /// clones nor drops a tag. It adds its visits to `steps`, three at most.
+    /// clones nor drops a tag. It adds its visits to `steps`, three at most, and its looks by key, two at most.
     #[inline(always)]
     pub fn remove<S: WakeSink<W>, L: Ledger>(
         &mut self,
@@ -284,8 +297,10 @@ impl<T, W> List<T, W> {
         ensures drop_default { IsTrue propagate → IsToldAs key false self.old → length self.new.told ≡ max (length self.old.told - 1) (min 1 (listeners_of self.old - 1)) }
         ensures drop_additional { IsTrue propagate → IsToldAs key true self.old → length self.new.told ≡ min (length self.old.told) (listeners_of self.old - 1) }
 
-        ensures visits { steps.new ≤ steps.old + 3 }
-        ensures counted { steps.new ≡ steps.old + visits_of_removal result key self.old }
+        ensures visits { steps.new.visits ≤ steps.old.visits + 3 }
+        ensures counted { steps.new.visits ≡ steps.old.visits + visits_of_removal result key self.old }
+        ensures looks { steps.new.looks ≤ steps.old.looks + 2 }
+        ensures looked { steps.new.looks ≡ counted_on steps.old.looks (looks_of_removal result) }
     {
         self.remove_step(key, propagate, sink, steps)
     }
@@ -302,8 +317,10 @@ impl<T, W> List<T, W> {
         ensures wakes { FoldsTo S.woke sink.old (woken_by_removal key propagate self.old) sink.new }
         ensures was_queue { IsQueue self.old }
         ensures queue { IsQueue self.new }
-        ensures visits { steps.new ≤ steps.old + 3 }
-        ensures counted { steps.new ≡ steps.old + visits_of_removal result key self.old }
+        ensures visits { steps.new.visits ≤ steps.old.visits + 3 }
+        ensures counted { steps.new.visits ≡ steps.old.visits + visits_of_removal result key self.old }
+        ensures looks { steps.new.looks ≤ steps.old.looks + 2 }
+        ensures looked { steps.new.looks ≡ counted_on steps.old.looks (looks_of_removal result) }
     {
         if let Some(task) = self.chain.take_after(key, steps) {
             return Some(match task {
@@ -332,7 +349,8 @@ impl<T, W> List<T, W> {
         ensures passed { self.new ≡ after_passing notice self.old }
         ensures wakes { FoldsTo S.woke sink.old (woken_by_passing notice self.old) sink.new }
         ensures queue { IsQueue self.new }
-        ensures visits { steps.new ≡ steps.old + how_many 1 notice.additional self.old }
+        ensures visits { steps.new.visits ≡ steps.old.visits + how_many 1 notice.additional self.old }
+        ensures looks { steps.new.looks ≡ steps.old.looks }
     {
         if self.tells_one(notice.additional) {
             let to = self.tell_apart(notice, sink, steps);
@@ -384,7 +402,7 @@ impl<T, W> List<T, W> {
     /// notification is asked for a tag once for each listener told. Where it refuses one, the call returns a
     /// [`NotifyError`]: the listeners told until then stay told, and nobody is skipped. A notification that finds no
     /// listener to tell is not kept. The call allocates nothing, but the notification may where it makes a tag. It adds
-    /// one visit to `steps` for each listener told, and no other.
+    /// one visit to `steps` for each listener told, and no other, and looks up no key.
     #[inline(always)]
     pub fn notify<N: Notification<Tag = T>, S: WakeSink<W>, L: Ledger>(
         &mut self,
@@ -405,7 +423,8 @@ impl<T, W> List<T, W> {
         ensures unrefused { NeverRefuses N.tag_gives → IsOk result }
 
         // One visit for each listener told, also where a tag is refused.
-        ensures visits { steps.new ≡ steps.old + told_by result }
+        ensures visits { steps.new.visits ≡ steps.old.visits + told_by result }
+        ensures looks { steps.new.looks ≡ steps.old.looks }
     {
         self.notify_step(n, sink, steps)
     }
@@ -422,7 +441,8 @@ impl<T, W> List<T, W> {
         ensures wakes { FoldsTo S.woke sink.old (tasks_of (told_by result) self.old) sink.new }
         ensures was_queue { IsQueue self.old }
         ensures queue { IsQueue self.new }
-        ensures visits { steps.new ≡ steps.old + told_by result }
+        ensures visits { steps.new.visits ≡ steps.old.visits + told_by result }
+        ensures looks { steps.new.looks ≡ steps.old.looks }
     {
         let additional = n.is_additional();
         let count = self.how_many(n.count(), additional);
@@ -462,7 +482,8 @@ impl<T, W> List<T, W> {
         ensures told { self.new ≡ after_telling notice.additional (notice.tag ∷ []) self.old }
         ensures wakes { FoldsTo S.woke sink.old (tasks_of 1 self.old) sink.new }
         ensures queue { IsQueue self.new }
-        ensures visits { steps.new ≡ steps.old + 1 }
+        ensures visits { steps.new.visits ≡ steps.old.visits + 1 }
+        ensures looks { steps.new.looks ≡ steps.old.looks }
     {
         let (key, task) = self.chain.advance(notice, steps);
         if let Some(task) = task {
@@ -515,6 +536,18 @@ impl<T, W> List<T, W> {
         ensures value { IsTrue result ↔ IsSome (lookup (is_key key) self.now.told) }
         ensures queue { IsQueue self.now }
     {
-        self.chain.is_before(key)
+        self.is_told_from::<Brand>(key, Blank::new(1))
+    }
+
+    #[inline(always)]
+    fn is_told_from<L: Ledger>(&self, key: Key, blank: Blank) -> bool
+        requires name { blank.name ≡ L.name }
+        requires parts { blank.parts ≡ L.parts }
+        requires has_a_part { 0 < blank.parts }
+        ensures value { IsTrue result ↔ IsSome (lookup (is_key key) self.now.told) }
+        ensures queue { IsQueue self.now }
+    {
+        let mut steps = Steps::<L>::new(blank);
+        self.chain.is_before(key, &mut steps)
     }
 }

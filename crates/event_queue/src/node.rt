@@ -2,6 +2,7 @@
 ghost use Rattle.std.specs.Prelude.{◌≡◌, ◌≢◌, ◌+◌, ◌<◌, ◌≤◌, ◌^◌, ◌↔◌, [], ◌∷◌, ◌++◌, length, All, IsTrue, IsOk, IsSome, OnOk, OnErr, IfOk, IfErr, OnSome, IfNone};
 ghost use Rattle.std.specs.Map.{lookup, remove_entry, set_value};
 ghost use Rattle.event_queue.specs.Key.{is_key};
+ghost use Rattle.event_queue.specs.Counts.{counted_on};
 ghost use Rattle.event_queue.specs.Nodes.{nodes_of, IsLined};
 
 use crate::key::Key;
@@ -137,13 +138,17 @@ impl<A, B> Chain<A, B> {
     }
 
     /// Whether the entry of that key is before the cursor.
-    pub fn is_before(&self, key: Key) -> bool
-        ensures { IsTrue result ↔ IsSome (lookup (is_key key) self.now.before) }
+    #[inline(always)]
+    pub fn is_before<L: Ledger>(&self, key: Key, steps: &mut Steps<L>) -> bool
+        ensures value { IsTrue result ↔ IsSome (lookup (is_key key) self.now.before) }
+        ensures visits { steps.new.visits ≡ steps.old.visits }
+        ensures looks { steps.new.looks ≡ counted_on steps.old.looks 1 }
     {
-        let (Some(line), Some(own)) = (&self.line, Reached::own(&self.table, key)) else {
+        let own = Reached::own(&self.table, key, steps);
+        let (Some(line), Some(own)) = (&self.line, own) else {
             return false;
         };
-        line.is_before(&own, key.serial)
+        line.is_before(&own)
     }
 
     /// Appends an entry. It allocates only where no slot is spare; where that is refused, the value comes back.
@@ -170,8 +175,9 @@ impl<A, B> Chain<A, B> {
         ensures err { OnErr result (self.new ≡ self.old) }
         ensures value_returned { IfErr result (λ failed. failed.value ≡ value) }
 
-        ensures visits { OnOk result (steps.new ≡ steps.old + 1) }
-        ensures no_visit { OnErr result (steps.new ≡ steps.old) }
+        ensures visits { OnOk result (steps.new.visits ≡ steps.old.visits + 1) }
+        ensures looks { steps.new.looks ≡ steps.old.looks }
+        ensures no_visit { OnErr result (steps.new.visits ≡ steps.old.visits) }
     {
         if self.table.spare() == 0 && self.grow(1).is_err() {
             return Err(AllocFailed { value });
@@ -190,7 +196,8 @@ impl<A, B> Chain<A, B> {
         ensures slot_after { All (λ entry. entry.0.slot ≢ result.slot) self.old.after }
         ensures spare { self.new.spare + 1 ≡ self.old.spare }
         ensures slots_fit { length self.new.before + length self.new.after + self.new.spare < 2 ^ 64 }
-        ensures visits { steps.new ≡ steps.old + 1 }
+        ensures visits { steps.new.visits ≡ steps.old.visits + 1 }
+        ensures looks { steps.new.looks ≡ steps.old.looks }
     {
         let Some(line) = &mut self.line else {
             unreachable!()
@@ -199,9 +206,10 @@ impl<A, B> Chain<A, B> {
             unreachable!()
         };
         let (slot, own) = line.append(node, serial, value, self.after_len == 0, steps);
-        self.table.fill(slot, &own);
+        let key = Key { slot, serial };
+        self.table.fill(key, &own);
         self.after_len += 1;
-        Key { slot, serial }
+        key
     }
 
     /// Takes the entry of that key out, if it is before the cursor.
@@ -210,14 +218,15 @@ impl<A, B> Chain<A, B> {
         ensures value { result ≡ lookup (is_key key) self.old.before }
         ensures taken { OnSome result (self.new ≡ record self.old { before = remove_entry (is_key key) self.old.before; spare = self.old.spare + 1 }) }
         ensures absent { IfNone result (self.new ≡ self.old) }
-        ensures visits { OnSome result (steps.new ≡ steps.old + 2) }
-        ensures no_visit { IfNone result (steps.new ≡ steps.old) }
+        ensures visits { OnSome result (steps.new.visits ≡ steps.old.visits + 2) }
+        ensures no_visit { IfNone result (steps.new.visits ≡ steps.old.visits) }
+        ensures looks { steps.new.looks ≡ counted_on steps.old.looks 1 }
     {
-        let own = Reached::own(&self.table, key)?;
+        let own = Reached::own(&self.table, key, steps)?;
         let Some(line) = &mut self.line else {
             unreachable!()
         };
-        if !line.is_before(&own, key.serial) {
+        if !line.is_before(&own) {
             return None;
         }
         let (node, held) = line.take(own, steps);
@@ -237,14 +246,15 @@ impl<A, B> Chain<A, B> {
         ensures value { result ≡ lookup (is_key key) self.old.after }
         ensures taken { OnSome result (self.new ≡ record self.old { after = remove_entry (is_key key) self.old.after; spare = self.old.spare + 1 }) }
         ensures absent { IfNone result (self.new ≡ self.old) }
-        ensures visits { OnSome result (steps.new ≡ steps.old + 3) }
-        ensures no_visit { IfNone result (steps.new ≡ steps.old) }
+        ensures visits { OnSome result (steps.new.visits ≡ steps.old.visits + 3) }
+        ensures no_visit { IfNone result (steps.new.visits ≡ steps.old.visits) }
+        ensures looks { steps.new.looks ≡ counted_on steps.old.looks 1 }
     {
-        let own = Reached::own(&self.table, key)?;
+        let own = Reached::own(&self.table, key, steps)?;
         let Some(line) = &mut self.line else {
             unreachable!()
         };
-        if !line.is_after(&own, key.serial) {
+        if !line.is_after(&own) {
             return None;
         }
         let (node, held) = line.take_after(own, steps);
@@ -261,20 +271,27 @@ impl<A, B> Chain<A, B> {
     /// Gives the entry of that key another value, if it is after the cursor, and returns the one that it had. Else
     /// the value comes back.
     #[inline(always)]
-    pub fn replace_after(&mut self, key: Key, value: B) -> Result<B, B>
+    pub fn replace_after<L: Ledger>(
+        &mut self,
+        key: Key,
+        value: B,
+        steps: &mut Steps<L>,
+    ) -> Result<B, B>
         ensures former { IfOk result (λ former. lookup (is_key key) self.old.after ≡ Some former) }
         ensures replaced { OnOk result (self.new ≡ record self.old { after = set_value (is_key key) self.old.after value }) }
         ensures absent { OnErr result (lookup (is_key key) self.old.after ≡ None) }
         ensures unchanged { OnErr result (self.new ≡ self.old) }
         ensures value_returned { IfErr result (λ refused. refused ≡ value) }
+        ensures visits { steps.new.visits ≡ steps.old.visits }
+        ensures looks { steps.new.looks ≡ counted_on steps.old.looks 1 }
     {
-        let Some(own) = Reached::own(&self.table, key) else {
+        let Some(own) = Reached::own(&self.table, key, steps) else {
             return Err(value);
         };
         let Some(line) = &mut self.line else {
             unreachable!()
         };
-        if !line.is_after(&own, key.serial) {
+        if !line.is_after(&own) {
             return Err(value);
         }
         match line.replace(&own, value) {
@@ -291,7 +308,8 @@ impl<A, B> Chain<A, B> {
         ensures first { self.old.after ≡ result ∷ self.new.after }
         ensures told { self.new.before ≡ self.old.before ++ (result.0, value) ∷ [] }
         ensures spare { self.new.spare ≡ self.old.spare }
-        ensures visits { steps.new ≡ steps.old + 1 }
+        ensures visits { steps.new.visits ≡ steps.old.visits + 1 }
+        ensures looks { steps.new.looks ≡ steps.old.looks }
     {
         let Some(line) = &mut self.line else {
             unreachable!()

@@ -1,4 +1,4 @@
-//! Calls that count at how many nodes of other visitors they look.
+//! Calls that count at how many nodes of other visitors they look, and how often they look up a ticket.
 //!
 //! Each is a function that makes the count, in any ledger, and a public one that calls it in a ledger of its own: it
 //! writes `Brand`, and its `Invariants.antt` says in two lines which ledger that is, the one of the blank.
@@ -14,9 +14,10 @@ use std::marker::Brand;
 use std::sync::ledger::{Blank, Ledger};
 
 /// Takes a visitor out of the line, and passes its admission on if it had one. Returns at how many nodes of other
-/// visitors that looked: at three at most, however long the line is.
-pub fn leave_counted(line: &mut List<(), u64>, ticket: Key, called: &mut Woken<u64>) -> u64
-    ensures few { result ≤ 3 }
+/// visitors that looked, at three at most however long the line is, and how often it looked up the ticket.
+pub fn leave_counted(line: &mut List<(), u64>, ticket: Key, called: &mut Woken<u64>) -> (u64, u64)
+    ensures few { result.0 ≤ 3 }
+    ensures twice { result.1 ≤ 2 }
     ensures others { order_of line.new ≡ without ticket (order_of line.old) }
 {
     leave_from::<Brand>(line, ticket, called, Blank::new(1))
@@ -27,16 +28,17 @@ fn leave_from<L: Ledger>(
     ticket: Key,
     called: &mut Woken<u64>,
     blank: Blank,
-) -> u64
+) -> (u64, u64)
     requires name { blank.name ≡ L.name }
     requires parts { blank.parts ≡ L.parts }
     requires has_a_part { 0 < blank.parts }
-    ensures few { result ≤ 3 }
+    ensures few { result.0 ≤ 3 }
+    ensures twice { result.1 ≤ 2 }
     ensures others { order_of line.new ≡ without ticket (order_of line.old) }
 {
     let mut steps = Steps::<L>::new(blank);
     line.remove(ticket, true, called, &mut steps);
-    steps.visits()
+    (steps.visits(), steps.looks())
 }
 
 /// Admits the first `n` who wait. Returns how many it admitted, and at how many nodes of other visitors that looked:

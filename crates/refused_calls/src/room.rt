@@ -69,6 +69,56 @@ fn room_for_three_is_made_at_last(rt: HostRuntime) {
     panic!(rt; "no budget serves")
 }
 
+// Reserves with so many bytes of memory, and gives how much room there is if that is refused. A second refusal, of the
+// first request, takes none of it.
+fn room_after_refusal<R: Abort>(
+    rt: &R,
+    list: &mut List<(), u64>,
+    budget: &mut Budget,
+    bytes: usize,
+) -> Option<usize> {
+    budget.leave(bytes).expect(rt, "so much of the reserve");
+    let reply = list.reserve(3);
+    let spare = list.spare();
+    if reply.is_ok() {
+        budget.give_back();
+        return None;
+    }
+    budget.leave(0).expect(rt, "nothing of the reserve");
+    check(rt, bytes, list.reserve(3), Err(AllocError));
+    check(rt, ("spare", bytes), list.spare(), spare);
+    Some(spare)
+}
+
+// As many are inserted as there is room for, and no more. There is no memory for them.
+fn takes_what_there_is<R: Abort>(rt: &R, list: &mut List<(), u64>, spare: usize) {
+    for serial in 0..spare as u64 {
+        insert(rt, list, serial);
+    }
+    refuses_to_insert(rt, list, spare);
+}
+
+// Room for three is made for one after another. The budgets lie so close that each of the three is the first to be
+// refused once: then the room for those before it is kept.
+#[test]
+fn a_refused_reserve_keeps_the_room_that_it_made(rt: HostRuntime) {
+    let mut budget = Budget::new(rt.alloc()).expect(&rt, "all memory but a reserve");
+    let mut most = 0;
+    for bytes in (0..Budget::MOST).step_by(Budget::STEP) {
+        let mut list = List::new(rt.alloc());
+        let Some(spare) = room_after_refusal(&rt, &mut list, &mut budget, bytes) else {
+            check(&rt, "the most room after a refusal", most, 2);
+            return;
+        };
+        takes_what_there_is(&rt, &mut list, spare);
+        budget.give_back();
+        let is_next = spare == most || most.checked_add(1) == Some(spare);
+        check(&rt, ("room", bytes, spare, "after", most), is_next, true);
+        most = spare;
+    }
+    panic!(rt; "no budget serves")
+}
+
 // Inserts a listener, which gets this serial, and stores that as its task.
 fn insert<R: Abort>(rt: &R, list: &mut List<(), u64>, serial: u64) {
     let key = list.insert_uncounted().expect(rt, "a listener");

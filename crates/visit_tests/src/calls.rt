@@ -1,4 +1,4 @@
-//! One call, and how many visits it counts.
+//! One call, and how many visits and looks by key it counts.
 ghost use Rattle.std.specs.Prelude.{◌≡◌, ◌<◌};
 
 use crate::checks::check;
@@ -31,22 +31,29 @@ pub enum Answer {
     Notified(Result<usize, NotifyError>),
 }
 
-/// The call answers so there, and makes so many visits.
+/// How many visits a call makes, and how many looks by key.
+#[derive(Clone, Copy, Debug, PartialEq)]
+pub struct Counted {
+    pub visits: u64,
+    pub looks: u64,
+}
+
+/// The call answers so there, and makes so many visits and looks.
 pub fn counts<R: Abort + AllocGlobal>(
     rt: &R,
     setting: Setting,
     call: Call,
     answer: Answer,
-    visits: u64,
+    counted: Counted,
 ) {
-    counts_from::<Brand, R>(rt, setting, call, (answer, visits), Blank::new(1));
+    counts_from::<Brand, R>(rt, setting, call, (answer, counted), Blank::new(1));
 }
 
 fn counts_from<L: Ledger, R: Abort + AllocGlobal>(
     rt: &R,
     setting: Setting,
     call: Call,
-    expected: (Answer, u64),
+    expected: (Answer, Counted),
     blank: Blank,
 )
     requires name { blank.name ≡ L.name }
@@ -56,7 +63,11 @@ fn counts_from<L: Ledger, R: Abort + AllocGlobal>(
     let mut steps = Steps::<L>::new(blank);
     let (mut queue, key) = setting.queue(rt);
     let answer = call.make(rt, &mut queue, key, &mut steps);
-    check(rt, (setting, call), (answer, steps.visits()), expected);
+    let counted = Counted {
+        visits: steps.visits(),
+        looks: steps.looks(),
+    };
+    check(rt, (setting, call), (answer, counted), expected);
 }
 
 impl Call {

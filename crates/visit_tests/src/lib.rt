@@ -1,4 +1,4 @@
-//! Tests of how many visits the calls of a queue count at run time.
+//! Tests of how many visits and looks by key the calls of a queue count at run time.
 #![tactic(auto)]
 
 #[cfg(test)]

@@ -1,5 +1,6 @@
-//! The calls of one listener. What each visits depends on how the listener stands, and not on where or among how many.
-use crate::calls::{Answer, Call, counts};
+//! The calls of one listener. What each visits and how often it looks up its key depends on how the listener stands, and
+//! not on where or among how many.
+use crate::calls::{Answer, Call, Counted, counts};
 use crate::doubles::{TAG, TASK};
 use crate::queues::Standing::{self, Absent, AllTold, FirstWaiting, LastTold, Replaced, Waiting};
 use crate::queues::{LENGTHS, PLACES, Place, Setting};
@@ -37,7 +38,7 @@ const LOST_ADDITIONAL: Answer = Answer::Removed(Some(State::Lost {
     tag: TAG,
 }));
 
-// What an insertion visits: the last node.
+// What an insertion visits: the last node. It looks up no key.
 const INSERTIONS: [(Standing, u64); 4] = [
     (Waiting, 1),
     (LastTold { additional: true }, 1),
@@ -46,49 +47,56 @@ const INSERTIONS: [(Standing, u64); 4] = [
     (Absent, 1),
 ];
 
-// What a registration answers and visits.
-const REGISTRATIONS: [(Standing, RegisterResult<u32>, u64); 7] = [
-    // The own node alone.
-    (Waiting, Registered, 0),
-    (FirstWaiting, Registered, 0),
-    // It leaves: the two neighbors.
-    (LastTold { additional: true }, Notified(TAG), 2),
-    (LastTold { additional: false }, Notified(TAG), 2),
-    (AllTold { additional: true }, Notified(TAG), 2),
-    // Nobody has the key.
-    (Absent, NeverInserted, 0),
-    (Replaced, NeverInserted, 0),
+// What a registration answers and visits, and its looks by key: without an exchange and with one.
+const REGISTRATIONS: [(Standing, RegisterResult<u32>, u64, [u64; 2]); 7] = [
+    // The own node alone, told or waiting, and to store what was exchanged.
+    (Waiting, Registered, 0, [2, 3]),
+    (FirstWaiting, Registered, 0, [2, 3]),
+    // It is told and leaves: the two neighbors.
+    (LastTold { additional: true }, Notified(TAG), 2, [1, 1]),
+    (LastTold { additional: false }, Notified(TAG), 2, [1, 1]),
+    (AllTold { additional: true }, Notified(TAG), 2, [1, 1]),
+    // Nobody has the key, told or waiting.
+    (Absent, NeverInserted, 0, [2, 2]),
+    (Replaced, NeverInserted, 0, [2, 2]),
 ];
 
-// What a removal with propagation or without answers and visits.
-const REMOVALS: [(Standing, bool, Answer, u64); 13] = [
+// What a removal with propagation or without answers and visits, and its looks by key: among the waiting, and then among
+// the told.
+const REMOVALS: [(Standing, bool, Answer, u64, u64); 13] = [
     // The two neighbors, and the node at the cursor.
-    (Waiting, false, WAITED, 3),
-    (Waiting, true, WAITED, 3),
-    (FirstWaiting, false, WAITED, 3),
-    (FirstWaiting, true, WAITED, 3),
+    (Waiting, false, WAITED, 3, 1),
+    (Waiting, true, WAITED, 3, 1),
+    (FirstWaiting, false, WAITED, 3, 1),
+    (FirstWaiting, true, WAITED, 3, 1),
     // The two neighbors.
-    (LastTold { additional: false }, false, TOLD_BY_DEFAULT, 2),
-    (AllTold { additional: true }, false, TOLD_BY_ADDITIONAL, 2),
+    (LastTold { additional: false }, false, TOLD_BY_DEFAULT, 2, 2),
+    (
+        AllTold { additional: true },
+        false,
+        TOLD_BY_ADDITIONAL,
+        2,
+        2,
+    ),
     // The two neighbors, and who is told in its place.
-    (LastTold { additional: true }, true, PASSED, 3),
+    (LastTold { additional: true }, true, PASSED, 3, 2),
     // The two neighbors: nobody waits who could be told.
-    (AllTold { additional: true }, true, LOST_ADDITIONAL, 2),
-    (AllTold { additional: false }, true, LOST_DEFAULT, 2),
+    (AllTold { additional: true }, true, LOST_ADDITIONAL, 2, 2),
+    (AllTold { additional: false }, true, LOST_DEFAULT, 2, 2),
     // Nobody has the key.
-    (Absent, false, NOBODY, 0),
-    (Absent, true, NOBODY, 0),
-    (Replaced, false, NOBODY, 0),
-    (Replaced, true, NOBODY, 0),
+    (Absent, false, NOBODY, 0, 2),
+    (Absent, true, NOBODY, 0, 2),
+    (Replaced, false, NOBODY, 0, 2),
+    (Replaced, true, NOBODY, 0, 2),
 ];
 
-// The call answers so and makes so many visits, at every length and every place.
+// The call answers so and makes so many visits and looks, at every length and every place.
 fn counts_everywhere<R: Abort + AllocGlobal>(
     rt: &R,
     standing: Standing,
     call: Call,
     answer: Answer,
-    visits: u64,
+    counted: Counted,
 ) {
     for length in LENGTHS {
         for place in PLACES {
@@ -97,7 +105,7 @@ fn counts_everywhere<R: Abort + AllocGlobal>(
                 place,
                 standing,
             };
-            counts(rt, setting, call, answer, visits);
+            counts(rt, setting, call, answer, counted);
         }
     }
 }
@@ -105,28 +113,31 @@ fn counts_everywhere<R: Abort + AllocGlobal>(
 #[test]
 fn an_insertion_visits_one(rt: HostRuntime) {
     for (standing, visits) in INSERTIONS {
-        counts_everywhere(&rt, standing, Call::Insert, Answer::Inserted, visits);
+        let counted = Counted { visits, looks: 0 };
+        counts_everywhere(&rt, standing, Call::Insert, Answer::Inserted, counted);
     }
 }
 
 #[test]
 fn a_registration_visits_two_where_its_listener_leaves(rt: HostRuntime) {
-    for (standing, result, visits) in REGISTRATIONS {
+    for (standing, result, visits, [plain, exchanging]) in REGISTRATIONS {
         let answer = Answer::Registered(result);
-        counts_everywhere(&rt, standing, Call::Register, answer, visits);
-        counts_everywhere(&rt, standing, Call::RegisterWith, answer, visits);
+        for (call, looks) in [(Call::Register, plain), (Call::RegisterWith, exchanging)] {
+            counts_everywhere(&rt, standing, call, answer, Counted { visits, looks });
+        }
     }
 }
 
 #[test]
 fn a_removal_visits_three_at_most(rt: HostRuntime) {
-    for (standing, propagate, answer, visits) in REMOVALS {
+    for (standing, propagate, answer, visits, looks) in REMOVALS {
         let call = Call::Remove { propagate };
-        counts_everywhere(&rt, standing, call, answer, visits);
+        counts_everywhere(&rt, standing, call, answer, Counted { visits, looks });
     }
 }
 
-// The removal of a listener told by a default notification, with propagation, answers so and makes so many visits.
+// The removal of a listener told by a default notification, with propagation, answers so and makes so many visits. It
+// looks for its key among the waiting, and then among the told.
 fn propagates_default<R: Abort + AllocGlobal>(
     rt: &R,
     length: usize,
@@ -140,7 +151,7 @@ fn propagates_default<R: Abort + AllocGlobal>(
         standing: LastTold { additional: false },
     };
     let call = Call::Remove { propagate: true };
-    counts(rt, setting, call, answer, visits);
+    counts(rt, setting, call, answer, Counted { visits, looks: 2 });
 }
 
 #[test]

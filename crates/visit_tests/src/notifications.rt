@@ -1,5 +1,5 @@
 //! Notifications. Each visits those that it tells, at every length and wherever the told end.
-use crate::calls::{Answer, Call, counts};
+use crate::calls::{Answer, Call, Counted, counts};
 use crate::doubles::Source;
 use crate::queues::Standing::{self, Absent, AllTold, FirstWaiting, LastTold, Waiting};
 use crate::queues::{LENGTHS, PLACES, Place, Setting};
@@ -58,7 +58,7 @@ fn refusals(length: usize, place: Place) -> [Case; 4] {
     ]
 }
 
-// Each notification answers so, and visits those that it told.
+// Each notification answers so, visits those that it told, and looks up no key.
 fn visit_the_told<R: Abort + AllocGlobal>(rt: &R, length: usize, place: Place, cases: &[Case]) {
     for (standing, source, answer) in cases {
         let setting = Setting {
@@ -70,8 +70,12 @@ fn visit_the_told<R: Abort + AllocGlobal>(rt: &R, length: usize, place: Place, c
             Ok(told) => told,
             Err(refused) => refused.told,
         };
+        let counted = Counted {
+            visits: told as u64,
+            looks: 0,
+        };
         let call = Call::Notify(*source);
-        counts(rt, setting, call, Answer::Notified(*answer), told as u64);
+        counts(rt, setting, call, Answer::Notified(*answer), counted);
     }
 }
 

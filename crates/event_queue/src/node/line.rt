@@ -1,7 +1,7 @@
 //! The entries of a chain in order, each on a node of one ring, and the cursor.
 ghost use Rattle.std.specs.Prelude.{◌≡◌, ◌+◌, [], ◌∷◌, ◌++◌, cond, ◌↔◌, eqb, IsTrue, IsSome, IfOk};
 ghost use Rattle.event_queue.specs.Ring.{placed, first_place, IsAt, AtNode};
-ghost use Rattle.event_queue.specs.Nodes.{key_of, spare_entry, before_in, after_in};
+ghost use Rattle.event_queue.specs.Nodes.{key_of, value_before, value_after, spare_entry};
 
 use super::ring::{NodePtr, Reached, Ring, Steps};
 use crate::key::Key;
@@ -97,24 +97,24 @@ impl<A, B> Line<A, B> {
         }
     }
 
-    /// Whether the node holds the entry of that serial, before the cursor.
+    /// Whether the node's entry is before the cursor.
     #[inline(always)]
-    pub(super) fn is_before(&self, own: &Reached<Entry<A, B>>, serial: u64) -> bool
+    pub(super) fn is_before(&self, own: &Reached<Entry<A, B>>) -> bool
         requires { IsAt self.now.ring.nodes own.now.ptr }
-        ensures { AtNode self.now.ring.nodes own.now.ptr (λ _ n _. IsTrue result ↔ IsSome (before_in serial n.entry)) }
+        ensures { AtNode self.now.ring.nodes own.now.ptr (λ _ n _. IsTrue result ↔ IsSome (value_before n.entry.held)) }
     {
         let (entry, _) = self.ring.look(own);
-        entry.serial == serial && matches!(entry.held, Held::Before(_))
+        matches!(entry.held, Held::Before(_))
     }
 
-    /// Whether the node holds the entry of that serial, after the cursor.
+    /// Whether the node's entry is after the cursor.
     #[inline(always)]
-    pub(super) fn is_after(&self, own: &Reached<Entry<A, B>>, serial: u64) -> bool
+    pub(super) fn is_after(&self, own: &Reached<Entry<A, B>>) -> bool
         requires { IsAt self.now.ring.nodes own.now.ptr }
-        ensures { AtNode self.now.ring.nodes own.now.ptr (λ _ n _. IsTrue result ↔ IsSome (after_in serial n.entry)) }
+        ensures { AtNode self.now.ring.nodes own.now.ptr (λ _ n _. IsTrue result ↔ IsSome (value_after n.entry.held)) }
     {
         let (entry, _) = self.ring.look(own);
-        entry.serial == serial && matches!(entry.held, Held::After(_))
+        matches!(entry.held, Held::After(_))
     }
 
     /// Links a spare node in at the end, with an entry after the cursor. Its slot and the node are the answer.
@@ -136,7 +136,8 @@ impl<A, B> Line<A, B> {
         ensures root { self.new.ring.at ≡ self.old.ring.at }
         ensures nodes { self.new.ring.nodes ≡ self.old.ring.nodes ++ placed node.at (record { slot = node.entry.slot; serial = serial; held = Held.After value }) ∷ [] }
         ensures cursor { self.new.cursor.ptr ≡ cond is_first node.at self.old.cursor.ptr }
-        ensures visits { steps.new ≡ steps.old + 1 }
+        ensures visits { steps.new.visits ≡ steps.old.visits + 1 }
+        ensures looks { steps.new.looks ≡ steps.old.looks }
     {
         let own = self.ring.append(node, steps);
         let (spare, _) = self.ring.look(&own);
@@ -168,7 +169,8 @@ impl<A, B> Line<A, B> {
         ensures nodes { AtNode self.old.ring.nodes own.ptr (λ xs n ys. self.new.ring.nodes ≡ xs ++ ys) }
         ensures spare { AtNode self.old.ring.nodes own.ptr (λ _ n _. result.0.entry ≡ spare_entry n.entry.slot) }
         ensures held { AtNode self.old.ring.nodes own.ptr (λ _ n _. result.1 ≡ n.entry.held) }
-        ensures visits { steps.new ≡ steps.old + 2 }
+        ensures visits { steps.new.visits ≡ steps.old.visits + 2 }
+        ensures looks { steps.new.looks ≡ steps.old.looks }
     {
         let (entry, _) = self.ring.look(&own);
         let slot = entry.slot;
@@ -194,7 +196,8 @@ impl<A, B> Line<A, B> {
         ensures nodes { AtNode self.old.ring.nodes own.ptr (λ xs n ys. self.new.ring.nodes ≡ xs ++ ys) }
         ensures spare { AtNode self.old.ring.nodes own.ptr (λ _ n _. result.0.entry ≡ spare_entry n.entry.slot) }
         ensures held { AtNode self.old.ring.nodes own.ptr (λ _ n _. result.1 ≡ n.entry.held) }
-        ensures visits { steps.new ≡ steps.old + 3 }
+        ensures visits { steps.new.visits ≡ steps.old.visits + 3 }
+        ensures looks { steps.new.looks ≡ steps.old.looks }
     {
         let cursor = self.ring.visit(self.cursor, steps);
         let (first, _) = self.ring.look(&cursor);
@@ -237,7 +240,8 @@ impl<A, B> Line<A, B> {
         ensures key { AtNode self.old.ring.nodes self.old.cursor.ptr (λ _ n _. result.0 ≡ key_of n.entry) }
         ensures former { AtNode self.old.ring.nodes self.old.cursor.ptr (λ _ n _. result.1 ≡ n.entry.held) }
         ensures nodes { AtNode self.old.ring.nodes self.old.cursor.ptr (λ xs n ys. self.new.ring.nodes ≡ xs ++ placed n.at (record n.entry { held = Held.Before value }) ∷ ys) }
-        ensures visits { steps.new ≡ steps.old + 1 }
+        ensures visits { steps.new.visits ≡ steps.old.visits + 1 }
+        ensures looks { steps.new.looks ≡ steps.old.looks }
     {
         let at = self.ring.visit(self.cursor, steps);
         let (first, next) = self.ring.look(&at);

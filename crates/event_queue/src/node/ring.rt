@@ -1,6 +1,7 @@
-//! The ways to a node of a ring: to the one of the listener whose call it is, and to another one, which is counted.
+//! The ways to a node of a ring: to the one of a key, and to another one. Each is counted.
 ghost use Rattle.std.specs.Prelude.{◌≡◌, ◌+◌, [], ◌∷◌, ◌++◌, MatchOption};
 ghost use Rattle.event_queue.specs.Ring.{placed, first_place, IsAt, AtNode};
+ghost use Rattle.event_queue.specs.Counts.{counted_on};
 ghost use Rattle.event_queue.specs.Nodes.{node_at};
 
 use self::pointers::Node;
@@ -14,7 +15,7 @@ use std::sync::ledger::Ledger;
 mod pointers;
 mod steps;
 
-/// A node that a call may look at: its own listener's, or one whose visit was counted.
+/// A node that a call may look at: the one of a key, once that look was counted, or another one, whose visit was.
 ///
 /// A [`NodePtr`] only says where a node stands: the functions that follow one are reached from this module alone. So a
 /// call gets to a node by [`Reached::own`] or by [`Ring::visit`], and keeps none for the next call.
@@ -24,13 +25,23 @@ pub(super) struct Reached<E> {
 }
 
 impl<A, B> Reached<Entry<A, B>> {
-    /// The node of the call's own listener: the one to which the slot of its key leads, if it leads to one.
+    /// The node of the key's entry, if there is one: that of the call's own listener. It is one look by key, also where
+    /// nobody has the key: then no node is reached, since the table has the serial too.
     #[inline(always)]
-    pub(super) fn own(table: &Table<A, B>, key: Key) -> Option<Self>
-        ensures { MatchOption result (node_at table.now.slots.items key.slot ≡ None) (λ node. node_at table.now.slots.items key.slot ≡ Some (record { ptr = node.ptr })) }
+    pub(super) fn own<L: Ledger>(
+        table: &Table<A, B>,
+        key: Key,
+        steps: &mut Steps<L>,
+    ) -> Option<Self>
+        ensures node { MatchOption result (node_at table.now.slots.items key ≡ None) (λ node. node_at table.now.slots.items key ≡ Some (record { ptr = node.ptr })) }
+        ensures visits { steps.new.visits ≡ steps.old.visits }
+        ensures looks { steps.new.looks ≡ counted_on steps.old.looks 1 }
     {
+        steps.add_look();
         match table.slots().get(key.slot) {
-            Some(Some(place)) => Some(Reached { ptr: place.ptr }),
+            Some(Some((serial, place))) if *serial == key.serial => {
+                Some(Reached { ptr: place.ptr })
+            }
             _ => None,
         }
     }
@@ -51,7 +62,8 @@ impl<E> Ring<E> {
     #[inline(always)]
     pub(super) fn visit<L: Ledger>(&self, node: NodePtr<E>, steps: &mut Steps<L>) -> Reached<E>
         ensures place { result.ptr ≡ node.ptr }
-        ensures visits { steps.new ≡ steps.old + 1 }
+        ensures visits { steps.new.visits ≡ steps.old.visits + 1 }
+        ensures looks { steps.new.looks ≡ steps.old.looks }
     {
         steps.add(1);
         Reached { ptr: node.ptr }
@@ -84,7 +96,8 @@ impl<E> Ring<E> {
         ensures place { result.ptr ≡ node.at }
         ensures root { (self.new.at ≡ self.old.at) × (self.new.entry ≡ self.old.entry) }
         ensures nodes { self.new.nodes ≡ self.old.nodes ++ placed node.at node.entry ∷ [] }
-        ensures visits { steps.new ≡ steps.old + 1 }
+        ensures visits { steps.new.visits ≡ steps.old.visits + 1 }
+        ensures looks { steps.new.looks ≡ steps.old.looks }
     {
         let place = node.root();
         steps.add(1);
@@ -99,7 +112,8 @@ impl<E> Ring<E> {
         ensures root { (self.new.at ≡ self.old.at) × (self.new.entry ≡ self.old.entry) }
         ensures alone { (result.at ≡ node.ptr) × (result.nodes ≡ []) }
         ensures nodes { AtNode self.old.nodes node.ptr (λ xs n ys. (self.new.nodes ≡ xs ++ ys) × (result.entry ≡ n.entry)) }
-        ensures visits { steps.new ≡ steps.old + 2 }
+        ensures visits { steps.new.visits ≡ steps.old.visits + 2 }
+        ensures looks { steps.new.looks ≡ steps.old.looks }
     {
         steps.add(2);
         self.unlink(NodePtr { ptr: node.ptr })

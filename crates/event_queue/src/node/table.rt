@@ -4,14 +4,19 @@ ghost use Rattle.event_queue.specs.Nodes.{node_at, spare_entry, GrowsTo};
 
 use super::line::Entry;
 use super::ring::{NodePtr, Reached, Ring};
+use crate::key::Key;
 use std::alloc::{AllocError, AllocFailed, Global};
+
+/// What stands in a slot: the serial of the entry that uses it and the place of its node, or nothing.
+pub(super) type Slot<A, B> = Option<(u64, NodePtr<Entry<A, B>>)>;
 
 /// A slot for each node but the root, and the nodes that no entry uses.
 ///
-/// A node keeps its slot for ever: its place stands there while an entry uses it, and nothing while it is spare.
+/// A node keeps its slot for ever: its place stands there while an entry uses it, and nothing while it is spare. The
+/// entry's serial stands there too, so that a key of nobody is told without a look at any node.
 #[derive(Drop)]
 pub(super) struct Table<A, B> {
-    slots: Vec<Option<NodePtr<Entry<A, B>>>>,
+    slots: Vec<Slot<A, B>>,
     spares: Vec<Ring<Entry<A, B>>>,
     ghost counted: { vec_len spares ≤ vec_len slots },
     // No node that becomes spare needs memory.
@@ -43,9 +48,9 @@ impl<A, B> Table<A, B> {
         self.spares.len()
     }
 
-    /// For each slot the place of its node, if an entry uses that.
+    /// The slots, in order.
     #[inline(always)]
-    pub(super) fn slots(&self) -> &[Option<NodePtr<Entry<A, B>>>]
+    pub(super) fn slots(&self) -> &[Slot<A, B>]
         ensures { result.now ≡ self.now.slots.items }
     {
         self.slots.as_slice()
@@ -60,14 +65,14 @@ impl<A, B> Table<A, B> {
         self.spares.pop()
     }
 
-    /// Writes the place of a node that was spare into its slot.
+    /// Writes the serial of an entry and the place of its node, which was spare, into the key's slot.
     #[inline(always)]
-    pub(super) fn fill(&mut self, slot: usize, node: &Reached<Entry<A, B>>)
-        requires { slot < length self.old.slots.items }
-        ensures slots { self.new.slots.items ≡ slice_set self.old.slots.items slot (Option.Some (record { ptr = node.now.ptr })) }
+    pub(super) fn fill(&mut self, key: Key, node: &Reached<Entry<A, B>>)
+        requires { key.slot < length self.old.slots.items }
+        ensures slots { self.new.slots.items ≡ slice_set self.old.slots.items key.slot (Option.Some (key.serial, record { ptr = node.now.ptr })) }
         ensures spares { self.new.spares.items ≡ self.old.spares.items }
     {
-        self.slots[slot] = Some(node.place());
+        self.slots[key.slot] = Some((key.serial, node.place()));
     }
 
     /// Makes a node spare, whose slot this is. It allocates nothing.

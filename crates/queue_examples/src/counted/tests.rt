@@ -14,15 +14,16 @@ fn joins<R: Abort>(rt: &R, line: &mut List<(), u64>, visitor: u64) -> Key {
     ticket
 }
 
-// Who leaves looks at so many nodes of others.
+// Who leaves looks at so many nodes of others, and looks up its ticket so often.
 fn leaves<R: Abort>(
     rt: &R,
     line: &mut List<(), u64>,
     ticket: Key,
     called: &mut Woken<u64>,
-    visits: u64,
+    expected: (u64, u64),
 ) {
-    check(rt, "visits", leave_counted(line, ticket, called), visits);
+    let counted = leave_counted(line, ticket, called);
+    check(rt, "visits, looks", counted, expected);
 }
 
 // So many are admitted, with as many visits.
@@ -45,13 +46,13 @@ fn who_leaves_looks_at_few_others(rt: HostRuntime) {
     let third = joins(&rt, &mut line, 30);
     admits(&rt, &mut line, 1, &mut called, (1, 1));
     // One who waits: the two neighbors, and the first who waits.
-    leaves(&rt, &mut line, second, &mut called, 3);
+    leaves(&rt, &mut line, second, &mut called, (3, 1));
     // One who was admitted: the two neighbors, and the one admitted in its place.
-    leaves(&rt, &mut line, first, &mut called, 3);
+    leaves(&rt, &mut line, first, &mut called, (3, 2));
     check(&rt, "numbers", called.tasks(), &[10, 30]);
     // Nobody is admitted in the place of the last.
-    leaves(&rt, &mut line, third, &mut called, 2);
-    leaves(&rt, &mut line, third, &mut called, 0);
+    leaves(&rt, &mut line, third, &mut called, (2, 2));
+    leaves(&rt, &mut line, third, &mut called, (0, 2));
     check(&rt, "numbers", called.tasks(), &[10, 30]);
 }
 

@@ -1,62 +1,86 @@
-//! How many nodes of other listeners the calls of a queue visit.
+//! How many nodes of other listeners the calls of a queue visit, and how often they look up a key.
 ghost use Rattle.std.specs.Prelude.{◌≡◌, ◌+◌, ◌-◌, ◌<◌, ◌^◌, min};
+ghost use Rattle.event_queue.specs.Counts.{counted_on};
 
 use std::marker::Model;
 use std::sync::ledger::{Blank, Book, Ledger, Share};
 
-/// Counts visits: each look of a call at the node of another listener.
+/// Counts visits and looks by key: each look of a call at the node of another listener, and each time that it looks
+/// for the node of a key, which alone leads it to the node of its own listener.
 ///
-/// A call of a [`List`](crate::List) that takes `steps` adds its visits, and nothing else changes the count. Clauses
-/// see it as a number without a limit.
+/// A call of a [`List`](crate::List) that takes `steps` adds its visits and its looks, and nothing else changes the
+/// counts. Clauses see the visits as a number without a limit, and the looks as one that stays at `u64::MAX`.
 #[derive(Drop)]
 pub struct Steps<L: Ledger> {
     book: Book<L>,
     share: Share<L>,
     // What the book has, for who runs the program.
     visits: u64,
+    looks: u64,
 }
 
 impl<L: Ledger> Model for Steps<L> {
-    ghost use Rattle.std.specs.Prelude.{ℕ, ◌≡◌, ◌-◌, ◌<◌, ◌^◌, min};
+    ghost use Rattle.std.specs.Prelude.{◌≡◌, ◌-◌, ◌<◌, ◌^◌, min};
+    ghost use Rattle.event_queue.specs.Counts.{Counts};
 
-    ghost Value = { ℕ };
+    ghost Value = { Counts };
 
-    ghost view = { λ steps. steps.book.total };
+    ghost view = { λ steps. record { visits = steps.book.total; looks = steps.looks } };
 
     ghost invariant = { λ steps. (0 < steps.share.parts) × (steps.visits ≡ min steps.book.total (2 ^ 64 - 1)) };
 }
 
 impl<L: Ledger> Steps<L> {
-    /// A count of 0, kept in a new ledger. The call allocates nothing.
+    /// Counts of 0, kept in a new ledger. The call allocates nothing.
     #[inline(always)]
     pub fn new(blank: Blank) -> Self
         requires name { blank.name ≡ L.name }
         requires parts { blank.parts ≡ L.parts }
         requires has_a_part { 0 < blank.parts }
-        ensures { result ≡ 0 }
+        ensures visits { result.visits ≡ 0 }
+        ensures looks { result.looks ≡ 0 }
     {
         let (book, share) = blank.open::<L>();
         Steps {
             book,
             share,
             visits: 0,
+            looks: 0,
         }
     }
 
     /// How many visits were counted. The answer stays at `u64::MAX`. The call allocates nothing.
     #[inline(always)]
     pub fn visits(&self) -> u64
-        ensures { result ≡ min self.now (2 ^ 64 - 1) }
+        ensures { result ≡ min self.now.visits (2 ^ 64 - 1) }
     {
         self.visits
+    }
+
+    /// How many looks by key were counted. The answer stays at `u64::MAX`. The call allocates nothing.
+    #[inline(always)]
+    pub fn looks(&self) -> u64
+        ensures { result ≡ self.now.looks }
+    {
+        self.looks
     }
 
     // Counts so many visits more. Only the ring counts.
     #[inline(always)]
     pub(super) fn add(&mut self, visits: u64)
-        ensures { self.new ≡ self.old + visits }
+        ensures visits { self.new.visits ≡ self.old.visits + visits }
+        ensures looks { self.new.looks ≡ self.old.looks }
     {
         self.book.add(&mut self.share, visits);
         self.visits = self.visits.saturating_add(visits);
+    }
+
+    // Counts one look by key more. Only the ring counts.
+    #[inline(always)]
+    pub(super) fn add_look(&mut self)
+        ensures visits { self.new.visits ≡ self.old.visits }
+        ensures looks { self.new.looks ≡ counted_on self.old.looks 1 }
+    {
+        self.looks = self.looks.saturating_add(1);
     }
 }

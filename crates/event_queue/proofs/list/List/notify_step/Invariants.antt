@@ -5,4 +5,5 @@ use Rattle.event_queue.proofs.list.List.notify_step.Given as goal
 abbrev pub invariant-loop-told : goal.invariant-loop-told
 invariant-loop-told g l =
     ToldSoFar g.N.Notification.tag_gives g.N.Notification.can_tag g.S.WakeSink.woke l.additional l.initial.self l.initial.n l.initial.sink l.told l.self l.n l.sink
-    × (l.steps ≡ l.initial.steps + l.told)
+    × (l.steps.visits ≡ l.initial.steps.visits + l.told)
+    × (l.steps.looks ≡ l.initial.steps.looks)

@@ -33,8 +33,8 @@ invariant_of-self g c =
     let node = c.in-Some-take_spare.node in
     let spares = c.in-Some-take_spare.ensures.spares in
     let there = rw (c.take_spare.ensures.slots, c.append-slot.ensures.slot) at c.fill.ensures.slots in
-    let slots_are : c.fill.new.self.slots.items ≡ set i.table.slots.items node.entry.slot (Some (record { ptr = node.at })) =
-    there ∙ ap (λ (p : Ptr). set i.table.slots.items node.entry.slot (Some (record { ptr = p }))) c.append-slot.ensures.place in
+    let slots_are : c.fill.new.self.slots.items ≡ set i.table.slots.items node.entry.slot (Some (c.args.serial, record { ptr = node.at })) =
+    there ∙ ap (λ (p : Ptr). set i.table.slots.items node.entry.slot (Some (c.args.serial, record { ptr = p }))) c.append-slot.ensures.place in
     let later = IsSound-pushed c.in-Some.line i.table.slots.items i.table.spares.items i.before_len i.after_len sound c.append-slot.new.self (placed node.at (record { slot = node.entry.slot; serial = c.args.serial; held = After c.args.value })) c.args.value c.append-slot.ensures.nodes refl node c.take_spare.new.self.spares.items spares refl refl c.append-slot.ensures.root c.append-slot.ensures.cursor in
     rw (slots_are, c.fill.ensures.spares) later
 
@@ -75,14 +75,14 @@ returns-clause-slots_fit g c =
     let node = c.in-Some-take_spare.node in
     let spares = c.in-Some-take_spare.ensures.spares in
     let there = rw (c.take_spare.ensures.slots, c.append-slot.ensures.slot) at c.fill.ensures.slots in
-    let slots_are : c.fill.new.self.slots.items ≡ set i.table.slots.items node.entry.slot (Some (record { ptr = node.at })) =
-    there ∙ ap (λ (p : Ptr). set i.table.slots.items node.entry.slot (Some (record { ptr = p }))) c.append-slot.ensures.place in
+    let slots_are : c.fill.new.self.slots.items ≡ set i.table.slots.items node.entry.slot (Some (c.args.serial, record { ptr = node.at })) =
+    there ∙ ap (λ (p : Ptr). set i.table.slots.items node.entry.slot (Some (c.args.serial, record { ptr = p }))) c.append-slot.ensures.place in
     let later = IsSound-pushed c.in-Some.line i.table.slots.items i.table.spares.items i.before_len i.after_len sound c.append-slot.new.self (placed node.at (record { slot = node.entry.slot; serial = c.args.serial; held = After c.args.value })) c.args.value c.append-slot.ensures.nodes refl node c.take_spare.new.self.spares.items spares refl refl c.append-slot.ensures.root c.append-slot.ensures.cursor in
     let slots = i.table.slots in
-    let all = set slots.items node.entry.slot (Some (record { ptr = node.at })) in
+    let all = set slots.items node.entry.slot (Some (c.args.serial, record { ptr = node.at })) in
     let rest = c.take_spare.new.self.spares.items in
     let after = i.after_len + 1 in
     let line = c.append-slot.new.self in
     let total = total_is (Some line) all rest i.before_len after later in
     rw c.fill.ensures.spares
-    (omega (arith, length-before_of (Some line) all rest i.before_len after later, length-after_of (Some line) all rest i.before_len after later, total, length-set slots.items node.entry.slot (Some (record { ptr = node.at })), slots.ok.0, slots.ok.1, slots.small))
+    (omega (arith, length-before_of (Some line) all rest i.before_len after later, length-after_of (Some line) all rest i.before_len after later, total, length-set slots.items node.entry.slot (Some (c.args.serial, record { ptr = node.at })), slots.ok.0, slots.ok.1, slots.small))

@@ -1,0 +1,11 @@
+-- What a contract sees of a `Steps`.
+use Rattle.std.specs.Prelude.{ℕ, ◌+◌, ◌-◌, ◌^◌, min}
+
+-- how many visits were counted so far, and how many looks by key
+pub record Counts : Type 0 where
+  pub visits : ℕ
+  pub looks : ℕ
+
+-- a count of looks once there were so many more: it stays at the greatest `u64`
+abbrev pub counted_on : ℕ → ℕ → ℕ
+counted_on looks more = min (looks + more) (2 ^ 64 - 1)
