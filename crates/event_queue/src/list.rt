@@ -390,7 +390,8 @@ impl<T, W> List<T, W> {
         ensures told { self.new ≡ after_telling notice.additional (notice.tag ∷ []) self.old }
         ensures wakes { FoldsTo S.woke sink.old (tasks_of 1 self.old) sink.new }
         ensures queue { IsQueue self.new }
-        ensures visits { steps.new ≡ steps.old + 1 }
+        ensures visits { steps.new.visits ≡ steps.old.visits + 1 }
+        ensures looks { steps.new.looks ≡ steps.old.looks }
     {
         self.tell_next(notice, sink, steps)
     }
