@@ -163,11 +163,13 @@ mod task;
 pub use event::{Event, EventId, EventIds, IdsUsedUp, given_numbers_are_distinct};
 pub use event_queue::{
     Additional, Call, IntoNotification, IntoTagged, Key, List, ListenError, Notification, Notify,
-    NotifyError, RegisterResult, Relaxed, Reply, State, Steps, Tag, TagWith, WakeSink, Woken,
-    additional_clone_means_the_same, additional_twice_means_once, equal_keys,
+    NotifyError, RegisterResult, Relaxed, Reply, State, Steps, Tag, TagWith, TaskExchange,
+    WakeSink, Woken, additional_clone_means_the_same, additional_twice_means_once, equal_keys,
     notification_is_its_own_conversion, notify_clone_means_the_same, relaxed_changes_no_meaning,
     relaxed_clone_means_the_same, tag_clone_has_both_clones, woken_keeps_the_first,
 };
+#[doc(hidden)]
+pub use event_queue::{Notice, TagList};
 pub use listener::{
     EventListener, Listener, NeverInserted, StackListener, StackSlot, WaitError, WaitReason,
 };

@@ -22,7 +22,7 @@ fn wakes_once_told<R: Runtime>(rt: &R) {
     let made = new_event_of_two(rt.alloc(), &mut EventIds::new());
     let (event, waiting, mut telling) = made.expect(rt, "an event");
     let task = new_task(rt);
-    let listening = Waiter::listen(rt, rt.alloc(), &event, waiting);
+    let listening = Waiter::listen(rt, &event, waiting);
     let mut waiter = listening.expect(rt, "a listener");
     gives(rt, &task, &mut waiter, Poll::Pending);
     gives(rt, &task, &mut waiter, Poll::Pending);
