@@ -3,6 +3,7 @@ use Rattle.std.proofs.Common.{◌≡◌, ◌≢◌, ℕ, ◌+◌, ◌≤◌, Boo
 use Rattle.std.specs.Prelude.{option_map}
 use Rattle.std.specs.Cmp.{IsEquivalence}
 use Rattle.std.specs.Map.{lookup}
+use Rattle.std.proofs.lemmas.List.Elements.{All-push}
 use Rattle.std.proofs.lemmas.Map.{length-set_value}
 use Rattle.event_queue.specs.declared.key.Key.{Key}
 use Rattle.event_queue.specs.declared.notice.Notice.{Notice}
@@ -29,7 +30,7 @@ use Rattle.event_listener.specs.declared.recorded.reply.RecordedReply.TheVariant
 use Rattle.event_listener.specs.declared.recorded.reply.Former.{Former}
 use Rattle.event_listener.specs.RecordedStep.{Steps, StepsAnySpare, RemovesAs, IsReplyTo, WasKept, former_of, newcomers_of}
 use Rattle.event_listener.specs.Replay.{ReplaysTo, shape_of}
-use Rattle.event_listener.specs.Recording.{IsRecording, unspared}
+use Rattle.event_listener.specs.Recording.{IsRecording, IsEnd, HandlessAreEnds, unspared}
 use Rattle.event_listener.proofs.StepLemmas.{step_follows, found_value}
 use Rattle.event_listener.proofs.ReplayLemmas.{same_reply-refl, replay_entry-follows, replay_from-push}
 
@@ -171,13 +172,17 @@ module _ {T : Type 0} (eq : T → T → Bool) where
   IsRecording-empty entries q len capacity none empty queue short = record {
     replays = rw (none, empty) refl;
     is_queue = with_no_spare q queue;
+    ends = rw none (λ k entry below nobody. absurd (omega (arith, below)));
     has_room = rw (empty, short) (omega arith);
   }
 
   -- as room is made, or nothing changes
   pub IsRecording-grown : (entries entries' : List (Entry T)) (q q' : Queue T Task) (len len' capacity capacity' : ℕ) → IsRecording eq entries (unspared q) len capacity → entries' ≡ entries → unspared q' ≡ unspared q → len' ≡ len → capacity ≤ capacity' → IsRecording eq entries' (unspared q') len' capacity'
   IsRecording-grown entries entries' q q' len len' capacity capacity' is same_entries same_queue same_len grown =
-      rw (same_entries, same_queue, same_len) (record { replays = is.replays; is_queue = is.is_queue; has_room = omega (arith, is.has_room) })
+      rw (same_entries, same_queue, same_len) (record { replays = is.replays; is_queue = is.is_queue; ends = is.ends; has_room = omega (arith, is.has_room) })
+
+  ends_push : (entries : List (Entry T)) (entry : Entry T) → HandlessAreEnds entries → (entry.hand ≡ None → IsEnd entry.call entry.reply) → HandlessAreEnds (entries ++ entry ∷ [])
+  ends_push entries entry ends end = All-push (λ (e : Entry T). e.hand ≡ None → IsEnd e.call e.reply) entries entry ends end
 
   pub replays_same : (entries entries' : List (Entry T)) (q q' : Queue T Task) → ReplaysTo eq entries (unspared q) → entries' ≡ entries → unspared q' ≡ unspared q → ReplaysTo eq entries' q'
   replays_same entries entries' q q' replays same_entries same_queue =
@@ -191,9 +196,10 @@ module _ {T : Type 0} (eq : T → T → Bool) where
         replay_from-push eq _ (shape_of old) (shape_of new) entries _ replays (replay_entry-follows eq old new (record { hand = hand; call = call; reply = reply }) reply follows (same_reply-refl eq equivalence reply))
 
     -- as a step is made and recorded
-    pub IsRecording-step : (entries entries' : List (Entry T)) (old new : Queue T Task) (hand : Option ℕ) (call recorded : RecordedCall T) (task : Option Task) (reply : RecordedReply T) (len' capacity' : ℕ) → ReplaysTo eq entries old → IsQueue (unspared old) → Steps old call task reply new → IsReplyTo call reply → IsQueue new → recorded ≡ call → entries' ≡ entries ++ record { hand = hand; call = recorded; reply = reply } ∷ [] → len' + listeners_of new ≤ capacity' → IsRecording eq entries' (unspared new) len' capacity'
-    IsRecording-step entries entries' old new hand call recorded task reply len' capacity' replays was_queue step kind queue same pushed room = record {
+    pub IsRecording-step : (entries entries' : List (Entry T)) (old new : Queue T Task) (hand : Option ℕ) (call recorded : RecordedCall T) (task : Option Task) (reply : RecordedReply T) (len' capacity' : ℕ) → ReplaysTo eq entries old → IsQueue (unspared old) → Steps old call task reply new → IsReplyTo call reply → IsQueue new → HandlessAreEnds entries → (hand ≡ None → IsEnd recorded reply) → recorded ≡ call → entries' ≡ entries ++ record { hand = hand; call = recorded; reply = reply } ∷ [] → len' + listeners_of new ≤ capacity' → IsRecording eq entries' (unspared new) len' capacity'
+    IsRecording-step entries entries' old new hand call recorded task reply len' capacity' replays was_queue step kind queue ends end same pushed room = record {
       replays = rw (pushed, same) (replays_step entries old hand call task reply new replays was_queue step kind);
       is_queue = with_no_spare new queue;
+      ends = rw pushed (ends_push entries (record { hand = hand; call = recorded; reply = reply }) ends end);
       has_room = room;
     }

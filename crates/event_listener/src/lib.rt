@@ -9,7 +9,7 @@
 //!
 //! The queue itself is the crate `event_queue`. Its public names are exported here too.
 //!
-//! The examples below are in the crate `listener_examples`, with their imports and error types.
+//! The examples below are in the crate `listener_examples`, where they are proved.
 //!
 //! # A flag that threads wait for
 //!
@@ -17,6 +17,16 @@
 //! listeners that are in the queue by then. The other thread sets the flag first and notifies afterwards.
 //!
 //! ```rust
+//! ghost use Rattle.std.specs.Prelude.{◌≡◌, ◌≢◌, ◌+◌, ◌≤◌, ◌^◌, IfOk, OnErr};
+//!
+//! use event_listener::{Event, EventId, EventIds, IdsUsedUp, ListenError, Listener, WaitError};
+//! use std::alloc::Global;
+//! use std::marker::Model;
+//! use std::sync::Wait;
+//! use std::sync::atomic::{AtomicBool, Ordering};
+//! use std::time::Clock;
+//! use thiserror::Error;
+//!
 //! /// A flag that is set once, and that threads wait for. A contract sees it as the number of its event.
 //! #[derive(Drop)]
 //! pub struct Flag {
@@ -68,6 +78,23 @@
 //!         unreachable!()
 //!     }
 //! }
+//!
+//! /// Why a wait ended before the flag was set.
+//! #[derive(Clone, Copy, Debug, PartialEq, Eq, Error)]
+//! pub enum FlagError {
+//!     #[error("{0}")]
+//!     Listen(#[from] ListenError),
+//!     #[error("no memory for a parker")]
+//!     Memory,
+//! }
+//!
+//! impl Model for Flag {
+//!     ghost use Rattle.std.specs.Prelude.{ℕ};
+//!
+//!     ghost Value = { ℕ };
+//!
+//!     ghost view = { λ flag. flag.set };
+//! }
 //! ```
 //!
 //! # An event with tags
@@ -76,6 +103,31 @@
 //! additional one tells one more.
 //!
 //! ```rust
+//! ghost use Rattle.std.specs.Prelude.{◌≤◌};
+//!
+//! use event_listener::{
+//!     Event, EventId, IntoNotification, IntoTagged, ListenError, Listener, WaitError,
+//! };
+//! use std::alloc::Global;
+//! use std::sync::Wait;
+//! use std::time::Clock;
+//! use thiserror::Error;
+//!
+//! /// Why two listeners did not get their tags.
+//! #[derive(Clone, Copy, Debug, PartialEq, Eq, Error)]
+//! pub enum TagsError {
+//!     #[error("{0}")]
+//!     Listen(#[from] ListenError),
+//!     #[error("no tag was given")]
+//!     Wait,
+//! }
+//!
+//! impl<L: Drop> From<WaitError<L>> for TagsError {
+//!     fn from(_refused: WaitError<L>) -> TagsError {
+//!         TagsError::Wait
+//!     }
+//! }
+//!
 //! /// Tells the first listener that waits, with this tag, unless one is told already. Returns how many it told.
 //! ///
 //! /// A clone of a number is never refused, so no tag is.
@@ -114,6 +166,12 @@
 //! which may wait again.
 //!
 //! ```rust
+//! ghost use Rattle.std.specs.Prelude.{◌≡◌, true, IsErr, IfErr};
+//! ghost use Rattle.event_listener.specs.Waiting.{HandsBack};
+//!
+//! use event_listener::{Listener, WaitError};
+//! use std::time::{Clock, Duration, Instant};
+//!
 //! /// The tag, if the listener is told before the deadline, and else `None`.
 //! ///
 //! /// A wait that is refused memory is tried once more, with the listener that it returns and against the same deadline.
@@ -163,11 +221,13 @@ mod task;
 pub use event::{Event, EventId, EventIds, IdsUsedUp, given_numbers_are_distinct};
 pub use event_queue::{
     Additional, Call, IntoNotification, IntoTagged, Key, List, ListenError, Notification, Notify,
-    NotifyError, RegisterResult, Relaxed, Reply, State, Steps, Tag, TagWith, WakeSink, Woken,
-    additional_clone_means_the_same, additional_twice_means_once, equal_keys,
+    NotifyError, RegisterResult, Relaxed, Reply, State, Steps, Tag, TagWith, TaskExchange,
+    WakeSink, Woken, additional_clone_means_the_same, additional_twice_means_once, equal_keys,
     notification_is_its_own_conversion, notify_clone_means_the_same, relaxed_changes_no_meaning,
     relaxed_clone_means_the_same, tag_clone_has_both_clones, woken_keeps_the_first,
 };
+#[doc(hidden)]
+pub use event_queue::{Notice, TagList};
 pub use listener::{
     EventListener, Listener, NeverInserted, StackListener, StackSlot, WaitError, WaitReason,
 };

@@ -1,5 +1,4 @@
 //! What a notification wakes.
-ghost use Rattle.std.specs.Prelude.{◌≡◌};
 
 mod parker;
 mod waker_exchange;

@@ -15,7 +15,7 @@ fn ends_recorded<C: WaitClock, R: Runtime>(
     wait: WaitCall,
     limit: Duration,
 ) -> Hand<u32> {
-    let waiter = Waiter::listen(clock, rt.alloc(), event, hand).expect(rt, "a listener");
+    let waiter = Waiter::listen(clock, event, hand).expect(rt, "a listener");
     let (answer, hand) = waiter.wait(rt, wait, limit);
     check(rt, ("recorded", wait), answer, Ok(None));
     hand

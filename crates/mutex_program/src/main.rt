@@ -1,4 +1,4 @@
-//! Ten threads each lock a counter and add 1. Prints `Done!` once all have ended.
+//! Ten threads each lock a counter and add 1. Prints `Done!` once all have ended and the counter stands at ten.
 #![tactic(auto)]
 
 use event_listener::EventIds;
@@ -7,11 +7,21 @@ use std::process::ExitCode;
 
 const THREADS: usize = 10;
 
+// What they count to.
+const WANTED: u64 = 10;
+
 fn main(rt: HostRuntime) -> ExitCode {
     let id = EventIds::new().next().unwrap();
-    if let Err(error) = count(rt, rt.alloc(), id, THREADS) {
-        let _ = rt.eprintln(error);
-        return ExitCode::FAILURE;
+    match count(rt, rt.alloc(), id, THREADS) {
+        Ok(WANTED) => {}
+        Ok(counted) => {
+            let _ = eprintln!(rt; "the counter stands at {counted}");
+            return ExitCode::FAILURE;
+        }
+        Err(error) => {
+            let _ = rt.eprintln(error);
+            return ExitCode::FAILURE;
+        }
     }
     match rt.println("Done!") {
         Ok(()) => ExitCode::SUCCESS,

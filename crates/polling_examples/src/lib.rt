@@ -3,5 +3,6 @@
 
 #[cfg(test)]
 mod checks;
+pub mod desk;
 pub mod polled;
 pub mod relayed;

@@ -24,7 +24,7 @@ fn wakes_once_told<R: Runtime>(rt: &R, is_first: bool) {
     let (event, one, other) = made.expect(rt, "an event");
     let (waiting, mut telling) = if is_first { (one, other) } else { (other, one) };
     let task = new_task(rt);
-    let listening = Waiter::listen(rt, rt.alloc(), &event, waiting);
+    let listening = Waiter::listen(rt, &event, waiting);
     let mut waiter = listening.expect(rt, "a listener");
     gives(rt, &task, &mut waiter, Poll::Pending);
     gives(rt, &task, &mut waiter, Poll::Pending);

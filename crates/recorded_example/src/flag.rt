@@ -57,7 +57,7 @@ impl RecordedFlag {
     }
 
     /// Returns once the flag is set.
-    pub fn wait<R>(&self, rt: &R, alloc: Global, hand: &mut Hand<()>) -> Result<(), RecordError>
+    pub fn wait<R>(&self, rt: &R, hand: &mut Hand<()>) -> Result<(), RecordError>
     where
         R: Wait + Clock + Clone,
         requires { Owns self.now hand.old }
@@ -67,7 +67,7 @@ impl RecordedFlag {
             if self.is_set() {
                 return Ok(());
             }
-            let listener = self.set.listen(rt, alloc, hand)?;
+            let listener = self.set.listen(rt, hand)?;
             // A notification that came before the listener was in the queue does not tell it, so look again. The drop of
             // a listener is recorded as nobody's call.
             if self.is_set() {

@@ -34,12 +34,12 @@ where
 {
     let (flag, hands) = RecordedFlag::new(alloc, id, hands)?;
     // Where no thread can be made, the first hand is the first that runs, so nobody waits for it in vain.
-    let hands = thread::map_vec(rt, hands, &|hand| take_part(rt, alloc, &flag, hand))?;
+    let hands = thread::map_vec(rt, hands, &|hand| take_part(rt, &flag, hand))?;
     Ok(flag.close(hands)?)
 }
 
 // What the thread of a hand does. It gives the hand back. One that is refused memory does not wait.
-fn take_part<R>(rt: &R, alloc: Global, flag: &RecordedFlag, hand: Hand<()>) -> Hand<()>
+fn take_part<R>(rt: &R, flag: &RecordedFlag, hand: Hand<()>) -> Hand<()>
 where
     R: Wait + Clock + Clone,
     requires { Owns flag.now hand }
@@ -54,7 +54,7 @@ where
             }
         }
     } else {
-        let _ = flag.wait(rt, alloc, &mut hand);
+        let _ = flag.wait(rt, &mut hand);
     }
     hand
 }

@@ -7,7 +7,6 @@ use event_listener::{
     Hand, RecordError, RecordedEvent, RecordedListener, RecordedPollError, WaitError,
 };
 use futures::task::{Poll, Waker};
-use std::alloc::AllocGlobal;
 use std::sync::Wait;
 use std::time::{Clock, Duration};
 
@@ -114,7 +113,7 @@ pub struct On<'ev, R> {
     pub event: &'ev RecordedEvent<u32>,
 }
 
-impl<'ev, R: AllocGlobal + Wait + Clock + Clone> Calls for On<'ev, R> {
+impl<'ev, R: Wait + Clock + Clone> Calls for On<'ev, R> {
     type Listener = OwnListener<'ev, R>;
 
     fn listen(&self, hand: &mut Hand<u32>) -> Result<OwnListener<'ev, R>, Refusal> {
@@ -122,7 +121,7 @@ impl<'ev, R: AllocGlobal + Wait + Clock + Clone> Calls for On<'ev, R> {
         if !event.owns(hand) {
             return Err(Refusal::NotItsHand);
         }
-        let listener = event.listen(self.rt, self.rt.alloc(), hand)?;
+        let listener = event.listen(self.rt, hand)?;
         Ok(OwnListener { event, listener })
     }
 

@@ -43,7 +43,7 @@ pub fn listen<'ev, R: Runtime>(
     event: &'ev RecordedEvent<u32>,
     hand: Hand<u32>,
 ) -> Waiter<'ev, R> {
-    Waiter::listen(rt, rt.alloc(), event, hand).expect(rt, "a listener")
+    Waiter::listen(rt, event, hand).expect(rt, "a listener")
 }
 
 /// Closes the event. The record has to agree with the notes of the hands, and to replay.

@@ -5,7 +5,6 @@ use crate::refusal::{Refusal, answered};
 use event_listener::{Hand, RecordedEvent, RecordedListener, RecordedPollError};
 use futures::Future;
 use futures::task::{Context, Poll, Waker};
-use std::alloc::Global;
 use std::sync::Wait;
 use std::time::{Clock, Duration};
 use test_support::{WaitCall, deadline_after};
@@ -27,14 +26,13 @@ impl<'ev, C: WaitClock> Waiter<'ev, C> {
     /// A new listener of this hand, which reads this clock.
     pub fn listen(
         clock: &C,
-        alloc: Global,
         event: &'ev RecordedEvent<u32>,
         mut hand: Hand<u32>,
     ) -> Result<Self, Refusal> {
         if !event.owns(&hand) {
             return Err(Refusal::NotItsHand);
         }
-        match event.listen(clock, alloc, &mut hand) {
+        match event.listen(clock, &mut hand) {
             Ok(listener) => Ok(Waiter { listener, hand }),
             Err(refusal) => Err(refusal.into()),
         }

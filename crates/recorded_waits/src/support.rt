@@ -36,7 +36,7 @@ pub fn listen<'ev, C: WaitClock, R: Runtime>(
     event: &'ev RecordedEvent<u32>,
     hand: Hand<u32>,
 ) -> Waiter<'ev, C> {
-    Waiter::listen(clock, rt.alloc(), event, hand).expect(rt, "a listener")
+    Waiter::listen(clock, event, hand).expect(rt, "a listener")
 }
 
 /// Notifies one listener with the tag 7. One has to be waiting, and none told.

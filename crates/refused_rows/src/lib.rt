@@ -8,6 +8,8 @@ mod counts;
 #[cfg(test)]
 mod drivers;
 #[cfg(test)]
+mod ends;
+#[cfg(test)]
 mod faults;
 #[cfg(test)]
 mod one_call;

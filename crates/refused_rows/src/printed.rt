@@ -3,10 +3,10 @@ use crate::captured::{Captured, Printed};
 use crate::counts::Counts;
 use crate::one_call::{Among, OneCall, Refusing, Stage};
 use crate::support::{Runtime, check, new_budget};
-use rows_events::WaitRow;
+use rows_events::{EventRow, IdentityRow, TagRow, WaitRow};
 use rows_queue::QueueRow;
 use rows_recorded::RecordedRow;
-use rows_worlds::FlagRow;
+use rows_worlds::{FlagRow, MutexRow};
 use std::cell::Cell;
 use std::process::Abort;
 use test_support::Budget;
@@ -101,8 +101,12 @@ fn each_refusal_is_printed<F: Row, R: Runtime>(rt: &R, least: usize) {
 #[test]
 fn a_row_that_meets_a_refusal_differs_and_the_others_go_on(rt: HostRuntime) {
     each_refusal_is_printed::<QueueRow, _>(&rt, 15);
+    each_refusal_is_printed::<EventRow, _>(&rt, 32);
+    each_refusal_is_printed::<IdentityRow, _>(&rt, 1);
+    each_refusal_is_printed::<TagRow, _>(&rt, 6);
     each_refusal_is_printed::<WaitRow, _>(&rt, 15);
     each_refusal_is_printed::<RecordedRow, _>(&rt, 10);
+    each_refusal_is_printed::<MutexRow, _>(&rt, 6);
     each_refusal_is_printed::<FlagRow, _>(&rt, 3);
 }
 
@@ -125,6 +129,6 @@ fn all_differ<F: Row, R: Runtime>(rt: &R, rows: usize) {
 
 #[test]
 fn rows_have_their_lines_without_memory(rt: HostRuntime) {
-    all_differ::<QueueRow, _>(&rt, 12);
+    all_differ::<QueueRow, _>(&rt, 16);
     all_differ::<FlagRow, _>(&rt, 3);
 }

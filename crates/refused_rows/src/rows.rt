@@ -1,6 +1,7 @@
 //! Each family of rows, by both drivers.
 use crate::counts::Counts;
 use crate::drivers::{refuse_each_request, starve_each_call};
+use crate::ends::EndRow;
 use crate::support::{Runtime, check};
 use rows_events::{EventRow, IdentityRow, TagRow, WaitRow};
 use rows_queue::QueueRow;
@@ -72,6 +73,13 @@ fn rows_on_a_recorded_event(rt: HostRuntime) {
     at_least(&rt, &counts, Request::Replay, 5);
 }
 
+// Two rows make room in advance: for three listeners, and for one.
+#[test]
+fn rows_of_no_family(rt: HostRuntime) {
+    let counts = refused::<EndRow, _>(&rt);
+    at_least(&rt, &counts, Request::Slot, 2);
+}
+
 #[test]
 fn rows_on_worlds(rt: HostRuntime) {
     let counts = refused::<MutexRow, _>(&rt);
@@ -102,4 +110,5 @@ fn calls_that_allocate_nothing(rt: HostRuntime) {
     starved::<MutexRow, _>(&rt, 26);
     starved::<FlagRow, _>(&rt, 10);
     starved::<SemaphoreRow, _>(&rt, 30);
+    starved::<EndRow, _>(&rt, 12);
 }

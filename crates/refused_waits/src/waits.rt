@@ -64,7 +64,7 @@ fn refused_after<R: Runtime>(rt: &R, budget: &mut Budget, trial: Trial) -> Optio
     let made = new_event_of_two(rt.alloc(), &mut EventIds::new());
     let (event, mut caller, mut other) = made.expect(rt, "an event");
     call(rt, &event, &mut other, trial.calls);
-    let waiter = Waiter::listen(rt, rt.alloc(), &event, other).expect(rt, "a listener");
+    let waiter = Waiter::listen(rt, &event, other).expect(rt, "a listener");
     budget
         .leave(trial.bytes)
         .expect(rt, "so much of the reserve");

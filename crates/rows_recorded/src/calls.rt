@@ -88,7 +88,7 @@ where
     R: Wait + Clock + Clone,
     H: Hook,
 {
-    let mut subject = RecordedSubject::new(harness.rt(), harness.alloc(), event, hands);
+    let mut subject = RecordedSubject::new(harness.rt(), event, hands);
     let mut calls = RecordedHarness::new(harness, &mut subject);
     row.make(&mut calls);
     subject.hands

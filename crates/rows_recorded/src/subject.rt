@@ -61,7 +61,6 @@ struct OwnListener<'ev, R: Wait + Clock + Clone> {
 #[derive(Drop)]
 struct OnEvent<'ev, R: Wait + Clock + Clone> {
     rt: &'ev R,
-    alloc: Global,
     event: &'ev RecordedEvent<u8>,
     listener: Option<OwnListener<'ev, R>>,
 }
@@ -71,7 +70,7 @@ impl<'ev, R: Wait + Clock + Clone> OnEvent<'ev, R> {
         requires { Owns self.old.event.now hand.old }
     {
         let event = self.event;
-        let listener = event.listen(self.rt, self.alloc, hand)?;
+        let listener = event.listen(self.rt, hand)?;
         self.listener = Some(OwnListener { event, listener });
         Ok(Some(Answer::Listener))
     }
@@ -144,15 +143,9 @@ pub struct RecordedSubject<'ev, R: Wait + Clock + Clone> {
 }
 
 impl<'ev, R: Wait + Clock + Clone> RecordedSubject<'ev, R> {
-    pub fn new(
-        rt: &'ev R,
-        alloc: Global,
-        event: &'ev RecordedEvent<u8>,
-        hands: Vec<Hand<u8>>,
-    ) -> Self {
+    pub fn new(rt: &'ev R, event: &'ev RecordedEvent<u8>, hands: Vec<Hand<u8>>) -> Self {
         let on = OnEvent {
             rt,
-            alloc,
             event,
             listener: None,
         };

@@ -1,5 +1,5 @@
 //! A listener's membership in the queue of its event.
-ghost use Rattle.std.specs.Prelude.{◌≡◌, ◌≢◌, true, false, Some, None};
+ghost use Rattle.std.specs.Prelude.{◌≡◌, ◌≢◌, true, false, None};
 ghost use Rattle.event_queue.specs.declared.reply.RegisterResult.TheVariants.{Registered, NeverInserted};
 ghost use Rattle.futures.specs.Task.{Covers, Keeps};
 ghost use Rattle.event_listener.specs.Waiting.{IsKept};

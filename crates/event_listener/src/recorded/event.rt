@@ -2,6 +2,7 @@
 ghost use Rattle.std.specs.Prelude.{◌≡◌, ◌↔◌, length, All, IsTrue, IsErrAnd, IfOk, IfErr};
 ghost use Rattle.event_listener.specs.Closing.{AreAllHands, are_hands_below, are_notes_of_all, entries_of_hands, notes_of_all};
 ghost use Rattle.event_listener.specs.Noting.{Owns, new_hands};
+ghost use Rattle.event_listener.specs.Recording.{HandlessAreEnds};
 ghost use Rattle.event_listener.specs.Replay.{replays};
 ghost use Rattle.event_listener.specs.RecordedCalls.{Listens, NotesNotify, NotesTotal, NotesIsNotified};
 
@@ -40,6 +41,7 @@ pub struct RecordedEvent<T: Copy + Eq> {
     id: EventId,
     hands: usize,
     state: Mutex<RecordedState<T>>,
+    alloc: Global,
 }
 
 impl<T: Copy + Eq> Model for RecordedEvent<T> {
@@ -51,7 +53,8 @@ impl<T: Copy + Eq> Model for RecordedEvent<T> {
 }
 
 impl<T: Copy + Eq> RecordedEvent<T> {
-    /// An event with so many hands, which have the numbers from 0 on, in order, and no notes. It owns each of them.
+    /// An event with so many hands, which have the numbers from 0 on, in order, and no notes. It owns each of them, and
+    /// keeps the allocator for the calls to come.
     ///
     /// Returns [`RecordError::Memory`] where memory for the hands is refused; the identity is used up then. It returns
     /// no other error. The call allocates the hands, and does not wait.
@@ -70,6 +73,7 @@ impl<T: Copy + Eq> RecordedEvent<T> {
             id,
             hands,
             state: Mutex::new(RecordedState::new(alloc)),
+            alloc,
         };
         Ok((event, made))
     }
@@ -77,6 +81,11 @@ impl<T: Copy + Eq> RecordedEvent<T> {
     // What stands under the lock.
     pub(super) fn state(&self) -> &Mutex<RecordedState<T>> {
         &self.state
+    }
+
+    // What its listeners allocate from.
+    pub(super) fn alloc(&self) -> Global {
+        self.alloc
     }
 
     /// Whether the hand is one of this event's: whether it has the event's number, and a number below the event's count
@@ -102,7 +111,6 @@ impl<T: Copy + Eq> RecordedEvent<T> {
     pub fn listen<R>(
         &self,
         rt: &R,
-        alloc: Global,
         hand: &mut Hand<T>,
     ) -> Result<RecordedListener<'_, T, R>, RecordError>
     where
@@ -116,9 +124,7 @@ impl<T: Copy + Eq> RecordedEvent<T> {
         };
         let reply = hand.make(rt, &self.state, StepCall::Listen)?;
         match reply {
-            RecordedReply::Listened(Ok(key)) => {
-                Ok(RecordedListener::new(self, key, runtime, alloc))
-            }
+            RecordedReply::Listened(Ok(key)) => { Ok(RecordedListener::new(self, key, runtime)) }
             RecordedReply::Listened(Err(ListenError::SerialsUsedUp)) => {
                 Err(RecordError::SerialsUsedUp)
             }
@@ -185,8 +191,8 @@ impl<T: Copy + Eq> RecordedEvent<T> {
     }
 
     /// Ends the event, and gives its record, which replays. In it stand the calls of each hand, each once, in its
-    /// order, with the replies that the hand was given, and besides them only entries of no hand, which are drops of
-    /// listeners.
+    /// order, with the replies that the hand was given. Each other entry is of no hand, and the end of a listener that
+    /// was dropped.
     ///
     /// Returns [`CloseError::HandsMissing`] exactly where the numbers of the hands are not all those below the event's
     /// count of hands, each once. Returns [`CloseError::Differs`] where the notes of some hand are not its entries.
@@ -202,12 +208,14 @@ impl<T: Copy + Eq> RecordedEvent<T> {
         ensures notes { IfOk result (λ entries. IsTrue (are_notes_of_all T.eq entries hands.items)) }
         ensures hands { IfOk result (λ entries. IsTrue (are_hands_below self.hands entries)) }
         ensures as_many { IfOk result (λ entries. length (entries_of_hands entries) ≡ notes_of_all hands.items) }
+        ensures ends { IfOk result (λ entries. HandlessAreEnds entries) }
         ensures replays { IfOk result (λ entries. IsTrue (replays T.eq entries)) }
     {
         let RecordedEvent {
             id: _,
             hands: count,
             state,
+            alloc: _,
         } = self;
         if !are_all_hands(hands.as_slice(), count) {
             return Err(CloseError::HandsMissing);

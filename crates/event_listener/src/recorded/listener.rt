@@ -14,7 +14,6 @@ use crate::locks::take_lock;
 use crate::task::{Task, Waking};
 use event_queue::{Key, RegisterResult};
 use futures::task::{Poll, Waker};
-use std::alloc::Global;
 use std::fmt;
 use std::marker::Model;
 use std::sync::Wait;
@@ -49,7 +48,6 @@ pub struct RecordedListener<'ev, T: Copy + Eq, R: Wait + Clock + Clone> {
     pub(super) event: &'ev RecordedEvent<T>,
     pub(super) key: Key,
     pub(super) runtime: R,
-    pub(super) alloc: Global,
 }
 
 impl<'ev, T: Copy + Eq, R: Wait + Clock + Clone> Model for RecordedListener<'ev, T, R> {
@@ -61,14 +59,13 @@ impl<'ev, T: Copy + Eq, R: Wait + Clock + Clone> Model for RecordedListener<'ev,
 }
 
 impl<'ev, T: Copy + Eq, R: Wait + Clock + Clone> RecordedListener<'ev, T, R> {
-    pub(super) fn new(event: &'ev RecordedEvent<T>, key: Key, runtime: R, alloc: Global) -> Self
+    pub(super) fn new(event: &'ev RecordedEvent<T>, key: Key, runtime: R) -> Self
         ensures { result ≡ record { event = event.now; key = key } }
     {
         RecordedListener {
             event,
             key,
             runtime,
-            alloc,
         }
     }
 
@@ -188,7 +185,6 @@ impl<'ev, T: Copy + Eq, R: Wait + Clock + Clone> RecordedListener<'ev, T, R> {
             event: _,
             key: _,
             runtime: _,
-            alloc: _,
         } = self;
     }
 }
@@ -199,7 +195,6 @@ impl<T: Copy + Eq, R: Wait + Clock + Clone> Drop for RecordedListener<'_, T, R> 
             event,
             key,
             runtime,
-            alloc: _,
         } = self;
         let mut waking = Waking::new(&runtime);
         take_lock(event.state(), &runtime).apply_end(key, &mut waking);

@@ -1,5 +1,6 @@
 //! The record of an event that was closed.
 ghost use Rattle.std.specs.Prelude.{◌≡◌, IfOk, IsTrue};
+ghost use Rattle.event_listener.specs.Recording.{HandlessAreEnds};
 ghost use Rattle.event_listener.specs.Replay.{replays};
 
 use super::entry::Entry;
@@ -8,7 +9,7 @@ use std::alloc::{AllocError, Global};
 use std::marker::Model;
 
 /// The record of a [`RecordedEvent`](crate::RecordedEvent) that was closed: every step of its queue, in order. It
-/// replays.
+/// replays, and each entry of no hand is the end of a listener that was dropped.
 #[derive(Drop)]
 pub struct Record<T: Copy + Eq> {
     entries: Vec<Entry<T>>,
@@ -17,19 +18,21 @@ pub struct Record<T: Copy + Eq> {
 impl<T: Copy + Eq> Model for Record<T> {
     ghost use Rattle.std.specs.Prelude.{List, IsTrue};
     ghost use Rattle.event_listener.specs.declared.recorded.entry.Entry.{Entry};
+    ghost use Rattle.event_listener.specs.Recording.{HandlessAreEnds};
     ghost use Rattle.event_listener.specs.Replay.{replays};
 
     ghost Value = { List (Entry T) };
 
     ghost view = { λ kept. kept.entries.items };
 
-    ghost invariant = { λ kept. IsTrue (replays T.eq kept.entries.items) };
+    ghost invariant = { λ kept. IsTrue (replays T.eq kept.entries.items) × HandlessAreEnds kept.entries.items };
 }
 
 impl<T: Copy + Eq> Record<T> {
-    // The record of these entries, which replay.
+    // The record of these entries, which replay, and of which each of no hand is the end of a listener.
     pub(super) fn new(entries: Vec<Entry<T>>) -> Self
-        requires { IsTrue (replays T.eq entries.items) }
+        requires replays { IsTrue (replays T.eq entries.items) }
+        requires ends { HandlessAreEnds entries.items }
         ensures { result ≡ entries.items }
     {
         Record { entries }
@@ -39,12 +42,14 @@ impl<T: Copy + Eq> Record<T> {
     pub fn entries(&self) -> &[Entry<T>]
         ensures value { result.now ≡ self.now }
         ensures replays { IsTrue (replays T.eq self.now) }
+        ensures ends { HandlessAreEnds self.now }
     {
         self.entries.as_slice()
     }
 
-    /// [`replays`](crate::replays) of the entries, which is `true`: the call makes every step anew, and takes as long.
-    /// It allocates; a refusal of that is its error. It does not wait.
+    /// Whether the entries replay, as [`replays`](crate::replays) finds it: the answer is always `true`, since the type
+    /// keeps that they do. No clause says that the call looks at them once more, which is all that it is for. It
+    /// allocates; a refusal of that is its error. It does not wait.
     pub fn replays(&self, alloc: Global) -> Result<bool, AllocError>
         ensures { IfOk result (λ answer. IsTrue answer) }
     {

@@ -1,11 +1,11 @@
 //! A queue with its record.
 ghost use Rattle.std.specs.Prelude.{◌≡◌, ◌+◌, ◌≤◌, true, [], ◌∷◌, ◌++◌, length, IsTrue, OnOk, OnErr, IfOk, IfErr, vec_len, vec_capacity};
 ghost use Rattle.std.specs.List.{FoldsTo};
-ghost use Rattle.event_queue.specs.Queue.{IsQueue, IsAbsent, listeners_of};
+ghost use Rattle.event_queue.specs.Queue.{IsQueue, IsAbsent};
 ghost use Rattle.event_queue.specs.Remove.{woken_by_removal};
 ghost use Rattle.event_listener.specs.RecordedStep.{StepsAnySpare, IsReplyTo, without_task, task_of, woken_by_call};
 ghost use Rattle.event_listener.specs.Replay.{ReplaysTo, replays};
-ghost use Rattle.event_listener.specs.Recording.{Ends};
+ghost use Rattle.event_listener.specs.Recording.{Ends, HandlessAreEnds};
 
 mod exchange;
 
@@ -21,7 +21,8 @@ use std::marker::Model;
 
 /// A queue and the record of every step that it made: what stands under the lock of a recorded event.
 ///
-/// The type keeps that the record replays to the queue, and room to record the end of each listener that stands in it.
+/// The type keeps that the record replays to the queue, that each entry of no hand is the end of a listener, and room to
+/// record the end of each listener that stands in the queue.
 /// Only [`apply`](RecordedState::apply), [`apply_end`](RecordedState::apply_end) and the polls of this crate change it;
 /// each makes one step of the queue and records it. No call takes a lock, and none waits unless its sink does. A contract
 /// sees a state as its entries and its queue, but for how much is spare.
@@ -137,6 +138,7 @@ impl<T: Copy + Eq> RecordedState<T> {
     pub fn entries(&self) -> &[Entry<T>]
         ensures value { result.now ≡ self.now.entries }
         ensures replays { ReplaysTo T.eq self.now.entries self.now.queue }
+        ensures ends { HandlessAreEnds self.now.entries }
     {
         self.entries.as_slice()
     }
@@ -149,11 +151,12 @@ impl<T: Copy + Eq> RecordedState<T> {
         self.list.total_listeners()
     }
 
-    /// The record alone, which replays. The call drops the queue with its tasks and tags, and neither allocates nor
+    /// The record alone, which replays, and of which each entry of no hand is the end of a listener. The call drops the queue with its tasks and tags, and neither allocates nor
     /// waits.
     pub(crate) fn into_entries(self) -> Vec<Entry<T>>
         ensures value { result.items ≡ self.entries }
         ensures replays { IsTrue (replays T.eq result.items) }
+        ensures ends { HandlessAreEnds result.items }
     {
         let RecordedState { list: _, entries } = self;
         entries

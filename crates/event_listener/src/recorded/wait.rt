@@ -85,7 +85,8 @@ pub(super) fn wait_within<'ev, T: Copy + Eq, R: Wait + Clock + Clone>(
 {
     let mut place = RecordedPlace { key: listener.key };
     let (rt, state) = (&listener.runtime, listener.event.state());
-    let outcome = wait_in(&mut place, rt, listener.alloc, state, hand, limit);
+    let alloc = listener.event.alloc();
+    let outcome = wait_in(&mut place, rt, alloc, state, hand, limit);
     match outcome {
         WaitOutcome::Refused => Err(WaitError::Memory(listener)),
         WaitOutcome::Told(tag) => {

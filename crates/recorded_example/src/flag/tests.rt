@@ -56,7 +56,7 @@ fn a_listener_that_is_dropped_stands_without_a_hand(rt: HostRuntime) {
         rt: &rt,
         flag: &flag,
     };
-    assert_eq!(rt; flag.wait(&late, rt.alloc(), &mut hands[0]), Ok(()));
+    assert_eq!(rt; flag.wait(&late, &mut hands[0]), Ok(()));
     let record = flag.close(hands).expect(&rt, "a record");
     let key = first_key(&rt, record.entries());
     let came = Entry {

@@ -1,5 +1,5 @@
 //! A queue as a record knows it, in two vectors.
-ghost use Rattle.std.specs.Prelude.{◌≡◌, ◌≤◌, ◌<◌, ◌^◌, ◌+◌, min, length, take, drop, map, ◌++◌, IfOk, OnOk, vec_len, vec_capacity};
+ghost use Rattle.std.specs.Prelude.{◌≡◌, ◌≤◌, ◌<◌, ◌+◌, min, length, take, drop, map, ◌++◌, IfOk, OnOk, vec_len, vec_capacity};
 ghost use Rattle.event_queue.specs.declared.notice.Notice.{Notice};
 ghost use Rattle.event_listener.specs.declared.recorded.call.RecordedCall.TheVariants.{Listen};
 ghost use Rattle.event_listener.specs.declared.recorded.reply.RecordedReply.TheVariants.{Listened};

@@ -23,7 +23,7 @@ invariant_of-self-2 g c =
     let as_many : listeners_of mid ≡ listeners_of c.self.inside.list = ap listeners_of c.reserve.ensures.listeners in
     let same : unspared mid ≡ unspared c.self.inside.list = ap unspared c.reserve.ensures.listeners in
     let replays = replays_same g.T.PartialEq.eq _ c.make_room.new.entries.items c.self.inside.list mid c.self.invariant.replays c.make_room.ensures.items same in
-    IsRecording-step g.T.PartialEq.eq g.met.T.Eq.laws _ _ mid new _ call c.recorded-recorded.result (task_of c.args.call) c.make_step-reply.result _ _ replays (with_no_spare mid c.reserve.ensures.queue) step (step_kind mid call _ _ new spare step) c.make_step-reply.ensures.queue c.recorded-recorded.ensures c.push_reserved.ensures.items (omega (arith, as_many, no_more_than_newcomers mid call _ _ new step, c.newcomers-newcomers.ensures.value, c.total_listeners-listeners.ensures.value, c.in_ok-make_room.ensures.room, c.push_reserved.ensures.len, c.push_reserved.ensures.capacity))
+    IsRecording-step g.T.PartialEq.eq g.met.T.Eq.laws _ _ mid new _ call c.recorded-recorded.result (task_of c.args.call) c.make_step-reply.result _ _ replays (with_no_spare mid c.reserve.ensures.queue) step (step_kind mid call _ _ new spare step) c.make_step-reply.ensures.queue (rw c.make_room.ensures.items c.self.invariant.ends) (λ none. absurd (cc)) c.recorded-recorded.ensures c.push_reserved.ensures.items (omega (arith, as_many, no_more_than_newcomers mid call _ _ new step, c.newcomers-newcomers.ensures.value, c.total_listeners-listeners.ensures.value, c.in_ok-make_room.ensures.room, c.push_reserved.ensures.len, c.push_reserved.ensures.capacity))
 
 pub returns-clause-kind : goal.returns-clause-kind
 returns-clause-kind g c =

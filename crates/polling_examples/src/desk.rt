@@ -1,0 +1,115 @@
+//! A desk that one at a time sits at: a guard that notifies in its drop, and a future that loops.
+
+#[cfg(test)]
+mod tests;
+
+use event_listener::{Event, EventId, EventListener, ListenError, Listener, NeverInserted};
+use futures::Future;
+use futures::task::{Context, Poll};
+use std::alloc::Global;
+use std::sync::Wait;
+use std::sync::atomic::{AtomicBool, Ordering};
+use std::time::Clock;
+use thiserror::Error;
+
+/// A desk that one at a time sits at.
+#[derive(Drop)]
+pub struct Desk {
+    is_taken: AtomicBool,
+    left: Event<()>,
+}
+
+impl Desk {
+    /// A desk at which nobody sits.
+    pub fn new(id: EventId) -> Self {
+        Desk {
+            is_taken: AtomicBool::new(false),
+            left: Event::new(id),
+        }
+    }
+
+    /// The seat, if nobody has it.
+    pub fn try_sit<'a, R: Wait>(&'a self, rt: &'a R) -> Option<Seat<'a, R>> {
+        if self.is_taken.swap(true, Ordering::SeqCst) {
+            return None;
+        }
+        Some(Seat { desk: self, rt })
+    }
+
+    /// The seat once it is free, as a future.
+    pub fn sit<'a, R: Wait + Clock + Clone>(&'a self, rt: &'a R, alloc: Global) -> Sitting<'a, R> {
+        Sitting {
+            desk: self,
+            rt,
+            alloc,
+            listener: None,
+        }
+    }
+}
+
+/// The seat at a desk. Dropping it frees the desk, and then notifies one listener.
+///
+/// It keeps the runtime value for its drop, which may wait for the lock of the event.
+pub struct Seat<'a, R: Wait> {
+    desk: &'a Desk,
+    rt: &'a R,
+}
+
+impl<R: Wait> Drop for Seat<'_, R> {
+    fn drop(self) {
+        let Seat { desk, rt } = self;
+        // Whoever the notification tells is to find the desk free.
+        desk.is_taken.store(false, Ordering::SeqCst);
+        desk.left.notify_relaxed(rt, 1);
+    }
+}
+
+/// The seat at a desk, as a future. Once it has given the seat, or an error, it may be polled for another.
+///
+/// Dropping it gives up. Its listener is dropped with it, and passes its notification on if it was told.
+#[derive(Drop)]
+pub struct Sitting<'a, R: Wait + Clock + Clone> {
+    desk: &'a Desk,
+    rt: &'a R,
+    alloc: Global,
+    listener: Option<EventListener<(), R>>,
+}
+
+impl<'a, R: Wait + Clock + Clone> Future for Sitting<'a, R> {
+    type Output = Result<Seat<'a, R>, SitError>;
+
+    fn poll(&mut self, cx: &mut Context<'_>) -> Poll<Result<Seat<'a, R>, SitError>> {
+        let rt = self.rt;
+        for _ in rt.forever() {
+            if let Some(seat) = self.desk.try_sit(rt) {
+                self.listener = None;
+                return Poll::Ready(Ok(seat));
+            }
+            match self.listener.take() {
+                // A seat that was left before the listener was in the queue did not tell it, so try again.
+                None => match self.desk.left.listen(rt, self.alloc) {
+                    Ok(listener) => self.listener = Some(listener),
+                    Err(refused) => return Poll::Ready(Err(SitError::Listen(refused))),
+                },
+                Some(mut listener) => match listener.poll_in(cx) {
+                    Ok(Poll::Ready(())) => {}
+                    Ok(Poll::Pending) => {
+                        self.listener = Some(listener);
+                        return Poll::Pending;
+                    }
+                    Err(gone) => return Poll::Ready(Err(SitError::NeverInserted(gone))),
+                },
+            }
+        }
+        unreachable!()
+    }
+}
+
+/// Why there is no seat.
+#[derive(Clone, Copy, Debug, PartialEq, Eq, Error)]
+pub enum SitError {
+    #[error("{0}")]
+    Listen(#[from] ListenError),
+    #[error("{0}")]
+    NeverInserted(#[from] NeverInserted),
+}
