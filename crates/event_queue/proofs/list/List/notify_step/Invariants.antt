@@ -3,7 +3,8 @@ use Rattle.event_queue.proofs.NotifyLemmas.{ToldSoFar}
 use Rattle.event_queue.proofs.list.List.notify_step.Given as goal
 
 abbrev pub invariant-loop-told : goal.invariant-loop-told
-invariant-loop-told g l =
-    ToldSoFar g.N.Notification.tag_gives g.N.Notification.can_tag g.S.WakeSink.woke l.additional l.initial.self l.initial.n l.initial.sink l.told l.self l.n l.sink
-    × (l.steps.visits ≡ l.initial.steps.visits + l.told)
-    × (l.steps.looks ≡ l.initial.steps.looks)
+invariant-loop-told g l = record {
+  told : ToldSoFar g.N.Notification.tag_gives g.N.Notification.can_tag g.S.WakeSink.woke l.additional l.initial.self l.initial.n l.initial.sink l.told l.self l.n l.sink;
+  visits : l.steps.visits ≡ l.initial.steps.visits + l.told;
+  looks : l.steps.looks ≡ l.initial.steps.looks;
+}
