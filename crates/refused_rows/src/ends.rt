@@ -150,7 +150,7 @@ impl Subject for Ends {
 }
 
 // A queue whose first listener gets that serial.
-fn ends(alloc: Global, first_serial: u64) -> Ends {
+fn new_ends(alloc: Global, first_serial: u64) -> Ends {
     Ends {
         alloc,
         list: List::starting_at(alloc, first_serial),
@@ -159,7 +159,7 @@ fn ends(alloc: Global, first_serial: u64) -> Ends {
 }
 
 fn room_for_three<R: Wait, H: Hook>(harness: &mut Harness<'_, R, H>) {
-    let mut ends = ends(harness.alloc(), 0);
+    let mut ends = new_ends(harness.alloc(), 0);
     harness.make(&mut ends, EndCall::Reserve(3), EndAnswer::Granted);
     let spare = ends.list.spare();
     harness.compare(spare >= 3, true);
@@ -170,7 +170,7 @@ fn room_for_three<R: Wait, H: Hook>(harness: &mut Harness<'_, R, H>) {
 }
 
 fn serials_used_up<R: Wait, H: Hook>(harness: &mut Harness<'_, R, H>) {
-    let mut ends = ends(harness.alloc(), u64::MAX);
+    let mut ends = new_ends(harness.alloc(), u64::MAX);
     harness.make(&mut ends, EndCall::Insert, EndAnswer::SerialsUsedUp);
     harness.make(&mut ends, EndCall::Reserve(1), EndAnswer::Granted);
     let spare = ends.list.spare();
@@ -184,7 +184,7 @@ fn without_end<R: Wait, H: Hook>(harness: &mut Harness<'_, R, H>) {
         let none = harness.identity(&mut ids).err();
         harness.compare(none, Some(IdsUsedUp));
     }
-    let mut ends = ends(harness.alloc(), 0);
+    let mut ends = new_ends(harness.alloc(), 0);
     harness.make(&mut ends, EndCall::ReserveWithoutEnd, EndAnswer::TooMuch);
     harness.compare(ends.list.total_listeners(), 0);
     harness.make(&mut ends, EndCall::WorldWithoutEnd, EndAnswer::TooMuch);
