@@ -1,6 +1,6 @@
 //! Lists of calls, one after another.
 use anyhow::Result;
-use drawing::{Comparison, Request, Shown, Started, shorten};
+use random_calls::{Comparison, Request, Shown, Started, shorten};
 use fuzz_events::{self, Events, Runtime};
 use fuzz_queue::{self, Queues};
 use std::alloc::Global;

@@ -4,7 +4,7 @@
 mod lists;
 
 use anyhow::Result;
-use drawing::Request;
+use random_calls::Request;
 use lists::try_lists;
 use std::process::ExitCode;
 

@@ -5,13 +5,13 @@ mod event;
 mod recorded;
 
 use anyhow::{Result, anyhow};
-use drawing::{Comparison, Difference};
+use random_calls::{Comparison, Difference};
 use event::EventSubject;
 use event_listener::{Event, EventIds, Hand, RecordedEvent};
 pub use fuzz_subjects::{Drawn, Runtime, draw_list};
 use fuzz_subjects::{Made, QueueSubject, run};
 use recorded::RecordedSubject;
-use recorded_support::{Calls, On, close, new_event};
+use test_support::recorded::{Calls, On, close, new_event};
 use test_support::{Borrowing, ListenerKind, Sharing};
 
 const HANDS: usize = 3;

@@ -3,7 +3,7 @@ use anyhow::{Result, bail};
 use event_listener::Hand;
 use futures::task::Poll;
 use fuzz_subjects::{Answer, Drawn, Runtime, Subject, Wakes, listener_at, take};
-use recorded_support::{Calls, Refusal};
+use test_support::recorded::{Calls, Refusal};
 use std::time::Duration;
 
 /// A recorded event, whose hands take turns.

@@ -7,7 +7,7 @@ mod draw;
 use anyhow::Result;
 use both::Both;
 pub use draw::{Drawn, DrawnKey, Part, draw_list};
-use drawing::{Comparison, Difference};
+use random_calls::{Comparison, Difference};
 use std::alloc::Global;
 
 /// A `List` and a `PlainQueue`.

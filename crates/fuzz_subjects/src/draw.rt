@@ -1,6 +1,6 @@
 //! Lists of calls on an event.
 use anyhow::Result;
-use drawing::Draws;
+use random_calls::Draws;
 use std::alloc::Global;
 
 const CALLS: u32 = 50;

@@ -1,7 +1,7 @@
 //! Counts at their ends.
 use crate::support::{Runtime, check, new_recorded};
 use event_listener::{EventIds, Hand};
-use recorded_support::{Calls, On};
+use test_support::recorded::{Calls, On};
 
 const COUNTS: [usize; 4] = [0, 1, usize::MAX - 1, usize::MAX];
 

@@ -1,7 +1,7 @@
 //! Hands without end, and none.
 use crate::support::{Runtime, check, new_recorded};
 use event_listener::{EventIds, RecordError, RecordedEvent};
-use recorded_waiters::close;
+use test_support::waiters::close;
 
 fn has_no_hands<R: Runtime>(rt: &R, ids: &mut EventIds, hands: usize) {
     let id = ids.next().expect(rt, "an identity");

@@ -29,5 +29,5 @@ pub fn new_recorded<R: Runtime>(
     ids: &mut EventIds,
     hands: usize,
 ) -> (RecordedEvent<u32>, Vec<Hand<u32>>) {
-    recorded_waiters::new_event(rt.alloc(), ids, hands).expect(rt, "an event")
+    test_support::waiters::new_event(rt.alloc(), ids, hands).expect(rt, "an event")
 }

@@ -1,7 +1,7 @@
 //! Limits at their ends, and clocks that mislead.
 use crate::support::{Runtime, check, new_recorded};
 use event_listener::{EventIds, Hand, RecordedEvent};
-use recorded_waiters::{WaitClock, Waiter};
+use test_support::waiters::{WaitClock, Waiter};
 use std::cell::Cell;
 use std::time::Duration;
 use test_support::{BackwardClock, FailingClock, TIMED_WAITS, WaitCall};

@@ -3,9 +3,8 @@ use crate::support::{Runtime, check, is_woken, new_task};
 use event_listener::{EventIds, RecordedPollError, RegisterResult};
 use futures::task::Poll;
 use futures::test::MockTask;
-use recorded_waiters::{
-    Waiter, close, first_key, listened, new_event_of_two, notify_one, registered,
-};
+use test_support::recorded::lines::{listened, registered};
+use test_support::waiters::{Waiter, close, first_key, new_event_of_two, notify_one};
 
 // A poll by this task gives this, and leaves the task woken or not.
 fn gives<R: Runtime>(

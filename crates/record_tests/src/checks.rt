@@ -1,6 +1,6 @@
 //! What ends a test. Each assertion stands here once, in a generic function, and is proved once.
 use event_listener::{CloseError, Hand, RecordedEvent};
-use recorded_support::close_and_count;
+use test_support::recorded::close_and_count;
 use std::alloc::AllocGlobal;
 use std::fmt::Debug;
 use std::process::Abort;
@@ -25,7 +25,7 @@ where
 
 /// A new event with so many hands. All events that this makes have one number.
 pub fn new_event<R: Runtime>(rt: &R, hands: usize) -> (RecordedEvent<u32>, Vec<Hand<u32>>) {
-    let made = recorded_support::new_event(rt.alloc(), hands);
+    let made = test_support::recorded::new_event(rt.alloc(), hands);
     made.expect(rt, "an event")
 }
 

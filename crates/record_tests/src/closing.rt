@@ -1,7 +1,7 @@
 //! Which hands an event is closed with, and which notes differ from its record.
 use crate::checks::{Runtime, check, closes, new_event};
 use event_listener::{CloseError, Hand, RecordedEvent};
-use recorded_support::{Calls, On, close};
+use test_support::recorded::{Calls, On, close};
 use std::mem;
 
 // A hand of that number, of an event of another source with the same number. It has noted nothing.

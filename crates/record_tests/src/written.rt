@@ -3,7 +3,7 @@ use crate::checks::{Runtime, check};
 use event_listener::{
     Entry, Former, Key, ListenError, Note, RecordedCall, RecordedReply, RegisterResult, replays,
 };
-use recorded_support::lines::{
+use test_support::recorded::lines::{
     asked as is_notified, counted as total, listened, notified, registered, removed,
 };
 

@@ -5,7 +5,7 @@ use crate::draw::{CALLS, Drawn, draw_list};
 use crate::seen::{KINDS, Seen, kind};
 use crate::subjects::{EventSubject, QueueSubject, RecordedSubject, Runtime, Subject};
 use event_listener::{Event, EventIds, Hand, RecordedEvent};
-use recorded_support::{Calls, On, close, new_event};
+use test_support::recorded::{Calls, On, close, new_event};
 use std::fmt::Debug;
 use std::process::Abort;
 use test_support::{Borrowing, ListenerKind, Sharing};

@@ -24,7 +24,7 @@ where
 
 /// A new event with so many hands. All events that this makes have one number.
 pub fn new_event<R: Runtime>(rt: &R, hands: usize) -> (RecordedEvent<u32>, Vec<Hand<u32>>) {
-    let made = recorded_support::new_event(rt.alloc(), hands);
+    let made = test_support::recorded::new_event(rt.alloc(), hands);
     made.expect(rt, "an event")
 }
 
@@ -34,6 +34,6 @@ pub fn close<R: Abort>(
     event: RecordedEvent<u32>,
     hands: Vec<Hand<u32>>,
 ) -> Result<Record<u32>, CloseError> {
-    let answer = recorded_support::close(event, hands);
+    let answer = test_support::recorded::close(event, hands);
     answer.expect(rt, "hands of the event")
 }

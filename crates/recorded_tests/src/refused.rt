@@ -7,7 +7,7 @@ use crate::script::{Script, Steps, made, record_of};
 use event_listener::{EventIds, Hand, RecordError, RecordedEvent};
 use futures::task::Poll;
 use futures::test::MockTask;
-use recorded_support::{Calls, On, Refusal, close_and_count};
+use test_support::recorded::{Calls, On, Refusal, close_and_count};
 use std::fmt::Debug;
 use std::process::Abort;
 use test_support::{Hog, waker_of};

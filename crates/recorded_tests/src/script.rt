@@ -2,7 +2,7 @@
 use crate::checks::{Runtime, check, close, new_event};
 use event_listener::{Hand, Record, RecordedEvent};
 use futures::task::{Poll, Waker};
-use recorded_support::{Calls, On, Refusal};
+use test_support::recorded::{Calls, On, Refusal};
 use test_support::any_waker;
 
 /// The calls on one event, by its two hands. Each ends the test where its answer is another.

@@ -3,7 +3,7 @@ use crate::checks::{Runtime, check};
 use crate::script::{Script, Steps, record_of};
 use event_listener::{Entry, Former, Key, Note, RecordedReply, RegisterResult};
 use futures::task::Poll;
-use recorded_support::{Calls, Refusal, lines};
+use test_support::recorded::{Calls, Refusal, lines};
 use std::process::Abort;
 
 // The entries of a record, read one after another. Each call ends the test where the next entry is another.

@@ -2,7 +2,7 @@
 use crate::support::{Runtime, SharedRuntime, check, close, close_with, listen, new_event_of_two};
 use event_listener::{Entry, EventIds, Hand, RecordedEvent};
 use futures::task::Poll;
-use recorded_waiters::{Waiter, new_event, notify_one};
+use test_support::waiters::{Waiter, new_event, notify_one};
 use std::thread;
 use std::time::Duration;
 use test_support::{WaitCall, any_waker};

@@ -3,7 +3,7 @@ use crate::support::{SharedRuntime, check, close_with, listen, new_event_of_two}
 use event_listener::{
     Entry, EventIds, Former, Hand, Key, RecordedCall, RecordedEvent, RecordedReply,
 };
-use recorded_waiters::{Waiter, first_key, notify_one};
+use test_support::waiters::{Waiter, first_key, notify_one};
 use std::fmt::Debug;
 use std::sync::atomic::{AtomicUsize, Ordering};
 use std::thread;

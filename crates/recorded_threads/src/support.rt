@@ -1,6 +1,6 @@
 //! What ends a test, and the calls that have to succeed.
 use event_listener::{EventIds, Hand, Record, RecordedEvent};
-use recorded_waiters::{self, Waiter};
+use test_support::waiters::{self, Waiter};
 use std::alloc::AllocGlobal;
 use std::fmt::Debug;
 use std::process::Abort;
@@ -34,7 +34,7 @@ pub fn new_event_of_two<R: Runtime>(
     rt: &R,
     ids: &mut EventIds,
 ) -> (RecordedEvent<u32>, Hand<u32>, Hand<u32>) {
-    recorded_waiters::new_event_of_two(rt.alloc(), ids).expect(rt, "an event")
+    test_support::waiters::new_event_of_two(rt.alloc(), ids).expect(rt, "an event")
 }
 
 /// A new listener of this hand.
@@ -48,7 +48,7 @@ pub fn listen<'ev, R: Runtime>(
 
 /// Closes the event. The record has to agree with the notes of the hands, and to replay.
 pub fn close<R: Runtime>(rt: &R, event: RecordedEvent<u32>, hands: Vec<Hand<u32>>) -> Record<u32> {
-    recorded_waiters::close(rt.alloc(), event, hands).expect(rt, "a record")
+    test_support::waiters::close(rt.alloc(), event, hands).expect(rt, "a record")
 }
 
 /// Closes an event of two hands.

@@ -1,8 +1,9 @@
 //! Waits that end at their limits.
 use crate::support::{Runtime, check, close, first_key, listen, new_event_of_two, noted, waits};
 use event_listener::{Former, Hand, RegisterResult};
-use recorded_waiters::{Waiter, listened, registered, removed};
 use std::time::{Duration, Instant};
+use test_support::recorded::lines::{listened, registered, removed};
+use test_support::waiters::Waiter;
 use test_support::{NoClock, TIMED_WAITS, WaitCall};
 
 fn short() -> Duration {

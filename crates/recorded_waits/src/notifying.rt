@@ -1,12 +1,13 @@
 //! Waits of a listener whose clock notifies.
 use crate::support::{Runtime, check, close, first_key, listen, new_event_of_two, noted, waits};
 use event_listener::{Former, Hand, Key, Note, RecordedEvent, RegisterResult};
-use recorded_waiters::{listened, notify_one, registered, removed};
 use std::alloc::AllocError;
 use std::cell::Cell;
 use std::io;
 use std::sync::Wait;
 use std::time::{Clock, Duration, Instant};
+use test_support::recorded::lines::{listened, registered, removed};
+use test_support::waiters::notify_one;
 use test_support::{TIMED_WAITS, WaitCall};
 
 // A runtime that notifies the event of one, with the tag 7, at each reading of its clock but the first few.

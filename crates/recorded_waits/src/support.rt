@@ -1,6 +1,5 @@
 //! What ends a test, and the calls that have to succeed.
 use event_listener::{EventIds, Hand, Key, Note, Record, RecordedEvent};
-use recorded_waiters::{self, Refusal, WaitClock, Waiter, notify_one};
 use std::alloc::AllocGlobal;
 use std::fmt::Debug;
 use std::process::Abort;
@@ -8,6 +7,8 @@ use std::random::RandomSource;
 use std::sync::Wait;
 use std::time::{Clock, Duration};
 use test_support::WaitCall;
+use test_support::recorded::Refusal;
+use test_support::waiters::{self, WaitClock, Waiter, notify_one};
 
 /// What the tests ask of the runtime value of the test.
 pub trait Runtime: Abort + AllocGlobal + RandomSource + Wait + Clock + Clone {}
@@ -26,7 +27,7 @@ where
 
 /// A new event with two hands.
 pub fn new_event_of_two<R: Runtime>(rt: &R) -> (RecordedEvent<u32>, Hand<u32>, Hand<u32>) {
-    recorded_waiters::new_event_of_two(rt.alloc(), &mut EventIds::new()).expect(rt, "an event")
+    test_support::waiters::new_event_of_two(rt.alloc(), &mut EventIds::new()).expect(rt, "an event")
 }
 
 /// A new listener of this hand, which reads this clock.
@@ -59,7 +60,7 @@ pub fn waits<C: WaitClock, R: Runtime>(
 
 /// The key of the listener that this hand made as its first call.
 pub fn first_key<R: Runtime>(rt: &R, hand: &Hand<u32>) -> Key {
-    recorded_waiters::first_key(hand).expect(rt, "a listening")
+    test_support::waiters::first_key(hand).expect(rt, "a listening")
 }
 
 /// The hand took these notes.
@@ -75,5 +76,5 @@ pub fn close<R: Runtime>(
     other: Hand<u32>,
 ) -> Record<u32> {
     let hands = Vec::from_array(rt.alloc(), [one, other]).expect(rt, "room for two");
-    recorded_waiters::close(rt.alloc(), event, hands).expect(rt, "a record")
+    test_support::waiters::close(rt.alloc(), event, hands).expect(rt, "a record")
 }

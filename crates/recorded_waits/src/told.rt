@@ -4,8 +4,10 @@ use crate::support::{
 };
 use event_listener::RegisterResult;
 use futures::task::Poll;
-use recorded_waiters::{Refusal, WaitClock, Waiter, listened, registered};
 use std::time::Duration;
+use test_support::recorded::Refusal;
+use test_support::recorded::lines::{listened, registered};
+use test_support::waiters::{WaitClock, Waiter};
 use test_support::{NoClock, WaitCall, any_waker};
 
 // All waits that are tried.

@@ -1,4 +1,4 @@
-use worked_rows::Request;
+use rows_harness::Request;
 
 /// How often each request was refused.
 #[derive(Clone, Copy, Debug)]

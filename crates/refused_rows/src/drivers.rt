@@ -3,7 +3,7 @@ use crate::counts::Counts;
 use crate::one_call::{Among, Fault, OneCall, Refusing, Stage};
 use crate::support::{Runtime, new_budget};
 use test_support::Budget;
-use worked_rows::{Row, run_in_task};
+use rows_harness::{Row, run_in_task};
 
 // More calls than a row makes.
 const MOST_CALLS: usize = 500;

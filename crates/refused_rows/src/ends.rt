@@ -4,7 +4,7 @@ use event_worlds::MutexWorld;
 use std::alloc::Global;
 use std::sync::Wait;
 use std::time::Clock;
-use worked_rows::{Harness, Hook, Refusal, Request, Row, Subject, Wakers};
+use rows_harness::{Harness, Hook, Refusal, Request, Row, Subject, Wakers};
 
 /// A row of no family.
 #[derive(Clone, Copy)]

@@ -5,7 +5,7 @@ use crate::support::check;
 use std::alloc::{AllocError, Global};
 use std::sync::Wait;
 use std::time::Clock;
-use worked_rows::{Harness, Hook, Refusal, Request, Row, Subject, Wakers};
+use rows_harness::{Harness, Hook, Refusal, Request, Row, Subject, Wakers};
 
 // A row of one call, which takes two blocks.
 #[derive(Clone, Copy, PartialEq, Eq)]

@@ -10,7 +10,7 @@ use rows_worlds::{FlagRow, MutexRow};
 use std::cell::Cell;
 use std::process::Abort;
 use test_support::Budget;
-use worked_rows::{Row, Undisturbed, print_rows};
+use rows_harness::{Row, Undisturbed, print_rows};
 
 // More than is printed of a family.
 const ROOM: usize = 4096;

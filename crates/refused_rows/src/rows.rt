@@ -8,7 +8,7 @@ use rows_queue::QueueRow;
 use rows_recorded::RecordedRow;
 use rows_worlds::{FlagRow, MutexRow, SemaphoreRow};
 use std::process::Abort;
-use worked_rows::{Request, Row};
+use rows_harness::{Request, Row};
 
 // The counts of the first driver, which found nothing wrong.
 fn refused<F: Row, R: Runtime>(rt: &R) -> Counts {

@@ -1,12 +1,13 @@
 //! Waits that are refused memory for what the thread parks on, or for one of their steps: the notes of the steps that
 //! were made stay.
 use event_listener::{EventIds, Hand, Note, Record, RecordedEvent, RecordedReply, RegisterResult};
-use recorded_waiters::{Refusal, Waiter, new_event_of_two, notify_one};
 use std::alloc::AllocGlobal;
 use std::fmt::Debug;
 use std::process::Abort;
 use std::sync::Wait;
 use std::time::{Clock, Duration};
+use test_support::recorded::Refusal;
+use test_support::waiters::{Waiter, new_event_of_two, notify_one};
 use test_support::{Budget, TIMED_WAITS, WaitCall};
 
 /// What the tests ask of the runtime value of the test.
@@ -56,7 +57,7 @@ fn close<R: Runtime>(
     other: Hand<u32>,
 ) -> Record<u32> {
     let hands = Vec::from_array(rt.alloc(), [one, other]).expect(rt, "room for two");
-    recorded_waiters::close(rt.alloc(), event, hands).expect(rt, "a record")
+    test_support::waiters::close(rt.alloc(), event, hands).expect(rt, "a record")
 }
 
 // Waits with so much memory, as a listener that nobody tells. Answers after how many steps it was refused, if it was.

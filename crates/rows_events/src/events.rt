@@ -2,9 +2,9 @@
 use event_listener::IntoNotification;
 use std::sync::Wait;
 use std::time::Clock;
-use worked_rows::EventAnswer::{Count, Dropped, Finished, Pending, Tag, Told};
-use worked_rows::EventCall::{Discard, IsNotified, Poll, Release, TotalListeners};
-use worked_rows::{EventCalls, Form, Harness, Hook, OnUntaggedEvent, Row, UntaggedCalls};
+use rows_harness::EventAnswer::{Count, Dropped, Finished, Pending, Tag, Told};
+use rows_harness::EventCall::{Discard, IsNotified, Poll, Release, TotalListeners};
+use rows_harness::{EventCalls, Form, Harness, Hook, OnUntaggedEvent, Row, UntaggedCalls};
 
 /// A row over one event without tags.
 #[derive(Clone, Copy)]

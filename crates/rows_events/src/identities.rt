@@ -2,9 +2,9 @@
 use event_listener::{Event, IdsUsedUp};
 use std::sync::Wait;
 use std::time::Clock;
-use worked_rows::EventAnswer::Same;
-use worked_rows::EventCall::SameEvent;
-use worked_rows::{EventCalls, Harness, Hook, OnEvent, Refusal, Row};
+use rows_harness::EventAnswer::Same;
+use rows_harness::EventCall::SameEvent;
+use rows_harness::{EventCalls, Harness, Hook, OnEvent, Refusal, Row};
 
 /// A row over identities.
 #[derive(Clone, Copy)]

@@ -2,9 +2,9 @@
 use event_listener::{IntoNotification, IntoTagged};
 use std::sync::Wait;
 use std::time::Clock;
-use worked_rows::EventAnswer::{Dropped, Tag};
-use worked_rows::EventCall::{Poll, Release};
-use worked_rows::{EventCalls, Harness, Hook, OnEvent, Row};
+use rows_harness::EventAnswer::{Dropped, Tag};
+use rows_harness::EventCall::{Poll, Release};
+use rows_harness::{EventCalls, Harness, Hook, OnEvent, Row};
 
 /// A row over an event with tags.
 #[derive(Clone, Copy)]

@@ -2,9 +2,9 @@
 use event_listener::{IntoNotification, IntoTagged};
 use std::sync::Wait;
 use std::time::{Clock, Duration, Instant};
-use worked_rows::EventAnswer::{Count, NoTag, Tag};
-use worked_rows::EventCall::TotalListeners;
-use worked_rows::{EventCall, EventCalls, Harness, Hook, Limit, OnEvent, Row};
+use rows_harness::EventAnswer::{Count, NoTag, Tag};
+use rows_harness::EventCall::TotalListeners;
+use rows_harness::{EventCall, EventCalls, Harness, Hook, Limit, OnEvent, Row};
 
 /// A row whose listeners wait.
 #[derive(Clone, Copy)]

@@ -3,7 +3,7 @@ use event_queue::{
     IntoNotification, IntoTagged, Key, List, ListenError, NotifyError, Reply, Woken,
 };
 use std::sync::Wait;
-use worked_rows::{Difference, Harness, Hook, Refusal, Request, Subject, Wakers};
+use rows_harness::{Difference, Harness, Hook, Refusal, Request, Subject, Wakers};
 
 /// What a row notifies its queue with, which says what the queue's tags are.
 pub trait Given: Copy {

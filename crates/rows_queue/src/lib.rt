@@ -15,7 +15,7 @@ use calls::{QueueCalls, QueueHarness, Tagged};
 use sink::woken_with_room;
 use std::sync::Wait;
 use std::time::Clock;
-use worked_rows::{Harness, Hook, Row};
+use rows_harness::{Harness, Hook, Row};
 
 /// A row over a queue, or over the numbers that notify it.
 #[derive(Clone, Copy)]

@@ -4,7 +4,7 @@ use crate::sink::woken_with_room;
 use event_queue::{Call, Key, List, ListenError, Reply, State, Woken};
 use std::alloc::AllocError;
 use std::sync::Wait;
-use worked_rows::{Difference, Harness, Hook, Refusal, Request};
+use rows_harness::{Difference, Harness, Hook, Refusal, Request};
 
 /// A queue, what runs on it answered, and their sink.
 #[derive(Drop)]

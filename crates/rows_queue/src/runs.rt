@@ -4,7 +4,7 @@ use crate::programs::Program;
 use crate::run::{Run, run_on_new};
 use event_queue::{Key, NotifyError, Reply, State};
 use std::sync::Wait;
-use worked_rows::{Difference, Harness, Hook};
+use rows_harness::{Difference, Harness, Hook};
 
 type Notified = Result<usize, NotifyError>;
 

@@ -4,7 +4,7 @@ use crate::subject::{Answer, Entries, HandCall};
 use event_listener::{CloseError, Entry, Former, RecordedCall, RecordedReply};
 use std::sync::Wait;
 use std::time::Clock;
-use worked_rows::{Difference, Harness, Hook};
+use rows_harness::{Difference, Harness, Hook};
 
 #[derive(Clone, Copy)]
 struct ReadByAnotherHand;

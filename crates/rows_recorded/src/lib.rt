@@ -8,7 +8,7 @@ mod written;
 
 use std::sync::Wait;
 use std::time::Clock;
-use worked_rows::{Harness, Hook, Row};
+use rows_harness::{Harness, Hook, Row};
 
 /// A row over a recorded event, or over a record.
 #[derive(Clone, Copy)]

@@ -10,7 +10,7 @@ use futures::task::Poll;
 use std::alloc::Global;
 use std::sync::Wait;
 use std::time::Clock;
-use worked_rows::{Refusal, Request, Subject, Wakers};
+use rows_harness::{Refusal, Request, Subject, Wakers};
 
 /// A call that a hand makes. A row has one listener.
 #[derive(Clone, Copy, PartialEq, Eq)]

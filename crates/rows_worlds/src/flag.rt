@@ -4,7 +4,7 @@ use crate::worlds::world_of;
 use event_worlds::{Act, FlagPlace, SetterPlace, Step};
 use std::sync::Wait;
 use std::time::Clock;
-use worked_rows::{Harness, Hook, Row};
+use rows_harness::{Harness, Hook, Row};
 
 /// A row over the world of a flag.
 #[derive(Clone, Copy)]

@@ -5,7 +5,7 @@ use event_worlds::Act::{Cancel, Go, Poll, TimeOut};
 use event_worlds::{Act, Place, Step};
 use std::sync::Wait;
 use std::time::Clock;
-use worked_rows::{Harness, Hook, Row};
+use rows_harness::{Harness, Hook, Row};
 
 /// A row over the world of a lock.
 #[derive(Clone, Copy)]

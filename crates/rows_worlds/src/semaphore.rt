@@ -5,7 +5,7 @@ use event_worlds::SemAct::{Cancel, Go, More};
 use event_worlds::{Place, SemAct, SemStep};
 use std::sync::Wait;
 use std::time::Clock;
-use worked_rows::{Harness, Hook, Row};
+use rows_harness::{Harness, Hook, Row};
 
 /// A row over the world of a semaphore.
 #[derive(Clone, Copy)]

@@ -3,7 +3,7 @@ use crate::worlds::Size;
 use event_worlds::{Place, SemStep, SemaphoreWorld};
 use std::alloc::{AllocError, Global};
 use std::sync::Wait;
-use worked_rows::{Difference, Harness, Hook};
+use rows_harness::{Difference, Harness, Hook};
 
 /// The calls of a row on its world. Each takes the answer that it must give.
 pub trait SemaphoreCalls {

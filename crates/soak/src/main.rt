@@ -7,7 +7,7 @@ mod rounds;
 mod watch;
 
 use anyhow::Result;
-use drawing::Request;
+use random_calls::Request;
 use std::process::ExitCode;
 use watch::{Ended, watch};
 

@@ -1,7 +1,7 @@
 //! One round: threads on one event and one recorded event, and what has to hold when all have ended.
 use crate::record::count_entries;
 use event_listener::{Event, EventIds, Hand, Record, RecordedEvent};
-use recorded_support::{On, close};
+use test_support::recorded::{On, close};
 use soak_players::{Counts, Fault, Played, Runtime, play};
 use std::alloc::Global;
 use std::sync::atomic::{AtomicU64, Ordering};

@@ -1,6 +1,6 @@
 //! Rounds, one after another.
 use crate::round::{SharedRuntime, play_round};
-use drawing::{Request, Started};
+use random_calls::{Request, Started};
 use soak_players::{Counts, Fault};
 use std::io::Print;
 use std::sync::atomic::{AtomicU64, Ordering};

@@ -2,7 +2,7 @@
 use crate::round::SharedRuntime;
 use crate::rounds::{Tally, play_rounds};
 use anyhow::{Result, bail};
-use drawing::Request;
+use random_calls::Request;
 use std::alloc::Global;
 use std::io::Print;
 use std::sync::Arc;

@@ -1,8 +1,8 @@
 //! Why a round is not as it has to be.
 use event_listener::{IdsUsedUp, ListenError, NotifyError, RecordError};
-use recorded_support::Refusal;
 use std::alloc::{AllocError, AllocFailed};
 use std::io;
+use test_support::recorded::Refusal;
 use thiserror::Error;
 
 /// Why a round is not as it has to be, or was not played to its end.

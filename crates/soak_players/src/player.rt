@@ -5,11 +5,11 @@ use crate::fault::Fault;
 use crate::recorded_crowd::RecordedCrowd;
 use crate::runtime::Runtime;
 use crate::step::{Crowd, draw_step};
-use drawing::Draws;
 use event_listener::{Event, Hand};
-use recorded_support::Calls;
+use random_calls::Draws;
 use std::sync::atomic::AtomicU64;
 use test_support::ListenerKind;
+use test_support::recorded::Calls;
 
 // How many steps a thread makes in a round.
 const STEPS: u32 = 300;

@@ -5,9 +5,9 @@ use crate::runtime::Runtime;
 use crate::step::{Crowd, Step, has_room, listener_at, take};
 use event_listener::Hand;
 use futures::task::Poll;
-use recorded_support::{Calls, Refusal};
 use std::time::Duration;
 use test_support::any_waker;
+use test_support::recorded::{Calls, Refusal};
 
 /// Listeners of a recorded event, and the hand that calls them.
 #[derive(Drop)]

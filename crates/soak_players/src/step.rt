@@ -1,7 +1,7 @@
 //! What a thread does next.
 use crate::counts::Counts;
 use crate::fault::Fault;
-use drawing::Draws;
+use random_calls::Draws;
 use std::time::Duration;
 
 /// What a thread does next with its listeners of one kind.

@@ -7,7 +7,9 @@ mod budget;
 mod clocks;
 mod hog;
 mod kinds;
+pub mod recorded;
 mod runtimes;
+pub mod waiters;
 mod waits;
 mod wakers;
 

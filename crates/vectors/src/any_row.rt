@@ -4,7 +4,7 @@ use rows_recorded::RecordedRow;
 use rows_worlds::{FlagRow, MutexRow, SemaphoreRow};
 use std::sync::Wait;
 use std::time::Clock;
-use worked_rows::{Harness, Hook, Row};
+use rows_harness::{Harness, Hook, Row};
 
 /// A row of any family.
 #[derive(Clone, Copy)]

@@ -9,7 +9,7 @@ mod any_row;
 use any_row::AnyRow;
 use std::io;
 use std::process::ExitCode;
-use worked_rows::{Undisturbed, print_rows};
+use rows_harness::{Undisturbed, print_rows};
 
 // The status of the program, by whether no row differs. Where a line could not be printed, that goes to the standard
 // error.

@@ -4,7 +4,7 @@ use crate::seen::Seen;
 use crate::wakes::Wakes;
 use event_listener::Hand;
 use futures::task::Poll;
-use recorded_support::{Calls, Refusal};
+use test_support::recorded::{Calls, Refusal};
 use std::process::Abort;
 
 /// A recorded event, whose hands take turns.

@@ -1,0 +1,92 @@
+//! Recorded events.
+use crate::error::BenchError;
+use crate::subject::{Subject, waker_of};
+use event_listener::{EventIds, Hand, ListenError, RecordedEvent};
+use futures::task::{Context, Poll};
+use std::alloc::{AllocGlobal, Global};
+use std::sync::Wait;
+use std::time::Clock;
+use test_support::recorded::{Calls, On, OwnListener, Refusal};
+
+/// A recorded event with the one hand that calls it.
+#[derive(Drop)]
+pub struct OnRecorded<'ev, R> {
+    event: On<'ev, R>,
+    hand: Hand<u32>,
+}
+
+impl<'ev, R> OnRecorded<'ev, R> {
+    pub fn new(rt: &'ev R, event: &'ev RecordedEvent<u32>, hand: Hand<u32>) -> Self {
+        OnRecorded {
+            event: On { rt, event },
+            hand,
+        }
+    }
+}
+
+impl<'ev, R: AllocGlobal + Wait + Clock + Clone> Subject for OnRecorded<'ev, R> {
+    type Listener = OwnListener<'ev, R>;
+
+    #[inline(always)]
+    fn listen(&mut self) -> Result<OwnListener<'ev, R>, ListenError> {
+        match self.event.listen(&mut self.hand) {
+            Ok(listener) => Ok(listener),
+            Err(Refusal::SerialsUsedUp) => Err(ListenError::SerialsUsedUp),
+            Err(_) => Err(ListenError::Memory),
+        }
+    }
+
+    #[inline(always)]
+    fn poll(&mut self, listener: &mut OwnListener<'ev, R>, cx: &mut Context<'_>) -> bool {
+        let Some(waker) = waker_of(cx) else {
+            return false;
+        };
+        let polled = self.event.poll(&mut self.hand, listener, waker);
+        matches!(polled, Ok(Poll::Ready(_)))
+    }
+
+    #[inline(always)]
+    fn notify(&mut self, count: usize) -> usize {
+        self.event
+            .notify(&mut self.hand, count, false, 0)
+            .unwrap_or(0)
+    }
+
+    #[inline(always)]
+    fn notify_relaxed(&mut self, count: usize) -> usize {
+        self.notify(count)
+    }
+
+    #[inline(always)]
+    fn leave(&mut self, listener: OwnListener<'ev, R>) {
+        drop(listener);
+    }
+
+    #[inline(always)]
+    fn is_notified(&mut self) -> bool {
+        self.event.is_notified(&mut self.hand).unwrap_or(false)
+    }
+
+    #[inline(always)]
+    fn total_listeners(&mut self) -> usize {
+        self.event.total_listeners(&mut self.hand).unwrap_or(0)
+    }
+}
+
+/// So many events, and the one hand of each, in order.
+pub fn recorded_events(
+    alloc: Global,
+    count: usize,
+) -> Result<(Vec<RecordedEvent<u32>>, Vec<Hand<u32>>), BenchError> {
+    let mut ids = EventIds::new();
+    let mut events = Vec::new(alloc);
+    let mut all_hands = Vec::new(alloc);
+    for _ in 0..count {
+        let (event, hands) = RecordedEvent::new(alloc, ids.next()?, 1)?;
+        events.push(event)?;
+        for hand in hands {
+            all_hands.push(hand)?;
+        }
+    }
+    Ok((events, all_hands))
+}
