@@ -12,6 +12,7 @@
 # check     proves every crate, without tests: what an edit changed takes seconds or minutes
 # refused   tries small programs that must not compile, and some that must: a minute or two
 # quoted    compares what the pages for callers quote with the sources: a second
+# api       writes the API page of each library, every public item with its clauses, from the sources: a second
 # explore   shows a run of a world: `make explore RUN='mutex 2: 0 Go 2, 1 Go 5'`, or lines on its input; it proves the
 #           program first, which takes minutes
 # fuzz      compares queue, events and records on drawn lists of calls: `make fuzz SECONDS=600 SEED=7`, from another seed
@@ -24,7 +25,7 @@
 #           scripts/bench says. It writes the tables of docs/BENCHMARKS.md: some ten minutes, and the proof of the program
 # diff      compares the queue with the Rust crate, where what that answers is at hand: `make diff ORACLE=FOLDER`, with
 #           a folder as crates/replies/README.md says
-.PHONY: run test edits prove vectors check refused quoted explore fuzz soak starved fmt bench diff
+.PHONY: run test edits prove vectors check refused quoted api explore fuzz soak starved fmt bench diff
 
 run:
 	@scripts/run
@@ -49,6 +50,9 @@ refused:
 
 quoted:
 	@scripts/quoted
+
+api:
+	@scripts/api
 
 explore:
 	@scripts/explore "$(RUN)"
