@@ -1,0 +1,34 @@
+//! What the tests share: the comparison of an answer, and memory that is taken. Each ends the test where it fails.
+use std::alloc::AllocGlobal;
+use std::fmt::Debug;
+use std::process::Abort;
+use std::random::RandomSource;
+use std::sync::Wait;
+use std::time::Clock;
+use test_support::{Budget, Hog};
+
+/// What the tests ask of a runtime value.
+pub trait Runtime: Abort + AllocGlobal + RandomSource + Wait + Clock + Clone {}
+
+impl<R: Abort + AllocGlobal + RandomSource + Wait + Clock + Clone> Runtime for R {}
+
+/// The answer is the expected one. Where it is not, the message has both, and what was asked. The assertion stands here
+/// once, in a generic function, and is proved once.
+pub fn check<A, V, R>(rt: &R, asked: A, answer: V, expected: V)
+where
+    A: Debug + Drop,
+    V: PartialEq + Debug + Drop,
+    R: Abort,
+{
+    assert_eq!(rt; answer, expected, "{asked:?}");
+}
+
+/// All memory.
+pub fn all_memory<R: Abort + AllocGlobal>(rt: &R) -> Hog {
+    Hog::new(rt.alloc()).expect(rt, "all memory")
+}
+
+/// All memory but a reserve, of which a test says how much is left.
+pub fn new_budget<R: Abort + AllocGlobal>(rt: &R) -> Budget {
+    Budget::new(rt.alloc()).expect(rt, "all memory but a reserve")
+}

@@ -1,0 +1,3 @@
+//! Queues while memory is refused.
+mod calls;
+mod room;

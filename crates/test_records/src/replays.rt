@@ -1,0 +1,3 @@
+//! Replays of records.
+mod long;
+mod written;
