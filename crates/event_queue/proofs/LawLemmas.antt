@@ -1,19 +1,22 @@
 -- What users rely on, from the steps: who is gone, in which order the others stand, and how many are told.
-use Rattle.std.proofs.Common.{◌≡◌, ◌+◌, ◌-◌, ◌≤◌, min, max, Bool, true, false, [], ◌∷◌, take, length, refl, sym, ap, ◌∙◌, subst, arith, Option, Some, None, IsSomeAnd, OnSome, length-take}
+use Rattle.std.proofs.Common.{◌≡◌, ◌+◌, ◌-◌, ◌≤◌, min, max, Bool, true, false, [], ◌∷◌, ◌++◌, take, length, refl, sym, ap, ◌∙◌, subst, arith, Option, Some, None, Result, Ok, Err, IfOk, IsSomeAnd, OnSome, length-take}
 use Rattle.std.specs.Map.{keys_of, lookup}
 use Rattle.std.proofs.lemmas.Map.Entries.{length-keys_of}
 use Rattle.event_queue.specs.declared.key.Key.{Key}
 use Rattle.event_queue.specs.declared.notice.Notice.{Notice}
+use Rattle.event_queue.specs.declared.reply.ListenError.{ListenError}
+use Rattle.event_queue.specs.declared.reply.ListenError.TheVariants.{Memory, SerialsUsedUp}
 use Rattle.event_queue.specs.declared.reply.RegisterResult.{RegisterResult}
 use Rattle.event_queue.specs.declared.reply.RegisterResult.TheVariants.{Notified, Registered, NeverInserted}
 use Rattle.event_queue.specs.declared.reply.State.{State}
 use Rattle.event_queue.specs.declared.reply.State.TheVariants.{Created, Notified as WasNotified, Task, Passed, Lost}
 use Rattle.event_queue.specs.Key.{is_key, without}
 use Rattle.event_queue.specs.Queue.{Queue, IsQueue, IsGone, IsToldAs, order_of, listeners_of, how_many, told_leaves}
+use Rattle.event_queue.specs.Insert.{Inserts}
 use Rattle.event_queue.specs.Register.{Registers, OnNotified, UnlessNotified}
 use Rattle.event_queue.specs.Remove.{Removes, PassesTo, told_by_passing, after_passing}
 use Rattle.event_queue.proofs.OrderLemmas.{NoneIs, All-append, without-none, none_is-from_lookup, lookup-none_is, none_before, length-remove_entry}
-use Rattle.event_queue.proofs.QueueLemmas.{rises_along, order_of-told_leaves, order_of-waiting_leaves, order_of-after_storing, IsGone-without, told_serial, waiting_serial}
+use Rattle.event_queue.proofs.QueueLemmas.{rises_along, order_of-push, order_of-told_leaves, order_of-waiting_leaves, order_of-after_storing, IsGone-without, told_serial, waiting_serial}
 use Rattle.event_queue.proofs.TellingLemmas.{order_of-after_telling, length-after_telling}
 
 -- the value that a look-up finds
@@ -38,6 +41,16 @@ module _ {T W : Type 0} where
   took_tag-order key old tag queue told =
       let found = found_value (lookup (is_key key) old.told) (λ n. n.tag ≡ tag) told in
       order_of-told_leaves key old found.0 queue found.1
+
+  -- the newcomer stands last
+  pub Inserts-order : (old : Queue T W) (answer : Result Key ListenError) (new : Queue T W) → Inserts old answer new → IfOk answer (λ key. order_of new ≡ order_of old ++ key ∷ [])
+  Inserts-order old (Ok key) new step = ap order_of step.queue ∙ order_of-push old key None
+  Inserts-order old (Err error) new step = tt
+
+  pub Inserts-serial : (old : Queue T W) (answer : Result Key ListenError) (new : Queue T W) → Inserts old answer new → old.next_serial ≤ new.next_serial
+  Inserts-serial old (Ok key) new step = omega (arith, ap (λ q. q.next_serial) step.queue)
+  Inserts-serial old (Err Memory) new step = omega (arith, ap (λ q. q.next_serial) step.2)
+  Inserts-serial old (Err SerialsUsedUp) new step = omega (arith, ap (λ q. q.next_serial) step.1)
 
   pub Registers-gone : (old : Queue T W) (key : Key) (task : W) (reply : RegisterResult T) (new : Queue T W) → IsQueue old → Registers old key task reply new → OnNotified reply (IsGone key new)
   Registers-gone old key task (Notified tag) new queue step =
@@ -134,7 +147,7 @@ module _ {T W : Type 0} where
   passed_on old key (Some (Lost additional tag)) new notice queue step told =
       the_notice old key true new notice (propagates-lost old key true additional tag new step) told
 
-  at_most_one : (additional : Bool) (q : Queue T W) → how_many 1 additional q ≤ 1
+  pub at_most_one : (additional : Bool) (q : Queue T W) → how_many 1 additional q ≤ 1
   at_most_one true q = omega arith
   at_most_one false q = omega arith
 

@@ -4,6 +4,7 @@ pub mod TellingLemmas
 pub mod LawLemmas
 pub mod ExchangeLemmas
 pub mod NotifyLemmas
+pub mod VisitLemmas
 pub mod RunLemmas
 pub mod WokenLemmas
 pub mod RingCrosses

@@ -1,9 +1,9 @@
 -- What the loop of a notification keeps, and the laws of its step.
-use Rattle.std.proofs.Common.{◌≡◌, ℕ, ◌+◌, ◌<◌, ◌≤◌, Bool, [], ◌∷◌, ◌++◌, length, refl, sym, ap, ◌∙◌, arith, Result, Ok, Err, IsOk, length-append, length-drop, append-nil}
+use Rattle.std.proofs.Common.{◌≡◌, ℕ, ◌+◌, ◌<◌, ◌≤◌, min, max, Bool, true, false, [], ◌∷◌, ◌++◌, length, refl, sym, ap, ◌∙◌, arith, Result, Ok, Err, IsOk, IsTrue, IsFalse, length-append, length-drop, append-nil}
 use Rattle.std.specs.List.{FoldsTo}
 use Rattle.std.specs.declared.alloc.AllocError.{AllocError}
 use Rattle.event_queue.specs.declared.reply.NotifyError.{NotifyError}
-use Rattle.event_queue.specs.Queue.{Queue, IsQueue, order_of, how_many, after_telling, tasks_of}
+use Rattle.event_queue.specs.Queue.{Queue, IsQueue, order_of, listeners_of, how_many, after_telling, tasks_of}
 use Rattle.event_queue.specs.Notify.{Tells, Notifies}
 use Rattle.event_queue.proofs.TellingLemmas.{FoldsTo-append, after_telling-push, tasks_of-push, order_of-after_telling, length-after_telling}
 
@@ -61,3 +61,18 @@ module _ {T W N : Type 0} (gives : N → Result T AllocError → N → Type 0) w
       let count = length-after_telling additional tells.tags old within in
       rw tells.queue (omega (arith, count, tells.as_many, step.0))
   Notifies-told count additional old source (Err error) new source' step ok = absurd (cc)
+
+  -- how many are told where no tag is refused
+  pub Notifies-default : (count : ℕ) (additional : Bool) (old : Queue T W) (source : N) (reply : Result ℕ NotifyError) (new : Queue T W) (source' : N)
+      → Notifies gives count additional old source reply new source' → IsOk reply → IsFalse additional
+      → length new.told ≡ max (length old.told) (min count (listeners_of old))
+  Notifies-default count false old source reply new source' step ok kind =
+      omega (arith, Notifies-told count false old source reply new source' step ok)
+  Notifies-default count true old source reply new source' step ok kind = absurd (cc)
+
+  pub Notifies-additional : (count : ℕ) (additional : Bool) (old : Queue T W) (source : N) (reply : Result ℕ NotifyError) (new : Queue T W) (source' : N)
+      → Notifies gives count additional old source reply new source' → IsOk reply → IsTrue additional
+      → length new.told ≡ length old.told + min count (length old.waiting)
+  Notifies-additional count true old source reply new source' step ok kind =
+      omega (arith, Notifies-told count true old source reply new source' step ok)
+  Notifies-additional count false old source reply new source' step ok kind = absurd (cc)
