@@ -7,7 +7,6 @@ ghost use Rattle.event_queue.specs.Nodes.{nodes_of, IsLined};
 
 use crate::key::Key;
 use crate::node::line::{Held, Line};
-use crate::node::ring::Reached;
 use crate::node::table::Table;
 use std::alloc::{AllocError, AllocFailed, Global};
 use std::marker::Model;
@@ -144,7 +143,7 @@ impl<A, B> Chain<A, B> {
         ensures visits { steps.new.visits ≡ steps.old.visits }
         ensures looks { steps.new.looks ≡ counted_on steps.old.looks 1 }
     {
-        let own = Reached::own(&self.table, key, steps);
+        let own = self.table.find(key, steps);
         let (Some(line), Some(own)) = (&self.line, own) else {
             return false;
         };
@@ -222,7 +221,7 @@ impl<A, B> Chain<A, B> {
         ensures no_visit { IfNone result (steps.new.visits ≡ steps.old.visits) }
         ensures looks { steps.new.looks ≡ counted_on steps.old.looks 1 }
     {
-        let own = Reached::own(&self.table, key, steps)?;
+        let own = self.table.find(key, steps)?;
         let Some(line) = &mut self.line else {
             unreachable!()
         };
@@ -250,7 +249,7 @@ impl<A, B> Chain<A, B> {
         ensures no_visit { IfNone result (steps.new.visits ≡ steps.old.visits) }
         ensures looks { steps.new.looks ≡ counted_on steps.old.looks 1 }
     {
-        let own = Reached::own(&self.table, key, steps)?;
+        let own = self.table.find(key, steps)?;
         let Some(line) = &mut self.line else {
             unreachable!()
         };
@@ -285,7 +284,7 @@ impl<A, B> Chain<A, B> {
         ensures visits { steps.new.visits ≡ steps.old.visits }
         ensures looks { steps.new.looks ≡ counted_on steps.old.looks 1 }
     {
-        let Some(own) = Reached::own(&self.table, key, steps) else {
+        let Some(own) = self.table.find(key, steps) else {
             return Err(value);
         };
         let Some(line) = &mut self.line else {

@@ -1,53 +1,44 @@
-//! The ways to a node of a ring: to the one of a key, and to another one. Each is counted.
+//! The ways to a node of a ring: where a look by key led, and to another one. Each is counted.
 ghost use Rattle.std.specs.Prelude.{◌≡◌, ◌+◌, [], ◌∷◌, ◌++◌, MatchOption};
 ghost use Rattle.event_queue.specs.Ring.{placed, first_place, IsAt, AtNode};
 ghost use Rattle.event_queue.specs.Counts.{counted_on};
-ghost use Rattle.event_queue.specs.Nodes.{node_at};
 
 use self::pointers::Node;
 pub(super) use self::pointers::{NodePtr, Ring};
 pub use self::steps::Steps;
-use super::line::Entry;
-use super::table::Table;
-use crate::key::Key;
 use std::sync::ledger::Ledger;
 
 mod pointers;
 mod steps;
 
-/// A node that a call may look at: the one of a key, once that look was counted, or another one, whose visit was.
+/// A node that a call may look at: the one that a look by key led to, once that look was counted, or another one, whose
+/// visit was.
 ///
 /// A [`NodePtr`] only says where a node stands: the functions that follow one are reached from this module alone. So a
-/// call gets to a node by [`Reached::own`] or by [`Ring::visit`], and keeps none for the next call.
+/// call gets to a node by [`Reached::looked_up`] or by [`Ring::visit`], and keeps none for the next call.
 #[derive(Drop)]
 pub(super) struct Reached<E> {
     ptr: *mut Node<E>,
 }
 
-impl<A, B> Reached<Entry<A, B>> {
-    /// The node of the key's entry, if there is one: that of the call's own listener. It is one look by key, also where
-    /// nobody has the key: then no node is reached, since the table has the serial too.
+impl<E> Reached<E> {
+    /// The node that stands where a look by key led: the call's own one. The look is counted also where it led nowhere.
     #[inline(always)]
-    pub(super) fn own<L: Ledger>(
-        table: &Table<A, B>,
-        key: Key,
+    pub(super) fn looked_up<L: Ledger>(
+        place: Option<NodePtr<E>>,
         steps: &mut Steps<L>,
     ) -> Option<Self>
-        ensures node { MatchOption result (node_at table.now.slots.items key ≡ None) (λ node. node_at table.now.slots.items key ≡ Some (record { ptr = node.ptr })) }
+        ensures node { MatchOption result (place ≡ None) (λ node. place ≡ Some (record { ptr = node.ptr })) }
         ensures visits { steps.new.visits ≡ steps.old.visits }
         ensures looks { steps.new.looks ≡ counted_on steps.old.looks 1 }
     {
         steps.add_look();
-        match table.slots().get(key.slot) {
-            Some(Some((serial, place))) if *serial == key.serial => {
-                Some(Reached { ptr: place.ptr })
-            }
-            _ => None,
+        match place {
+            Some(place) => Some(Reached { ptr: place.ptr }),
+            None => None,
         }
     }
-}
 
-impl<E> Reached<E> {
     /// Where the node stands.
     #[inline(always)]
     pub(super) fn place(&self) -> NodePtr<E>
@@ -58,7 +49,7 @@ impl<E> Reached<E> {
 }
 
 impl<E> Ring<E> {
-    /// Goes to the node of another listener, which is one visit.
+    /// Goes to another node than the call's own one, which is one visit.
     #[inline(always)]
     pub(super) fn visit<L: Ledger>(&self, node: NodePtr<E>, steps: &mut Steps<L>) -> Reached<E>
         ensures place { result.ptr ≡ node.ptr }

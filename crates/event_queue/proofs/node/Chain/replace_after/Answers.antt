@@ -11,9 +11,9 @@ returns-in_default-clause-absent g c =
     let i = c.self.inside in
     let slots = i.table.slots.items in
     let spares = i.table.spares.items in
-    let none : c.own.result ≡ None = search rules in
+    let none : c.find.result ≡ None = search rules in
     rw (← c.self.view_is)
-    (leads_nowhere i.line slots spares i.before_len i.after_len c.self.invariant c.args.key (rw none at c.own.ensures.node) value_after)
+    (leads_nowhere i.line slots spares i.before_len i.after_len c.self.invariant c.args.key (rw none at c.find.ensures.node) value_after)
 
 pub is_after-requires : goal.is_after-requires
 is_after-requires g c =
@@ -22,7 +22,7 @@ is_after-requires g c =
     let spares = i.table.spares.items in
     let sound = rw c.in-Some-line.is at c.self.invariant in
     let line = c.in-Some-line.line in
-    let leads = rw c.in-Some.is at c.own.ensures.node in
+    let leads = rw c.in-Some.is at c.find.ensures.node in
     stands_at line slots spares i.before_len i.after_len sound c.args.key (record { ptr = c.in-Some.own.ptr }) leads
 
 pub returns-then-not-is_after-clause-absent : goal.returns-then-not-is_after-clause-absent
@@ -32,7 +32,7 @@ returns-then-not-is_after-clause-absent g c =
     let spares = i.table.spares.items in
     let sound = rw c.in-Some-line.is at c.self.invariant in
     let line = c.in-Some-line.line in
-    let leads = rw c.in-Some.is at c.own.ensures.node in
+    let leads = rw c.in-Some.is at c.find.ensures.node in
     rw (← c.self.view_is, c.in-Some-line.is)
     (misses line slots spares i.before_len i.after_len sound c.args.key (record { ptr = c.in-Some.own.ptr }) leads value_after c.is_after.result c.is_after.ensures c.if-not-is_after.true)
 
@@ -43,7 +43,7 @@ replace-requires g c =
     let spares = i.table.spares.items in
     let sound = rw c.in-Some-line.is at c.self.invariant in
     let line = c.in-Some-line.line in
-    let leads = rw c.in-Some.is at c.own.ensures.node in
+    let leads = rw c.in-Some.is at c.find.ensures.node in
     stands_at line slots spares i.before_len i.after_len sound c.args.key (record { ptr = c.in-Some.own.ptr }) leads
 
 pub unreachable-requires-in_default-replace : goal.unreachable-requires-in_default-replace
@@ -53,7 +53,7 @@ unreachable-requires-in_default-replace g c =
     let spares = i.table.spares.items in
     let sound = rw c.in-Some-line.is at c.self.invariant in
     let line = c.in-Some-line.line in
-    let leads = rw c.in-Some.is at c.own.ensures.node in
+    let leads = rw c.in-Some.is at c.find.ensures.node in
     let found = finds line slots spares i.before_len i.after_len sound c.args.key (record { ptr = c.in-Some.own.ptr }) leads value_after c.is_after.result c.is_after.ensures c.if-not-is_after.false in
     let lies = found.lies in
     let held = c.replace.ensures.former lies.front lies.node lies.rest lies.is lies.place in
@@ -66,7 +66,7 @@ invariant_of-self-2 g c =
     let spares = i.table.spares.items in
     let sound = rw c.in-Some-line.is at c.self.invariant in
     let line = c.in-Some-line.line in
-    let leads = rw c.in-Some.is at c.own.ensures.node in
+    let leads = rw c.in-Some.is at c.find.ensures.node in
     let found = finds line slots spares i.before_len i.after_len sound c.args.key (record { ptr = c.in-Some.own.ptr }) leads value_after c.is_after.result c.is_after.ensures c.if-not-is_after.false in
     let lies = found.lies in
     let nodes = c.replace.ensures.nodes lies.front lies.node lies.rest lies.is lies.place in
@@ -80,7 +80,7 @@ returns-clause-former g c =
     let spares = i.table.spares.items in
     let sound = rw c.in-Some-line.is at c.self.invariant in
     let line = c.in-Some-line.line in
-    let leads = rw c.in-Some.is at c.own.ensures.node in
+    let leads = rw c.in-Some.is at c.find.ensures.node in
     let found = finds line slots spares i.before_len i.after_len sound c.args.key (record { ptr = c.in-Some.own.ptr }) leads value_after c.is_after.result c.is_after.ensures c.if-not-is_after.false in
     let lies = found.lies in
     let held = c.replace.ensures.former lies.front lies.node lies.rest lies.is lies.place in
@@ -96,7 +96,7 @@ returns-clause-replaced g c =
     let spares = i.table.spares.items in
     let sound = rw c.in-Some-line.is at c.self.invariant in
     let line = c.in-Some-line.line in
-    let leads = rw c.in-Some.is at c.own.ensures.node in
+    let leads = rw c.in-Some.is at c.find.ensures.node in
     let found = finds line slots spares i.before_len i.after_len sound c.args.key (record { ptr = c.in-Some.own.ptr }) leads value_after c.is_after.result c.is_after.ensures c.if-not-is_after.false in
     let lies = found.lies in
     let nodes = c.replace.ensures.nodes lies.front lies.node lies.rest lies.is lies.place in

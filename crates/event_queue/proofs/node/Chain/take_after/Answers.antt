@@ -9,7 +9,7 @@ returns-in_err-own-clause-value g c =
     let i = c.self.inside in
     let slots = i.table.slots.items in
     let spares = i.table.spares.items in
-    let none = leads_nowhere i.line slots spares i.before_len i.after_len c.self.invariant c.args.key (rw c.in_err-own.was at c.own.ensures.node) value_after in
+    let none = leads_nowhere i.line slots spares i.before_len i.after_len c.self.invariant c.args.key (rw c.in_err-own.was at c.find.ensures.node) value_after in
     rw (← c.self.view_is, none) c.from_residual.ensures
 
 pub is_after-requires : goal.is_after-requires
@@ -19,7 +19,7 @@ is_after-requires g c =
     let spares = i.table.spares.items in
     let sound = rw c.in-Some.is at c.self.invariant in
     let line = c.in-Some.line in
-    let leads = rw c.in_ok-own.was at c.own.ensures.node in
+    let leads = rw c.in_ok-own.was at c.find.ensures.node in
     stands_at line slots spares i.before_len i.after_len sound c.args.key (record { ptr = c.in_ok-own.own.ptr }) leads
 
 pub returns-then-not-is_after-clause-value : goal.returns-then-not-is_after-clause-value
@@ -29,7 +29,7 @@ returns-then-not-is_after-clause-value g c =
     let spares = i.table.spares.items in
     let sound = rw c.in-Some.is at c.self.invariant in
     let line = c.in-Some.line in
-    let leads = rw c.in_ok-own.was at c.own.ensures.node in
+    let leads = rw c.in_ok-own.was at c.find.ensures.node in
     rw (← c.self.view_is, c.in-Some.is)
     (sym (misses line slots spares i.before_len i.after_len sound c.args.key (record { ptr = c.in_ok-own.own.ptr }) leads value_after c.is_after.result c.is_after.ensures c.if-not-is_after.true))
 
@@ -40,7 +40,7 @@ take_after-node-requires-clause-cursor g c =
     let spares = i.table.spares.items in
     let sound = rw c.in-Some.is at c.self.invariant in
     let line = c.in-Some.line in
-    let leads = rw c.in_ok-own.was at c.own.ensures.node in
+    let leads = rw c.in_ok-own.was at c.find.ensures.node in
     let found = finds line slots spares i.before_len i.after_len sound c.args.key (record { ptr = c.in_ok-own.own.ptr }) leads value_after c.is_after.result c.is_after.ensures c.if-not-is_after.false in
     let lies = found.lies in
     let some = some_after line slots spares i.before_len i.after_len sound c.args.key c.in_ok-own.own.ptr found in
@@ -54,7 +54,7 @@ take_after-node-requires-clause-node g c =
     let spares = i.table.spares.items in
     let sound = rw c.in-Some.is at c.self.invariant in
     let line = c.in-Some.line in
-    let leads = rw c.in_ok-own.was at c.own.ensures.node in
+    let leads = rw c.in_ok-own.was at c.find.ensures.node in
     stands_at line slots spares i.before_len i.after_len sound c.args.key (record { ptr = c.in_ok-own.own.ptr }) leads
 
 pub give_back-requires-clause-slot : goal.give_back-requires-clause-slot
@@ -64,7 +64,7 @@ give_back-requires-clause-slot g c =
     let spares = i.table.spares.items in
     let sound = rw c.in-Some.is at c.self.invariant in
     let line = c.in-Some.line in
-    let leads = rw c.in_ok-own.was at c.own.ensures.node in
+    let leads = rw c.in_ok-own.was at c.find.ensures.node in
     slot_within line slots spares i.before_len i.after_len sound c.args.key (record { ptr = c.in_ok-own.own.ptr }) leads
 
 pub give_back-requires-clause-room : goal.give_back-requires-clause-room
@@ -74,7 +74,7 @@ give_back-requires-clause-room g c =
     let spares = i.table.spares.items in
     let sound = rw c.in-Some.is at c.self.invariant in
     let line = c.in-Some.line in
-    let leads = rw c.in_ok-own.was at c.own.ensures.node in
+    let leads = rw c.in_ok-own.was at c.find.ensures.node in
     spare_room line slots spares i.before_len i.after_len sound c.args.key (record { ptr = c.in_ok-own.own.ptr }) leads
 
 pub overflow_sub-self : goal.overflow_sub-self
@@ -84,7 +84,7 @@ overflow_sub-self g c =
     let spares = i.table.spares.items in
     let sound = rw c.in-Some.is at c.self.invariant in
     let line = c.in-Some.line in
-    let leads = rw c.in_ok-own.was at c.own.ensures.node in
+    let leads = rw c.in_ok-own.was at c.find.ensures.node in
     let found = finds line slots spares i.before_len i.after_len sound c.args.key (record { ptr = c.in_ok-own.own.ptr }) leads value_after c.is_after.result c.is_after.ensures c.if-not-is_after.false in
     let lies = found.lies in
     some_after line slots spares i.before_len i.after_len sound c.args.key c.in_ok-own.own.ptr found
@@ -96,7 +96,7 @@ invariant_of-self-in-After g c =
     let spares = i.table.spares.items in
     let sound = rw c.in-Some.is at c.self.invariant in
     let line = c.in-Some.line in
-    let leads = rw c.in_ok-own.was at c.own.ensures.node in
+    let leads = rw c.in_ok-own.was at c.find.ensures.node in
     let found = finds line slots spares i.before_len i.after_len sound c.args.key (record { ptr = c.in_ok-own.own.ptr }) leads value_after c.is_after.result c.is_after.ensures c.if-not-is_after.false in
     let lies = found.lies in
     let nodes = c.take_after-node.ensures.nodes lies.front lies.node lies.rest lies.is lies.place in
@@ -114,7 +114,7 @@ unreachable-requires-in_default-held g c =
     let spares = i.table.spares.items in
     let sound = rw c.in-Some.is at c.self.invariant in
     let line = c.in-Some.line in
-    let leads = rw c.in_ok-own.was at c.own.ensures.node in
+    let leads = rw c.in_ok-own.was at c.find.ensures.node in
     let found = finds line slots spares i.before_len i.after_len sound c.args.key (record { ptr = c.in_ok-own.own.ptr }) leads value_after c.is_after.result c.is_after.ensures c.if-not-is_after.false in
     let lies = found.lies in
     let held = c.take_after-node.ensures.held lies.front lies.node lies.rest lies.is lies.place in
@@ -127,7 +127,7 @@ returns-clause-value g c =
     let spares = i.table.spares.items in
     let sound = rw c.in-Some.is at c.self.invariant in
     let line = c.in-Some.line in
-    let leads = rw c.in_ok-own.was at c.own.ensures.node in
+    let leads = rw c.in_ok-own.was at c.find.ensures.node in
     let found = finds line slots spares i.before_len i.after_len sound c.args.key (record { ptr = c.in_ok-own.own.ptr }) leads value_after c.is_after.result c.is_after.ensures c.if-not-is_after.false in
     let lies = found.lies in
     let held = c.take_after-node.ensures.held lies.front lies.node lies.rest lies.is lies.place in
@@ -143,7 +143,7 @@ returns-clause-taken g c =
     let spares = i.table.spares.items in
     let sound = rw c.in-Some.is at c.self.invariant in
     let line = c.in-Some.line in
-    let leads = rw c.in_ok-own.was at c.own.ensures.node in
+    let leads = rw c.in_ok-own.was at c.find.ensures.node in
     let found = finds line slots spares i.before_len i.after_len sound c.args.key (record { ptr = c.in_ok-own.own.ptr }) leads value_after c.is_after.result c.is_after.ensures c.if-not-is_after.false in
     let lies = found.lies in
     let nodes = c.take_after-node.ensures.nodes lies.front lies.node lies.rest lies.is lies.place in

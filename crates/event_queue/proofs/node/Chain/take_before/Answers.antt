@@ -9,7 +9,7 @@ returns-in_err-own-clause-value g c =
     let i = c.self.inside in
     let slots = i.table.slots.items in
     let spares = i.table.spares.items in
-    let none = leads_nowhere i.line slots spares i.before_len i.after_len c.self.invariant c.args.key (rw c.in_err-own.was at c.own.ensures.node) value_before in
+    let none = leads_nowhere i.line slots spares i.before_len i.after_len c.self.invariant c.args.key (rw c.in_err-own.was at c.find.ensures.node) value_before in
     rw (← c.self.view_is, none) c.from_residual.ensures
 
 pub is_before-requires : goal.is_before-requires
@@ -19,7 +19,7 @@ is_before-requires g c =
     let spares = i.table.spares.items in
     let sound = rw c.in-Some.is at c.self.invariant in
     let line = c.in-Some.line in
-    let leads = rw c.in_ok-own.was at c.own.ensures.node in
+    let leads = rw c.in_ok-own.was at c.find.ensures.node in
     stands_at line slots spares i.before_len i.after_len sound c.args.key (record { ptr = c.in_ok-own.own.ptr }) leads
 
 pub returns-then-not-is_before-clause-value : goal.returns-then-not-is_before-clause-value
@@ -29,7 +29,7 @@ returns-then-not-is_before-clause-value g c =
     let spares = i.table.spares.items in
     let sound = rw c.in-Some.is at c.self.invariant in
     let line = c.in-Some.line in
-    let leads = rw c.in_ok-own.was at c.own.ensures.node in
+    let leads = rw c.in_ok-own.was at c.find.ensures.node in
     rw (← c.self.view_is, c.in-Some.is)
     (sym (misses line slots spares i.before_len i.after_len sound c.args.key (record { ptr = c.in_ok-own.own.ptr }) leads value_before c.is_before.result c.is_before.ensures c.if-not-is_before.true))
 
@@ -40,7 +40,7 @@ take-node-requires g c =
     let spares = i.table.spares.items in
     let sound = rw c.in-Some.is at c.self.invariant in
     let line = c.in-Some.line in
-    let leads = rw c.in_ok-own.was at c.own.ensures.node in
+    let leads = rw c.in_ok-own.was at c.find.ensures.node in
     stands_at line slots spares i.before_len i.after_len sound c.args.key (record { ptr = c.in_ok-own.own.ptr }) leads
 
 pub give_back-requires-clause-slot : goal.give_back-requires-clause-slot
@@ -50,7 +50,7 @@ give_back-requires-clause-slot g c =
     let spares = i.table.spares.items in
     let sound = rw c.in-Some.is at c.self.invariant in
     let line = c.in-Some.line in
-    let leads = rw c.in_ok-own.was at c.own.ensures.node in
+    let leads = rw c.in_ok-own.was at c.find.ensures.node in
     slot_within line slots spares i.before_len i.after_len sound c.args.key (record { ptr = c.in_ok-own.own.ptr }) leads
 
 pub give_back-requires-clause-room : goal.give_back-requires-clause-room
@@ -60,7 +60,7 @@ give_back-requires-clause-room g c =
     let spares = i.table.spares.items in
     let sound = rw c.in-Some.is at c.self.invariant in
     let line = c.in-Some.line in
-    let leads = rw c.in_ok-own.was at c.own.ensures.node in
+    let leads = rw c.in_ok-own.was at c.find.ensures.node in
     spare_room line slots spares i.before_len i.after_len sound c.args.key (record { ptr = c.in_ok-own.own.ptr }) leads
 
 pub overflow_sub-self : goal.overflow_sub-self
@@ -70,7 +70,7 @@ overflow_sub-self g c =
     let spares = i.table.spares.items in
     let sound = rw c.in-Some.is at c.self.invariant in
     let line = c.in-Some.line in
-    let leads = rw c.in_ok-own.was at c.own.ensures.node in
+    let leads = rw c.in_ok-own.was at c.find.ensures.node in
     let found = finds line slots spares i.before_len i.after_len sound c.args.key (record { ptr = c.in_ok-own.own.ptr }) leads value_before c.is_before.result c.is_before.ensures c.if-not-is_before.false in
     let lies = found.lies in
     some_before line slots spares i.before_len i.after_len sound c.args.key c.in_ok-own.own.ptr found
@@ -82,7 +82,7 @@ invariant_of-self-in-Before g c =
     let spares = i.table.spares.items in
     let sound = rw c.in-Some.is at c.self.invariant in
     let line = c.in-Some.line in
-    let leads = rw c.in_ok-own.was at c.own.ensures.node in
+    let leads = rw c.in_ok-own.was at c.find.ensures.node in
     let found = finds line slots spares i.before_len i.after_len sound c.args.key (record { ptr = c.in_ok-own.own.ptr }) leads value_before c.is_before.result c.is_before.ensures c.if-not-is_before.false in
     let lies = found.lies in
     let nodes = c.take-node.ensures.nodes lies.front lies.node lies.rest lies.is lies.place in
@@ -97,7 +97,7 @@ unreachable-requires-in_default-held g c =
     let spares = i.table.spares.items in
     let sound = rw c.in-Some.is at c.self.invariant in
     let line = c.in-Some.line in
-    let leads = rw c.in_ok-own.was at c.own.ensures.node in
+    let leads = rw c.in_ok-own.was at c.find.ensures.node in
     let found = finds line slots spares i.before_len i.after_len sound c.args.key (record { ptr = c.in_ok-own.own.ptr }) leads value_before c.is_before.result c.is_before.ensures c.if-not-is_before.false in
     let lies = found.lies in
     let held = c.take-node.ensures.held lies.front lies.node lies.rest lies.is lies.place in
@@ -110,7 +110,7 @@ returns-clause-value g c =
     let spares = i.table.spares.items in
     let sound = rw c.in-Some.is at c.self.invariant in
     let line = c.in-Some.line in
-    let leads = rw c.in_ok-own.was at c.own.ensures.node in
+    let leads = rw c.in_ok-own.was at c.find.ensures.node in
     let found = finds line slots spares i.before_len i.after_len sound c.args.key (record { ptr = c.in_ok-own.own.ptr }) leads value_before c.is_before.result c.is_before.ensures c.if-not-is_before.false in
     let lies = found.lies in
     let held = c.take-node.ensures.held lies.front lies.node lies.rest lies.is lies.place in
@@ -126,7 +126,7 @@ returns-clause-taken g c =
     let spares = i.table.spares.items in
     let sound = rw c.in-Some.is at c.self.invariant in
     let line = c.in-Some.line in
-    let leads = rw c.in_ok-own.was at c.own.ensures.node in
+    let leads = rw c.in_ok-own.was at c.find.ensures.node in
     let found = finds line slots spares i.before_len i.after_len sound c.args.key (record { ptr = c.in_ok-own.own.ptr }) leads value_before c.is_before.result c.is_before.ensures c.if-not-is_before.false in
     let lies = found.lies in
     let nodes = c.take-node.ensures.nodes lies.front lies.node lies.rest lies.is lies.place in
