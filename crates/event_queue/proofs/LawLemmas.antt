@@ -15,8 +15,8 @@ use Rattle.event_queue.specs.Queue.{Queue, IsQueue, IsGone, IsToldAs, order_of, 
 use Rattle.event_queue.specs.Insert.{Inserts}
 use Rattle.event_queue.specs.Register.{Registers, OnNotified, UnlessNotified}
 use Rattle.event_queue.specs.Remove.{Removes, PassesTo, told_by_passing, after_passing}
-use Rattle.event_queue.proofs.OrderLemmas.{NoneIs, All-append, without-none, none_is-from_lookup, lookup-none_is, none_before, length-remove_entry}
-use Rattle.event_queue.proofs.QueueLemmas.{rises_along, order_of-push, order_of-told_leaves, order_of-waiting_leaves, order_of-after_storing, IsGone-without, told_serial, waiting_serial}
+use Rattle.event_queue.proofs.OrderLemmas.{without-none, lookup-none_is, none_before, length-remove_entry}
+use Rattle.event_queue.proofs.QueueLemmas.{rises_along, order_of-push, order_of-told_leaves, order_of-waiting_leaves, order_of-after_storing, IsAbsent-none, IsGone-without, told_serial, waiting_serial}
 use Rattle.event_queue.proofs.TellingLemmas.{order_of-after_telling, length-after_telling}
 
 -- the value that a look-up finds
@@ -96,9 +96,7 @@ module _ {T W : Type 0} where
 
   pub Removes-order : (old : Queue T W) (key : Key) (propagate : Bool) (reply : Option (State T W)) (new : Queue T W) → IsQueue old → Removes old key propagate reply new → order_of new ≡ without key (order_of old)
   Removes-order old key propagate None new queue step =
-      let none : NoneIs key (order_of old) =
-      All-append _ (keys_of old.told) (keys_of old.waiting) (none_is-from_lookup key old.told step.0.untold) (none_is-from_lookup key old.waiting step.0.unwaiting) in
-      ap order_of step.1 ∙ sym (without-none key (order_of old) none)
+      ap order_of step.1 ∙ sym (without-none key (order_of old) (IsAbsent-none key old step.0))
   Removes-order old key propagate (Some Created) new queue step =
       ap order_of step.1 ∙ order_of-waiting_leaves key old None queue step.0
   Removes-order old key propagate (Some (Task task)) new queue step =

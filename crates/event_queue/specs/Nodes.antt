@@ -1,4 +1,4 @@
--- How a `Chain` keeps its entries on nodes. No public clause cites this module.
+-- What a contract sees of a `Chain`, and how that keeps its entries on nodes. No public clause cites this module.
 use Rattle.std.specs.Prelude.{◌≡◌, ℕ, ◌+◌, cond, eqb, ltb, List, [], ◌∷◌, ◌++◌, map, length, Option, Some, None, IsSome, slice_get, option_map, option_and_then}
 use Rattle.event_queue.specs.declared.key.Key.{Key}
 use Rattle.event_queue.specs.declared.node.ring.pointers.NodePtr.{NodePtr}
@@ -8,6 +8,13 @@ use Rattle.event_queue.specs.declared.node.line.Held.TheVariants.{Before, After,
 use Rattle.event_queue.specs.declared.node.line.Entry.{Entry}
 use Rattle.event_queue.specs.declared.node.line.Line.{Line}
 use Rattle.event_queue.specs.Ring.{Placed, first_place}
+
+-- a sequence in order with a cursor: the entries before it, those after it, and how many more fit with no
+-- allocation
+pub record Sequence (A B : Type 0) : Type 0 where
+  pub before : List (Key × A)
+  pub after : List (Key × B)
+  pub spare : ℕ
 
 -- how often a slot is among these
 abbrev pub times : ℕ → List ℕ → ℕ

@@ -35,7 +35,7 @@ pub struct Chain<A, B> {
 
 impl<A, B> Model for Chain<A, B> {
     ghost use Rattle.std.specs.Prelude.{length, filter_map};
-    ghost use Rattle.event_queue.specs.Sequence.{Sequence};
+    ghost use Rattle.event_queue.specs.Nodes.{Sequence};
 
     ghost Value = { Sequence A B };
 

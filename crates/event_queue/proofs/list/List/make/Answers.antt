@@ -1,6 +1,6 @@
 use Rattle.std.specs.Vec.Iter.{into_iter_items}
 use Rattle.event_queue.specs.declared.tag_list.TagList.{TagList}
-use Rattle.event_queue.proofs.RunLemmas.{NotifiesWith-from, same_order, gone-Inserts, gone-Registers, gone-Removes}
+use Rattle.event_queue.proofs.Calls.Runs.{NotifiesWith-from, same_order, gone-Inserts, gone-Registers, gone-Removes}
 use Rattle.event_queue.proofs.list.List.make.Goals as goal
 
 pub returns-in-Insert-clause-gone : goal.returns-in-Insert-clause-gone

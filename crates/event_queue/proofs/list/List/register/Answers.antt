@@ -1,6 +1,6 @@
 use Rattle.std.proofs.Common.{arith}
 use Rattle.event_queue.proofs.LawLemmas.{Registers-gone, Registers-order_without, Registers-order_kept}
-use Rattle.event_queue.proofs.VisitLemmas.{visits_of_registration-most, looks_of_registration-most}
+use Rattle.event_queue.proofs.Calls.Bounds.{visits_of_registration-most, looks_of_registration-most}
 use Rattle.event_queue.proofs.list.List.register.Goals as goal
 
 pub returns-clause-gone : goal.returns-clause-gone

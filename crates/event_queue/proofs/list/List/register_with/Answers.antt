@@ -1,6 +1,6 @@
 use Rattle.std.proofs.Common.{arith}
-use Rattle.event_queue.proofs.ExchangeLemmas.{RegistersWith-gone, RegistersWith-order_without, RegistersWith-order_kept}
-use Rattle.event_queue.proofs.VisitLemmas.{visits_of_registration-most, looks_of_exchange-most}
+use Rattle.event_queue.proofs.Calls.Exchanges.{RegistersWith-gone, RegistersWith-order_without, RegistersWith-order_kept}
+use Rattle.event_queue.proofs.Calls.Bounds.{visits_of_registration-most, looks_of_exchange-most}
 use Rattle.event_queue.proofs.list.List.register_with.Goals as goal
 
 pub returns-clause-gone : goal.returns-clause-gone

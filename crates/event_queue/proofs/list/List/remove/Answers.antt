@@ -1,6 +1,6 @@
 use Rattle.std.proofs.Common.{arith}
 use Rattle.event_queue.proofs.LawLemmas.{Removes-order, Removes-gone, Removes-drop_default, Removes-drop_additional}
-use Rattle.event_queue.proofs.VisitLemmas.{visits_of_removal-most, looks_of_removal-most}
+use Rattle.event_queue.proofs.Calls.Bounds.{visits_of_removal-most, looks_of_removal-most}
 use Rattle.event_queue.proofs.list.List.remove.Goals as goal
 
 pub returns-clause-order : goal.returns-clause-order

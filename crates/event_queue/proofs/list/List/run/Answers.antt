@@ -1,6 +1,6 @@
 use Rattle.std.proofs.Common.{[], ◌∷◌, ap, arith, length, length-append}
 use Rattle.std.specs.Vec.Iter.{into_iter_items}
-use Rattle.event_queue.proofs.RunLemmas.{one_more_made}
+use Rattle.event_queue.proofs.Calls.Runs.{one_more_made}
 use Rattle.event_queue.proofs.list.List.run.Goals as goal
 
 pub loop-call-preserved : goal.loop-call-preserved

@@ -1,8 +1,8 @@
 use Rattle.std.proofs.Common.{◌<◌, arith, refl, sym, ◌∙◌}
 use Rattle.event_queue.specs.declared.node.line.Held.TheVariants.{Before}
 use Rattle.event_queue.specs.Ring.{placed}
-use Rattle.event_queue.proofs.NodeLists.{some_value, is_after}
-use Rattle.event_queue.proofs.NodeSteps.{length-after_of, cursor_is, cursor_after, IsSound-advanced, after_advanced, before_advanced}
+use Rattle.event_queue.proofs.Nodes.Lookups.{some_value, is_after}
+use Rattle.event_queue.proofs.Nodes.ChainSteps.{length-after_of, cursor_is, cursor_after, IsSound-advanced, after_advanced, before_advanced}
 use Rattle.event_queue.proofs.node.Chain.advance.Goals as goal
 
 pub advance-held-requires : goal.advance-held-requires

@@ -1,5 +1,5 @@
 use Rattle.std.proofs.Common.{sym}
-use Rattle.event_queue.proofs.NodeSteps.{length-after_of}
+use Rattle.event_queue.proofs.Nodes.ChainSteps.{length-after_of}
 use Rattle.event_queue.proofs.node.Chain.after_len.Goals as goal
 
 pub returns : goal.returns

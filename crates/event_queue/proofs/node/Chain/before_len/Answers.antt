@@ -1,5 +1,5 @@
 use Rattle.std.proofs.Common.{sym}
-use Rattle.event_queue.proofs.NodeSteps.{length-before_of}
+use Rattle.event_queue.proofs.Nodes.ChainSteps.{length-before_of}
 use Rattle.event_queue.proofs.node.Chain.before_len.Goals as goal
 
 pub returns : goal.returns

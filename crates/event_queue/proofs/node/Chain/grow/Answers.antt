@@ -1,5 +1,5 @@
 use Rattle.std.proofs.Common.{arith}
-use Rattle.event_queue.proofs.NodeSteps.{length-before_of, length-after_of, total_is, IsSound-lined}
+use Rattle.event_queue.proofs.Nodes.ChainSteps.{length-before_of, length-after_of, total_is, IsSound-lined}
 use Rattle.event_queue.proofs.node.Chain.grow.Goals as goal
 
 pub returns-in_err-begin-clause-slots_fit : goal.returns-in_err-begin-clause-slots_fit

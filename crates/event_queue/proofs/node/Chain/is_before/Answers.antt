@@ -1,5 +1,5 @@
 use Rattle.event_queue.specs.Nodes.{value_before}
-use Rattle.event_queue.proofs.NodeSteps.{stands_at, tests_lookup, leads_nowhere}
+use Rattle.event_queue.proofs.Nodes.ChainSteps.{stands_at, tests_lookup, leads_nowhere}
 use Rattle.event_queue.proofs.node.Chain.is_before.Goals as goal
 
 pub is_before-requires : goal.is_before-requires

@@ -1,5 +1,5 @@
 use Rattle.std.proofs.Common.{arith}
-use Rattle.event_queue.proofs.NodeSteps.{length-before_of, length-after_of}
+use Rattle.event_queue.proofs.Nodes.ChainSteps.{length-before_of, length-after_of}
 use Rattle.event_queue.proofs.node.Chain.len.Goals as goal
 
 pub returns : goal.returns

@@ -4,7 +4,7 @@ use denote.RawPtr.{Ptr}
 use Rattle.event_queue.specs.declared.node.line.Held.TheVariants.{After}
 use Rattle.event_queue.specs.Ring.{placed}
 use Rattle.event_queue.specs.Nodes.{value_before, value_after}
-use Rattle.event_queue.proofs.NodeSteps.{length-before_of, length-after_of, total_is, spare_is, spare_slot_within, spare_is_free, after_pushed, before_pushed, IsSound-pushed}
+use Rattle.event_queue.proofs.Nodes.ChainSteps.{length-before_of, length-after_of, total_is, spare_is, spare_slot_within, spare_is_free, after_pushed, before_pushed, IsSound-pushed}
 use Rattle.event_queue.proofs.node.Chain.push_spare.Goals as goal
 
 pub append-slot-requires-clause-alone : goal.append-slot-requires-clause-alone

@@ -2,8 +2,8 @@ use Rattle.std.proofs.Common.{◌≡◌, Some, None, refl, ap, ◌∙◌, rules}
 use Rattle.event_queue.specs.declared.node.line.Held.TheVariants.{After}
 use Rattle.event_queue.specs.Ring.{placed}
 use Rattle.event_queue.specs.Nodes.{value_after}
-use Rattle.event_queue.proofs.NodeLists.{is_after}
-use Rattle.event_queue.proofs.NodeSteps.{finds, stands_at, misses, leads_nowhere, after_set, before_unset, IsSound-set}
+use Rattle.event_queue.proofs.Nodes.Lookups.{is_after}
+use Rattle.event_queue.proofs.Nodes.ChainSteps.{finds, stands_at, misses, leads_nowhere, after_set, before_unset, IsSound-set}
 use Rattle.event_queue.proofs.node.Chain.replace_after.Goals as goal
 
 pub returns-in_default-clause-absent : goal.returns-in_default-clause-absent

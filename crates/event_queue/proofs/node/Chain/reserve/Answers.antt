@@ -1,5 +1,5 @@
 use Rattle.std.proofs.Common.{arith}
-use Rattle.event_queue.proofs.NodeSteps.{length-before_of, length-after_of, total_is}
+use Rattle.event_queue.proofs.Nodes.ChainSteps.{length-before_of, length-after_of, total_is}
 use Rattle.event_queue.proofs.node.Chain.reserve.Goals as goal
 
 pub returns-then-n-spare-clause-slots_fit : goal.returns-then-n-spare-clause-slots_fit

@@ -1,7 +1,7 @@
 use Rattle.std.proofs.Common.{◌≡◌, Some, arith, refl, sym, ap, ◌∙◌, length-append}
 use Rattle.event_queue.specs.Nodes.{value_after}
-use Rattle.event_queue.proofs.NodeLists.{is_after}
-use Rattle.event_queue.proofs.NodeSteps.{finds, stands_at, slot_within, spare_room, misses, leads_nowhere, some_after, IsSound-without_after, after_removed, before_kept, cursor_is}
+use Rattle.event_queue.proofs.Nodes.Lookups.{is_after}
+use Rattle.event_queue.proofs.Nodes.ChainSteps.{finds, stands_at, slot_within, spare_room, misses, leads_nowhere, some_after, IsSound-without_after, after_removed, before_kept, cursor_is}
 use Rattle.event_queue.proofs.node.Chain.take_after.Goals as goal
 
 pub returns-in_err-own-clause-value : goal.returns-in_err-own-clause-value

@@ -1,7 +1,7 @@
 use Rattle.std.proofs.Common.{◌≡◌, Some, refl, sym, ap, ◌∙◌, length-append}
 use Rattle.event_queue.specs.Nodes.{value_before}
-use Rattle.event_queue.proofs.NodeLists.{is_before}
-use Rattle.event_queue.proofs.NodeSteps.{finds, stands_at, slot_within, spare_room, misses, leads_nowhere, some_before, IsSound-without_before, before_removed, after_kept}
+use Rattle.event_queue.proofs.Nodes.Lookups.{is_before}
+use Rattle.event_queue.proofs.Nodes.ChainSteps.{finds, stands_at, slot_within, spare_room, misses, leads_nowhere, some_before, IsSound-without_before, before_removed, after_kept}
 use Rattle.event_queue.proofs.node.Chain.take_before.Goals as goal
 
 pub returns-in_err-own-clause-value : goal.returns-in_err-own-clause-value

@@ -31,8 +31,8 @@ use Rattle.std.proofs.VecSteps.Shapes.{after}
 use Rattle.event_queue.specs.Ring.{Placed, placed}
 use Rattle.event_queue.specs.RingMemory.{edge, node_type, node_owns, entry_offset, ring_owns}
 use Rattle.event_queue.specs.contracts.node.ring.pointers.Ring as ring
-use Rattle.event_queue.proofs.RingBlocks.{Room, block_glue}
-use Rattle.event_queue.proofs.RingSteps.{heap_Good, ring_Good, ring_val, Data, handle, told, made, entry_out, edge_out, stale, no_source, pair_val, pair_of}
+use Rattle.event_queue.proofs.Ring.Blocks.{Room, block_glue}
+use Rattle.event_queue.proofs.Ring.Walks.{heap_Good, ring_Good, ring_val, Data, handle, told, made, entry_out, edge_out, stale, no_source, pair_val, pair_of}
 use Rattle.event_queue.specs.contracts.node.ring.pointers.Ring.empty.{ended, clauses}
 use Rattle.event_queue.specs.contracts.node.ring.pointers.Ring.empty.Key.{name as #self}
 use Rattle.event_queue.proofs.node.ring.pointers.Ring.empty.Statement.{statement}

@@ -32,9 +32,9 @@ use Rattle.std_alloc.specs.Vacant.{vacant}
 use Rattle.event_queue.specs.RingMemory.{link_room, node_type, entry_offset, entry_room, rest_of_block}
 use Rattle.event_queue.specs.contracts.node.ring.pointers.Node as node
 use Rattle.event_queue.specs.contracts.node.ring.pointers.Ring as ring
-use Rattle.event_queue.proofs.RingPlaces.{apart_one}
-use Rattle.event_queue.proofs.RingBlocks.{Room, block_cut}
-use Rattle.event_queue.proofs.RingSteps.{heap_Good, ring_Good, ring_val, Data, handle, told, made, entry_tells, entry_in, edge_in}
+use Rattle.event_queue.proofs.Ring.Places.{apart_one}
+use Rattle.event_queue.proofs.Ring.Blocks.{Room, block_cut}
+use Rattle.event_queue.proofs.Ring.Walks.{heap_Good, ring_Good, ring_val, Data, handle, told, made, entry_tells, entry_in, edge_in}
 use Rattle.event_queue.specs.contracts.node.ring.pointers.Ring.fill.{ended, clauses}
 use Rattle.event_queue.specs.contracts.node.ring.pointers.Ring.fill.Key.{name as #self}
 use Rattle.event_queue.proofs.node.ring.pointers.Ring.fill.Statement.{statement}

@@ -46,9 +46,9 @@ use Rattle.event_queue.specs.contracts.node.ring.pointers.Ring as ring
 use Rattle.event_queue.specs.contracts.node.ring.pointers.Ring.free as freed
 use Rattle.event_queue.specs.contracts.node.ring.pointers.Ring.free.Key as freed_key
 use Rattle.event_queue.proofs.node.ring.pointers.Ring.free.Met as freed_met
-use Rattle.event_queue.proofs.RingPlaces.{last_from, apart_one}
-use Rattle.event_queue.proofs.RingChain.{chain_owns, chained}
-use Rattle.event_queue.proofs.RingSteps.{heap_val, heap_Good, ring_Good, ring_val, Data, handle, told, made, learns, link_out, link_in, stale, edge_out, edge_in, path_cut, no_source, no_target}
+use Rattle.event_queue.proofs.Ring.Places.{last_from, apart_one}
+use Rattle.event_queue.proofs.Ring.Opened.{chain_owns, chained}
+use Rattle.event_queue.proofs.Ring.Walks.{heap_val, heap_Good, ring_Good, ring_val, Data, handle, told, made, learns, link_out, link_in, stale, edge_out, edge_in, path_cut, no_source, no_target}
 use Rattle.event_queue.specs.contracts.node.ring.pointers.Ring.free_all as F
 use Rattle.event_queue.specs.contracts.node.ring.pointers.Ring.free_all.Key.{name as #self}
 use Rattle.event_queue.proofs.node.ring.pointers.Ring.free_all.Statement.{statement}

@@ -28,8 +28,8 @@ use Rattle.std.proofs.VecSteps.Shapes.{after}
 use Rattle.event_queue.specs.Ring.{Placed, placed, places}
 use Rattle.event_queue.specs.RingMemory.{edge, path, nodes_own, ring_owns}
 use Rattle.event_queue.specs.contracts.node.ring.pointers.Ring as ring
-use Rattle.event_queue.proofs.RingPlaces.{IsNew, last_from, round_cut, apart_linked}
-use Rattle.event_queue.proofs.RingSteps.{ring_Good, knows, stale, fresh, ring_val, Data, handle, told, edge_out, edge_in, path_cut, path_glue, nodes_glue, no_source, no_target, says_two}
+use Rattle.event_queue.proofs.Ring.Places.{IsNew, last_from, round_cut, apart_linked}
+use Rattle.event_queue.proofs.Ring.Walks.{ring_Good, knows, stale, fresh, ring_val, Data, handle, told, edge_out, edge_in, path_cut, path_glue, nodes_glue, no_source, no_target, says_two}
 use Rattle.event_queue.specs.contracts.node.ring.pointers.Ring.link_last.{ended, clauses}
 use Rattle.event_queue.specs.contracts.node.ring.pointers.Ring.link_last.Key.{name as #self}
 use Rattle.event_queue.proofs.node.ring.pointers.Ring.link_last.Statement.{statement}

@@ -33,8 +33,8 @@ use Rattle.event_queue.specs.Ring.{Placed, placed, places, first_place, IsAt, At
 use Rattle.event_queue.specs.RingMemory.{next_of, edge_lent, path_lent, entry_offset, entry_of, nodes_lent}
 use Rattle.event_queue.specs.contracts.node.ring.pointers.Ring as ring
 use Rattle.event_queue.specs.contracts.node.ring.pointers.NodePtr as node_ptr
-use Rattle.event_queue.proofs.RingPlaces.{round_cut, round_first, same_node}
-use Rattle.event_queue.proofs.RingSteps.{word_had, word_made, link_looks, link_shuts, edge_seen, node_seen, says_two, pair_val, pair_of}
+use Rattle.event_queue.proofs.Ring.Places.{round_cut, round_first, same_node}
+use Rattle.event_queue.proofs.Ring.Walks.{word_had, word_made, link_looks, link_shuts, edge_seen, node_seen, says_two, pair_val, pair_of}
 use Rattle.event_queue.specs.contracts.node.ring.pointers.Ring.look_at.{ended, clauses}
 use Rattle.event_queue.specs.contracts.node.ring.pointers.Ring.look_at.Key.{name as #self}
 use Rattle.event_queue.proofs.node.ring.pointers.Ring.look_at.Statement.{statement}

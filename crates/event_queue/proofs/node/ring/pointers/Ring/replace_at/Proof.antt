@@ -28,8 +28,8 @@ use Rattle.event_queue.specs.Ring.{Placed, placed, places, IsApart, IsAt, AtNode
 use Rattle.event_queue.specs.RingMemory.{entry_offset, entry_of, path, node_owns, nodes_own}
 use Rattle.event_queue.specs.contracts.node.ring.pointers.Ring as ring
 use Rattle.event_queue.specs.contracts.node.ring.pointers.NodePtr as node_ptr
-use Rattle.event_queue.proofs.RingPlaces.{places_cut, apart_replaced, same_node}
-use Rattle.event_queue.proofs.RingSteps.{word_had, entry_tells, entry_out, entry_in, nodes_cut, nodes_glue, says_two}
+use Rattle.event_queue.proofs.Ring.Places.{places_cut, apart_replaced, same_node}
+use Rattle.event_queue.proofs.Ring.Walks.{word_had, entry_tells, entry_out, entry_in, nodes_cut, nodes_glue, says_two}
 use Rattle.event_queue.specs.contracts.node.ring.pointers.Ring.replace_at.{ended, clauses}
 use Rattle.event_queue.specs.contracts.node.ring.pointers.Ring.replace_at.Key.{name as #self}
 use Rattle.event_queue.proofs.node.ring.pointers.Ring.replace_at.Statement.{statement}

@@ -28,7 +28,7 @@ use Rattle.std.proofs.RcSteps.{Ptr-Good, word, word-Good}
 use Rattle.std.specs.contracts.alloc.Global as Heap
 use Rattle.event_queue.specs.RingMemory.{ring_lent}
 use Rattle.event_queue.specs.contracts.node.ring.pointers.Ring as ring
-use Rattle.event_queue.proofs.RingSteps.{ring_val, Data, handle, told, opened, word_made}
+use Rattle.event_queue.proofs.Ring.Walks.{ring_val, Data, handle, told, opened, word_made}
 use Rattle.event_queue.specs.contracts.node.ring.pointers.Ring.root.{ended, clauses}
 use Rattle.event_queue.specs.contracts.node.ring.pointers.Ring.root.Key.{name as #self}
 use Rattle.event_queue.proofs.node.ring.pointers.Ring.root.Statement.{statement}

@@ -29,8 +29,8 @@ use Rattle.event_queue.specs.Ring.{Placed, placed, places, first_place, IsApart,
 use Rattle.event_queue.specs.RingMemory.{edge, path, node_owns, nodes_own}
 use Rattle.event_queue.specs.contracts.node.ring.pointers.Ring as ring
 use Rattle.event_queue.specs.contracts.node.ring.pointers.NodePtr as node_ptr
-use Rattle.event_queue.proofs.RingPlaces.{last_from, round_cut, round_joined, round_first, apart_one, apart_unlinked, same_node}
-use Rattle.event_queue.proofs.RingSteps.{heap_Good, ring_val, Data, handle, told, made, word_had, edge_out, edge_in, path_cut, path_glue, nodes_cut, no_source, no_target, says_three}
+use Rattle.event_queue.proofs.Ring.Places.{last_from, round_cut, round_joined, round_first, apart_one, apart_unlinked, same_node}
+use Rattle.event_queue.proofs.Ring.Walks.{heap_Good, ring_val, Data, handle, told, made, word_had, edge_out, edge_in, path_cut, path_glue, nodes_cut, no_source, no_target, says_three}
 use Rattle.event_queue.specs.contracts.node.ring.pointers.Ring.unlink.{ended, clauses}
 use Rattle.event_queue.specs.contracts.node.ring.pointers.Ring.unlink.Key.{name as #self}
 use Rattle.event_queue.proofs.node.ring.pointers.Ring.unlink.Statement.{statement}

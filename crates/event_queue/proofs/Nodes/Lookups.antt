@@ -9,7 +9,7 @@ use Rattle.event_queue.specs.declared.node.line.Held.{Held}
 use Rattle.event_queue.specs.declared.node.line.Held.TheVariants.{Before, After, Nothing}
 use Rattle.event_queue.specs.Key.{is_key}
 use Rattle.event_queue.specs.Nodes.{Node, times, slots_of, key_of, value_before, value_after, AreBefore, AreAfter}
-use Rattle.event_queue.proofs.NodeTable.{times-cons_le, apart_from_times}
+use Rattle.event_queue.proofs.Nodes.Slots.{times-cons_le, apart_from_times}
 
 pub cases_option : {X : Type 0} (o : Option X) → (o ≡ None) ⊎ ((x : X) × (o ≡ Some x))
 cases_option None = inl refl

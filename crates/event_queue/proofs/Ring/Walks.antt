@@ -43,7 +43,7 @@ use Rattle.std.proofs.alloc.Global.TheLaws as Heap'
 use Rattle.event_queue.specs.Ring.{Placed, is_same_place}
 use Rattle.event_queue.specs.RingMemory.{next_of, previous_of, link_room, edge, path, edge_lent, path_lent, entry_of, node_owns, nodes_own, nodes_lent}
 use Rattle.event_queue.specs.contracts.node.ring.pointers.Ring as ring
-use Rattle.event_queue.proofs.RingPlaces.{last_from, IsNew, is_same_place-eq}
+use Rattle.event_queue.proofs.Ring.Places.{last_from, IsNew, is_same_place-eq}
 
 abbrev pub heap_val : Val
 heap_val = vstruct (vcons (vstruct (vcons vunit vnil)) vnil)

@@ -12,8 +12,8 @@ use Rattle.event_queue.specs.declared.node.line.Line.{Line}
 use Rattle.event_queue.specs.Key.{is_key}
 use Rattle.event_queue.specs.Ring.{first_place, IsAt, AtNode}
 use Rattle.event_queue.specs.Nodes.{Node, Spare, Slots, times, slots_of, nodes_of, node_at, key_of, spare_entry, value_before, value_after, AreBefore, AreAfter, AreMapped, GrowsTo, HasCursor, IsLined, IsTable, IsSound}
-use Rattle.event_queue.proofs.NodeTable.{times_same, apart_from_times, times-slots_of-append, cut_at, once, within, linked_slot, leads_to, not_linked, spare_within, last_is_spare, IsTable-linked, IsTable-returned, IsTable-changed}
-use Rattle.event_queue.proofs.NodeLists.{some_value, entries, entries-append, entries_some, entries_none, entries_skip, all_other, lookup_absent, lookup_cut, remove_cut, set_cut, is_before, is_after, none_before, none_after, AreBefore-append, AreBefore-cut, AreAfter-append, AreAfter-cut, length-before, length-after}
+use Rattle.event_queue.proofs.Nodes.Slots.{times_same, apart_from_times, times-slots_of-append, cut_at, once, within, linked_slot, leads_to, not_linked, spare_within, last_is_spare, IsTable-linked, IsTable-returned, IsTable-changed}
+use Rattle.event_queue.proofs.Nodes.Lookups.{some_value, entries, entries-append, entries_some, entries_none, entries_skip, all_other, lookup_absent, lookup_cut, remove_cut, set_cut, is_before, is_after, none_before, none_after, AreBefore-append, AreBefore-cut, AreAfter-append, AreAfter-cut, length-before, length-after}
 
 -- ---- how many there are
 module _ {A B : Type 0} (line : Option (Line A B)) (slots : Slots A B) (spares : List (Spare A B)) (before_len after_len : ℕ) (sound : IsSound line slots spares before_len after_len) where

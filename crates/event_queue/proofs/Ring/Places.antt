@@ -4,6 +4,7 @@ use Rattle.std.specs.List.{AllByRecursion, IsDistinct}
 use Rattle.std.proofs.lemmas.List.{map-append}
 use lib.Dec.{eqb_refl}
 use denote.RawPtr.{Ptr, block_ptr, null_ptr}
+use Rattle.event_queue.proofs.Lists.{All-append, All-front, All-back}
 use Rattle.event_queue.specs.Ring.{Placed, placed, is_same_place, IsApart, places, first_place}
 
 module _ {X : Type 0} where
@@ -32,19 +33,6 @@ module _ {X : Type 0} where
   pub first_of_push : (xs : List X) (t : X) → (y : X) × (ys : List X) × (xs ++ t ∷ [] ≡ y ∷ ys)
   first_of_push [] t = (t, [], refl)
   first_of_push (x ∷ xs) t = (x, xs ++ t ∷ [], refl)
-
-  module _ (P : X → Type 0) where
-    pub all_left : (xs ys : List X) → AllByRecursion P (xs ++ ys) → AllByRecursion P xs
-    all_left [] ys h = tt
-    all_left (x ∷ xs) ys h = (h.0, all_left xs ys h.1)
-
-    pub all_right : (xs ys : List X) → AllByRecursion P (xs ++ ys) → AllByRecursion P ys
-    all_right [] ys h = h
-    all_right (x ∷ xs) ys h = all_right xs ys h.1
-
-    pub all_both : (xs ys : List X) → AllByRecursion P xs → AllByRecursion P ys → AllByRecursion P (xs ++ ys)
-    all_both [] ys g h = h
-    all_both (x ∷ xs) ys g h = (g.0, all_both xs ys g.1 h)
 
 true_of : (b : Bool) → T b → b ≡ true
 true_of true t = refl
@@ -83,19 +71,19 @@ unfolding IsDistinct
 apart_without [] p ys d = d.1
 apart_without (z ∷ xs) p ys d =
     let P : Ptr → Type 0 = λ q. is_same_place z q ≡ false in
-    (all_both P xs ys (all_left P xs (p ∷ ys) d.0) (all_right P xs (p ∷ ys) d.0).1, apart_without xs p ys d.1)
+    (All-append P xs ys (All-front P xs (p ∷ ys) d.0) (All-back P xs (p ∷ ys) d.0).1, apart_without xs p ys d.1)
 
 pub apart_last : (xs : List Ptr) (p : Ptr) → IsNew p xs → IsApart xs → IsApart (xs ++ p ∷ [])
 unfolding IsDistinct
 apart_last [] p n d = (tt, tt)
-apart_last (z ∷ xs) p n d = (all_both (λ q. is_same_place z q ≡ false) xs (p ∷ []) d.0 (is_same_place-sym z p ∙ n.0, tt), apart_last xs p n.1 d.1)
+apart_last (z ∷ xs) p n d = (All-append (λ q. is_same_place z q ≡ false) xs (p ∷ []) d.0 (is_same_place-sym z p ∙ n.0, tt), apart_last xs p n.1 d.1)
 
 pub apart_one : (p : Ptr) → IsApart (p ∷ [])
 unfolding IsDistinct
 apart_one p = (tt, tt)
 
 clash : (p : Ptr) (us vs : List Ptr) → AllByRecursion (λ q. is_same_place p q ≡ false) (us ++ p ∷ vs) → ⊥
-clash p us vs all = true≢false (sym (is_same_place-refl p) ∙ (all_right (λ q. is_same_place p q ≡ false) us (p ∷ vs) all).0)
+clash p us vs all = true≢false (sym (is_same_place-refl p) ∙ (All-back (λ q. is_same_place p q ≡ false) us (p ∷ vs) all).0)
 
 module _ {E : Type 0} where
   abbrev places_of : List (Placed E) → List Ptr

@@ -13,8 +13,8 @@ use denote.RawPtr.{Ptr, RawPtr, block_ptr, null_ptr, lies_at, room_for}
 use Rattle.std.specs.declared.alloc.Global.{Global}
 use Rattle.event_queue.specs.Ring.{Placed, places, first_place}
 use Rattle.event_queue.specs.RingMemory.{next_of, previous_of, path, node_owns, nodes_own}
-use Rattle.event_queue.proofs.RingPlaces.{last_from}
-use Rattle.event_queue.proofs.RingSteps.{link_out, stale}
+use Rattle.event_queue.proofs.Ring.Places.{last_from}
+use Rattle.event_queue.proofs.Ring.Walks.{link_out, stale}
 
 module _ (R : RattleType) (a : Global) where
   abbrev pub chain_owns : List (Placed R.Denot) → Fml
