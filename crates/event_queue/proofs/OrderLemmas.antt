@@ -109,7 +109,8 @@ module _ {X : Type 0} where
   lookup-none_is key (e ∷ es) h = rw h.0 (lookup-none_is key es h.1)
 
   -- what holds of each key's serial holds of the serial of one that is found
-  pub at_found : (P : ℕ → Type 0) (key : Key) (entries : List (Key × X)) (value : X) → AllByRecursion (λ other. P other.serial) (keys_of entries) → lookup (is_key key) entries ≡ Some value → P key.serial
+  pub at_found : (P : ℕ → Type 0) (key : Key) (entries : List (Key × X)) (value : X) → AllByRecursion (λ other. P other.serial) (keys_of entries)
+      → lookup (is_key key) entries ≡ Some value → P key.serial
   at_found P key [] value h found = absurd (cc)
   at_found P key (e ∷ es) value h found = by_test (is_key key e.0) refl (at_found P key es value h.1)
     where
@@ -141,7 +142,8 @@ module _ {X : Type 0} where
       (other_serial key k (λ h. omega arith), none_before key keys es value n rises.2 found)
 
   -- the keys once an entry that is found has left
-  pub keys_of-remove_entry : (key : Key) (entries : List (Key × X)) (value : X) (n : ℕ) → Rises (keys_of entries) n → lookup (is_key key) entries ≡ Some value → keys_of (remove_entry (is_key key) entries) ≡ without key (keys_of entries)
+  pub keys_of-remove_entry : (key : Key) (entries : List (Key × X)) (value : X) (n : ℕ) → Rises (keys_of entries) n → lookup (is_key key) entries ≡ Some value
+      → keys_of (remove_entry (is_key key) entries) ≡ without key (keys_of entries)
   keys_of-remove_entry key [] value n rises found = absurd (cc)
   keys_of-remove_entry key (e ∷ es) value n rises found =
       by_test (is_key key e.0) refl (keys_of-remove_entry key es value n rises.2)
@@ -149,7 +151,8 @@ module _ {X : Type 0} where
       alone : is_key key e.0 ≡ true → NoneIs key (keys_of es)
       alone here = none_after key (e ∷ []) e.1 (keys_of es) n rises (rw here refl)
 
-      by_test : (b : Bool) → is_key key e.0 ≡ b → (lookup (is_key key) es ≡ Some value → keys_of (remove_entry (is_key key) es) ≡ without key (keys_of es)) → keys_of (remove_entry (is_key key) (e ∷ es)) ≡ without key (e.0 ∷ keys_of es)
+      by_test : (b : Bool) → is_key key e.0 ≡ b → (lookup (is_key key) es ≡ Some value → keys_of (remove_entry (is_key key) es) ≡ without key (keys_of es))
+          → keys_of (remove_entry (is_key key) (e ∷ es)) ≡ without key (e.0 ∷ keys_of es)
       by_test true here rest = rw here (sym (without-none key (keys_of es) (alone here)))
       by_test false apart rest = rw apart (ap (λ ks. e.0 ∷ ks) (rest (rw apart at found)))
 
@@ -157,6 +160,7 @@ module _ {X : Type 0} where
   length-remove_entry key [] value found = absurd (cc)
   length-remove_entry key (e ∷ es) value found = by_test (is_key key e.0) refl (length-remove_entry key es value)
     where
-      by_test : (b : Bool) → is_key key e.0 ≡ b → (lookup (is_key key) es ≡ Some value → length (remove_entry (is_key key) es) + 1 ≡ length es) → length (remove_entry (is_key key) (e ∷ es)) + 1 ≡ length (e ∷ es)
+      by_test : (b : Bool) → is_key key e.0 ≡ b → (lookup (is_key key) es ≡ Some value → length (remove_entry (is_key key) es) + 1 ≡ length es)
+          → length (remove_entry (is_key key) (e ∷ es)) + 1 ≡ length (e ∷ es)
       by_test true here rest = rw here (omega arith)
       by_test false apart rest = rw apart (omega (arith, rest (rw apart at found)))

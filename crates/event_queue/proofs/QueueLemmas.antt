@@ -9,7 +9,9 @@ use Rattle.event_queue.specs.declared.notice.Notice.{Notice}
 use Rattle.event_queue.specs.Key.{is_key, without}
 use Rattle.event_queue.specs.Queue.{Queue, IsQueue, IsAbsent, IsGone, order_of, listeners_of, told_leaves, waiting_leaves}
 use Rattle.event_queue.specs.Register.{after_storing}
-use Rattle.event_queue.proofs.OrderLemmas.{Rises, NoneIs, All-append, All-front, All-back, Rises-from_increasing, increasing_from_Rises, Rises-front, Rises-back, Rises-filter, Rises-push, without-none, none_is-without, none_is-from_lookup, lookup-none_is, below-found, none_after, none_before, keys_of-remove_entry, length-remove_entry}
+use Rattle.event_queue.proofs.OrderLemmas.{Rises, NoneIs, All-append, All-front, All-back, Rises-from_increasing, increasing_from_Rises, Rises-front, Rises-back, Rises-filter}
+use Rattle.event_queue.proofs.OrderLemmas.{Rises-push, without-none, none_is-without, none_is-from_lookup, lookup-none_is, below-found, none_after, none_before}
+use Rattle.event_queue.proofs.OrderLemmas.{keys_of-remove_entry, length-remove_entry}
 
 module _ {T W : Type 0} where
   pub rises_along : (q : Queue T W) → IsQueue q → Rises (order_of q) q.next_serial
@@ -27,7 +29,9 @@ module _ {T W : Type 0} where
   order_of-push q key task =
       ap (λ keys. keys_of q.told ++ keys) (map-append (λ e. e.0) q.waiting ((key, task) ∷ [])) ∙ sym (append_assoc (keys_of q.told) (keys_of q.waiting) (key ∷ []))
 
-  pub IsQueue-push : (q : Queue T W) (key : Key) (spare : ℕ) → IsQueue q → key.serial ≡ q.next_serial → q.next_serial + 1 < 2 ^ 64 → length q.told + length (q.waiting ++ (key, None) ∷ []) + spare < 2 ^ 64 → IsQueue {T = T} {W = W} (record { told = q.told; waiting = q.waiting ++ (key, None) ∷ []; next_serial = q.next_serial + 1; spare = spare })
+  pub IsQueue-push : (q : Queue T W) (key : Key) (spare : ℕ) → IsQueue q → key.serial ≡ q.next_serial → q.next_serial + 1 < 2 ^ 64
+      → length q.told + length (q.waiting ++ (key, None) ∷ []) + spare < 2 ^ 64
+      → IsQueue {T = T} {W = W} (record { told = q.told; waiting = q.waiting ++ (key, None) ∷ []; next_serial = q.next_serial + 1; spare = spare })
   IsQueue-push q key spare queue same left fits =
       IsQueue-from_Rises _ (subst (λ keys. Rises keys (q.next_serial + 1)) (sym (order_of-push q key None)) (Rises-push (order_of q) key q.next_serial same (rises_along q queue))) left fits
 
@@ -49,7 +53,8 @@ module _ {T W : Type 0} where
       simp (left, filter-append) (rw kept)
 
   -- a queue of the others, in their order, is a queue
-  IsQueue-without : (key : Key) (old new : Queue T W) → IsQueue old → order_of new ≡ without key (order_of old) → new.next_serial ≡ old.next_serial → listeners_of new + new.spare < 2 ^ 64 → IsQueue new
+  IsQueue-without : (key : Key) (old new : Queue T W) → IsQueue old → order_of new ≡ without key (order_of old) → new.next_serial ≡ old.next_serial
+      → listeners_of new + new.spare < 2 ^ 64 → IsQueue new
   IsQueue-without key old new queue order same fits =
       IsQueue-from_Rises new (rw (order, same) (Rises-filter _ (order_of old) old.next_serial (rises_along old queue))) (omega (arith, queue.serial_fits)) fits
 

@@ -59,7 +59,8 @@ module _ {T W : Type 0} where
 
   -- every call was made: a reply for each was appended, calls and those replies are a run, and the sink was
   -- handed the woken tasks in order
-  pub record RunsAll {S : Type 0} (woke : S → W → S → Type 0) (calls : List (Call T W)) (old : Queue T W) (replies : List (Reply T W)) (sink : S) (new : Queue T W) (replies' : List (Reply T W)) (sink' : S) : Type 0 where
+  pub record RunsAll {S : Type 0} (woke : S → W → S → Type 0) (calls : List (Call T W)) (old : Queue T W) (replies : List (Reply T W)) (sink : S) (new : Queue T W)
+      (replies' : List (Reply T W)) (sink' : S) : Type 0 where
     pub made : List (Reply T W)
     pub woken : List W
     pub appended : replies' ≡ replies ++ made

@@ -1,5 +1,5 @@
 -- How many visits and looks a call makes at most, whatever it answers.
-use Rattle.std.proofs.Common.{◌≤◌, ℕ, arith, Option, Some, None}
+use Rattle.std.proofs.Common.{◌≤◌, arith, Option, Some, None}
 use Rattle.std.specs.Map.{lookup}
 use Rattle.event_queue.specs.declared.key.Key.{Key}
 use Rattle.event_queue.specs.declared.notice.Notice.{Notice}

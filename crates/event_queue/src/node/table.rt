@@ -3,8 +3,8 @@ ghost use Rattle.std.specs.Prelude.{◌≡◌, ◌+◌, ◌<◌, ◌≤◌, ◌=
 ghost use Rattle.event_queue.specs.Counts.{counted_on};
 ghost use Rattle.event_queue.specs.Nodes.{node_at, spare_entry, GrowsTo};
 
-use super::line::Entry;
-use super::ring::{NodePtr, Reached, Ring, Steps};
+use super::entries::Entry;
+use super::ring::{NodePtr, NodeRef, Ring, Steps};
 use crate::key::Key;
 use std::alloc::{AllocError, AllocFailed, Global};
 use std::sync::ledger::Ledger;
@@ -57,12 +57,12 @@ impl<A, B> Table<A, B> {
         &self,
         key: Key,
         steps: &mut Steps<L>,
-    ) -> Option<Reached<Entry<A, B>>>
+    ) -> Option<NodeRef<Entry<A, B>>>
         ensures node { MatchOption result (node_at self.now.slots.items key ≡ Option.None) (λ node. node_at self.now.slots.items key ≡ Option.Some (record { ptr = node.ptr })) }
         ensures visits { steps.new.visits ≡ steps.old.visits }
         ensures looks { steps.new.looks ≡ counted_on steps.old.looks 1 }
     {
-        Reached::looked_up(self.place_of(key), steps)
+        NodeRef::looked_up(self.place_of(key), steps)
     }
 
     // Where the node of the key's entry stands, if there is one.
@@ -87,7 +87,7 @@ impl<A, B> Table<A, B> {
 
     /// Writes the serial of an entry and the place of its node, which was spare, into the key's slot.
     #[inline(always)]
-    pub(super) fn fill(&mut self, key: Key, node: &Reached<Entry<A, B>>)
+    pub(super) fn fill(&mut self, key: Key, node: &NodeRef<Entry<A, B>>)
         requires { key.slot < length self.old.slots.items }
         ensures slots { self.new.slots.items ≡ slice_set self.old.slots.items key.slot (Option.Some (key.serial, record { ptr = node.now.ptr })) }
         ensures spares { self.new.spares.items ≡ self.old.spares.items }
@@ -97,7 +97,7 @@ impl<A, B> Table<A, B> {
 
     /// Makes a node spare, whose slot this is. It allocates nothing.
     #[inline(always)]
-    pub(super) fn give_back(&mut self, slot: usize, node: Ring<Entry<A, B>>)
+    pub(super) fn recycle(&mut self, slot: usize, node: Ring<Entry<A, B>>)
         requires slot { slot < length self.old.slots.items }
         requires room { length self.old.spares.items < length self.old.slots.items }
         ensures slots { self.new.slots.items ≡ slice_set self.old.slots.items slot Option.None }
@@ -153,7 +153,7 @@ impl<A, B> Table<A, B> {
             }
             Err(refused) => {
                 let AllocFailed { value } = refused;
-                value.let_go();
+                value.drop_spare();
                 Err(AllocError)
             }
         }

@@ -6,6 +6,14 @@ pub returns-clause-slots_fit : goal.returns-clause-slots_fit
 returns-clause-slots_fit g c =
     let inside = c.self.inside in
     let slots = inside.table.slots in
-    let total = total_is inside.line slots.items inside.table.spares.items inside.before_len inside.after_len c.self.invariant in
+    let total = total_is inside.entries slots.items inside.table.spares.items inside.before_len inside.after_len c.self.invariant in
     rw (← c.self.view_is)
-    (omega (arith, length-before_of inside.line slots.items inside.table.spares.items inside.before_len inside.after_len c.self.invariant, length-after_of inside.line slots.items inside.table.spares.items inside.before_len inside.after_len c.self.invariant, total, slots.ok.0, slots.ok.1, slots.small))
+    (omega (
+      arith,
+      length-before_of inside.entries slots.items inside.table.spares.items inside.before_len inside.after_len c.self.invariant,
+      length-after_of inside.entries slots.items inside.table.spares.items inside.before_len inside.after_len c.self.invariant,
+      total,
+      slots.ok.0,
+      slots.ok.1,
+      slots.small,
+    ))
