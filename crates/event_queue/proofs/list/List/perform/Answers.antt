@@ -20,7 +20,8 @@ returns-in-Notify-clause-step g c =
       tags = c.into_iter.result;
     } in
     let step = NotifiesWith-from
-    (λ (s : TagList g.row.T.Denot). into_iter_items s.tags) c.in-Notify.count c.in-Notify.additional c.args.self.now source c.notify_uncounted.result c.notify_uncounted.new.self c.notify_uncounted.new.n c.notify_uncounted.ensures.step in
+    (λ (s : TagList g.row.T.Denot). into_iter_items s.tags) c.in-Notify.count c.in-Notify.additional c.args.self.now source
+    c.notify_uncounted.result c.notify_uncounted.new.self c.notify_uncounted.new.n c.notify_uncounted.ensures.step in
     rw (c.in-Notify.is, ← c.into_iter.ensures.rest) step
 
 pub returns-in-Notify-clause-gone : goal.returns-in-Notify-clause-gone

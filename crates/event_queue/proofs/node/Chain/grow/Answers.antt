@@ -23,7 +23,8 @@ returns-clause-slots_fit g c =
     let i = c.self.inside in
     let slots = c.grow.new.self.slots in
     let sound =
-    IsSound-started i.entries c.start.new.entries i.table.slots.items slots.items i.table.spares.items c.grow.new.self.spares.items i.before_len i.after_len c.self.invariant c.in_ok-start.ensures.started c.start.ensures.nodes c.grow.ensures.grows in
+    IsSound-started i.entries c.start.new.entries i.table.slots.items slots.items i.table.spares.items c.grow.new.self.spares.items i.before_len i.after_len c.self.invariant
+    c.in_ok-start.ensures.started c.start.ensures.nodes c.grow.ensures.grows in
     let total = total_is c.start.new.entries slots.items c.grow.new.self.spares.items i.before_len i.after_len sound in
     omega (
       arith,

@@ -73,7 +73,8 @@ invariant_of-self-2 g c =
     let lies = found.lies in
     let nodes = c.replace.ensures.nodes lies.front lies.node lies.rest lies.is lies.place in
     let other = placed lies.node.at (record lies.node.entry { held = After c.args.value }) in
-    IsSound-set entries slots spares i.before_len i.after_len sound c.args.key c.in-Some.own.ptr found c.replace.new.self other c.args.value nodes refl refl refl c.replace.ensures.root c.replace.ensures.cursor
+    IsSound-set entries slots spares i.before_len i.after_len sound c.args.key c.in-Some.own.ptr found c.replace.new.self other
+    c.args.value nodes refl refl refl c.replace.ensures.root c.replace.ensures.cursor
 
 pub returns-clause-former : goal.returns-clause-former
 returns-clause-former g c =

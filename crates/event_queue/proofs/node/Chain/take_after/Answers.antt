@@ -108,7 +108,8 @@ invariant_of-self-in-After g c =
     let cursor = cursor_is entries slots spares i.before_len i.after_len sound (omega (arith, some)) in
     let moved = c.take_after-node.ensures.cursor lies.front lies.node lies.rest lies.is lies.place sound.before cursor.first cursor.others cursor.is cursor.place in
     rw (c.recycle.ensures.slots, c.recycle.ensures.spares)
-    (IsSound-without_after entries slots spares i.before_len i.after_len sound c.args.key c.in_ok-own.own.ptr found cursor c.take_after-node.new.self c.take_after-node.result.0 nodes c.take_after-node.ensures.root moved c.take_after-node.ensures.alone spare_is)
+    (IsSound-without_after entries slots spares i.before_len i.after_len sound c.args.key c.in_ok-own.own.ptr found cursor
+    c.take_after-node.new.self c.take_after-node.result.0 nodes c.take_after-node.ensures.root moved c.take_after-node.ensures.alone spare_is)
 
 pub unreachable-requires-in_default-held : goal.unreachable-requires-in_default-held
 unreachable-requires-in_default-held g c =

@@ -91,7 +91,8 @@ invariant_of-self-in-Before g c =
     let nodes = c.take-node.ensures.nodes lies.front lies.node lies.rest lies.is lies.place in
     let spare_is = c.take-node.ensures.spare lies.front lies.node lies.rest lies.is lies.place in
     rw (c.recycle.ensures.slots, c.recycle.ensures.spares)
-    (IsSound-without_before entries slots spares i.before_len i.after_len sound c.args.key c.in_ok-own.own.ptr found c.take-node.new.self c.take-node.result.0 nodes c.take-node.ensures.root c.take-node.ensures.cursor c.take-node.ensures.alone spare_is)
+    (IsSound-without_before entries slots spares i.before_len i.after_len sound c.args.key c.in_ok-own.own.ptr found
+    c.take-node.new.self c.take-node.result.0 nodes c.take-node.ensures.root c.take-node.ensures.cursor c.take-node.ensures.alone spare_is)
 
 pub unreachable-requires-in_default-held : goal.unreachable-requires-in_default-held
 unreachable-requires-in_default-held g c =
