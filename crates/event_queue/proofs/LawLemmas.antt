@@ -1,19 +1,24 @@
 -- What users rely on, from the steps: who is gone, in which order the others stand, and how many are told.
-use Rattle.std.proofs.Common.{◌≡◌, ◌+◌, ◌-◌, ◌≤◌, min, max, Bool, true, false, [], ◌∷◌, take, length, refl, sym, ap, ◌∙◌, subst, arith, Option, Some, None, IsSomeAnd, OnSome, length-take}
+use Rattle.std.proofs.Common.{◌≡◌, ◌+◌, ◌-◌, ◌≤◌, min, max, Bool, true, false, [], ◌∷◌, ◌++◌, take, length, refl, sym, ap, ◌∙◌, subst, arith, Option, Some, None, Result, Ok, Err}
+use Rattle.std.proofs.Common.{IfOk, IsSomeAnd, OnSome, length-take}
 use Rattle.std.specs.Map.{keys_of, lookup}
 use Rattle.std.proofs.lemmas.Map.Entries.{length-keys_of}
 use Rattle.event_queue.specs.declared.key.Key.{Key}
 use Rattle.event_queue.specs.declared.notice.Notice.{Notice}
+use Rattle.event_queue.specs.declared.reply.ListenError.{ListenError}
+use Rattle.event_queue.specs.declared.reply.ListenError.TheVariants.{Memory, SerialsUsedUp}
 use Rattle.event_queue.specs.declared.reply.RegisterResult.{RegisterResult}
 use Rattle.event_queue.specs.declared.reply.RegisterResult.TheVariants.{Notified, Registered, NeverInserted}
 use Rattle.event_queue.specs.declared.reply.State.{State}
 use Rattle.event_queue.specs.declared.reply.State.TheVariants.{Created, Notified as WasNotified, Task, Passed, Lost}
 use Rattle.event_queue.specs.Key.{is_key, without}
 use Rattle.event_queue.specs.Queue.{Queue, IsQueue, IsGone, IsToldAs, order_of, listeners_of, how_many, told_leaves}
+use Rattle.event_queue.specs.Insert.{Inserts}
 use Rattle.event_queue.specs.Register.{Registers, OnNotified, UnlessNotified}
 use Rattle.event_queue.specs.Remove.{Removes, PassesTo, told_by_passing, after_passing}
-use Rattle.event_queue.proofs.OrderLemmas.{NoneIs, All-append, without-none, none_is-from_lookup, lookup-none_is, none_before, length-remove_entry}
-use Rattle.event_queue.proofs.QueueLemmas.{rises_along, order_of-told_leaves, order_of-waiting_leaves, order_of-after_storing, IsGone-without, told_serial, waiting_serial}
+use Rattle.event_queue.proofs.OrderLemmas.{without-none, lookup-none_is, none_before, length-remove_entry}
+use Rattle.event_queue.proofs.QueueLemmas.{rises_along, order_of-push, order_of-told_leaves, order_of-waiting_leaves, order_of-after_storing, IsAbsent-none, IsGone-without}
+use Rattle.event_queue.proofs.QueueLemmas.{told_serial, waiting_serial}
 use Rattle.event_queue.proofs.TellingLemmas.{order_of-after_telling, length-after_telling}
 
 -- the value that a look-up finds
@@ -34,10 +39,21 @@ module _ {T W : Type 0} where
       let order = order_of-told_leaves key old found.0 queue found.1 in
       IsGone-without key (told_leaves key old) (order_of old) order (told_serial key old found.0 queue found.1)
 
-  pub took_tag-order : (key : Key) (old : Queue T W) (tag : T) → IsQueue old → IsSomeAnd (lookup (is_key key) old.told) (λ notice. notice.tag ≡ tag) → order_of (told_leaves key old) ≡ without key (order_of old)
+  pub took_tag-order : (key : Key) (old : Queue T W) (tag : T) → IsQueue old → IsSomeAnd (lookup (is_key key) old.told) (λ notice. notice.tag ≡ tag)
+      → order_of (told_leaves key old) ≡ without key (order_of old)
   took_tag-order key old tag queue told =
       let found = found_value (lookup (is_key key) old.told) (λ n. n.tag ≡ tag) told in
       order_of-told_leaves key old found.0 queue found.1
+
+  -- the newcomer stands last
+  pub Inserts-order : (old : Queue T W) (answer : Result Key ListenError) (new : Queue T W) → Inserts old answer new → IfOk answer (λ key. order_of new ≡ order_of old ++ key ∷ [])
+  Inserts-order old (Ok key) new step = ap order_of step.queue ∙ order_of-push old key None
+  Inserts-order old (Err error) new step = tt
+
+  pub Inserts-serial : (old : Queue T W) (answer : Result Key ListenError) (new : Queue T W) → Inserts old answer new → old.next_serial ≤ new.next_serial
+  Inserts-serial old (Ok key) new step = omega (arith, ap (λ q. q.next_serial) step.queue)
+  Inserts-serial old (Err Memory) new step = omega (arith, ap (λ q. q.next_serial) step.2)
+  Inserts-serial old (Err SerialsUsedUp) new step = omega (arith, ap (λ q. q.next_serial) step.1)
 
   pub Registers-gone : (old : Queue T W) (key : Key) (task : W) (reply : RegisterResult T) (new : Queue T W) → IsQueue old → Registers old key task reply new → OnNotified reply (IsGone key new)
   Registers-gone old key task (Notified tag) new queue step =
@@ -45,13 +61,15 @@ module _ {T W : Type 0} where
   Registers-gone old key task Registered new queue step = tt
   Registers-gone old key task NeverInserted new queue step = tt
 
-  pub Registers-order_without : (old : Queue T W) (key : Key) (task : W) (reply : RegisterResult T) (new : Queue T W) → IsQueue old → Registers old key task reply new → OnNotified reply (order_of new ≡ without key (order_of old))
+  pub Registers-order_without : (old : Queue T W) (key : Key) (task : W) (reply : RegisterResult T) (new : Queue T W) → IsQueue old → Registers old key task reply new
+      → OnNotified reply (order_of new ≡ without key (order_of old))
   Registers-order_without old key task (Notified tag) new queue step =
       ap order_of step.1 ∙ took_tag-order key old tag queue step.0
   Registers-order_without old key task Registered new queue step = tt
   Registers-order_without old key task NeverInserted new queue step = tt
 
-  pub Registers-order_kept : (old : Queue T W) (key : Key) (task : W) (reply : RegisterResult T) (new : Queue T W) → Registers old key task reply new → UnlessNotified reply (order_of new ≡ order_of old)
+  pub Registers-order_kept : (old : Queue T W) (key : Key) (task : W) (reply : RegisterResult T) (new : Queue T W) → Registers old key task reply new
+      → UnlessNotified reply (order_of new ≡ order_of old)
   Registers-order_kept old key task (Notified tag) new step = tt
   Registers-order_kept old key task Registered new step = ap order_of step.1 ∙ order_of-after_storing key task old
   Registers-order_kept old key task NeverInserted new step = ap order_of step.1
@@ -68,12 +86,14 @@ module _ {T W : Type 0} where
       let found = found_value (lookup (is_key key) old.told) (λ n. PassesTo (to ∷ []) n (told_leaves key old) new) step.1 in
       record { propagates = step.0; notice = found.0; found = found.1; queue = found.2.queue }
 
-  pub propagates-lost : (old : Queue T W) (key : Key) (propagate : Bool) (additional : Bool) (tag : T) (new : Queue T W) → Removes old key propagate (Some (Lost additional tag)) new → Propagates old key propagate new
+  pub propagates-lost : (old : Queue T W) (key : Key) (propagate : Bool) (additional : Bool) (tag : T) (new : Queue T W)
+      → Removes old key propagate (Some (Lost additional tag)) new → Propagates old key propagate new
   propagates-lost old key propagate additional tag new step =
       record { propagates = step.0; notice = record { additional = additional; tag = tag }; found = step.1; queue = step.2.queue }
 
   -- the order once a told listener has left and its notification was passed on
-  order_of-passed : (key : Key) (old : Queue T W) (notice : Notice T) → IsQueue old → lookup (is_key key) old.told ≡ Some notice → order_of (after_passing notice (told_leaves key old)) ≡ without key (order_of old)
+  order_of-passed : (key : Key) (old : Queue T W) (notice : Notice T) → IsQueue old → lookup (is_key key) old.told ≡ Some notice
+      → order_of (after_passing notice (told_leaves key old)) ≡ without key (order_of old)
   order_of-passed key old notice queue found =
       order_of-after_telling notice.additional _ (told_leaves key old) ∙ order_of-told_leaves key old notice queue found
 
@@ -81,11 +101,10 @@ module _ {T W : Type 0} where
   order_of-propagated old key propagate new queue step =
       ap order_of step.queue ∙ order_of-passed key old step.notice queue step.found
 
-  pub Removes-order : (old : Queue T W) (key : Key) (propagate : Bool) (reply : Option (State T W)) (new : Queue T W) → IsQueue old → Removes old key propagate reply new → order_of new ≡ without key (order_of old)
+  pub Removes-order : (old : Queue T W) (key : Key) (propagate : Bool) (reply : Option (State T W)) (new : Queue T W) → IsQueue old → Removes old key propagate reply new
+      → order_of new ≡ without key (order_of old)
   Removes-order old key propagate None new queue step =
-      let none : NoneIs key (order_of old) =
-      All-append _ (keys_of old.told) (keys_of old.waiting) (none_is-from_lookup key old.told step.0.untold) (none_is-from_lookup key old.waiting step.0.unwaiting) in
-      ap order_of step.1 ∙ sym (without-none key (order_of old) none)
+      ap order_of step.1 ∙ sym (without-none key (order_of old) (IsAbsent-none key old step.0))
   Removes-order old key propagate (Some Created) new queue step =
       ap order_of step.1 ∙ order_of-waiting_leaves key old None queue step.0
   Removes-order old key propagate (Some (Task task)) new queue step =
@@ -114,14 +133,16 @@ module _ {T W : Type 0} where
   Removes-gone old key propagate (Some (Lost additional tag)) new queue step =
       gone-propagated old key propagate new queue (propagates-lost old key propagate additional tag new step)
 
-  the_notice : (old : Queue T W) (key : Key) (propagate : Bool) (new : Queue T W) (notice : Notice T) → Propagates old key propagate new → lookup (is_key key) old.told ≡ Some notice → new ≡ after_passing notice (told_leaves key old)
+  the_notice : (old : Queue T W) (key : Key) (propagate : Bool) (new : Queue T W) (notice : Notice T) → Propagates old key propagate new
+      → lookup (is_key key) old.told ≡ Some notice → new ≡ after_passing notice (told_leaves key old)
   the_notice old key propagate new notice step told =
       let both : Some step.notice ≡ Some notice = sym step.found ∙ told in
       let same : step.notice ≡ notice = cc in
       step.queue ∙ ap (λ n. after_passing n (told_leaves key old)) same
 
   -- a told listener's removal with propagation passes its notification on
-  passed_on : (old : Queue T W) (key : Key) (reply : Option (State T W)) (new : Queue T W) (notice : Notice T) → IsQueue old → Removes old key true reply new → lookup (is_key key) old.told ≡ Some notice → new ≡ after_passing notice (told_leaves key old)
+  passed_on : (old : Queue T W) (key : Key) (reply : Option (State T W)) (new : Queue T W) (notice : Notice T) → IsQueue old → Removes old key true reply new
+      → lookup (is_key key) old.told ≡ Some notice → new ≡ after_passing notice (told_leaves key old)
   passed_on old key None new notice queue step told =
       let none : None ≡ Some notice = sym step.0.untold ∙ told in absurd (cc)
   passed_on old key (Some Created) new notice queue step told =
@@ -134,7 +155,7 @@ module _ {T W : Type 0} where
   passed_on old key (Some (Lost additional tag)) new notice queue step told =
       the_notice old key true new notice (propagates-lost old key true additional tag new step) told
 
-  at_most_one : (additional : Bool) (q : Queue T W) → how_many 1 additional q ≤ 1
+  pub at_most_one : (additional : Bool) (q : Queue T W) → how_many 1 additional q ≤ 1
   at_most_one true q = omega arith
   at_most_one false q = omega arith
 
@@ -143,7 +164,8 @@ module _ {T W : Type 0} where
       let passed = how_many 1 notice.additional q in
       omega (arith, length-keys_of (take passed q.waiting), length-take passed q.waiting, at_most_one notice.additional q)
 
-  told_after_passing : (key : Key) (old : Queue T W) (notice : Notice T) → lookup (is_key key) old.told ≡ Some notice → length (after_passing notice (told_leaves key old)).told + 1 ≡ length old.told + how_many 1 notice.additional (told_leaves key old)
+  told_after_passing : (key : Key) (old : Queue T W) (notice : Notice T) → lookup (is_key key) old.told ≡ Some notice
+      → length (after_passing notice (told_leaves key old)).told + 1 ≡ length old.told + how_many 1 notice.additional (told_leaves key old)
   told_after_passing key old notice found =
       let q = told_leaves key old in
       let passed = how_many 1 notice.additional q in
@@ -155,7 +177,8 @@ module _ {T W : Type 0} where
       omega (arith, count)
 
   -- how many are told once a told listener was dropped
-  pub Removes-drop : (old : Queue T W) (key : Key) (reply : Option (State T W)) (new : Queue T W) (additional : Bool) → IsQueue old → Removes old key true reply new → IsToldAs key additional old → (length (told_leaves key old).told + 1 ≡ length old.told) × (length new.told + 1 ≡ length old.told + how_many 1 additional (told_leaves key old))
+  pub Removes-drop : (old : Queue T W) (key : Key) (reply : Option (State T W)) (new : Queue T W) (additional : Bool) → IsQueue old → Removes old key true reply new
+      → IsToldAs key additional old → (length (told_leaves key old).told + 1 ≡ length old.told) × (length new.told + 1 ≡ length old.told + how_many 1 additional (told_leaves key old))
   Removes-drop old key reply new additional queue step told =
       let found = found_value (lookup (is_key key) old.told) (λ n. n.additional ≡ additional) told in
       let fewer = length-remove_entry key old.told found.0 found.1 in
@@ -164,12 +187,14 @@ module _ {T W : Type 0} where
       let counted : length new.told + 1 ≡ length old.told + how_many 1 found.0.additional (told_leaves key old) = rw is count in
       (fewer, subst (λ a. length new.told + 1 ≡ length old.told + how_many 1 a (told_leaves key old)) found.2 counted)
 
-  pub Removes-drop_default : (old : Queue T W) (key : Key) (reply : Option (State T W)) (new : Queue T W) → IsQueue old → Removes old key true reply new → IsToldAs key false old → length new.told ≡ max (length old.told - 1) (min 1 (listeners_of old - 1))
+  pub Removes-drop_default : (old : Queue T W) (key : Key) (reply : Option (State T W)) (new : Queue T W) → IsQueue old → Removes old key true reply new → IsToldAs key false old
+      → length new.told ≡ max (length old.told - 1) (min 1 (listeners_of old - 1))
   Removes-drop_default old key reply new queue step told =
       let counts = Removes-drop old key reply new false queue step told in
       omega (arith, counts.0, counts.1)
 
-  pub Removes-drop_additional : (old : Queue T W) (key : Key) (reply : Option (State T W)) (new : Queue T W) → IsQueue old → Removes old key true reply new → IsToldAs key true old → length new.told ≡ min (length old.told) (listeners_of old - 1)
+  pub Removes-drop_additional : (old : Queue T W) (key : Key) (reply : Option (State T W)) (new : Queue T W) → IsQueue old → Removes old key true reply new → IsToldAs key true old
+      → length new.told ≡ min (length old.told) (listeners_of old - 1)
   Removes-drop_additional old key reply new queue step told =
       let counts = Removes-drop old key reply new true queue step told in
       omega (arith, counts.0, counts.1)

@@ -8,6 +8,7 @@ use Rattle.std.proofs.lemmas.List.Elements.{recursion_from_All}
 use Rattle.std.proofs.lemmas.List.Kept.{AllPairs-from_increasing}
 use Rattle.event_queue.specs.declared.key.Key.{Key}
 use Rattle.event_queue.specs.Key.{is_key, without, serials}
+pub use Rattle.event_queue.proofs.Lists.{All-append, All-front, All-back, All-implied, All-filter}
 
 -- each serial is below those after it, and all are below n
 abbrev pub Rises : List Key → ℕ → Type 0
@@ -18,31 +19,6 @@ Rises (key ∷ keys) n =
 -- no key of the list is this one
 abbrev pub NoneIs : Key → List Key → Type 0
 NoneIs key keys = AllByRecursion (λ other. is_key key other ≡ false) keys
-
--- what holds along two lists holds along both in a row, and the other way
-pub All-append : {X : Type 0} (P : X → Type 0) (xs ys : List X) → AllByRecursion P xs → AllByRecursion P ys → AllByRecursion P (xs ++ ys)
-All-append P [] ys h k = k
-All-append P (x ∷ xs) ys h k = (h.0, All-append P xs ys h.1 k)
-
-pub All-front : {X : Type 0} (P : X → Type 0) (xs ys : List X) → AllByRecursion P (xs ++ ys) → AllByRecursion P xs
-All-front P [] ys h = tt
-All-front P (x ∷ xs) ys h = (h.0, All-front P xs ys h.1)
-
-pub All-back : {X : Type 0} (P : X → Type 0) (xs ys : List X) → AllByRecursion P (xs ++ ys) → AllByRecursion P ys
-All-back P [] ys h = h
-All-back P (x ∷ xs) ys h = All-back P xs ys h.1
-
--- what follows of each follows of all
-pub All-implied : {X : Type 0} (P Q : X → Type 0) (xs : List X) → ((x : X) → P x → Q x) → AllByRecursion P xs → AllByRecursion Q xs
-All-implied P Q [] implies h = tt
-All-implied P Q (x ∷ xs) implies h = (implies x h.0, All-implied P Q xs implies h.1)
-
--- what holds of each holds of each that a filter keeps
-pub All-filter : {X : Type 0} (P : X → Type 0) (p : X → Bool) (xs : List X) → AllByRecursion P xs → AllByRecursion P (filter p xs)
-All-filter P p [] h = tt
-All-filter {X} P p (x ∷ xs) h =
-    let rest = All-filter P p xs h.1 in
-    cond_both (p x) (x ∷ filter p xs) (filter p xs) (λ (ys : List X). AllByRecursion P ys) (λ _. (h.0, rest)) (λ _. rest)
 
 -- from rising numbers to rising keys
 
@@ -133,7 +109,8 @@ module _ {X : Type 0} where
   lookup-none_is key (e ∷ es) h = rw h.0 (lookup-none_is key es h.1)
 
   -- what holds of each key's serial holds of the serial of one that is found
-  pub at_found : (P : ℕ → Type 0) (key : Key) (entries : List (Key × X)) (value : X) → AllByRecursion (λ other. P other.serial) (keys_of entries) → lookup (is_key key) entries ≡ Some value → P key.serial
+  pub at_found : (P : ℕ → Type 0) (key : Key) (entries : List (Key × X)) (value : X) → AllByRecursion (λ other. P other.serial) (keys_of entries)
+      → lookup (is_key key) entries ≡ Some value → P key.serial
   at_found P key [] value h found = absurd (cc)
   at_found P key (e ∷ es) value h found = by_test (is_key key e.0) refl (at_found P key es value h.1)
     where
@@ -165,7 +142,8 @@ module _ {X : Type 0} where
       (other_serial key k (λ h. omega arith), none_before key keys es value n rises.2 found)
 
   -- the keys once an entry that is found has left
-  pub keys_of-remove_entry : (key : Key) (entries : List (Key × X)) (value : X) (n : ℕ) → Rises (keys_of entries) n → lookup (is_key key) entries ≡ Some value → keys_of (remove_entry (is_key key) entries) ≡ without key (keys_of entries)
+  pub keys_of-remove_entry : (key : Key) (entries : List (Key × X)) (value : X) (n : ℕ) → Rises (keys_of entries) n → lookup (is_key key) entries ≡ Some value
+      → keys_of (remove_entry (is_key key) entries) ≡ without key (keys_of entries)
   keys_of-remove_entry key [] value n rises found = absurd (cc)
   keys_of-remove_entry key (e ∷ es) value n rises found =
       by_test (is_key key e.0) refl (keys_of-remove_entry key es value n rises.2)
@@ -173,7 +151,8 @@ module _ {X : Type 0} where
       alone : is_key key e.0 ≡ true → NoneIs key (keys_of es)
       alone here = none_after key (e ∷ []) e.1 (keys_of es) n rises (rw here refl)
 
-      by_test : (b : Bool) → is_key key e.0 ≡ b → (lookup (is_key key) es ≡ Some value → keys_of (remove_entry (is_key key) es) ≡ without key (keys_of es)) → keys_of (remove_entry (is_key key) (e ∷ es)) ≡ without key (e.0 ∷ keys_of es)
+      by_test : (b : Bool) → is_key key e.0 ≡ b → (lookup (is_key key) es ≡ Some value → keys_of (remove_entry (is_key key) es) ≡ without key (keys_of es))
+          → keys_of (remove_entry (is_key key) (e ∷ es)) ≡ without key (e.0 ∷ keys_of es)
       by_test true here rest = rw here (sym (without-none key (keys_of es) (alone here)))
       by_test false apart rest = rw apart (ap (λ ks. e.0 ∷ ks) (rest (rw apart at found)))
 
@@ -181,6 +160,7 @@ module _ {X : Type 0} where
   length-remove_entry key [] value found = absurd (cc)
   length-remove_entry key (e ∷ es) value found = by_test (is_key key e.0) refl (length-remove_entry key es value)
     where
-      by_test : (b : Bool) → is_key key e.0 ≡ b → (lookup (is_key key) es ≡ Some value → length (remove_entry (is_key key) es) + 1 ≡ length es) → length (remove_entry (is_key key) (e ∷ es)) + 1 ≡ length (e ∷ es)
+      by_test : (b : Bool) → is_key key e.0 ≡ b → (lookup (is_key key) es ≡ Some value → length (remove_entry (is_key key) es) + 1 ≡ length es)
+          → length (remove_entry (is_key key) (e ∷ es)) + 1 ≡ length (e ∷ es)
       by_test true here rest = rw here (omega arith)
       by_test false apart rest = rw apart (omega (arith, rest (rw apart at found)))

@@ -7,9 +7,11 @@ use Rattle.std.specs.Map.{keys_of, lookup}
 use Rattle.event_queue.specs.declared.key.Key.{Key}
 use Rattle.event_queue.specs.declared.notice.Notice.{Notice}
 use Rattle.event_queue.specs.Key.{is_key, without}
-use Rattle.event_queue.specs.Queue.{Queue, IsQueue, IsGone, order_of, listeners_of, told_leaves, waiting_leaves}
+use Rattle.event_queue.specs.Queue.{Queue, IsQueue, IsAbsent, IsGone, order_of, listeners_of, told_leaves, waiting_leaves}
 use Rattle.event_queue.specs.Register.{after_storing}
-use Rattle.event_queue.proofs.OrderLemmas.{Rises, NoneIs, All-front, All-back, Rises-from_increasing, increasing_from_Rises, Rises-front, Rises-back, Rises-filter, Rises-push, without-none, none_is-without, lookup-none_is, below-found, none_after, none_before, keys_of-remove_entry, length-remove_entry}
+use Rattle.event_queue.proofs.OrderLemmas.{Rises, NoneIs, All-append, All-front, All-back, Rises-from_increasing, increasing_from_Rises, Rises-front, Rises-back, Rises-filter}
+use Rattle.event_queue.proofs.OrderLemmas.{Rises-push, without-none, none_is-without, none_is-from_lookup, lookup-none_is, below-found, none_after, none_before}
+use Rattle.event_queue.proofs.OrderLemmas.{keys_of-remove_entry, length-remove_entry}
 
 module _ {T W : Type 0} where
   pub rises_along : (q : Queue T W) → IsQueue q → Rises (order_of q) q.next_serial
@@ -27,7 +29,9 @@ module _ {T W : Type 0} where
   order_of-push q key task =
       ap (λ keys. keys_of q.told ++ keys) (map-append (λ e. e.0) q.waiting ((key, task) ∷ [])) ∙ sym (append_assoc (keys_of q.told) (keys_of q.waiting) (key ∷ []))
 
-  pub IsQueue-push : (q : Queue T W) (key : Key) (spare : ℕ) → IsQueue q → key.serial ≡ q.next_serial → q.next_serial + 1 < 2 ^ 64 → length q.told + length (q.waiting ++ (key, None) ∷ []) + spare < 2 ^ 64 → IsQueue {T = T} {W = W} (record { told = q.told; waiting = q.waiting ++ (key, None) ∷ []; next_serial = q.next_serial + 1; spare = spare })
+  pub IsQueue-push : (q : Queue T W) (key : Key) (spare : ℕ) → IsQueue q → key.serial ≡ q.next_serial → q.next_serial + 1 < 2 ^ 64
+      → length q.told + length (q.waiting ++ (key, None) ∷ []) + spare < 2 ^ 64
+      → IsQueue {T = T} {W = W} (record { told = q.told; waiting = q.waiting ++ (key, None) ∷ []; next_serial = q.next_serial + 1; spare = spare })
   IsQueue-push q key spare queue same left fits =
       IsQueue-from_Rises _ (subst (λ keys. Rises keys (q.next_serial + 1)) (sym (order_of-push q key None)) (Rises-push (order_of q) key q.next_serial same (rises_along q queue))) left fits
 
@@ -49,7 +53,8 @@ module _ {T W : Type 0} where
       simp (left, filter-append) (rw kept)
 
   -- a queue of the others, in their order, is a queue
-  IsQueue-without : (key : Key) (old new : Queue T W) → IsQueue old → order_of new ≡ without key (order_of old) → new.next_serial ≡ old.next_serial → listeners_of new + new.spare < 2 ^ 64 → IsQueue new
+  IsQueue-without : (key : Key) (old new : Queue T W) → IsQueue old → order_of new ≡ without key (order_of old) → new.next_serial ≡ old.next_serial
+      → listeners_of new + new.spare < 2 ^ 64 → IsQueue new
   IsQueue-without key old new queue order same fits =
       IsQueue-from_Rises new (rw (order, same) (Rises-filter _ (order_of old) old.next_serial (rises_along old queue))) (omega (arith, queue.serial_fits)) fits
 
@@ -71,17 +76,23 @@ module _ {T W : Type 0} where
       let order = order_of-after_storing key task q in
       IsQueue-from_Rises _ (rw order (rises_along q queue)) queue.serial_fits (omega (arith, queue.slots_fit, length-set_value (is_key key) q.waiting (Some task)))
 
+  -- an absent key is none of those in the order, and the other way: so it is gone, if its serial was given
+  pub IsAbsent-none : (key : Key) (q : Queue T W) → IsAbsent key q → NoneIs key (order_of q)
+  IsAbsent-none key q absent =
+      All-append _ (keys_of q.told) (keys_of q.waiting) (none_is-from_lookup key q.told absent.untold) (none_is-from_lookup key q.waiting absent.unwaiting)
+
+  pub IsGone-none : (key : Key) (q : Queue T W) → NoneIs key (order_of q) → key.serial < q.next_serial → IsGone key q
+  IsGone-none key q none spent = record {
+    absent = record {
+      untold = lookup-none_is key q.told (All-front _ (keys_of q.told) (keys_of q.waiting) none);
+      unwaiting = lookup-none_is key q.waiting (All-back _ (keys_of q.told) (keys_of q.waiting) none);
+    };
+    spent = spent;
+  }
+
   -- a listener whose key is in the order no longer, and was, is gone
   pub IsGone-without : (key : Key) (q : Queue T W) (keys : List Key) → order_of q ≡ without key keys → key.serial < q.next_serial → IsGone key q
-  IsGone-without key q keys order spent =
-      let none : NoneIs key (order_of q) = subst (NoneIs key) (sym order) (none_is-without key keys) in
-      record {
-        absent = record {
-          untold = lookup-none_is key q.told (All-front _ (keys_of q.told) (keys_of q.waiting) none);
-          unwaiting = lookup-none_is key q.waiting (All-back _ (keys_of q.told) (keys_of q.waiting) none);
-        };
-        spent = spent;
-      }
+  IsGone-without key q keys order spent = IsGone-none key q (subst (NoneIs key) (sym order) (none_is-without key keys)) spent
 
   pub told_serial : (key : Key) (q : Queue T W) (notice : Notice T) → IsQueue q → lookup (is_key key) q.told ≡ Some notice → key.serial < q.next_serial
   told_serial key q notice queue found =

@@ -10,7 +10,8 @@ use Rattle.event_queue.specs.Queue.{Queue, IsQueue, order_of, listeners_of, told
 use Rattle.event_queue.proofs.QueueLemmas.{rises_along, IsQueue-from_Rises}
 
 -- two chains in a row
-pub FoldsTo-append : {P X : Type 0} (R : P → X → P → Type 0) (from : P) (xs : List X) (between : P) (ys : List X) (to : P) → FoldsTo R from xs between → FoldsTo R between ys to → FoldsTo R from (xs ++ ys) to
+pub FoldsTo-append : {P X : Type 0} (R : P → X → P → Type 0) (from : P) (xs : List X) (between : P) (ys : List X) (to : P) → FoldsTo R from xs between → FoldsTo R between ys to
+    → FoldsTo R from (xs ++ ys) to
 FoldsTo-append {P} R from [] between ys to h k = subst (λ (p : P). FoldsTo R p ys to) (sym h) k
 FoldsTo-append R from (x ∷ xs) between ys to h k = (h.0, h.1, FoldsTo-append R h.0 xs between ys to h.2 k)
 
@@ -25,14 +26,16 @@ take_and_one (suc n) [] = refl
 take_and_one (suc n) (x ∷ xs) = ap (λ ys. x ∷ ys) (take_and_one n xs)
 
 module _ {T W : Type 0} where
-  told_with-push : (additional : Bool) (tags : List T) (tag : T) (waiting : List (Key × Option W)) → told_with additional (tags ++ tag ∷ []) waiting ≡ told_with additional tags waiting ++ told_with additional (tag ∷ []) (drop (length tags) waiting)
+  told_with-push : (additional : Bool) (tags : List T) (tag : T) (waiting : List (Key × Option W))
+      → told_with additional (tags ++ tag ∷ []) waiting ≡ told_with additional tags waiting ++ told_with additional (tag ∷ []) (drop (length tags) waiting)
   told_with-push additional [] tag waiting = refl
   told_with-push additional (t ∷ tags) tag [] = refl
   told_with-push additional (t ∷ tags) tag (first ∷ rest) =
       ap (λ es. (first.0, record { additional = additional; tag = t }) ∷ es) (told_with-push additional tags tag rest)
 
   -- one more is told
-  pub after_telling-push : (additional : Bool) (tags : List T) (tag : T) (q : Queue T W) → after_telling additional (tag ∷ []) (after_telling additional tags q) ≡ after_telling additional (tags ++ tag ∷ []) q
+  pub after_telling-push : (additional : Bool) (tags : List T) (tag : T) (q : Queue T W)
+      → after_telling additional (tag ∷ []) (after_telling additional tags q) ≡ after_telling additional (tags ++ tag ∷ []) q
   after_telling-push additional tags tag q =
       let told : (q.told ++ told_with additional tags q.waiting) ++ told_with additional (tag ∷ []) (drop (length tags) q.waiting) ≡ q.told ++ told_with additional (tags ++ tag ∷ []) q.waiting =
       append_assoc q.told _ _ ∙ ap (λ es. q.told ++ es) (sym (told_with-push additional tags tag q.waiting)) in
@@ -86,12 +89,16 @@ module _ {T W : Type 0} where
       IsQueue-from_Rises _ (rw order (rises_along q queue)) queue.serial_fits (omega (arith, queue.slots_fit, listeners_of-after_telling additional tags q))
 
   -- the queue once its first waiting listener has the notice
-  pub after_telling-first : (q : Queue T W) (notice : Notice T) (first : Key × Option W) (rest : List (Key × Option W)) (told : List (Key × Notice T)) (spare : ℕ) → q.waiting ≡ first ∷ rest → told ≡ q.told ++ (first.0, notice) ∷ [] → spare ≡ q.spare → record { told = told; waiting = rest; next_serial = q.next_serial; spare = spare } ≡ after_telling notice.additional (notice.tag ∷ []) q
+  pub after_telling-first : (q : Queue T W) (notice : Notice T) (first : Key × Option W) (rest : List (Key × Option W)) (told : List (Key × Notice T)) (spare : ℕ)
+      → q.waiting ≡ first ∷ rest → told ≡ q.told ++ (first.0, notice) ∷ [] → spare ≡ q.spare
+      → record { told = told; waiting = rest; next_serial = q.next_serial; spare = spare } ≡ after_telling notice.additional (notice.tag ∷ []) q
   after_telling-first q notice first rest told spare split now same =
       let told_is = now ∙ ap (λ w. q.told ++ told_with notice.additional (notice.tag ∷ []) w) (sym split) in
       let waiting_is = ap (drop 1) (sym split) in
       λ i. record { told = told_is i; waiting = waiting_is i; next_serial = q.next_serial; spare = same i }
 
-  pub IsQueue-told_first : (q : Queue T W) (notice : Notice T) (first : Key × Option W) (rest : List (Key × Option W)) (told : List (Key × Notice T)) (spare : ℕ) → IsQueue q → q.waiting ≡ first ∷ rest → told ≡ q.told ++ (first.0, notice) ∷ [] → spare ≡ q.spare → IsQueue {T = T} {W = W} (record { told = told; waiting = rest; next_serial = q.next_serial; spare = spare })
+  pub IsQueue-told_first : (q : Queue T W) (notice : Notice T) (first : Key × Option W) (rest : List (Key × Option W)) (told : List (Key × Notice T)) (spare : ℕ) → IsQueue q
+      → q.waiting ≡ first ∷ rest → told ≡ q.told ++ (first.0, notice) ∷ [] → spare ≡ q.spare
+      → IsQueue {T = T} {W = W} (record { told = told; waiting = rest; next_serial = q.next_serial; spare = spare })
   IsQueue-told_first q notice first rest told spare queue split now same =
       subst IsQueue (sym (after_telling-first q notice first rest told spare split now same)) (IsQueue-after_telling notice.additional (notice.tag ∷ []) q queue)

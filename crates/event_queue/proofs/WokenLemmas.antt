@@ -1,5 +1,6 @@
 -- A chain of wakes keeps the first tasks and counts the others.
-use Rattle.std.proofs.Common.{◌≡◌, ℕ, ◌+◌, ◌-◌, ◌<◌, ◌≤◌, ◌^◌, min, Bool, true, false, List, [], ◌∷◌, ◌++◌, take, length, refl, sym, ap, ◌∙◌, subst, arith, append_assoc, length-append, length-take, append-nil}
+use Rattle.std.proofs.Common.{◌≡◌, ℕ, ◌+◌, ◌-◌, ◌<◌, ◌≤◌, ◌^◌, min, Bool, true, false, List, [], ◌∷◌, ◌++◌, take, length, refl, sym, ap, ◌∙◌, subst, arith, append_assoc}
+use Rattle.std.proofs.Common.{length-append, length-take, append-nil}
 use Rattle.std.proofs.Math.Seq.{take-nil}
 use Rattle.std.proofs.lemmas.List.{take_all}
 use Rattle.std.specs.List.{FoldsTo}
@@ -36,7 +37,8 @@ module _ {W : Type 0} where
       let rest = subst (λ k. FoldsTo (λ before t then. then ≡ after_one t before) k tasks after) next chain.2 in
       after_all n (front ++ task ∷ []) tasks after rest ∙ ap (first_of n) (append_assoc front (task ∷ []) tasks)
 
-  pub kept_first : (n : ℕ) (tasks : List W) (after : Kept W) → FoldsTo (λ before task then. then ≡ after_one task before) (record { tasks = []; room = n; missed = 0 }) tasks after → after ≡ first_of n tasks
+  pub kept_first : (n : ℕ) (tasks : List W) (after : Kept W) → FoldsTo (λ before task then. then ≡ after_one task before) (record { tasks = []; room = n; missed = 0 }) tasks after
+      → after ≡ first_of n tasks
   kept_first n tasks after chain =
       let empty : 0 ≡ min (0 - n) (2 ^ 64 - 1) = omega arith in
       let start : record { tasks = []; room = n; missed = 0 } ≡ first_of n [] =

@@ -1,5 +1,6 @@
 -- What a contract sees of a `Steps`.
-use Rattle.std.specs.Prelude.{ℕ, ◌+◌, ◌-◌, ◌^◌, min}
+use Rattle.std.specs.Prelude.{◌≡◌, ℕ, ◌+◌, ◌-◌, ◌<◌, ◌^◌, min}
+use Rattle.std.specs.declared.sync.ledger.Blank.{Blank}
 
 -- how many visits were counted so far, and how many looks by key
 pub record Counts : Type 0 where
@@ -9,3 +10,7 @@ pub record Counts : Type 0 where
 -- a count of looks once there were so many more: it stays at the greatest `u64`
 abbrev pub counted_on : ℕ → ℕ → ℕ
 counted_on looks more = min (looks + more) (2 ^ 64 - 1)
+
+-- a ledger of this name, with so many parts, can be opened on the blank
+abbrev pub Opens : Blank → ℕ → ℕ → Type 0
+Opens blank name parts = (blank.name ≡ name) × (blank.parts ≡ parts) × (0 < blank.parts)

@@ -1,4 +1,3 @@
-pub mod Sequence
 pub mod Key
 pub mod Queue
 pub mod Insert
@@ -10,7 +9,6 @@ pub mod Counts
 pub mod Visits
 pub mod Run
 pub mod Woken
-pub mod TagList
 pub mod Ring
 pub mod RingMemory
 pub mod Nodes

@@ -1,20 +1,27 @@
--- How a `Chain` keeps its entries on nodes. No public clause cites this module.
+-- What a contract sees of a `Chain`, and how that keeps its entries on nodes. No public clause cites this module.
 use Rattle.std.specs.Prelude.{◌≡◌, ℕ, ◌+◌, cond, eqb, ltb, List, [], ◌∷◌, ◌++◌, map, length, Option, Some, None, IsSome, slice_get, option_map, option_and_then}
 use Rattle.event_queue.specs.declared.key.Key.{Key}
 use Rattle.event_queue.specs.declared.node.ring.pointers.NodePtr.{NodePtr}
 use Rattle.event_queue.specs.declared.node.ring.pointers.Ring.{Ring}
-use Rattle.event_queue.specs.declared.node.line.Held.{Held}
-use Rattle.event_queue.specs.declared.node.line.Held.TheVariants.{Before, After, Nothing}
-use Rattle.event_queue.specs.declared.node.line.Entry.{Entry}
-use Rattle.event_queue.specs.declared.node.line.Line.{Line}
+use Rattle.event_queue.specs.declared.node.entries.Held.{Held}
+use Rattle.event_queue.specs.declared.node.entries.Held.TheVariants.{Before, After, Nothing}
+use Rattle.event_queue.specs.declared.node.entries.Entry.{Entry}
+use Rattle.event_queue.specs.declared.node.entries.Entries.{Entries}
 use Rattle.event_queue.specs.Ring.{Placed, first_place}
+
+-- a sequence in order with a cursor: the entries before it, those after it, and how many more fit with no
+-- allocation
+pub record Sequence (A B : Type 0) : Type 0 where
+  pub before : List (Key × A)
+  pub after : List (Key × B)
+  pub spare : ℕ
 
 -- how often a slot is among these
 abbrev pub times : ℕ → List ℕ → ℕ
 times slot [] = 0
 times slot (first ∷ rest) = cond (eqb slot first) 1 0 + times slot rest
 
--- a node of a line, a spare node, and the slots: each has an entry's serial and the place of its node, or nothing
+-- a linked node, a spare node, and the slots: each has an entry's serial and the place of its node, or nothing
 abbrev pub Node : Type 0 → Type 0 → Type 0
 Node A B = Placed (Entry A B)
 
@@ -60,16 +67,16 @@ module _ {A B : Type 0} where
   abbrev pub entry_after : Node A B → Option (Key × B)
   entry_after node = option_map (λ value. (key_of node.entry, value)) (value_after node.entry.held)
 
-  -- the nodes of a line, if there is one
-  abbrev pub nodes_of : Option (Line A B) → List (Node A B)
+  -- the linked nodes, if there is a ring
+  abbrev pub nodes_of : Option (Entries A B) → List (Node A B)
   nodes_of None = []
-  nodes_of (Some line) = line.ring.nodes
+  nodes_of (Some entries) = entries.ring.nodes
 
-  -- there is a line, with the cursor where it was, or else at the root
-  abbrev pub IsLined : Option (Line A B) → Option (Line A B) → Type 0
-  IsLined old None = ⊥
-  IsLined None (Some new) = new.cursor.ptr ≡ new.ring.at
-  IsLined (Some old) (Some new) = new ≡ old
+  -- there is a ring, with the cursor where it was, or else at the root
+  abbrev pub IsStarted : Option (Entries A B) → Option (Entries A B) → Type 0
+  IsStarted old None = ⊥
+  IsStarted None (Some new) = new.cursor.ptr ≡ new.ring.at
+  IsStarted (Some old) (Some new) = new ≡ old
 
   -- the slots of nodes, and of spare ones
   abbrev pub slots_of : List (Node A B) → List ℕ
@@ -110,19 +117,19 @@ module _ {A B : Type 0} where
   AreAfter [] = Unit {0}
   AreAfter (node ∷ rest) = IsSome (value_after node.entry.held) × AreAfter rest
 
-  -- the cursor is at the first of these nodes, or at the root; where there is no line there is no slot
-  abbrev pub HasCursor : Option (Line A B) → List (Node A B) → ℕ → Type 0
+  -- the cursor is at the first of these nodes, or at the root; where there is no ring there is no slot
+  abbrev pub HasCursor : Option (Entries A B) → List (Node A B) → ℕ → Type 0
   HasCursor None after slot_count = slot_count ≡ 0
-  HasCursor (Some line) after slot_count = line.cursor.ptr ≡ first_place after line.ring.at
+  HasCursor (Some entries) after slot_count = entries.cursor.ptr ≡ first_place after entries.ring.at
 
-  -- the nodes before the cursor and then those after it are the line's, and the table leads to them
-  pub record IsSound (line : Option (Line A B)) (slots : Slots A B) (spares : List (Spare A B)) (before_len after_len : ℕ) : Type 0 where
+  -- the nodes before the cursor and then those after it are the linked ones, and the table leads to them
+  pub record IsSound (entries : Option (Entries A B)) (slots : Slots A B) (spares : List (Spare A B)) (before_len after_len : ℕ) : Type 0 where
     pub before : List (Node A B)
     pub after : List (Node A B)
-    pub in_order : nodes_of line ≡ before ++ after
+    pub in_order : nodes_of entries ≡ before ++ after
     pub are_before : AreBefore before
     pub are_after : AreAfter after
     pub before_len_is : before_len ≡ length before
     pub after_len_is : after_len ≡ length after
     pub table : IsTable slots (before ++ after) spares
-    pub cursor : HasCursor line after (length slots)
+    pub cursor : HasCursor entries after (length slots)

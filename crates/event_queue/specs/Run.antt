@@ -1,6 +1,7 @@
 -- A run of calls: one step after another, each with its reply and the tasks that it wakes.
 use Rattle.std.specs.Prelude.{◌≡◌, ◌<◌, ◌≤◌, ◌↔◌, ℕ, Bool, List, [], ◌∷◌, ◌++◌, length, take, Result, Ok, Err, IsTrue}
 use Rattle.std.specs.List.{FoldsTo}
+use Rattle.std.specs.declared.alloc.AllocError.{AllocError}
 use Rattle.event_queue.specs.declared.call.Call.{Call}
 use Rattle.event_queue.specs.declared.call.Call.TheVariants as call
 use Rattle.event_queue.specs.declared.call.Reply.{Reply}
@@ -11,6 +12,11 @@ use Rattle.event_queue.specs.Insert.{Inserts}
 use Rattle.event_queue.specs.Register.{Registers}
 use Rattle.event_queue.specs.Remove.{Removes, woken_by_removal}
 use Rattle.event_queue.specs.Notify.{told_by}
+
+-- what a list of tags gives as a notification's source: the first of the tags left, or a refusal where there is none
+abbrev pub TakesFirst : {T : Type 0} → List T → Result T AllocError → List T → Type 0
+TakesFirst before (Ok tag) after = before ≡ tag ∷ after
+TakesFirst before (Err _) after = (before ≡ []) × (after ≡ before)
 
 module _ {T W : Type 0} where
   -- what a notification that has these tags answers, and the queue that it leaves: a tag is refused exactly
@@ -53,7 +59,8 @@ module _ {T W : Type 0} where
 
   -- every call was made: a reply for each was appended, calls and those replies are a run, and the sink was
   -- handed the woken tasks in order
-  pub record RunsAll {S : Type 0} (woke : S → W → S → Type 0) (calls : List (Call T W)) (old : Queue T W) (replies : List (Reply T W)) (sink : S) (new : Queue T W) (replies' : List (Reply T W)) (sink' : S) : Type 0 where
+  pub record RunsAll {S : Type 0} (woke : S → W → S → Type 0) (calls : List (Call T W)) (old : Queue T W) (replies : List (Reply T W)) (sink : S) (new : Queue T W)
+      (replies' : List (Reply T W)) (sink' : S) : Type 0 where
     pub made : List (Reply T W)
     pub woken : List W
     pub appended : replies' ≡ replies ++ made

@@ -9,7 +9,7 @@ ghost use Rattle.event_queue.specs.Register.{Registers, OnNotified, UnlessNotifi
 ghost use Rattle.event_queue.specs.Exchange.{RegistersWith};
 ghost use Rattle.event_queue.specs.Remove.{Removes, PassedAs, woken_by_removal, woken_by_passing, after_passing};
 ghost use Rattle.event_queue.specs.Notify.{Notifies, NeverRefuses, told_by};
-ghost use Rattle.event_queue.specs.Counts.{counted_on};
+ghost use Rattle.event_queue.specs.Counts.{Opens, counted_on};
 ghost use Rattle.event_queue.specs.Visits.{visits_of_insertion, visits_of_registration, visits_of_removal, looks_of_registration, looks_of_exchange, looks_of_removal};
 
 use crate::exchange::TaskExchange;
@@ -176,9 +176,7 @@ impl<T, W> List<T, W> {
         ensures step { Registers self.old key task result self.new }
         ensures was_queue { IsQueue self.old }
         ensures queue { IsQueue self.new }
-        ensures visits { steps.new.visits ≤ steps.old.visits + 3 }
         ensures counted { steps.new.visits ≡ steps.old.visits + visits_of_registration result }
-        ensures looks { steps.new.looks ≤ steps.old.looks + 2 }
         ensures looked { steps.new.looks ≡ counted_on steps.old.looks (looks_of_registration result) }
     {
         if let Some(notice) = self.chain.take_before(key, steps) {
@@ -230,9 +228,7 @@ impl<T, W> List<T, W> {
         ensures step { RegistersWith (X.exchanged exchange.now) self.old key on.old result self.new on.new }
         ensures was_queue { IsQueue self.old }
         ensures queue { IsQueue self.new }
-        ensures visits { steps.new.visits ≤ steps.old.visits + 3 }
         ensures counted { steps.new.visits ≡ steps.old.visits + visits_of_registration result }
-        ensures looks { steps.new.looks ≤ steps.old.looks + 3 }
         ensures looked { steps.new.looks ≡ counted_on steps.old.looks (looks_of_exchange result) }
     {
         if let Some(notice) = self.chain.take_before(key, steps) {
@@ -317,9 +313,7 @@ impl<T, W> List<T, W> {
         ensures wakes { FoldsTo S.woke sink.old (woken_by_removal key propagate self.old) sink.new }
         ensures was_queue { IsQueue self.old }
         ensures queue { IsQueue self.new }
-        ensures visits { steps.new.visits ≤ steps.old.visits + 3 }
         ensures counted { steps.new.visits ≡ steps.old.visits + visits_of_removal result key self.old }
-        ensures looks { steps.new.looks ≤ steps.old.looks + 2 }
         ensures looked { steps.new.looks ≡ counted_on steps.old.looks (looks_of_removal result) }
     {
         if let Some(task) = self.chain.take_after(key, steps) {
@@ -542,9 +536,7 @@ impl<T, W> List<T, W> {
 
     #[inline(always)]
     fn is_told_from<L: Ledger>(&self, key: Key, blank: Blank) -> bool
-        requires name { blank.name ≡ L.name }
-        requires parts { blank.parts ≡ L.parts }
-        requires has_a_part { 0 < blank.parts }
+        requires { Opens blank L.name L.parts }
         ensures value { IsTrue result ↔ IsSome (lookup (is_key key) self.now.told) }
         ensures queue { IsQueue self.now }
     {

@@ -3,18 +3,17 @@ ghost use Rattle.std.specs.Prelude.{◌≡◌, ◌≢◌, ◌+◌, ◌<◌, ◌�
 ghost use Rattle.std.specs.Map.{lookup, remove_entry, set_value};
 ghost use Rattle.event_queue.specs.Key.{is_key};
 ghost use Rattle.event_queue.specs.Counts.{counted_on};
-ghost use Rattle.event_queue.specs.Nodes.{nodes_of, IsLined};
+ghost use Rattle.event_queue.specs.Nodes.{nodes_of, IsStarted};
 
 use crate::key::Key;
-use crate::node::line::{Held, Line};
-use crate::node::ring::Reached;
+use crate::node::entries::{Entries, Held};
 use crate::node::table::Table;
 use std::alloc::{AllocError, AllocFailed, Global};
 use std::marker::Model;
 use std::mem;
 use std::sync::ledger::Ledger;
 
-mod line;
+mod entries;
 mod ring;
 mod table;
 
@@ -27,7 +26,7 @@ pub use ring::Steps;
 #[derive(Drop)]
 pub struct Chain<A, B> {
     // Made with the first node.
-    line: Option<Line<A, B>>,
+    entries: Option<Entries<A, B>>,
     table: Table<A, B>,
     // How many entries are before the cursor, and how many after it.
     before_len: usize,
@@ -36,32 +35,32 @@ pub struct Chain<A, B> {
 
 impl<A, B> Model for Chain<A, B> {
     ghost use Rattle.std.specs.Prelude.{length, filter_map};
-    ghost use Rattle.event_queue.specs.Sequence.{Sequence};
+    ghost use Rattle.event_queue.specs.Nodes.{Sequence};
 
     ghost Value = { Sequence A B };
 
     ghost use Rattle.event_queue.specs.Nodes.{nodes_of, entry_before, entry_after, IsSound};
 
     ghost view = { λ chain. record {
-      before = filter_map entry_before (nodes_of chain.line);
-      after = filter_map entry_after (nodes_of chain.line);
+      before = filter_map entry_before (nodes_of chain.entries);
+      after = filter_map entry_after (nodes_of chain.entries);
       spare = length chain.table.spares.items;
     } };
 
-    ghost invariant = { λ chain. IsSound chain.line chain.table.slots.items chain.table.spares.items chain.before_len chain.after_len };
+    ghost invariant = { λ chain. IsSound chain.entries chain.table.slots.items chain.table.spares.items chain.before_len chain.after_len };
 }
 
-// Makes the line where there is none.
-fn begin<A, B>(line: &mut Option<Line<A, B>>, alloc: Global) -> Result<(), AllocError>
-    ensures nodes { nodes_of line.new ≡ nodes_of line.old }
-    ensures lined { OnOk result (IsLined line.old line.new) }
-    ensures err { OnErr result (line.new ≡ line.old) }
+// Makes the ring with no entry where there is none.
+fn start<A, B>(entries: &mut Option<Entries<A, B>>, alloc: Global) -> Result<(), AllocError>
+    ensures nodes { nodes_of entries.new ≡ nodes_of entries.old }
+    ensures started { OnOk result (IsStarted entries.old entries.new) }
+    ensures err { OnErr result (entries.new ≡ entries.old) }
 {
-    if line.is_some() {
+    if entries.is_some() {
         return Ok(());
     }
-    let new = Line::new(alloc)?;
-    match mem::replace(line, Some(new)) {
+    let new = Entries::new(alloc)?;
+    match mem::replace(entries, Some(new)) {
         None => Ok(()),
         Some(_) => unreachable!(),
     }
@@ -73,7 +72,7 @@ impl<A, B> Chain<A, B> {
         ensures { result ≡ record { before = []; after = []; spare = 0 } }
     {
         Chain {
-            line: None,
+            entries: None,
             table: Table::new(alloc),
             before_len: 0,
             after_len: 0,
@@ -112,7 +111,7 @@ impl<A, B> Chain<A, B> {
         ensures kept { self.old.spare ≤ self.new.spare }
         ensures slots_fit { length self.new.before + length self.new.after + self.new.spare < 2 ^ 64 }
     {
-        begin(&mut self.line, self.table.allocator())?;
+        start(&mut self.entries, self.table.allocator())?;
         self.table.grow(n)
     }
 
@@ -144,11 +143,11 @@ impl<A, B> Chain<A, B> {
         ensures visits { steps.new.visits ≡ steps.old.visits }
         ensures looks { steps.new.looks ≡ counted_on steps.old.looks 1 }
     {
-        let own = Reached::own(&self.table, key, steps);
-        let (Some(line), Some(own)) = (&self.line, own) else {
+        let own = self.table.find(key, steps);
+        let (Some(entries), Some(own)) = (&self.entries, own) else {
             return false;
         };
-        line.is_before(&own)
+        entries.is_before(&own)
     }
 
     /// Appends an entry. It allocates only where no slot is spare; where that is refused, the value comes back.
@@ -199,13 +198,13 @@ impl<A, B> Chain<A, B> {
         ensures visits { steps.new.visits ≡ steps.old.visits + 1 }
         ensures looks { steps.new.looks ≡ steps.old.looks }
     {
-        let Some(line) = &mut self.line else {
+        let Some(entries) = &mut self.entries else {
             unreachable!()
         };
         let Some(node) = self.table.take_spare() else {
             unreachable!()
         };
-        let (slot, own) = line.append(node, serial, value, self.after_len == 0, steps);
+        let (slot, own) = entries.append(node, serial, value, self.after_len == 0, steps);
         let key = Key { slot, serial };
         self.table.fill(key, &own);
         self.after_len += 1;
@@ -222,15 +221,15 @@ impl<A, B> Chain<A, B> {
         ensures no_visit { IfNone result (steps.new.visits ≡ steps.old.visits) }
         ensures looks { steps.new.looks ≡ counted_on steps.old.looks 1 }
     {
-        let own = Reached::own(&self.table, key, steps)?;
-        let Some(line) = &mut self.line else {
+        let own = self.table.find(key, steps)?;
+        let Some(entries) = &mut self.entries else {
             unreachable!()
         };
-        if !line.is_before(&own) {
+        if !entries.is_before(&own) {
             return None;
         }
-        let (node, held) = line.take(own, steps);
-        self.table.give_back(key.slot, node);
+        let (node, held) = entries.take(own, steps);
+        self.table.recycle(key.slot, node);
         match held {
             Held::Before(value) => {
                 self.before_len -= 1;
@@ -250,15 +249,15 @@ impl<A, B> Chain<A, B> {
         ensures no_visit { IfNone result (steps.new.visits ≡ steps.old.visits) }
         ensures looks { steps.new.looks ≡ counted_on steps.old.looks 1 }
     {
-        let own = Reached::own(&self.table, key, steps)?;
-        let Some(line) = &mut self.line else {
+        let own = self.table.find(key, steps)?;
+        let Some(entries) = &mut self.entries else {
             unreachable!()
         };
-        if !line.is_after(&own) {
+        if !entries.is_after(&own) {
             return None;
         }
-        let (node, held) = line.take_after(own, steps);
-        self.table.give_back(key.slot, node);
+        let (node, held) = entries.take_after(own, steps);
+        self.table.recycle(key.slot, node);
         match held {
             Held::After(value) => {
                 self.after_len -= 1;
@@ -285,16 +284,16 @@ impl<A, B> Chain<A, B> {
         ensures visits { steps.new.visits ≡ steps.old.visits }
         ensures looks { steps.new.looks ≡ counted_on steps.old.looks 1 }
     {
-        let Some(own) = Reached::own(&self.table, key, steps) else {
+        let Some(own) = self.table.find(key, steps) else {
             return Err(value);
         };
-        let Some(line) = &mut self.line else {
+        let Some(entries) = &mut self.entries else {
             unreachable!()
         };
-        if !line.is_after(&own) {
+        if !entries.is_after(&own) {
             return Err(value);
         }
-        match line.replace(&own, value) {
+        match entries.replace(&own, value) {
             Held::After(former) => Ok(former),
             _ => unreachable!(),
         }
@@ -311,10 +310,10 @@ impl<A, B> Chain<A, B> {
         ensures visits { steps.new.visits ≡ steps.old.visits + 1 }
         ensures looks { steps.new.looks ≡ steps.old.looks }
     {
-        let Some(line) = &mut self.line else {
+        let Some(entries) = &mut self.entries else {
             unreachable!()
         };
-        let (key, held) = line.advance(value, steps);
+        let (key, held) = entries.advance(value, steps);
         match held {
             Held::After(former) => {
                 self.before_len += 1;

@@ -43,12 +43,13 @@ impl<T: Drop, W: Drop> List<T, W> {
         self.invariant_holds();
         replies.reserve(calls.len())?;
         for call in calls {
-            replies.push_reserved(self.make(call, sink));
+            replies.push_reserved(self.perform(call, sink));
         }
         Ok(())
     }
 
-    fn make<S: WakeSink<W>>(&mut self, call: Call<T, W>, sink: &mut S) -> Reply<T, W>
+    // Makes one call, and gives what it answers.
+    fn perform<S: WakeSink<W>>(&mut self, call: Call<T, W>, sink: &mut S) -> Reply<T, W>
         ensures step { Step self.old call result self.new }
         ensures wakes { FoldsTo S.woke sink.old (woken_by call result self.old) sink.new }
         ensures queue { IsQueue self.new }

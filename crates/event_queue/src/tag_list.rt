@@ -15,7 +15,7 @@ pub struct TagList<T> {
 
 impl<T> Notification for TagList<T> {
     ghost use Rattle.std.specs.Vec.Iter.{into_iter_items};
-    ghost use Rattle.event_queue.specs.TagList.{TakesFirst};
+    ghost use Rattle.event_queue.specs.Run.{TakesFirst};
 
     type Tag = T;
 

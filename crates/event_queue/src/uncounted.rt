@@ -8,6 +8,7 @@ ghost use Rattle.event_queue.specs.Register.{Registers, OnNotified, UnlessNotifi
 ghost use Rattle.event_queue.specs.Exchange.{RegistersWith};
 ghost use Rattle.event_queue.specs.Remove.{Removes, woken_by_removal};
 ghost use Rattle.event_queue.specs.Notify.{Notifies, NeverRefuses, told_by};
+ghost use Rattle.event_queue.specs.Counts.{Opens};
 
 use crate::exchange::TaskExchange;
 use crate::key::Key;
@@ -33,13 +34,9 @@ impl<T, W> List<T, W> {
 
     #[inline(always)]
     fn insert_from<L: Ledger>(&mut self, blank: Blank) -> Result<Key, ListenError>
-        requires name { blank.name ≡ L.name }
-        requires parts { blank.parts ≡ L.parts }
-        requires has_a_part { 0 < blank.parts }
+        requires { Opens blank L.name L.parts }
         ensures step { Inserts self.old result self.new }
         ensures queue { IsQueue self.new }
-        ensures order { IfOk result (λ key. order_of self.new ≡ order_of self.old ++ key ∷ []) }
-        ensures serial { self.old.next_serial ≤ self.new.next_serial }
     {
         let mut steps = Steps::<L>::new(blank);
         self.insert(&mut steps)
@@ -66,9 +63,7 @@ impl<T, W> List<T, W> {
     fn register_from<L: Ledger>(&mut self, key: Key, task: W, blank: Blank) -> RegisterResult<T>
     where
         W: Drop,
-        requires name { blank.name ≡ L.name }
-        requires parts { blank.parts ≡ L.parts }
-        requires has_a_part { 0 < blank.parts }
+        requires { Opens blank L.name L.parts }
         ensures step { Registers self.old key task result self.new }
         ensures was_queue { IsQueue self.old }
         ensures queue { IsQueue self.new }
@@ -103,9 +98,7 @@ impl<T, W> List<T, W> {
         on: &mut C,
         blank: Blank,
     ) -> RegisterResult<T>
-        requires name { blank.name ≡ L.name }
-        requires parts { blank.parts ≡ L.parts }
-        requires has_a_part { 0 < blank.parts }
+        requires { Opens blank L.name L.parts }
         ensures step { RegistersWith (X.exchanged exchange.now) self.old key on.old result self.new on.new }
         ensures was_queue { IsQueue self.old }
         ensures queue { IsQueue self.new }
@@ -146,9 +139,7 @@ impl<T, W> List<T, W> {
         sink: &mut S,
         blank: Blank,
     ) -> Option<State<T, W>>
-        requires name { blank.name ≡ L.name }
-        requires parts { blank.parts ≡ L.parts }
-        requires has_a_part { 0 < blank.parts }
+        requires { Opens blank L.name L.parts }
         ensures step { Removes self.old key propagate result self.new }
         ensures wakes { FoldsTo S.woke sink.old (woken_by_removal key propagate self.old) sink.new }
         ensures was_queue { IsQueue self.old }
@@ -187,9 +178,7 @@ impl<T, W> List<T, W> {
         sink: &mut S,
         blank: Blank,
     ) -> Result<usize, NotifyError>
-        requires name { blank.name ≡ L.name }
-        requires parts { blank.parts ≡ L.parts }
-        requires has_a_part { 0 < blank.parts }
+        requires blank { Opens blank L.name L.parts }
         requires can_tag { N.can_tag n.old }
         ensures step { Notifies N.tag_gives (N.count n.old) (N.is_additional n.old) self.old n.old result self.new n.new }
         ensures wakes { FoldsTo S.woke sink.old (tasks_of (told_by result) self.old) sink.new }

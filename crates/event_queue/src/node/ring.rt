@@ -1,53 +1,44 @@
-//! The ways to a node of a ring: to the one of a key, and to another one. Each is counted.
+//! The ways to a node of a ring: where a look by key led, and to another one. Each is counted.
 ghost use Rattle.std.specs.Prelude.{◌≡◌, ◌+◌, [], ◌∷◌, ◌++◌, MatchOption};
 ghost use Rattle.event_queue.specs.Ring.{placed, first_place, IsAt, AtNode};
 ghost use Rattle.event_queue.specs.Counts.{counted_on};
-ghost use Rattle.event_queue.specs.Nodes.{node_at};
 
 use self::pointers::Node;
 pub(super) use self::pointers::{NodePtr, Ring};
 pub use self::steps::Steps;
-use super::line::Entry;
-use super::table::Table;
-use crate::key::Key;
 use std::sync::ledger::Ledger;
 
 mod pointers;
 mod steps;
 
-/// A node that a call may look at: the one of a key, once that look was counted, or another one, whose visit was.
+/// A node that a call may look at: the one that a look by key led to, once that look was counted, or another one, whose
+/// visit was.
 ///
 /// A [`NodePtr`] only says where a node stands: the functions that follow one are reached from this module alone. So a
-/// call gets to a node by [`Reached::own`] or by [`Ring::visit`], and keeps none for the next call.
+/// call gets to a node by [`NodeRef::looked_up`] or by [`Ring::visit`], and keeps none for the next call.
 #[derive(Drop)]
-pub(super) struct Reached<E> {
+pub(super) struct NodeRef<E> {
     ptr: *mut Node<E>,
 }
 
-impl<A, B> Reached<Entry<A, B>> {
-    /// The node of the key's entry, if there is one: that of the call's own listener. It is one look by key, also where
-    /// nobody has the key: then no node is reached, since the table has the serial too.
+impl<E> NodeRef<E> {
+    /// The node that stands where a look by key led: the call's own one. The look is counted also where it led nowhere.
     #[inline(always)]
-    pub(super) fn own<L: Ledger>(
-        table: &Table<A, B>,
-        key: Key,
+    pub(super) fn looked_up<L: Ledger>(
+        place: Option<NodePtr<E>>,
         steps: &mut Steps<L>,
     ) -> Option<Self>
-        ensures node { MatchOption result (node_at table.now.slots.items key ≡ None) (λ node. node_at table.now.slots.items key ≡ Some (record { ptr = node.ptr })) }
+        ensures node { MatchOption result (place ≡ None) (λ node. place ≡ Some (record { ptr = node.ptr })) }
         ensures visits { steps.new.visits ≡ steps.old.visits }
         ensures looks { steps.new.looks ≡ counted_on steps.old.looks 1 }
     {
         steps.add_look();
-        match table.slots().get(key.slot) {
-            Some(Some((serial, place))) if *serial == key.serial => {
-                Some(Reached { ptr: place.ptr })
-            }
-            _ => None,
+        match place {
+            Some(place) => Some(NodeRef { ptr: place.ptr }),
+            None => None,
         }
     }
-}
 
-impl<E> Reached<E> {
     /// Where the node stands.
     #[inline(always)]
     pub(super) fn place(&self) -> NodePtr<E>
@@ -58,20 +49,20 @@ impl<E> Reached<E> {
 }
 
 impl<E> Ring<E> {
-    /// Goes to the node of another listener, which is one visit.
+    /// Goes to another node than the call's own one, which is one visit.
     #[inline(always)]
-    pub(super) fn visit<L: Ledger>(&self, node: NodePtr<E>, steps: &mut Steps<L>) -> Reached<E>
+    pub(super) fn visit<L: Ledger>(&self, node: NodePtr<E>, steps: &mut Steps<L>) -> NodeRef<E>
         ensures place { result.ptr ≡ node.ptr }
         ensures visits { steps.new.visits ≡ steps.old.visits + 1 }
         ensures looks { steps.new.looks ≡ steps.old.looks }
     {
         steps.add(1);
-        Reached { ptr: node.ptr }
+        NodeRef { ptr: node.ptr }
     }
 
     /// What the node carries, and the place of the node behind it: behind the last one, that of the root.
     #[inline(always)]
-    pub(super) fn look(&self, node: &Reached<E>) -> (&E, NodePtr<E>)
+    pub(super) fn look(&self, node: &NodeRef<E>) -> (&E, NodePtr<E>)
         requires { IsAt self.now.nodes node.now.ptr }
         ensures entry { AtNode self.now.nodes node.now.ptr (λ _ n _. result.0.now ≡ n.entry) }
         ensures next { AtNode self.now.nodes node.now.ptr (λ _ _ ys. result.1.ptr ≡ first_place ys self.now.at) }
@@ -81,7 +72,7 @@ impl<E> Ring<E> {
 
     /// Gives the node something else to carry, and returns what it had.
     #[inline(always)]
-    pub(super) fn replace(&mut self, node: &Reached<E>, entry: E) -> E
+    pub(super) fn replace(&mut self, node: &NodeRef<E>, entry: E) -> E
         requires { IsAt self.old.nodes node.now.ptr }
         ensures root { (self.new.at ≡ self.old.at) × (self.new.entry ≡ self.old.entry) }
         ensures nodes { AtNode self.old.nodes node.now.ptr (λ xs n ys. (self.new.nodes ≡ xs ++ placed n.at entry ∷ ys) × (result ≡ n.entry)) }
@@ -91,7 +82,7 @@ impl<E> Ring<E> {
 
     /// Links the call's own node in behind the last, which is one visit.
     #[inline(always)]
-    pub(super) fn append<L: Ledger>(&mut self, node: Ring<E>, steps: &mut Steps<L>) -> Reached<E>
+    pub(super) fn append<L: Ledger>(&mut self, node: Ring<E>, steps: &mut Steps<L>) -> NodeRef<E>
         requires { node.nodes ≡ [] }
         ensures place { result.ptr ≡ node.at }
         ensures root { (self.new.at ≡ self.old.at) × (self.new.entry ≡ self.old.entry) }
@@ -102,12 +93,12 @@ impl<E> Ring<E> {
         let place = node.root();
         steps.add(1);
         self.link_last(node);
-        Reached { ptr: place.ptr }
+        NodeRef { ptr: place.ptr }
     }
 
     /// Takes the call's own node out, as a ring of its own. Its two neighbors are visited.
     #[inline(always)]
-    pub(super) fn take<L: Ledger>(&mut self, node: Reached<E>, steps: &mut Steps<L>) -> Ring<E>
+    pub(super) fn take<L: Ledger>(&mut self, node: NodeRef<E>, steps: &mut Steps<L>) -> Ring<E>
         requires { IsAt self.old.nodes node.ptr }
         ensures root { (self.new.at ≡ self.old.at) × (self.new.entry ≡ self.old.entry) }
         ensures alone { (result.at ≡ node.ptr) × (result.nodes ≡ []) }

@@ -1,11 +1,13 @@
 //! The table of slots, which leads from a key to its node, and the spare nodes.
 ghost use Rattle.std.specs.Prelude.{◌≡◌, ◌+◌, ◌<◌, ◌≤◌, ◌==◌, [], ◌∷◌, ◌++◌, length, Option, MatchOption, OnOk, OnErr, IsSome, slice_set, vec_capacity, vec_len};
+ghost use Rattle.event_queue.specs.Counts.{counted_on};
 ghost use Rattle.event_queue.specs.Nodes.{node_at, spare_entry, GrowsTo};
 
-use super::line::Entry;
-use super::ring::{NodePtr, Reached, Ring};
+use super::entries::Entry;
+use super::ring::{NodePtr, NodeRef, Ring, Steps};
 use crate::key::Key;
 use std::alloc::{AllocError, AllocFailed, Global};
+use std::sync::ledger::Ledger;
 
 /// What stands in a slot: the serial of the entry that uses it and the place of its node, or nothing.
 pub(super) type Slot<A, B> = Option<(u64, NodePtr<Entry<A, B>>)>;
@@ -48,12 +50,30 @@ impl<A, B> Table<A, B> {
         self.spares.len()
     }
 
-    /// The slots, in order.
+    /// The node of the key's entry, if there is one: that of the call's own listener. It is one look by key, also where
+    /// nobody has the key: then no node is reached, since the table has the serial too.
     #[inline(always)]
-    pub(super) fn slots(&self) -> &[Slot<A, B>]
-        ensures { result.now ≡ self.now.slots.items }
+    pub(super) fn find<L: Ledger>(
+        &self,
+        key: Key,
+        steps: &mut Steps<L>,
+    ) -> Option<NodeRef<Entry<A, B>>>
+        ensures node { MatchOption result (node_at self.now.slots.items key ≡ Option.None) (λ node. node_at self.now.slots.items key ≡ Option.Some (record { ptr = node.ptr })) }
+        ensures visits { steps.new.visits ≡ steps.old.visits }
+        ensures looks { steps.new.looks ≡ counted_on steps.old.looks 1 }
     {
-        self.slots.as_slice()
+        NodeRef::looked_up(self.place_of(key), steps)
+    }
+
+    // Where the node of the key's entry stands, if there is one.
+    #[inline(always)]
+    fn place_of(&self, key: Key) -> Option<NodePtr<Entry<A, B>>>
+        ensures { result ≡ node_at self.now.slots.items key }
+    {
+        match self.slots.as_slice().get(key.slot) {
+            Some(Some((serial, place))) if *serial == key.serial => Some(*place),
+            _ => None,
+        }
     }
 
     /// Takes a spare node.
@@ -67,7 +87,7 @@ impl<A, B> Table<A, B> {
 
     /// Writes the serial of an entry and the place of its node, which was spare, into the key's slot.
     #[inline(always)]
-    pub(super) fn fill(&mut self, key: Key, node: &Reached<Entry<A, B>>)
+    pub(super) fn fill(&mut self, key: Key, node: &NodeRef<Entry<A, B>>)
         requires { key.slot < length self.old.slots.items }
         ensures slots { self.new.slots.items ≡ slice_set self.old.slots.items key.slot (Option.Some (key.serial, record { ptr = node.now.ptr })) }
         ensures spares { self.new.spares.items ≡ self.old.spares.items }
@@ -77,7 +97,7 @@ impl<A, B> Table<A, B> {
 
     /// Makes a node spare, whose slot this is. It allocates nothing.
     #[inline(always)]
-    pub(super) fn give_back(&mut self, slot: usize, node: Ring<Entry<A, B>>)
+    pub(super) fn recycle(&mut self, slot: usize, node: Ring<Entry<A, B>>)
         requires slot { slot < length self.old.slots.items }
         requires room { length self.old.spares.items < length self.old.slots.items }
         ensures slots { self.new.slots.items ≡ slice_set self.old.slots.items slot Option.None }
@@ -133,7 +153,7 @@ impl<A, B> Table<A, B> {
             }
             Err(refused) => {
                 let AllocFailed { value } = refused;
-                value.let_go();
+                value.drop_spare();
                 Err(AllocError)
             }
         }

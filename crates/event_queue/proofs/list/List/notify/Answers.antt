@@ -1,20 +1,12 @@
-use Rattle.std.proofs.Common.{arith}
-use Rattle.event_queue.proofs.NotifyLemmas.{Notifies-order, Notifies-told}
+use Rattle.std.proofs.Common.{rules}
+use Rattle.event_queue.proofs.NotifyLemmas.{Notifies-order, Notifies-default, Notifies-additional}
 use Rattle.event_queue.proofs.list.List.notify.Goals as goal
 
 pub returns-clause-order : goal.returns-clause-order
-returns-clause-order g c = Notifies-order g.N.Notification.tag_gives (g.N.Notification.count c.args.n.now) (g.N.Notification.is_additional c.args.n.now) c.args.self.now c.args.n.now c.notify_step.result c.notify_step.new.self c.notify_step.new.n c.notify_step.ensures.step
+returns-clause-order g c = search (rules, Notifies-order)
 
 pub returns-clause-default_leaves : goal.returns-clause-default_leaves
-returns-clause-default_leaves g c =
-    λ ok kind.
-    let counts = Notifies-told g.N.Notification.tag_gives (g.N.Notification.count c.args.n.now) (g.N.Notification.is_additional c.args.n.now) c.args.self.now c.args.n.now c.notify_step.result c.notify_step.new.self c.notify_step.new.n c.notify_step.ensures.step ok in
-    let told = rw kind at counts in
-    omega (arith, told)
+returns-clause-default_leaves g c = search (rules, Notifies-default)
 
 pub returns-clause-additional_tells : goal.returns-clause-additional_tells
-returns-clause-additional_tells g c =
-    λ ok kind.
-    let counts = Notifies-told g.N.Notification.tag_gives (g.N.Notification.count c.args.n.now) (g.N.Notification.is_additional c.args.n.now) c.args.self.now c.args.n.now c.notify_step.result c.notify_step.new.self c.notify_step.new.n c.notify_step.ensures.step ok in
-    let told = rw kind at counts in
-    omega (arith, told)
+returns-clause-additional_tells g c = search (rules, Notifies-additional)

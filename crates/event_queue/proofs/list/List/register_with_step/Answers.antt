@@ -1,7 +1,7 @@
 use Rattle.std.proofs.Common.{sym, None}
 use Rattle.event_queue.specs.Key.{is_key}
 use Rattle.event_queue.proofs.QueueLemmas.{IsQueue-told_leaves}
-use Rattle.event_queue.proofs.ExchangeLemmas.{lookup-stored, IsQueue-after_setting, after_storing-again}
+use Rattle.event_queue.proofs.Calls.Exchanges.{lookup-stored, IsQueue-after_setting, after_storing-again}
 use Rattle.event_queue.proofs.list.List.register_with_step.Goals as goal
 
 pub invariant_of-self : goal.invariant_of-self

@@ -1,4 +1,4 @@
-use Rattle.event_queue.proofs.ExchangeLemmas.{RegistersWith-gone, RegistersWith-order_without, RegistersWith-order_kept}
+use Rattle.event_queue.proofs.Calls.Exchanges.{RegistersWith-gone, RegistersWith-order_without, RegistersWith-order_kept}
 use Rattle.event_queue.proofs.list.List.register_with_uncounted.Goals as goal
 
 pub returns-clause-gone : goal.returns-clause-gone

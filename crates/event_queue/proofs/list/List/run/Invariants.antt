@@ -1,6 +1,6 @@
 use Rattle.std.proofs.Common.{◌≡◌, ◌+◌, ◌≤◌, length, vec_len, vec_capacity}
 use Rattle.std.specs.Vec.Iter.{into_iter_items}
-use Rattle.event_queue.proofs.RunLemmas.{RunsSoFar}
+use Rattle.event_queue.proofs.Calls.Runs.{RunsSoFar}
 use Rattle.event_queue.proofs.list.List.run.Given as goal
 
 abbrev pub invariant-loop-call : goal.invariant-loop-call

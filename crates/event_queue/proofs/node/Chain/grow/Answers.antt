@@ -1,19 +1,37 @@
 use Rattle.std.proofs.Common.{arith}
-use Rattle.event_queue.proofs.NodeSteps.{length-before_of, length-after_of, total_is, IsSound-lined}
+use Rattle.event_queue.proofs.Nodes.ChainSteps.{length-before_of, length-after_of, total_is, IsSound-started}
 use Rattle.event_queue.proofs.node.Chain.grow.Goals as goal
 
-pub returns-in_err-begin-clause-slots_fit : goal.returns-in_err-begin-clause-slots_fit
-returns-in_err-begin-clause-slots_fit g c =
+pub returns-in_err-start-clause-slots_fit : goal.returns-in_err-start-clause-slots_fit
+returns-in_err-start-clause-slots_fit g c =
     let i = c.self.inside in
     let slots = i.table.slots in
-    let total = total_is i.line slots.items i.table.spares.items i.before_len i.after_len c.self.invariant in
-    rw c.begin.ensures.nodes
-    (omega (arith, length-before_of i.line slots.items i.table.spares.items i.before_len i.after_len c.self.invariant, length-after_of i.line slots.items i.table.spares.items i.before_len i.after_len c.self.invariant, total, slots.ok.0, slots.ok.1, slots.small))
+    let total = total_is i.entries slots.items i.table.spares.items i.before_len i.after_len c.self.invariant in
+    rw c.start.ensures.nodes
+    (omega (
+      arith,
+      length-before_of i.entries slots.items i.table.spares.items i.before_len i.after_len c.self.invariant,
+      length-after_of i.entries slots.items i.table.spares.items i.before_len i.after_len c.self.invariant,
+      total,
+      slots.ok.0,
+      slots.ok.1,
+      slots.small,
+    ))
 
 pub returns-clause-slots_fit : goal.returns-clause-slots_fit
 returns-clause-slots_fit g c =
     let i = c.self.inside in
     let slots = c.grow.new.self.slots in
-    let sound = IsSound-lined i.line c.begin.new.line i.table.slots.items slots.items i.table.spares.items c.grow.new.self.spares.items i.before_len i.after_len c.self.invariant c.in_ok-begin.ensures.lined c.begin.ensures.nodes c.grow.ensures.grows in
-    let total = total_is c.begin.new.line slots.items c.grow.new.self.spares.items i.before_len i.after_len sound in
-    omega (arith, length-before_of c.begin.new.line slots.items c.grow.new.self.spares.items i.before_len i.after_len sound, length-after_of c.begin.new.line slots.items c.grow.new.self.spares.items i.before_len i.after_len sound, total, slots.ok.0, slots.ok.1, slots.small)
+    let sound =
+    IsSound-started i.entries c.start.new.entries i.table.slots.items slots.items i.table.spares.items c.grow.new.self.spares.items i.before_len i.after_len c.self.invariant
+    c.in_ok-start.ensures.started c.start.ensures.nodes c.grow.ensures.grows in
+    let total = total_is c.start.new.entries slots.items c.grow.new.self.spares.items i.before_len i.after_len sound in
+    omega (
+      arith,
+      length-before_of c.start.new.entries slots.items c.grow.new.self.spares.items i.before_len i.after_len sound,
+      length-after_of c.start.new.entries slots.items c.grow.new.self.spares.items i.before_len i.after_len sound,
+      total,
+      slots.ok.0,
+      slots.ok.1,
+      slots.small,
+    )

@@ -1,30 +1,30 @@
 use Rattle.std.proofs.Common.{Some, set, ◌≡◌, ◌+◌, arith, refl, ap, ◌∙◌}
 use Rattle.std.proofs.lemmas.List.{length-set}
 use denote.RawPtr.{Ptr}
-use Rattle.event_queue.specs.declared.node.line.Held.TheVariants.{After}
+use Rattle.event_queue.specs.declared.node.entries.Held.TheVariants.{After}
 use Rattle.event_queue.specs.Ring.{placed}
 use Rattle.event_queue.specs.Nodes.{value_before, value_after}
-use Rattle.event_queue.proofs.NodeSteps.{length-before_of, length-after_of, total_is, spare_is, spare_slot_within, spare_is_free, after_pushed, before_pushed, IsSound-pushed}
+use Rattle.event_queue.proofs.Nodes.ChainSteps.{length-before_of, length-after_of, total_is, spare_is, spare_slot_within, spare_is_free, after_pushed, before_pushed, IsSound-pushed}
 use Rattle.event_queue.proofs.node.Chain.push_spare.Goals as goal
 
 pub append-slot-requires-clause-alone : goal.append-slot-requires-clause-alone
 append-slot-requires-clause-alone g c =
     let i = c.self.inside in
     let spares = c.in-Some-take_spare.ensures.spares in
-    (spare_is i.line i.table.slots.items i.table.spares.items c.take_spare.new.self.spares.items c.in-Some-take_spare.node i.before_len i.after_len c.self.invariant spares).0
+    (spare_is i.entries i.table.slots.items i.table.spares.items c.take_spare.new.self.spares.items c.in-Some-take_spare.node i.before_len i.after_len c.self.invariant spares).0
 
 pub append-slot-requires-clause-spare : goal.append-slot-requires-clause-spare
 append-slot-requires-clause-spare g c =
     let i = c.self.inside in
     let spares = c.in-Some-take_spare.ensures.spares in
-    (spare_is i.line i.table.slots.items i.table.spares.items c.take_spare.new.self.spares.items c.in-Some-take_spare.node i.before_len i.after_len c.self.invariant spares).1
+    (spare_is i.entries i.table.slots.items i.table.spares.items c.take_spare.new.self.spares.items c.in-Some-take_spare.node i.before_len i.after_len c.self.invariant spares).1
 
 pub fill-requires : goal.fill-requires
 fill-requires g c =
     let i = c.self.inside in
     let spares = c.in-Some-take_spare.ensures.spares in
     rw (c.append-slot.ensures.slot, c.take_spare.ensures.slots)
-    (spare_slot_within i.line i.table.slots.items i.table.spares.items c.take_spare.new.self.spares.items c.in-Some-take_spare.node i.before_len i.after_len c.self.invariant spares)
+    (spare_slot_within i.entries i.table.slots.items i.table.spares.items c.take_spare.new.self.spares.items c.in-Some-take_spare.node i.before_len i.after_len c.self.invariant spares)
 
 pub invariant_of-self : goal.invariant_of-self
 invariant_of-self g c =
@@ -35,7 +35,12 @@ invariant_of-self g c =
     let there = rw (c.take_spare.ensures.slots, c.append-slot.ensures.slot) at c.fill.ensures.slots in
     let slots_are : c.fill.new.self.slots.items ≡ set i.table.slots.items node.entry.slot (Some (c.args.serial, record { ptr = node.at })) =
     there ∙ ap (λ (p : Ptr). set i.table.slots.items node.entry.slot (Some (c.args.serial, record { ptr = p }))) c.append-slot.ensures.place in
-    let later = IsSound-pushed c.in-Some.line i.table.slots.items i.table.spares.items i.before_len i.after_len sound c.append-slot.new.self (placed node.at (record { slot = node.entry.slot; serial = c.args.serial; held = After c.args.value })) c.args.value c.append-slot.ensures.nodes refl node c.take_spare.new.self.spares.items spares refl refl c.append-slot.ensures.root c.append-slot.ensures.cursor in
+    let later = IsSound-pushed c.in-Some.entries i.table.slots.items i.table.spares.items i.before_len i.after_len sound c.append-slot.new.self
+    (placed node.at (record {
+      slot = node.entry.slot;
+      serial = c.args.serial;
+      held = After c.args.value;
+    })) c.args.value c.append-slot.ensures.nodes refl node c.take_spare.new.self.spares.items spares refl refl c.append-slot.ensures.root c.append-slot.ensures.cursor in
     rw (slots_are, c.fill.ensures.spares) later
 
 pub returns-clause-before : goal.returns-clause-before
@@ -44,7 +49,8 @@ returns-clause-before g c =
     let sound = rw c.in-Some.is at c.self.invariant in
     let node = c.in-Some-take_spare.node in
     rw (← c.self.view_is, c.in-Some.is)
-    (before_pushed c.in-Some.line i.table.slots.items i.table.spares.items i.before_len i.after_len sound c.append-slot.new.self (placed node.at (record { slot = node.entry.slot; serial = c.args.serial; held = After c.args.value })) c.args.value c.append-slot.ensures.nodes refl)
+    (before_pushed c.in-Some.entries i.table.slots.items i.table.spares.items i.before_len i.after_len sound c.append-slot.new.self
+    (placed node.at (record { slot = node.entry.slot; serial = c.args.serial; held = After c.args.value })) c.args.value c.append-slot.ensures.nodes refl)
 
 pub returns-clause-after : goal.returns-clause-after
 returns-clause-after g c =
@@ -52,21 +58,22 @@ returns-clause-after g c =
     let sound = rw c.in-Some.is at c.self.invariant in
     let node = c.in-Some-take_spare.node in
     rw (← c.self.view_is, c.in-Some.is, c.append-slot.ensures.slot)
-    (after_pushed c.in-Some.line i.table.slots.items i.table.spares.items i.before_len i.after_len sound c.append-slot.new.self (placed node.at (record { slot = node.entry.slot; serial = c.args.serial; held = After c.args.value })) c.args.value c.append-slot.ensures.nodes refl)
+    (after_pushed c.in-Some.entries i.table.slots.items i.table.spares.items i.before_len i.after_len sound c.append-slot.new.self
+    (placed node.at (record { slot = node.entry.slot; serial = c.args.serial; held = After c.args.value })) c.args.value c.append-slot.ensures.nodes refl)
 
 pub returns-clause-slot_before : goal.returns-clause-slot_before
 returns-clause-slot_before g c =
     let i = c.self.inside in
     let spares = c.in-Some-take_spare.ensures.spares in
     rw (← c.self.view_is, c.append-slot.ensures.slot)
-    (spare_is_free i.line i.table.slots.items i.table.spares.items c.take_spare.new.self.spares.items c.in-Some-take_spare.node i.before_len i.after_len c.self.invariant spares value_before)
+    (spare_is_free i.entries i.table.slots.items i.table.spares.items c.take_spare.new.self.spares.items c.in-Some-take_spare.node i.before_len i.after_len c.self.invariant spares value_before)
 
 pub returns-clause-slot_after : goal.returns-clause-slot_after
 returns-clause-slot_after g c =
     let i = c.self.inside in
     let spares = c.in-Some-take_spare.ensures.spares in
     rw (← c.self.view_is, c.append-slot.ensures.slot)
-    (spare_is_free i.line i.table.slots.items i.table.spares.items c.take_spare.new.self.spares.items c.in-Some-take_spare.node i.before_len i.after_len c.self.invariant spares value_after)
+    (spare_is_free i.entries i.table.slots.items i.table.spares.items c.take_spare.new.self.spares.items c.in-Some-take_spare.node i.before_len i.after_len c.self.invariant spares value_after)
 
 pub returns-clause-slots_fit : goal.returns-clause-slots_fit
 returns-clause-slots_fit g c =
@@ -77,12 +84,26 @@ returns-clause-slots_fit g c =
     let there = rw (c.take_spare.ensures.slots, c.append-slot.ensures.slot) at c.fill.ensures.slots in
     let slots_are : c.fill.new.self.slots.items ≡ set i.table.slots.items node.entry.slot (Some (c.args.serial, record { ptr = node.at })) =
     there ∙ ap (λ (p : Ptr). set i.table.slots.items node.entry.slot (Some (c.args.serial, record { ptr = p }))) c.append-slot.ensures.place in
-    let later = IsSound-pushed c.in-Some.line i.table.slots.items i.table.spares.items i.before_len i.after_len sound c.append-slot.new.self (placed node.at (record { slot = node.entry.slot; serial = c.args.serial; held = After c.args.value })) c.args.value c.append-slot.ensures.nodes refl node c.take_spare.new.self.spares.items spares refl refl c.append-slot.ensures.root c.append-slot.ensures.cursor in
+    let later = IsSound-pushed c.in-Some.entries i.table.slots.items i.table.spares.items i.before_len i.after_len sound c.append-slot.new.self
+    (placed node.at (record {
+      slot = node.entry.slot;
+      serial = c.args.serial;
+      held = After c.args.value;
+    })) c.args.value c.append-slot.ensures.nodes refl node c.take_spare.new.self.spares.items spares refl refl c.append-slot.ensures.root c.append-slot.ensures.cursor in
     let slots = i.table.slots in
     let all = set slots.items node.entry.slot (Some (c.args.serial, record { ptr = node.at })) in
     let rest = c.take_spare.new.self.spares.items in
     let after = i.after_len + 1 in
-    let line = c.append-slot.new.self in
-    let total = total_is (Some line) all rest i.before_len after later in
+    let entries = c.append-slot.new.self in
+    let total = total_is (Some entries) all rest i.before_len after later in
     rw c.fill.ensures.spares
-    (omega (arith, length-before_of (Some line) all rest i.before_len after later, length-after_of (Some line) all rest i.before_len after later, total, length-set slots.items node.entry.slot (Some (c.args.serial, record { ptr = node.at })), slots.ok.0, slots.ok.1, slots.small))
+    (omega (
+      arith,
+      length-before_of (Some entries) all rest i.before_len after later,
+      length-after_of (Some entries) all rest i.before_len after later,
+      total,
+      length-set slots.items node.entry.slot (Some (c.args.serial, record { ptr = node.at })),
+      slots.ok.0,
+      slots.ok.1,
+      slots.small,
+    ))

@@ -1,7 +1,7 @@
 use Rattle.std.proofs.Common.{◌≡◌, Some, refl, sym, ap, ◌∙◌, length-append}
 use Rattle.event_queue.specs.Nodes.{value_before}
-use Rattle.event_queue.proofs.NodeLists.{is_before}
-use Rattle.event_queue.proofs.NodeSteps.{finds, stands_at, slot_within, spare_room, misses, leads_nowhere, some_before, IsSound-without_before, before_removed, after_kept}
+use Rattle.event_queue.proofs.Nodes.Lookups.{is_before}
+use Rattle.event_queue.proofs.Nodes.ChainSteps.{finds, stands_at, slot_within, spare_room, misses, leads_nowhere, some_before, IsSound-without_before, before_removed, after_kept}
 use Rattle.event_queue.proofs.node.Chain.take_before.Goals as goal
 
 pub returns-in_err-own-clause-value : goal.returns-in_err-own-clause-value
@@ -9,7 +9,7 @@ returns-in_err-own-clause-value g c =
     let i = c.self.inside in
     let slots = i.table.slots.items in
     let spares = i.table.spares.items in
-    let none = leads_nowhere i.line slots spares i.before_len i.after_len c.self.invariant c.args.key (rw c.in_err-own.was at c.own.ensures.node) value_before in
+    let none = leads_nowhere i.entries slots spares i.before_len i.after_len c.self.invariant c.args.key (rw c.in_err-own.was at c.find.ensures.node) value_before in
     rw (← c.self.view_is, none) c.from_residual.ensures
 
 pub is_before-requires : goal.is_before-requires
@@ -18,9 +18,9 @@ is_before-requires g c =
     let slots = i.table.slots.items in
     let spares = i.table.spares.items in
     let sound = rw c.in-Some.is at c.self.invariant in
-    let line = c.in-Some.line in
-    let leads = rw c.in_ok-own.was at c.own.ensures.node in
-    stands_at line slots spares i.before_len i.after_len sound c.args.key (record { ptr = c.in_ok-own.own.ptr }) leads
+    let entries = c.in-Some.entries in
+    let leads = rw c.in_ok-own.was at c.find.ensures.node in
+    stands_at entries slots spares i.before_len i.after_len sound c.args.key (record { ptr = c.in_ok-own.own.ptr }) leads
 
 pub returns-then-not-is_before-clause-value : goal.returns-then-not-is_before-clause-value
 returns-then-not-is_before-clause-value g c =
@@ -28,10 +28,11 @@ returns-then-not-is_before-clause-value g c =
     let slots = i.table.slots.items in
     let spares = i.table.spares.items in
     let sound = rw c.in-Some.is at c.self.invariant in
-    let line = c.in-Some.line in
-    let leads = rw c.in_ok-own.was at c.own.ensures.node in
+    let entries = c.in-Some.entries in
+    let leads = rw c.in_ok-own.was at c.find.ensures.node in
     rw (← c.self.view_is, c.in-Some.is)
-    (sym (misses line slots spares i.before_len i.after_len sound c.args.key (record { ptr = c.in_ok-own.own.ptr }) leads value_before c.is_before.result c.is_before.ensures c.if-not-is_before.true))
+    (sym (misses entries slots spares i.before_len i.after_len sound c.args.key
+    (record { ptr = c.in_ok-own.own.ptr }) leads value_before c.is_before.result c.is_before.ensures c.if-not-is_before.true))
 
 pub take-node-requires : goal.take-node-requires
 take-node-requires g c =
@@ -39,29 +40,29 @@ take-node-requires g c =
     let slots = i.table.slots.items in
     let spares = i.table.spares.items in
     let sound = rw c.in-Some.is at c.self.invariant in
-    let line = c.in-Some.line in
-    let leads = rw c.in_ok-own.was at c.own.ensures.node in
-    stands_at line slots spares i.before_len i.after_len sound c.args.key (record { ptr = c.in_ok-own.own.ptr }) leads
+    let entries = c.in-Some.entries in
+    let leads = rw c.in_ok-own.was at c.find.ensures.node in
+    stands_at entries slots spares i.before_len i.after_len sound c.args.key (record { ptr = c.in_ok-own.own.ptr }) leads
 
-pub give_back-requires-clause-slot : goal.give_back-requires-clause-slot
-give_back-requires-clause-slot g c =
+pub recycle-requires-clause-slot : goal.recycle-requires-clause-slot
+recycle-requires-clause-slot g c =
     let i = c.self.inside in
     let slots = i.table.slots.items in
     let spares = i.table.spares.items in
     let sound = rw c.in-Some.is at c.self.invariant in
-    let line = c.in-Some.line in
-    let leads = rw c.in_ok-own.was at c.own.ensures.node in
-    slot_within line slots spares i.before_len i.after_len sound c.args.key (record { ptr = c.in_ok-own.own.ptr }) leads
+    let entries = c.in-Some.entries in
+    let leads = rw c.in_ok-own.was at c.find.ensures.node in
+    slot_within entries slots spares i.before_len i.after_len sound c.args.key (record { ptr = c.in_ok-own.own.ptr }) leads
 
-pub give_back-requires-clause-room : goal.give_back-requires-clause-room
-give_back-requires-clause-room g c =
+pub recycle-requires-clause-room : goal.recycle-requires-clause-room
+recycle-requires-clause-room g c =
     let i = c.self.inside in
     let slots = i.table.slots.items in
     let spares = i.table.spares.items in
     let sound = rw c.in-Some.is at c.self.invariant in
-    let line = c.in-Some.line in
-    let leads = rw c.in_ok-own.was at c.own.ensures.node in
-    spare_room line slots spares i.before_len i.after_len sound c.args.key (record { ptr = c.in_ok-own.own.ptr }) leads
+    let entries = c.in-Some.entries in
+    let leads = rw c.in_ok-own.was at c.find.ensures.node in
+    spare_room entries slots spares i.before_len i.after_len sound c.args.key (record { ptr = c.in_ok-own.own.ptr }) leads
 
 pub overflow_sub-self : goal.overflow_sub-self
 overflow_sub-self g c =
@@ -69,11 +70,12 @@ overflow_sub-self g c =
     let slots = i.table.slots.items in
     let spares = i.table.spares.items in
     let sound = rw c.in-Some.is at c.self.invariant in
-    let line = c.in-Some.line in
-    let leads = rw c.in_ok-own.was at c.own.ensures.node in
-    let found = finds line slots spares i.before_len i.after_len sound c.args.key (record { ptr = c.in_ok-own.own.ptr }) leads value_before c.is_before.result c.is_before.ensures c.if-not-is_before.false in
+    let entries = c.in-Some.entries in
+    let leads = rw c.in_ok-own.was at c.find.ensures.node in
+    let found = finds entries slots spares i.before_len i.after_len sound c.args.key
+    (record { ptr = c.in_ok-own.own.ptr }) leads value_before c.is_before.result c.is_before.ensures c.if-not-is_before.false in
     let lies = found.lies in
-    some_before line slots spares i.before_len i.after_len sound c.args.key c.in_ok-own.own.ptr found
+    some_before entries slots spares i.before_len i.after_len sound c.args.key c.in_ok-own.own.ptr found
 
 pub invariant_of-self-in-Before : goal.invariant_of-self-in-Before
 invariant_of-self-in-Before g c =
@@ -81,14 +83,16 @@ invariant_of-self-in-Before g c =
     let slots = i.table.slots.items in
     let spares = i.table.spares.items in
     let sound = rw c.in-Some.is at c.self.invariant in
-    let line = c.in-Some.line in
-    let leads = rw c.in_ok-own.was at c.own.ensures.node in
-    let found = finds line slots spares i.before_len i.after_len sound c.args.key (record { ptr = c.in_ok-own.own.ptr }) leads value_before c.is_before.result c.is_before.ensures c.if-not-is_before.false in
+    let entries = c.in-Some.entries in
+    let leads = rw c.in_ok-own.was at c.find.ensures.node in
+    let found = finds entries slots spares i.before_len i.after_len sound c.args.key
+    (record { ptr = c.in_ok-own.own.ptr }) leads value_before c.is_before.result c.is_before.ensures c.if-not-is_before.false in
     let lies = found.lies in
     let nodes = c.take-node.ensures.nodes lies.front lies.node lies.rest lies.is lies.place in
     let spare_is = c.take-node.ensures.spare lies.front lies.node lies.rest lies.is lies.place in
-    rw (c.give_back.ensures.slots, c.give_back.ensures.spares)
-    (IsSound-without_before line slots spares i.before_len i.after_len sound c.args.key c.in_ok-own.own.ptr found c.take-node.new.self c.take-node.result.0 nodes c.take-node.ensures.root c.take-node.ensures.cursor c.take-node.ensures.alone spare_is)
+    rw (c.recycle.ensures.slots, c.recycle.ensures.spares)
+    (IsSound-without_before entries slots spares i.before_len i.after_len sound c.args.key c.in_ok-own.own.ptr found
+    c.take-node.new.self c.take-node.result.0 nodes c.take-node.ensures.root c.take-node.ensures.cursor c.take-node.ensures.alone spare_is)
 
 pub unreachable-requires-in_default-held : goal.unreachable-requires-in_default-held
 unreachable-requires-in_default-held g c =
@@ -96,9 +100,10 @@ unreachable-requires-in_default-held g c =
     let slots = i.table.slots.items in
     let spares = i.table.spares.items in
     let sound = rw c.in-Some.is at c.self.invariant in
-    let line = c.in-Some.line in
-    let leads = rw c.in_ok-own.was at c.own.ensures.node in
-    let found = finds line slots spares i.before_len i.after_len sound c.args.key (record { ptr = c.in_ok-own.own.ptr }) leads value_before c.is_before.result c.is_before.ensures c.if-not-is_before.false in
+    let entries = c.in-Some.entries in
+    let leads = rw c.in_ok-own.was at c.find.ensures.node in
+    let found = finds entries slots spares i.before_len i.after_len sound c.args.key
+    (record { ptr = c.in_ok-own.own.ptr }) leads value_before c.is_before.result c.is_before.ensures c.if-not-is_before.false in
     let lies = found.lies in
     let held = c.take-node.ensures.held lies.front lies.node lies.rest lies.is lies.place in
     c.in_default-held.not-Before found.x (held ∙ is_before lies.node.entry.held found.x found.held)
@@ -109,9 +114,10 @@ returns-clause-value g c =
     let slots = i.table.slots.items in
     let spares = i.table.spares.items in
     let sound = rw c.in-Some.is at c.self.invariant in
-    let line = c.in-Some.line in
-    let leads = rw c.in_ok-own.was at c.own.ensures.node in
-    let found = finds line slots spares i.before_len i.after_len sound c.args.key (record { ptr = c.in_ok-own.own.ptr }) leads value_before c.is_before.result c.is_before.ensures c.if-not-is_before.false in
+    let entries = c.in-Some.entries in
+    let leads = rw c.in_ok-own.was at c.find.ensures.node in
+    let found = finds entries slots spares i.before_len i.after_len sound c.args.key
+    (record { ptr = c.in_ok-own.own.ptr }) leads value_before c.is_before.result c.is_before.ensures c.if-not-is_before.false in
     let lies = found.lies in
     let held = c.take-node.ensures.held lies.front lies.node lies.rest lies.is lies.place in
     let taken = c.in-Before.is in
@@ -125,11 +131,12 @@ returns-clause-taken g c =
     let slots = i.table.slots.items in
     let spares = i.table.spares.items in
     let sound = rw c.in-Some.is at c.self.invariant in
-    let line = c.in-Some.line in
-    let leads = rw c.in_ok-own.was at c.own.ensures.node in
-    let found = finds line slots spares i.before_len i.after_len sound c.args.key (record { ptr = c.in_ok-own.own.ptr }) leads value_before c.is_before.result c.is_before.ensures c.if-not-is_before.false in
+    let entries = c.in-Some.entries in
+    let leads = rw c.in_ok-own.was at c.find.ensures.node in
+    let found = finds entries slots spares i.before_len i.after_len sound c.args.key
+    (record { ptr = c.in_ok-own.own.ptr }) leads value_before c.is_before.result c.is_before.ensures c.if-not-is_before.false in
     let lies = found.lies in
     let nodes = c.take-node.ensures.nodes lies.front lies.node lies.rest lies.is lies.place in
-    let removed = before_removed line slots spares i.before_len i.after_len sound c.args.key c.in_ok-own.own.ptr found c.take-node.new.self.ring.nodes nodes in
-    let kept = after_kept line slots spares i.before_len i.after_len sound c.args.key c.in_ok-own.own.ptr found c.take-node.new.self.ring.nodes nodes in
-    rw (← c.self.view_is, c.in-Some.is, removed, kept, c.give_back.ensures.spares, length-append) refl
+    let removed = before_removed entries slots spares i.before_len i.after_len sound c.args.key c.in_ok-own.own.ptr found c.take-node.new.self.ring.nodes nodes in
+    let kept = after_kept entries slots spares i.before_len i.after_len sound c.args.key c.in_ok-own.own.ptr found c.take-node.new.self.ring.nodes nodes in
+    rw (← c.self.view_is, c.in-Some.is, removed, kept, c.recycle.ensures.spares, length-append) refl

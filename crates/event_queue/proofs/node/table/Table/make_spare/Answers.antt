@@ -1,6 +1,6 @@
 use Rattle.std.proofs.Common.{length, arith, ◌≡◌, ap, ◌∙◌}
 use Rattle.event_queue.specs.Nodes.{spare_entry}
-use Rattle.event_queue.proofs.NodeTable.{IsTable-grown}
+use Rattle.event_queue.proofs.Nodes.Slots.{IsTable-grown}
 use Rattle.event_queue.proofs.node.table.Table.make_spare.Goals as goal
 
 pub returns-in-Ok-clause-grows : goal.returns-in-Ok-clause-grows

@@ -12,7 +12,7 @@ use Rattle.std.specs.contracts.alloc.Global as Heap
 use Rattle.std.proofs.alloc.Global.TheLaws as heap
 use Rattle.event_queue.specs.contracts.node.ring.pointers.Ring as C
 use Rattle.event_queue.proofs.node.ring.pointers.Ring.TheLaw.Statement.{statement}
-use Rattle.event_queue.proofs.RingSharing.{ring_lent_laws, Lends-ring}
+use Rattle.event_queue.proofs.Ring.Sharing.{ring_lent_laws, Lends-ring}
 
 pub shares : (E : RattleType) (L : Laws E) → statement E L
 shares E L = of_Lends (C.struct E) (C.the_codes E.Denot E.coded Heap.the_row.coded) (C.the_heap E) (C.the_lent E)

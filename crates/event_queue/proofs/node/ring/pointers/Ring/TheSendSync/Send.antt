@@ -1,6 +1,6 @@
 use denote.RattleType.{RattleType}
 use denote.Param.Send.{IsSend}
-use Rattle.event_queue.proofs.RingCrosses.{Ring-send}
+use Rattle.event_queue.proofs.Ring.Crossing.{Ring-send}
 use Rattle.event_queue.specs.contracts.node.ring.pointers.Ring.{the_row}
 
 pub send : (E : RattleType) → IsSend E → IsSend (the_row E)

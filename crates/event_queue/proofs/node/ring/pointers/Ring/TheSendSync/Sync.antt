@@ -1,6 +1,6 @@
 use denote.RattleType.{RattleType}
 use denote.Param.Send.{IsSync}
-use Rattle.event_queue.proofs.RingCrosses.{Ring-sync}
+use Rattle.event_queue.proofs.Ring.Crossing.{Ring-sync}
 use Rattle.event_queue.specs.contracts.node.ring.pointers.Ring.{the_row}
 
 pub sync : (E : RattleType) → IsSync E → IsSync (the_row E)

@@ -17,7 +17,8 @@ use contract.Monad.{Fun, fact, fact_i}
 use contract.Running.{tables, tables_of}
 use sound.WpLaws.{fm_of}
 use types.Logic.{Logic}
-use types.Kit.{Item, Sq, any_q, runs, ‵, raw, ◌⊛◌, some, later, prop, at_ret, ◌$◌, ◌∵◌, !, qed, by, move, keep, drop, split, join, group, regoal, rewrite, fsplit, fjoin, feq_i, feq_l, pick, await, use0, use1}
+use types.Kit.{Item, Sq, any_q, runs, ‵, raw, ◌⊛◌, some, later, prop, at_ret, ◌$◌, ◌∵◌, !, qed, by, move, keep, drop, split, join, group, regoal, rewrite, fsplit, fjoin, feq_i}
+use types.Kit.{feq_l, pick, await, use0, use1}
 use types.Part.{whole, sub, agg}
 use types.Run.{look, store, init, stop, hop, fld, load, lit, unit_lit, bin, un, of_opd, and_then, no_more, assigns, first, blocks, stays, leaves_loop, loops, again, Below, exec, returns, enter}
 use types.ByLocal.{alloc_all, pass_all, free_all, look_at, get, get_in, through, sets, sets_last, lands_as, is, env, holding, forget_but, take_at, give_at}
@@ -46,9 +47,10 @@ use Rattle.event_queue.specs.contracts.node.ring.pointers.Ring as ring
 use Rattle.event_queue.specs.contracts.node.ring.pointers.Ring.free as freed
 use Rattle.event_queue.specs.contracts.node.ring.pointers.Ring.free.Key as freed_key
 use Rattle.event_queue.proofs.node.ring.pointers.Ring.free.Met as freed_met
-use Rattle.event_queue.proofs.RingPlaces.{last_from, apart_one}
-use Rattle.event_queue.proofs.RingChain.{chain_owns, chained}
-use Rattle.event_queue.proofs.RingSteps.{heap_val, heap_Good, ring_Good, ring_val, Data, handle, told, made, learns, link_out, link_in, stale, edge_out, edge_in, path_cut, no_source, no_target}
+use Rattle.event_queue.proofs.Ring.Places.{last_from, apart_one}
+use Rattle.event_queue.proofs.Ring.Opened.{chain_owns, chain_from_path}
+use Rattle.event_queue.proofs.Ring.Walks.{heap_val, heap_Good, ring_Good, ring_val, Fields, handle, fields_stored, fields_made, learn_fact, link_out, link_in, link_to_room}
+use Rattle.event_queue.proofs.Ring.Walks.{edge_out, edge_in, path_cut, no_edge_from_null, no_edge_to_null}
 use Rattle.event_queue.specs.contracts.node.ring.pointers.Ring.free_all as F
 use Rattle.event_queue.specs.contracts.node.ring.pointers.Ring.free_all.Key.{name as #self}
 use Rattle.event_queue.proofs.node.ring.pointers.Ring.free_all.Statement.{statement}
@@ -83,7 +85,8 @@ module _ (X : RattleType) (δ : Dict) where
     abbrev Frees : Contract 𝓤
     Frees = triple_of 𝓛 (freed.signature X) (freed.spec X δ 𝓛 at_mem run)
 
-module _ (X : RattleType) (δ : Dict) {M : Type 1} {𝓤 : Ura M} (𝓛 : Logic 𝓤) (at_mem : Memory → SProp 𝓤) (run : Routine → Fun 𝓤) (𝓣 : Tables 𝓤 𝓛.H) (callee : Triple 𝓤 (𝓣.C (freed_key.name (inst X δ))) (Frees X δ 𝓛 at_mem run))
+module _ (X : RattleType) (δ : Dict) {M : Type 1} {𝓤 : Ura M} (𝓛 : Logic 𝓤) (at_mem : Memory → SProp 𝓤) (run : Routine → Fun 𝓤) (𝓣 : Tables 𝓤 𝓛.H)
+    (callee : Triple 𝓤 (𝓣.C (freed_key.name (inst X δ))) (Frees X δ 𝓛 at_mem run))
     (z : (walk_of 𝓛 (ended X δ) (stayed X δ) (held X δ 𝓛 at_mem run)).Ghost) where
   open 𝓛 use {H}
 
@@ -134,15 +137,16 @@ module _ (X : RattleType) (δ : Dict) {M : Type 1} {𝓤 : Ura M} (𝓛 : Logic 
         let p : Ptr = block_ptr pb po in let out : (Row X δ).Denot = record { at = p; alloc = d.alloc; entry = n.entry; nodes = []; apart = apart_one p } in
         take_at ! 4 $ rewrite ! 0 (λ (r : Ptr). ‵ (fat full_share ty_ptr (l 4) 0 (ptr_val r))) ep refl $ give_at ! 4 $
         fsplit ! $ move ! (2 ∷ []) $ fsplit ! $ rewrite ! 0 (λ (r : Ptr). ‵ (node_owns (R X δ) d.alloc (placed r n.entry))) ep refl $ fsplit ! $ move ! (1 ∷ []) $ fsplit ! $
-        learns ! (Testable p) (dealloc_token-Testable 𝓛 d.alloc (node_type (R X δ)) p) (λ may.
+        learn_fact ! (Testable p) (dealloc_token-Testable 𝓛 d.alloc (node_type (R X δ)) p) (λ may.
         fjoin ! $ move ! (1 ∷ 0 ∷ []) $ fjoin ! $ move ! (2 ∷ []) $ link_out ! next pb (po + 0) $
         -- [the node's next; the node; the nodes behind; room for its previous; the tokens; the locals]
         sets ! (bin ! (get ! refl) (lit ! tt) (tests_null p may)) refl (tt, tt) $ sets ! (un ! (get ! refl) tt) refl (tt, tt) $ stays ! (get ! refl) $
         sets ! (of_opd ! (load ! (through ! refl (fld ! refl (stop !))) (look ! 0 refl))) refl (Ptr-Good next) $
-        assigns ! (of_opd ! (get ! refl)) (through ! refl (fld ! refl (stop !))) (store ! 0 refl (tt, tt)) $ assigns ! (of_opd ! (get ! refl)) (through ! refl (fld ! refl (stop !))) (init ! 3 refl (tt, tt)) $
+        assigns ! (of_opd ! (get ! refl)) (through ! refl (fld ! refl (stop !))) (store ! 0 refl (tt, tt)) $
+        assigns ! (of_opd ! (get ! refl)) (through ! refl (fld ! refl (stop !))) (init ! 3 refl (tt, tt)) $
         sets ! (agg ! (and_then ! (get ! refl) (and_then ! (get ! refl) (no_more !)))) refl (tt, (tt, (heap_Good.1, tt))) $
         move ! (0 ∷ 3 ∷ []) $ edge_in ! pb po pb po $ nothing ! $ move ! (1 ∷ 0 ∷ []) $ fjoin ! $ move ! (1 ∷ []) $ nothing ! $ move ! (1 ∷ 0 ∷ []) $ fjoin ! $ move ! (1 ∷ 0 ∷ []) $ fjoin ! $
-        use0 𝓛 (‵ ((Data (R X δ)).own_val (p, (handle, tt)) (ring_val p ∷ []))) (made (R X δ) 𝓛 p) $ fjoin ! $
+        use0 𝓛 (‵ ((Fields (R X δ)).own_val (p, (handle, tt)) (ring_val p ∷ []))) (fields_made (R X δ) 𝓛 p) $ fjoin ! $
         -- [the ring of one; the nodes behind; the tokens; ..]
         let G : Contract 𝓤 = Frees X δ 𝓛 at_mem run in let En' : Ended = freed.ended X δ in
         let y : G.Ghost = (((κ, tt), (q, tt), tt, (out, tt), (ring_val p ∷ [], tt)), tt) in
@@ -150,27 +154,31 @@ module _ (X : RattleType) (δ : Dict) {M : Type 1} {𝓤 : Ura M} (𝓛 : Logic 
         use0 𝓛 (raw (fact 𝓤 (out.nodes ≡ []))) (fact_i 𝓤 (out.nodes ≡ []) (emp 𝓤) refl) $ use0 𝓛 (raw (fact 𝓤 (κ ⊑ X.lives))) (fact_i 𝓤 (κ ⊑ X.lives) (emp 𝓤) within) $ join ! $
         move ! (1 ∷ 0 ∷ []) $ join ! $ use1 𝓛 (raw (G.pre y)) (id⊢ 𝓤 _) $
         calls_at ! (fm_of 𝓤 H 𝓛.laws 𝓣) G callee y (and_then ! (get ! refl) (no_more !)) (λ v.
-        use1 𝓛 (later (some (λ (r : Unit {0}). ((‵ (flft κ q) ⊛ ‵ ftrue) ⊛ ‵ (unit.own_val r (v ∷ []))) ⊛ some (λ (ws : Lasts En' (κ, tt) y.0.3). ‵ (lasts En' (κ, tt) y.0.3 ws) ⊛ ‵ ftrue)))) (id⊢ 𝓤 _) $
+        use1 𝓛 (later (some (λ (r : Unit {0}). ((‵ (flft κ q) ⊛ ‵ ftrue) ⊛ ‵ (unit.own_val r (v ∷ []))) ⊛ some
+        (λ (ws : Lasts En' (κ, tt) y.0.3). ‵ (lasts En' (κ, tt) y.0.3 ws) ⊛ ‵ ftrue)))) (id⊢ 𝓤 _) $
         await ! tt $ pick ! (λ r. split ! $ split ! $ move ! (1 ∷ []) $ feq_l ! (λ e. move ! (1 ∷ []) $ drop ! $
         lands_as ! (ap only e) refl (tt, tt) $ sets_last ! (of_opd ! (get ! refl)) refl (Ptr-Good next) $
         forget_but ! En (1 ∷ 2 ∷ 3 ∷ 4 ∷ []) refl $ move ! (1 ∷ 0 ∷ []) $ again ! Fewer Now (n ∷ ns) ns (omega arith))))))
 
   walk : ent 𝓤 ((walk_of 𝓛 (ended X δ) (stayed X δ) (held X δ 𝓛 at_mem run)).pre z) (WpFn 𝓤 H 𝓣.C 𝓣.Λ (fn X δ) ((walk_of 𝓛 (ended X δ) (stayed X δ) (held X δ 𝓛 at_mem run)).args z) Post)
   walk =
-      let D : RattleType = Data (R X δ) in let root : Node = placed d.at d.entry in let before : Ptr = last_from d.at (places d.nodes) in
+      let D : RattleType = Fields (R X δ) in let root : Node = placed d.at d.entry in let before : Ptr = last_from d.at (places d.nodes) in
       qed 𝓛 ((tokens ⊛ ‵ (owns (types_at (ended X δ).signature.params z.0.0) z.0.3 z.0.4)) ∷ raw (fact 𝓤 (κ ⊑ X.lives)) ∷ ‵ ftrue ∷ []) ∵
-      keep ! (1 ∷ 0 ∷ []) $ heard ! (κ ⊑ X.lives) (λ within. split ! $ move ! (1 ∷ []) $ fsplit ! $ fsplit ! $ peeks ! D (Is D) (shows 𝓛 D) (d.at, (handle, tt)) z.0.4.0 (λ stored. keep ! (1 ∷ 3 ∷ []) $
-      regoal ! (λ (us : List Val). prop (WpFn 𝓤 H 𝓣.C 𝓣.Λ (fn X δ) us Post)) (λ i. told (R X δ) d.at z.0.4.0 stored i ++ []) refl $
+      keep ! (1 ∷ 0 ∷ []) $ heard ! (κ ⊑ X.lives)
+      (λ within. split ! $ move ! (1 ∷ []) $ fsplit ! $ fsplit ! $ peeks ! D (Is D) (shows 𝓛 D) (d.at, (handle, tt)) z.0.4.0 (λ stored. keep ! (1 ∷ 3 ∷ []) $
+      regoal ! (λ (us : List Val). prop (WpFn 𝓤 H 𝓣.C 𝓣.Λ (fn X δ) us Post)) (λ i. fields_stored (R X δ) d.at z.0.4.0 stored i ++ []) refl $
       enter ! 𝓣.C 𝓣.Λ (fn X δ) (ring_val d.at ∷ []) Post $ alloc_all ! (λ l. pass_all ! refl (ring_Good (R X δ) d.at, tt) $
       fsplit ! $ use1 𝓛 (‵ (path d.at (places d.nodes)) ⊛ ‵ (path before (d.at ∷ []))) (path_cut 𝓛 d.at (places d.nodes) (d.at ∷ [])) $ split ! $ move ! (1 ∷ []) $ fsplit ! $
-      in_a_block ! before (λ p. edge p d.at) (no_source 𝓛 d.at) (λ lb lo el. in_a_block ! d.at (edge (block_ptr lb lo)) (no_target 𝓛 (block_ptr lb lo)) (λ tb to et. edge_out ! lb lo tb to $
+      in_a_block ! before (λ p. edge p d.at) (no_edge_from_null 𝓛 d.at)
+      (λ lb lo el. in_a_block ! d.at (edge (block_ptr lb lo)) (no_edge_to_null 𝓛 (block_ptr lb lo)) (λ tb to et. edge_out ! lb lo tb to $
       -- [the last's next; the root's previous; nothing; the path; the nodes; the tokens; the locals]
-      sets ! (is ! (of_opd ! (get_in ! (fld ! refl (stop !)) (sub ! 0 refl (whole !)))) (ap ptr_val et)) refl (tt, tt) $ sets ! (of_opd ! (get_in ! (fld ! refl (stop !)) (sub ! 1 refl (whole !)))) refl heap_Good $ first ! $ blocks ! $
+      sets ! (is ! (of_opd ! (get_in ! (fld ! refl (stop !)) (sub ! 0 refl (whole !)))) (ap ptr_val et)) refl (tt, tt) $
+      sets ! (of_opd ! (get_in ! (fld ! refl (stop !)) (sub ! 1 refl (whole !)))) refl heap_Good $ first ! $ blocks ! $
       assigns ! (of_opd ! (lit ! tt)) (through ! refl (fld ! refl (hop ! (look ! 1 refl) (fld ! refl (stop !))))) (store ! 0 refl (tt, record { fits = lit< tt })) $
       sets ! (of_opd ! (get ! refl)) refl (tt, tt) $
       link_in ! null_ptr lb (lo + 0) $ rewrite ! 0 (λ (p : Ptr). ‵ (lies_at RawPtr full_share (next_of p) null_ptr)) (sym el) refl $
-      move ! (1 ∷ []) $ stale ! (block_ptr lb lo) tb (to + 8) $ rewrite ! 0 (λ (p : Ptr). ‵ (room_for ty_ptr (previous_of p))) (sym et) refl $
-      move ! (3 ∷ 1 ∷ 0 ∷ 4 ∷ []) $ group ! 4 $ use1 𝓛 (‵ (chain_owns (R X δ) d.alloc (root ∷ d.nodes))) (chained 𝓛 (R X δ) d.alloc root d.nodes) $ move ! (1 ∷ []) $ drop ! $
+      move ! (1 ∷ []) $ link_to_room ! (block_ptr lb lo) tb (to + 8) $ rewrite ! 0 (λ (p : Ptr). ‵ (room_for ty_ptr (previous_of p))) (sym et) refl $
+      move ! (3 ∷ 1 ∷ 0 ∷ 4 ∷ []) $ group ! 4 $ use1 𝓛 (‵ (chain_owns (R X δ) d.alloc (root ∷ d.nodes))) (chain_from_path 𝓛 (R X δ) d.alloc root d.nodes) $ move ! (1 ∷ []) $ drop ! $
       take_at ! 4 $ rewrite ! 0 (λ (r : Ptr). ‵ (fat full_share ty_ptr (l 4) 0 (ptr_val r))) (sym et) refl $ give_at ! 4 $
       blocks ! $ loops ! 𝓣 (Fewer within tb to l) (InvImage.wf (λ (ns : List Node). length ns) lt-wf_rel.wf) (Now within tb to l) (turns within tb to l) (root ∷ d.nodes))))))
 
@@ -179,5 +187,6 @@ unfolding tables_of
 free_all_spec 𝓤 𝓛 𝓜 𝓡 wired X L δ glue =
     let 𝓣 : Tables 𝓤 𝓛.H = tables_of 𝓤 𝓛.H 𝓜 (tables 𝓤 𝓛.H 𝓜 𝓡 𝓡.env) in let k = freed_key.name (inst X δ) in
     let callee = cited 𝓤 𝓛.H (Frees X δ 𝓛 𝓜.mem 𝓡.returns) 𝓜 𝓡 𝓡.env k (𝓡.env k) refl (freed_met.met 𝓤 𝓛 𝓜 𝓡 (code.calls-event_queue::node::ring::pointers::Ring::free 𝓡.env wired) X L δ glue) in
-    proved_at 𝓛 (ended X δ) (stayed X δ) (held X δ 𝓛 𝓜.mem 𝓡.returns) 𝓜 𝓡 (Goes-blank 𝓛 1 (plain (λ _. Row X δ)) no (λ κs x f. tt), tt) (#self (inst X δ)) (fn X δ) (code.unfolded 𝓤 𝓛.H 𝓜 𝓡 wired (X, tt) δ)
+    proved_at 𝓛 (ended X δ) (stayed X δ) (held X δ 𝓛 𝓜.mem 𝓡.returns) 𝓜 𝓡 (Goes-blank 𝓛 1 (plain (λ _. Row X δ)) no (λ κs x f. tt), tt) (#self (inst X δ)) (fn X δ)
+    (code.unfolded 𝓤 𝓛.H 𝓜 𝓡 wired (X, tt) δ)
     (λ z are. walk X δ 𝓛 𝓜.mem 𝓡.returns 𝓣 callee z)

@@ -33,8 +33,8 @@ use Rattle.event_queue.specs.Ring.{Placed, placed, places, first_place, IsAt, At
 use Rattle.event_queue.specs.RingMemory.{next_of, edge_lent, path_lent, entry_offset, entry_of, nodes_lent}
 use Rattle.event_queue.specs.contracts.node.ring.pointers.Ring as ring
 use Rattle.event_queue.specs.contracts.node.ring.pointers.NodePtr as node_ptr
-use Rattle.event_queue.proofs.RingPlaces.{round_cut, round_first, same_node}
-use Rattle.event_queue.proofs.RingSteps.{word_had, word_made, link_looks, link_shuts, edge_seen, node_seen, says_two, pair_val, pair_of}
+use Rattle.event_queue.proofs.Ring.Places.{round_cut, round_first, same_node}
+use Rattle.event_queue.proofs.Ring.Walks.{word_stored, word_made, link_looks, link_shuts, edge_seen, node_seen, ensure_two, pair_val, pair_of}
 use Rattle.event_queue.specs.contracts.node.ring.pointers.Ring.look_at.{ended, clauses}
 use Rattle.event_queue.specs.contracts.node.ring.pointers.Ring.look_at.Key.{name as #self}
 use Rattle.event_queue.proofs.node.ring.pointers.Ring.look_at.Statement.{statement}
@@ -50,7 +50,7 @@ look_at_spec 𝓤 𝓛 𝓜 𝓡 wired X L =
     let others : Fml = fsep (flft κs.1.0 qs.1.0) ftrue in let Post : Val → SProp 𝓤 = (walk_of 𝓛 En hs c).post z in let Run : List Val → SProp 𝓤 = λ us. WpFn 𝓤 H 𝓣.C 𝓣.Λ fn us Post in
     qed 𝓛 (((‵ (flft κ qs.0) ⊛ ‵ others) ⊛ ‵ (owns (types_at En.signature.params κs) z.0.3 z.0.4)) ∷ raw (fact 𝓤 _) ∷ raw (fact 𝓤 (IsAt d.nodes node.ptr)) ∷ []) ∵
     keep ! (2 ∷ 0 ∷ []) $ heard ! (IsAt d.nodes node.ptr) (λ asked. split ! $ split ! $ move ! (2 ∷ []) $
-    fsplit ! $ fsplit ! $ feq_l ! (λ e0. move ! (1 ∷ []) $ fsplit ! $ word_had ! node.ptr z.0.4.1.0 (λ e1. keep ! (1 ∷ 2 ∷ 3 ∷ []) $
+    fsplit ! $ fsplit ! $ feq_l ! (λ e0. move ! (1 ∷ []) $ fsplit ! $ word_stored ! node.ptr z.0.4.1.0 (λ e1. keep ! (1 ∷ 2 ∷ 3 ∷ []) $
     regoal ! (λ (us : List Val). prop (Run us)) (λ i. e0 i ++ (e1 i ++ [])) refl $
     let xs = asked.0 in let n : Placed X.Denot = asked.1 in let ys = asked.2 in let next : Ptr = first_place ys d.at in let behind = round_first ys d.at in
     let cut : places d.nodes ++ d.at ∷ [] ≡ places xs ++ n.at ∷ next ∷ behind.0 =
@@ -75,8 +75,9 @@ look_at_spec 𝓤 𝓛 𝓜 𝓡 wired X L =
     link_shuts ! tt next pb (po + 0) $ move ! (0 ∷ 2 ∷ []) $ join ! $
     move ! (1 ∷ []) $ fsplit ! $ drop ! $ hide ! $ feq_i ! (List Val) (u ∷ []) (u ∷ []) refl $ fjoin ! $ word_made ! next $ move ! (1 ∷ 0 ∷ []) $
     use2 𝓛 (‵ ((Tuple (ShrRef (named 0) κ R ∷ Np ∷ [])).own_val (entry, out) (pair_val u (word next) ∷ []))) (pair_of 𝓛 (ShrRef (named 0) κ R) Np entry out u (word next)) $
-    let same = λ (us : List (Placed X.Denot)) (m : Placed X.Denot) (vs : List (Placed X.Denot)) (at_cut : d.nodes ≡ us ++ m ∷ vs) (at : m.at ≡ node.ptr). same_node d.at d.nodes xs n ys us m vs d.apart asked.3 at_cut (asked.4 ∙ sym at) in
-    says_two ! (AtNode d.nodes node.ptr (λ _ m _. n.entry ≡ m.entry)) (AtNode d.nodes node.ptr (λ _ _ vs. next ≡ first_place vs d.at))
+    let same = λ (us : List (Placed X.Denot)) (m : Placed X.Denot) (vs : List (Placed X.Denot)) (at_cut : d.nodes ≡ us ++ m ∷ vs)
+    (at : m.at ≡ node.ptr). same_node d.at d.nodes xs n ys us m vs d.apart asked.3 at_cut (asked.4 ∙ sym at) in
+    ensure_two ! (AtNode d.nodes node.ptr (λ _ m _. n.entry ≡ m.entry)) (AtNode d.nodes node.ptr (λ _ _ vs. next ≡ first_place vs d.at))
     (λ us m vs at_cut at. ap (λ (k : Placed X.Denot). k.entry) (same us m vs at_cut at).1) (λ us m vs at_cut at. ap (λ ks. first_place ks d.at) (same us m vs at_cut at).2) $
     nothing ! $ nothing ! $ fjoin ! $ nothing ! $ fjoin ! $
     returns ! (look_at ! 0 refl) $ free_all ! refl $ keep ! (3 ∷ 0 ∷ 2 ∷ 1 ∷ []) $ by ! (leaves 𝓛 En hs c z (pair_val u (word next)) (entry, out) (tt, (tt, tt)) (tt, (tt, tt))))))))))

@@ -29,8 +29,9 @@ use Rattle.event_queue.specs.Ring.{Placed, placed, places, first_place, IsApart,
 use Rattle.event_queue.specs.RingMemory.{edge, path, node_owns, nodes_own}
 use Rattle.event_queue.specs.contracts.node.ring.pointers.Ring as ring
 use Rattle.event_queue.specs.contracts.node.ring.pointers.NodePtr as node_ptr
-use Rattle.event_queue.proofs.RingPlaces.{last_from, round_cut, round_joined, round_first, apart_one, apart_unlinked, same_node}
-use Rattle.event_queue.proofs.RingSteps.{heap_Good, ring_val, Data, handle, told, made, word_had, edge_out, edge_in, path_cut, path_glue, nodes_cut, no_source, no_target, says_three}
+use Rattle.event_queue.proofs.Ring.Places.{last_from, round_cut, round_joined, round_first, apart_one, apart_unlinked, same_node}
+use Rattle.event_queue.proofs.Ring.Walks.{heap_Good, ring_val, Fields, handle, fields_stored, fields_made, word_stored, edge_out, edge_in, path_cut, path_glue, nodes_cut}
+use Rattle.event_queue.proofs.Ring.Walks.{no_edge_from_null, no_edge_to_null, ensure_three}
 use Rattle.event_queue.specs.contracts.node.ring.pointers.Ring.unlink.{ended, clauses}
 use Rattle.event_queue.specs.contracts.node.ring.pointers.Ring.unlink.Key.{name as #self}
 use Rattle.event_queue.proofs.node.ring.pointers.Ring.unlink.Statement.{statement}
@@ -39,14 +40,14 @@ use Rattle.event_queue.proofs.node.ring.pointers.Ring.unlink.Code as code
 pub unlink_spec : {M : Type 1} → statement M
 unlink_spec 𝓤 𝓛 𝓜 𝓡 wired X L =
     let H = 𝓛.H in let 𝓣 = tables 𝓤 H 𝓜 𝓡 𝓡.env in let R : RattleType = param 0 X in let En = ended X in let inst = layouts (a_type ∷ []) (X, tt) in let fn = inst_fn inst code.function in
-    let Row : RattleType = ring.the_row R in let D : RattleType = Data R in let Np : RattleType = node_ptr.the_row R in let c = clauses X 𝓛 𝓜.mem 𝓡.returns in
+    let Row : RattleType = ring.the_row R in let D : RattleType = Fields R in let Np : RattleType = node_ptr.the_row R in let c = clauses X 𝓛 𝓜.mem 𝓡.returns in
     let self = plain (λ _. Row) in let hs : Stays En.signature.params En.kept = (stay_ref (0 ∷ []) tt self, (stay_dropped (plain (λ _. Np)) no, tt)) in
     proved_at 𝓛 En hs c 𝓜 𝓡 (Goes-ref 𝓛 2 0 tt self, (Goes-dropped 𝓛 2 (plain (λ _. Np)) no (λ κs x f. refl), tt)) (#self inst) fn (code.unfolded 𝓤 H 𝓜 𝓡 wired (X, tt)) (λ z are.
     let κs = z.0.0 in let qs = z.0.1 in let b : ℕ = z.0.3.0.ref_ptr.0 in let o : ℕ = z.0.3.0.ref_ptr.1 in let κ : Lft = κs.0 in let d : Row.Denot = z.0.3.0.now in let node : Np.Denot = z.0.3.1.0 in
     let others : Fml = fsep (flft κs.1.0 qs.1.0) ftrue in let Post : Val → SProp 𝓤 = (walk_of 𝓛 En hs c).post z in let Run : List Val → SProp 𝓤 = λ us. WpFn 𝓤 H 𝓣.C 𝓣.Λ fn us Post in
     qed 𝓛 (((‵ (flft κ qs.0) ⊛ ‵ others) ⊛ ‵ (owns (types_at En.signature.params κs) z.0.3 z.0.4)) ∷ raw (fact 𝓤 _) ∷ raw (fact 𝓤 (IsAt d.nodes node.ptr)) ∷ []) ∵
     keep ! (2 ∷ 0 ∷ []) $ heard ! (IsAt d.nodes node.ptr) (λ asked. split ! $ split ! $ move ! (2 ∷ []) $
-    fsplit ! $ fsplit3 ! $ feq_l ! (λ e0. move ! (2 ∷ []) $ fsplit ! $ word_had ! node.ptr z.0.4.1.0 (λ e1. keep ! (1 ∷ 2 ∷ 3 ∷ 4 ∷ []) $
+    fsplit ! $ fsplit3 ! $ feq_l ! (λ e0. move ! (2 ∷ []) $ fsplit ! $ word_stored ! node.ptr z.0.4.1.0 (λ e1. keep ! (1 ∷ 2 ∷ 3 ∷ 4 ∷ []) $
     regoal ! (λ (us : List Val). prop (Run us)) (λ i. e0 i ++ (e1 i ++ [])) refl $
     let xs = asked.0 in let n : Placed X.Denot = asked.1 in let ys = asked.2 in let next : Ptr = first_place ys d.at in let behind = round_first ys d.at in let rest : List Ptr = behind.0 in
     let before : Ptr = last_from d.at (places xs) in let root : Placed X.Denot = placed d.at d.entry in
@@ -56,15 +57,15 @@ unlink_spec 𝓤 𝓛 𝓜 𝓡 wired X L =
     let new : Row.Denot = record { at = d.at; alloc = d.alloc; entry = d.entry; nodes = xs ++ ys; apart = apart_unlinked d.at xs n ys (subst (λ ns. IsApart (d.at ∷ places ns)) asked.3 d.apart) } in
     let out : Row.Denot = record { at = n.at; alloc = d.alloc; entry = n.entry; nodes = []; apart = apart_one n.at } in
     enter ! 𝓣.C 𝓣.Λ fn (vptr b o ∷ word node.ptr ∷ []) Post $ alloc_all ! (λ l. pass_all ! refl ((tt, tt), (word-Good [] node.ptr, tt)) $ let Ev = env fn.locals l in
-    opens ! tt Row {h = d} b o (λ vs. move ! (1 ∷ []) $ fsplit ! $ peeks ! D (Is D) (shows 𝓛 D) (d.at, (handle, tt)) vs (λ so. let ev : vs ≡ ring_val d.at ∷ [] = told R d.at vs so in
+    opens ! tt Row {h = d} b o (λ vs. move ! (1 ∷ []) $ fsplit ! $ peeks ! D (Is D) (shows 𝓛 D) (d.at, (handle, tt)) vs (λ so. let ev : vs ≡ ring_val d.at ∷ [] = fields_stored R d.at vs so in
     rewrite ! 2 (λ (ws : List Val). ‵ (cell_at full_share Row.mir ws b o)) ev refl $
     move ! (2 ∷ []) $ use1 𝓛 (‵ (fat full_share (layout Row) b o (ring_val d.at))) (𝓛.laws.raw_at full_share (layout Row) b o (ring_val d.at)) $ move ! (2 ∷ 1 ∷ []) $ fsplit ! $
     -- [the path; the nodes; the fields; their cell; the open borrow, in three entries; the other tokens; the locals]
     rewrite ! 1 (λ (ns : List (Placed X.Denot)). ‵ (nodes_own R d.alloc (root ∷ ns))) asked.3 refl $ rewrite ! 0 (λ (ps : List Ptr). ‵ (path d.at ps)) cut refl $
     use1 𝓛 (‵ (path d.at (places xs)) ⊛ ‵ (path before (n.at ∷ next ∷ rest))) (path_cut 𝓛 d.at (places xs) (n.at ∷ next ∷ rest)) $ split ! $ move ! (1 ∷ []) $ fsplit3 ! $
-    in_a_block ! before (λ p. edge p n.at) (no_source 𝓛 n.at) (λ lb lo el. in_a_block ! n.at (edge (block_ptr lb lo)) (no_target 𝓛 (block_ptr lb lo)) (λ pb po ep.
+    in_a_block ! before (λ p. edge p n.at) (no_edge_from_null 𝓛 n.at) (λ lb lo el. in_a_block ! n.at (edge (block_ptr lb lo)) (no_edge_to_null 𝓛 (block_ptr lb lo)) (λ pb po ep.
     edge_out ! lb lo pb po $ move ! (2 ∷ []) $ rewrite ! 0 (λ (p : Ptr). ‵ (edge p next)) ep refl $
-    in_a_block ! next (edge (block_ptr pb po)) (no_target 𝓛 (block_ptr pb po)) (λ nb no' en. edge_out ! pb po nb no' $
+    in_a_block ! next (edge (block_ptr pb po)) (no_edge_to_null 𝓛 (block_ptr pb po)) (λ nb no' en. edge_out ! pb po nb no' $
     -- [the node's next; the next's previous; the previous' next; the node's previous; the path behind; the path before; the nodes; the fields; their cell; ..]
     sets ! (is ! (of_opd ! (get_in ! (fld ! refl (stop !)) (sub ! 0 refl (whole !)))) (ap ptr_val (sym asked.4 ∙ ep))) refl (tt, tt) $ first ! $ blocks ! $
     sets ! (of_opd ! (load ! (through ! refl (fld ! refl (stop !))) (look ! 0 refl))) refl (tt, tt) $
@@ -83,12 +84,13 @@ unlink_spec 𝓤 𝓛 𝓜 𝓡 wired X L =
     use2 𝓛 (‵ (path d.at (places xs ++ next ∷ rest))) (path_glue 𝓛 d.at (places xs) (next ∷ rest)) $ rewrite ! 0 (λ (ps : List Ptr). ‵ (path d.at ps)) joined refl $
     move ! (2 ∷ []) $ use1 𝓛 (‵ (node_owns R d.alloc n) ⊛ ‵ (nodes_own R d.alloc (root ∷ xs ++ ys))) (nodes_cut 𝓛 R d.alloc (root ∷ xs) n ys) $ split ! $
     -- [the node; the other nodes; the path; the node's path; the fields; their cell; ..]
-    nothing ! $ move ! (1 ∷ 0 ∷ []) $ fjoin ! $ move ! (3 ∷ 0 ∷ []) $ fjoin ! $ use0 𝓛 (‵ (D.own_val (n.at, (handle, tt)) (ring_val n.at ∷ []))) (made R 𝓛 n.at) $ fjoin ! $
+    nothing ! $ move ! (1 ∷ 0 ∷ []) $ fjoin ! $ move ! (3 ∷ 0 ∷ []) $ fjoin ! $ use0 𝓛 (‵ (D.own_val (n.at, (handle, tt)) (ring_val n.at ∷ []))) (fields_made R 𝓛 n.at) $ fjoin ! $
     rewrite ! 0 (λ (p : Ptr). ‵ (Row.own_val out (ring_val p ∷ []))) ep refl $ move ! (2 ∷ 1 ∷ []) $ fjoin ! $ move ! (2 ∷ 0 ∷ []) $ fjoin ! $
     move ! (2 ∷ []) $ use1 𝓛 (‵ (cell_at full_share Row.mir (ring_val d.at ∷ []) b o)) (𝓛.laws.at_raw full_share (layout Row) b o (ring_val d.at)) $
     rewrite ! 0 (λ (ws : List Val). ‵ (cell_at full_share Row.mir ws b o)) (sym ev) refl $ move ! (0 ∷ 1 ∷ 3 ∷ 4 ∷ 5 ∷ []) $ closes ! tt Row new vs b o $
     feq_i ! (List Val) z.0.4.0 (vptr b o ∷ []) e0 $ fjoin3 ! $ nothing ! $ nothing ! $ fjoin ! $ move ! (1 ∷ 0 ∷ []) $ fjoin ! $ move ! (1 ∷ 3 ∷ []) $ join ! $
-    let same = λ (us : List (Placed X.Denot)) (m : Placed X.Denot) (ws : List (Placed X.Denot)) (at_cut : d.nodes ≡ us ++ m ∷ ws) (at : m.at ≡ node.ptr). same_node d.at d.nodes xs n ys us m ws d.apart asked.3 at_cut (asked.4 ∙ sym at) in
-    says_three ! ((d.at ≡ d.at) × (d.entry ≡ d.entry)) ((n.at ≡ node.ptr) × (out.nodes ≡ [])) (AtNode d.nodes node.ptr (λ us m ws. (xs ++ ys ≡ us ++ ws) × (n.entry ≡ m.entry)))
+    let same = λ (us : List (Placed X.Denot)) (m : Placed X.Denot) (ws : List (Placed X.Denot)) (at_cut : d.nodes ≡ us ++ m ∷ ws)
+    (at : m.at ≡ node.ptr). same_node d.at d.nodes xs n ys us m ws d.apart asked.3 at_cut (asked.4 ∙ sym at) in
+    ensure_three ! ((d.at ≡ d.at) × (d.entry ≡ d.entry)) ((n.at ≡ node.ptr) × (out.nodes ≡ [])) (AtNode d.nodes node.ptr (λ us m ws. (xs ++ ys ≡ us ++ ws) × (n.entry ≡ m.entry)))
     (refl, refl) (asked.4, refl) (λ us m ws at_cut at. let s = same us m ws at_cut at in ((λ i. s.0 i ++ s.2 i), ap (λ (k : Placed X.Denot). k.entry) s.1)) $
     returns ! (look_at ! 0 refl) $ free_all ! refl $ keep ! (1 ∷ 2 ∷ 3 ∷ 0 ∷ []) $ by ! (leaves 𝓛 En hs c z (ring_val (block_ptr pb po)) out (new, (tt, tt)) (tt, (tt, tt)))))))))))))

@@ -1,7 +1,7 @@
 use Rattle.std.specs.Vec.Iter.{into_iter_items}
 use Rattle.event_queue.specs.declared.tag_list.TagList.{TagList}
-use Rattle.event_queue.proofs.RunLemmas.{NotifiesWith-from, same_order, gone-Inserts, gone-Registers, gone-Removes}
-use Rattle.event_queue.proofs.list.List.make.Goals as goal
+use Rattle.event_queue.proofs.Calls.Runs.{NotifiesWith-from, same_order, gone-Inserts, gone-Registers, gone-Removes}
+use Rattle.event_queue.proofs.list.List.perform.Goals as goal
 
 pub returns-in-Insert-clause-gone : goal.returns-in-Insert-clause-gone
 returns-in-Insert-clause-gone g c = λ key gone. gone-Inserts key _ _ _ c.insert_uncounted.ensures.step gone
@@ -19,7 +19,9 @@ returns-in-Notify-clause-step g c =
       additional = c.in-Notify.additional;
       tags = c.into_iter.result;
     } in
-    let step = NotifiesWith-from (λ (s : TagList g.row.T.Denot). into_iter_items s.tags) c.in-Notify.count c.in-Notify.additional c.args.self.now source c.notify_uncounted.result c.notify_uncounted.new.self c.notify_uncounted.new.n c.notify_uncounted.ensures.step in
+    let step = NotifiesWith-from
+    (λ (s : TagList g.row.T.Denot). into_iter_items s.tags) c.in-Notify.count c.in-Notify.additional c.args.self.now source
+    c.notify_uncounted.result c.notify_uncounted.new.self c.notify_uncounted.new.n c.notify_uncounted.ensures.step in
     rw (c.in-Notify.is, ← c.into_iter.ensures.rest) step
 
 pub returns-in-Notify-clause-gone : goal.returns-in-Notify-clause-gone

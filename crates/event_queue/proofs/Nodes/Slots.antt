@@ -1,12 +1,13 @@
 -- The table of slots: each slot is that of one node, which is linked or spare.
-use Rattle.std.proofs.Common.{◌≡◌, ◌≢◌, ℕ, zero, suc, ◌+◌, ◌<◌, ◌≤◌, cond, eqb, ltb, List, [], ◌∷◌, ◌++◌, length, set, Option, Some, None, slice_get, refl, sym, ap, ◌∙◌, inl, inr, arith, length-append}
+use Rattle.std.proofs.Common.{◌≡◌, ◌≢◌, ℕ, zero, suc, ◌+◌, ◌<◌, ◌≤◌, cond, eqb, ltb, List, [], ◌∷◌, ◌++◌, length, set, Option, Some, None, slice_get, refl, sym, ap, ◌∙◌, inl, inr}
+use Rattle.std.proofs.Common.{arith, length-append}
 use Rattle.std.proofs.lemmas.Bool.{cases_eq, eq-eqb, ne_eqb, lt-ltb, le-ltb, cases_lt}
 use Rattle.std.proofs.lemmas.List.{map-append, length-set}
 use Rattle.std.proofs.lemmas.Option.{slice_get_past}
 use Rattle.event_queue.specs.declared.key.Key.{Key}
 use Rattle.event_queue.specs.declared.node.ring.pointers.NodePtr.{NodePtr}
-use Rattle.event_queue.specs.declared.node.line.Held.TheVariants.{Nothing}
-use Rattle.event_queue.specs.declared.node.line.Entry.{Entry}
+use Rattle.event_queue.specs.declared.node.entries.Held.TheVariants.{Nothing}
+use Rattle.event_queue.specs.declared.node.entries.Entry.{Entry}
 use Rattle.event_queue.specs.Nodes.{Node, Spare, Slots, times, slots_of, spare_slots, node_at, key_of, spare_entry, AreMapped, AreSpare, IsTable}
 
 -- ---- one place of a list
@@ -115,11 +116,15 @@ module _ {A B : Type 0} where
       let later = AreMapped-cut slots xs ys mapped.1 in
       ((mapped.0, later.0), later.1)
 
-  AreMapped-set : (slots : Slots A B) (slot : ℕ) (place : Option (ℕ × NodePtr (Entry A B))) (nodes : List (Node A B)) → times slot (slots_of nodes) ≡ 0 → AreMapped slots nodes → AreMapped (set slots slot place) nodes
+  AreMapped-set : (slots : Slots A B) (slot : ℕ) (place : Option (ℕ × NodePtr (Entry A B))) (nodes : List (Node A B)) → times slot (slots_of nodes) ≡ 0 → AreMapped slots nodes
+      → AreMapped (set slots slot place) nodes
   AreMapped-set slots slot place [] off mapped = tt
   AreMapped-set slots slot place (n ∷ ns) off mapped =
-      let apart = apart_from_times slot n.entry.slot (slots_of ns) off in
-      (slice_get-set_other slots slot n.entry.slot place (λ same. apart (sym same)) ∙ mapped.0, AreMapped-set slots slot place ns (omega (arith, times-cons_le slot n.entry.slot (slots_of ns))) mapped.1)
+      let apart = apart_from_times slot n.entry.slot (slots_of ns) off in (
+        slice_get-set_other slots slot n.entry.slot place (λ same. apart (sym same))
+            ∙ mapped.0,
+        AreMapped-set slots slot place ns (omega (arith, times-cons_le slot n.entry.slot (slots_of ns))) mapped.1,
+      )
 
   AreMapped-longer : (slots more : Slots A B) (nodes : List (Node A B)) → AreMapped slots nodes → AreMapped (slots ++ more) nodes
   AreMapped-longer slots more [] mapped = tt
@@ -137,7 +142,8 @@ module _ {A B : Type 0} where
       let later = AreSpare-cut slots xs ys spare.1 in
       ((spare.0, later.0), later.1)
 
-  AreSpare-set : (slots : Slots A B) (slot : ℕ) (place : Option (ℕ × NodePtr (Entry A B))) (spares : List (Spare A B)) → times slot (spare_slots spares) ≡ 0 → AreSpare slots spares → AreSpare (set slots slot place) spares
+  AreSpare-set : (slots : Slots A B) (slot : ℕ) (place : Option (ℕ × NodePtr (Entry A B))) (spares : List (Spare A B)) → times slot (spare_slots spares) ≡ 0 → AreSpare slots spares
+      → AreSpare (set slots slot place) spares
   AreSpare-set slots slot place [] off spare = tt
   AreSpare-set slots slot place (s ∷ ss) off spare =
       let apart = apart_from_times slot s.entry.slot (spare_slots ss) off in
@@ -215,7 +221,8 @@ module _ {A B : Type 0} where
         leads_past past = let none : None ≡ Some place = rw past at leads in absurd (cc)
 
   -- ---- what stands in the slot of a linked node
-  pub leads_to : (slots : Slots A B) (front rest : List (Node A B)) (node : Node A B) (key : Key) → node.entry.slot ≡ key.slot → AreMapped slots (front ++ node ∷ rest) → node_at slots key ≡ cond (eqb node.entry.serial key.serial) (Some (record { ptr = node.at })) None
+  pub leads_to : (slots : Slots A B) (front rest : List (Node A B)) (node : Node A B) (key : Key) → node.entry.slot ≡ key.slot → AreMapped slots (front ++ node ∷ rest)
+      → node_at slots key ≡ cond (eqb node.entry.serial key.serial) (Some (record { ptr = node.at })) None
   leads_to slots front rest node key same mapped =
       let here = (AreMapped-cut slots front (node ∷ rest) mapped).1.0 in
       let there : slice_get slots key.slot ≡ Some (Some (node.entry.serial, record { ptr = node.at })) = rw (← same) here in
@@ -242,7 +249,9 @@ module _ {A B : Type 0} where
 
   -- ---- what the steps keep
   -- a spare node is linked in at the end, and its place goes into its slot
-  pub IsTable-linked : (slots : Slots A B) (nodes : List (Node A B)) (spares : List (Spare A B)) (spare : Spare A B) (node : Node A B) → node.at ≡ spare.at → node.entry.slot ≡ spare.entry.slot → IsTable slots nodes (spares ++ spare ∷ []) → IsTable (set slots spare.entry.slot (Some (node.entry.serial, record { ptr = spare.at }))) (nodes ++ node ∷ []) spares
+  pub IsTable-linked : (slots : Slots A B) (nodes : List (Node A B)) (spares : List (Spare A B)) (spare : Spare A B) (node : Node A B) → node.at ≡ spare.at
+      → node.entry.slot ≡ spare.entry.slot → IsTable slots nodes (spares ++ spare ∷ [])
+      → IsTable (set slots spare.entry.slot (Some (node.entry.serial, record { ptr = spare.at }))) (nodes ++ node ∷ []) spares
   IsTable-linked slots nodes spares spare node same_place same_slot table =
       let slot = spare.entry.slot in
       let place : Option (ℕ × NodePtr (Entry A B)) = Some (node.entry.serial, record { ptr = spare.at }) in
@@ -264,7 +273,8 @@ module _ {A B : Type 0} where
       }
 
   -- a node becomes spare, and its slot leads nowhere
-  pub IsTable-returned : (slots : Slots A B) (front rest : List (Node A B)) (node : Node A B) (spares : List (Spare A B)) (spare : Spare A B) (slot : ℕ) → node.entry.slot ≡ slot → spare.nodes ≡ [] → spare.entry ≡ spare_entry slot → IsTable slots (front ++ node ∷ rest) spares → IsTable (set slots slot None) (front ++ rest) (spares ++ spare ∷ [])
+  pub IsTable-returned : (slots : Slots A B) (front rest : List (Node A B)) (node : Node A B) (spares : List (Spare A B)) (spare : Spare A B) (slot : ℕ) → node.entry.slot ≡ slot
+      → spare.nodes ≡ [] → spare.entry ≡ spare_entry slot → IsTable slots (front ++ node ∷ rest) spares → IsTable (set slots slot None) (front ++ rest) (spares ++ spare ∷ [])
   IsTable-returned slots front rest node spares spare slot at alone is table =
       let its_slot : spare.entry.slot ≡ slot = ap (λ (entry : Entry A B). entry.slot) is in
       let its_value : spare.entry.held ≡ Nothing = ap (λ (entry : Entry A B). entry.held) is in
@@ -283,12 +293,21 @@ module _ {A B : Type 0} where
         are_spare = AreSpare-append (set slots slot None) spares (spare ∷ []) (AreSpare-set slots slot None spares off_spares table.are_spare) ((alone, its_value, here), tt);
         counted = λ other.
             let as_often = ap (λ (s : ℕ). times other (s ∷ [])) (at ∙ sym its_slot) in
-            rw (length-set slots slot None) (omega (arith, table.counted other, times-slots_of-append other front (node ∷ rest), times-slots_of-append other front rest, times-spare_slots other spares (spare ∷ []), as_often));
+            rw (length-set slots slot None)
+            (omega (
+              arith,
+              table.counted other,
+              times-slots_of-append other front (node ∷ rest),
+              times-slots_of-append other front rest,
+              times-spare_slots other spares (spare ∷ []),
+              as_often,
+            ));
         total = rw (length-set slots slot None) (omega (arith, table.total, length-append front (node ∷ rest), length-append front rest, length-append spares (spare ∷ [])));
       }
 
   -- a linked node carries something else
-  pub IsTable-changed : (slots : Slots A B) (front rest : List (Node A B)) (node other : Node A B) (spares : List (Spare A B)) → other.at ≡ node.at → key_of other.entry ≡ key_of node.entry → IsTable slots (front ++ node ∷ rest) spares → IsTable slots (front ++ other ∷ rest) spares
+  pub IsTable-changed : (slots : Slots A B) (front rest : List (Node A B)) (node other : Node A B) (spares : List (Spare A B)) → other.at ≡ node.at
+      → key_of other.entry ≡ key_of node.entry → IsTable slots (front ++ node ∷ rest) spares → IsTable slots (front ++ other ∷ rest) spares
   IsTable-changed slots front rest node other spares same_place same_key table =
       let same_slot : other.entry.slot ≡ node.entry.slot = ap (λ (k : Key). k.slot) same_key in
       let same_serial : other.entry.serial ≡ node.entry.serial = ap (λ (k : Key). k.serial) same_key in
@@ -305,7 +324,8 @@ module _ {A B : Type 0} where
       }
 
   -- one more slot at the end, with a spare node
-  pub IsTable-grown : (slots : Slots A B) (nodes : List (Node A B)) (spares : List (Spare A B)) (spare : Spare A B) → spare.nodes ≡ [] → spare.entry ≡ spare_entry (length slots) → IsTable slots nodes spares → IsTable (slots ++ None ∷ []) nodes (spares ++ spare ∷ [])
+  pub IsTable-grown : (slots : Slots A B) (nodes : List (Node A B)) (spares : List (Spare A B)) (spare : Spare A B) → spare.nodes ≡ [] → spare.entry ≡ spare_entry (length slots)
+      → IsTable slots nodes spares → IsTable (slots ++ None ∷ []) nodes (spares ++ spare ∷ [])
   IsTable-grown slots nodes spares spare alone is table =
       let its_slot : spare.entry.slot ≡ length slots = ap (λ (entry : Entry A B). entry.slot) is in
       let its_value : spare.entry.held ≡ Nothing = ap (λ (entry : Entry A B). entry.held) is in

@@ -44,8 +44,8 @@ module _ (X : RattleType) {M : Type 1} {𝓤 : Ura M} (𝓛 : Logic 𝓤) (b o :
   abbrev Joins : SProp 𝓤
   Joins = wand 𝓤 (rooms_at 𝓤 H fields 0 b o) (H.room (ty_struct ν fields) b o)
 
-  rejoins : ent 𝓤 Joins (sem 𝓛 (rest_of_block R p))
-  rejoins =
+  rest_from_joins : ent 𝓤 Joins (sem 𝓛 (rest_of_block R p))
+  rest_from_joins =
       qed 𝓛 (raw Joins ∷ []) ∵ assume ! (‵ Cells) $ fsplit ! $ fsplit ! $ move ! (2 ∷ []) $ as_written ! (layout X) b (o + entry_offset R) $ nothing ! $ move ! (2 ∷ 3 ∷ 1 ∷ 0 ∷ []) $ group ! 4 $
       use2 𝓛 (‵ (froom (ty_struct ν fields) b o)) (apply∗ 𝓤 (rooms_at 𝓤 H fields 0 b o) (H.room (ty_struct ν fields) b o)) $ by ! (𝓛.laws.room-raw (ty_struct ν fields) b o)
 
@@ -54,7 +54,7 @@ module _ (X : RattleType) {M : Type 1} {𝓤 : Ura M} (𝓛 : Logic 𝓤) (b o :
       qed 𝓛 (‵ (froom (node_type R) b o) ∷ []) ∵ as_written ! (ty_struct ν fields) b o $
       use1 𝓛 ((‵ (froom ty_ptr b (o + 0)) ⊛ ‵ (froom ty_ptr b (o + 8)) ⊛ ‵ (froom (layout X) b (o + entry_offset R)) ⊛ ‵ ftrue) ⊛ raw Joins)
       (𝓛.laws.room_fields ν fields b o) $ split ! $ split3 ! $ move ! (2 ∷ []) $ split ! $ as_raw ! (layout X) b (o + entry_offset R) $ move ! (1 ∷ []) $ drop ! $
-      move ! (1 ∷ 2 ∷ []) $ fjoin ! $ fjoin ! $ move ! (1 ∷ []) $ use1 𝓛 (‵ (rest_of_block R p)) rejoins $ move ! (1 ∷ []) $ done !
+      move ! (1 ∷ 2 ∷ []) $ fjoin ! $ fjoin ! $ move ! (1 ∷ []) $ use1 𝓛 (‵ (rest_of_block R p)) rest_from_joins $ move ! (1 ∷ []) $ done !
 
   pub block_glue : ent 𝓤 (sep 𝓤 (sem 𝓛 Cells) (sem 𝓛 (rest_of_block R p))) (H.room (node_type R) b o)
   block_glue = apply∗ 𝓤 (sem 𝓛 Cells) (H.room (node_type R) b o)

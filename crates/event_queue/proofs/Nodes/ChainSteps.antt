@@ -1,31 +1,36 @@
 -- What each step of a chain finds, and the chain that it leaves.
-use Rattle.std.proofs.Common.{◌≡◌, ◌≢◌, ◌↔◌, ℕ, ◌+◌, ◌-◌, ◌<◌, ◌≤◌, Bool, true, false, cond, eqb, List, [], ◌∷◌, ◌++◌, length, set, Option, Some, None, IsSome, IsTrue, All, refl, sym, ap, ap₂, ◌∙◌, subst, inl, inr, arith, true≢false, append-nil, append_assoc, length-append}
+use Rattle.std.proofs.Common.{◌≡◌, ◌≢◌, ◌↔◌, ℕ, ◌+◌, ◌-◌, ◌<◌, ◌≤◌, Bool, true, false, cond, eqb, List, [], ◌∷◌, ◌++◌, length, set, Option, Some, None, IsSome, IsTrue, All, refl}
+use Rattle.std.proofs.Common.{sym, ap, ap₂, ◌∙◌, subst, inl, inr, arith, true≢false, append-nil, append_assoc, length-append}
 use Rattle.std.specs.Map.{lookup, remove_entry, set_value}
 use Rattle.std.proofs.lemmas.Bool.{eqb-true, eq-eqb, ne_eqb, cases_lt}
 use denote.RawPtr.{Ptr}
 use Rattle.event_queue.specs.declared.key.Key.{Key}
 use Rattle.event_queue.specs.declared.node.ring.pointers.NodePtr.{NodePtr}
-use Rattle.event_queue.specs.declared.node.line.Held.{Held}
-use Rattle.event_queue.specs.declared.node.line.Held.TheVariants.{Before, After, Nothing}
-use Rattle.event_queue.specs.declared.node.line.Entry.{Entry}
-use Rattle.event_queue.specs.declared.node.line.Line.{Line}
+use Rattle.event_queue.specs.declared.node.entries.Held.{Held}
+use Rattle.event_queue.specs.declared.node.entries.Held.TheVariants.{Before, After, Nothing}
+use Rattle.event_queue.specs.declared.node.entries.Entry.{Entry}
+use Rattle.event_queue.specs.declared.node.entries.Entries.{Entries}
 use Rattle.event_queue.specs.Key.{is_key}
 use Rattle.event_queue.specs.Ring.{first_place, IsAt, AtNode}
-use Rattle.event_queue.specs.Nodes.{Node, Spare, Slots, times, slots_of, nodes_of, node_at, key_of, spare_entry, value_before, value_after, AreBefore, AreAfter, AreMapped, GrowsTo, HasCursor, IsLined, IsTable, IsSound}
-use Rattle.event_queue.proofs.NodeTable.{times_same, apart_from_times, times-slots_of-append, cut_at, once, within, linked_slot, leads_to, not_linked, spare_within, last_is_spare, IsTable-linked, IsTable-returned, IsTable-changed}
-use Rattle.event_queue.proofs.NodeLists.{some_value, entries, entries-append, entries_some, entries_none, entries_skip, all_other, lookup_absent, lookup_cut, remove_cut, set_cut, is_before, is_after, none_before, none_after, AreBefore-append, AreBefore-cut, AreAfter-append, AreAfter-cut, length-before, length-after}
+use Rattle.event_queue.specs.Nodes.{Node, Spare, Slots, times, slots_of, nodes_of, node_at, key_of, spare_entry, value_before, value_after, AreBefore, AreAfter, AreMapped, GrowsTo}
+use Rattle.event_queue.specs.Nodes.{HasCursor, IsStarted, IsTable, IsSound}
+use Rattle.event_queue.proofs.Nodes.Slots.{times_same, apart_from_times, times-slots_of-append, cut_at, once, within, linked_slot, leads_to, not_linked, spare_within}
+use Rattle.event_queue.proofs.Nodes.Slots.{last_is_spare, IsTable-linked, IsTable-returned, IsTable-changed}
+use Rattle.event_queue.proofs.Nodes.Lookups.{some_value, entries_by, entries_by-append, entries_some, entries_none, entries_skip, all_other, lookup_absent, lookup_cut, remove_cut}
+use Rattle.event_queue.proofs.Nodes.Lookups.{set_cut, is_before, is_after, none_before, none_after, AreBefore-append, AreBefore-cut, AreAfter-append, AreAfter-cut, length-before}
+use Rattle.event_queue.proofs.Nodes.Lookups.{length-after}
 
 -- ---- how many there are
-module _ {A B : Type 0} (line : Option (Line A B)) (slots : Slots A B) (spares : List (Spare A B)) (before_len after_len : ℕ) (sound : IsSound line slots spares before_len after_len) where
-  pub length-before_of : length (entries value_before (nodes_of line)) ≡ before_len
+module _ {A B : Type 0} (entries : Option (Entries A B)) (slots : Slots A B) (spares : List (Spare A B)) (before_len after_len : ℕ) (sound : IsSound entries slots spares before_len after_len) where
+  pub length-before_of : length (entries_by value_before (nodes_of entries)) ≡ before_len
   length-before_of =
-      ap (λ nodes. length (entries value_before nodes)) sound.in_order
+      ap (λ nodes. length (entries_by value_before nodes)) sound.in_order
       ∙ length-before sound.before sound.after sound.are_before sound.are_after
       ∙ sym sound.before_len_is
 
-  pub length-after_of : length (entries value_after (nodes_of line)) ≡ after_len
+  pub length-after_of : length (entries_by value_after (nodes_of entries)) ≡ after_len
   length-after_of =
-      ap (λ nodes. length (entries value_after nodes)) sound.in_order
+      ap (λ nodes. length (entries_by value_after nodes)) sound.in_order
       ∙ length-after sound.before sound.after sound.are_before sound.are_after
       ∙ sym sound.after_len_is
 
@@ -36,7 +41,8 @@ module _ {A B : Type 0} (line : Option (Line A B)) (slots : Slots A B) (spares :
 
 module _ {A B : Type 0} where
   -- ---- on which side of the cursor a node is
-  pub split_before : (before after front rest : List (Node A B)) (node : Node A B) → before ++ after ≡ front ++ node ∷ rest → AreAfter after → (value : A) → value_before node.entry.held ≡ Some value → (more : List (Node A B)) × (before ≡ front ++ node ∷ more) × (rest ≡ more ++ after)
+  pub split_before : (before after front rest : List (Node A B)) (node : Node A B) → before ++ after ≡ front ++ node ∷ rest → AreAfter after → (value : A)
+      → value_before node.entry.held ≡ Some value → (more : List (Node A B)) × (before ≡ front ++ node ∷ more) × (rest ≡ more ++ after)
   split_before [] after front rest node is are_after value held =
       let here = (AreAfter-cut front (node ∷ rest) (subst AreAfter is are_after)).1.0 in
       absurd (neither (is_before node.entry.held value held) here)
@@ -53,7 +59,8 @@ module _ {A B : Type 0} where
       let later = split_before bs after fs rest node others are_after value held in
       (later.0, ap₂ (λ n ns. n ∷ ns) same later.1, later.2)
 
-  pub split_after : (before after front rest : List (Node A B)) (node : Node A B) → before ++ after ≡ front ++ node ∷ rest → AreBefore before → (value : B) → value_after node.entry.held ≡ Some value → (more : List (Node A B)) × (after ≡ more ++ node ∷ rest) × (front ≡ before ++ more)
+  pub split_after : (before after front rest : List (Node A B)) (node : Node A B) → before ++ after ≡ front ++ node ∷ rest → AreBefore before → (value : B)
+      → value_after node.entry.held ≡ Some value → (more : List (Node A B)) × (after ≡ more ++ node ∷ rest) × (front ≡ before ++ more)
   split_after [] after front rest node is are_before value held = (front, is, refl)
   split_after (b ∷ bs) after [] rest node is are_before value held =
       let same : b ≡ node = cc in
@@ -83,7 +90,8 @@ module _ {A B : Type 0} where
   table_of : (slots : Slots A B) (nodes nodes' : List (Node A B)) (spares : List (Spare A B)) → nodes ≡ nodes' → IsTable slots nodes spares → IsTable slots nodes' spares
   table_of slots nodes nodes' spares same table = subst (λ (ns : List (Node A B)). IsTable slots ns spares) same table
 
-  lies_in : (slots : Slots A B) (nodes : List (Node A B)) (spares : List (Spare A B)) (key : Key) (at : NodePtr (Entry A B)) → IsTable slots nodes spares → node_at slots key ≡ Some at → Lies nodes key at.ptr
+  lies_in : (slots : Slots A B) (nodes : List (Node A B)) (spares : List (Spare A B)) (key : Key) (at : NodePtr (Entry A B)) → IsTable slots nodes spares
+      → node_at slots key ≡ Some at → Lies nodes key at.ptr
   lies_in slots nodes spares key at table leads =
       let slot = key.slot in
       let cut = cut_at slot nodes (linked_slot slots nodes spares table key at leads) in
@@ -110,22 +118,22 @@ module _ {A B : Type 0} where
           (refl, ap (λ (q : NodePtr (Entry A B)). q.ptr) same)
       found_there false p at found = absurd (cc)
 
-  module _ (line : Line A B) (slots : Slots A B) (spares : List (Spare A B)) (before_len after_len : ℕ) (sound : IsSound (Some line) slots spares before_len after_len) where
-    pub table_is : IsTable slots line.ring.nodes spares
+  module _ (entries : Entries A B) (slots : Slots A B) (spares : List (Spare A B)) (before_len after_len : ℕ) (sound : IsSound (Some entries) slots spares before_len after_len) where
+    pub table_is : IsTable slots entries.ring.nodes spares
     table_is =
-        table_of slots (sound.before ++ sound.after) line.ring.nodes spares (sym sound.in_order) sound.table
+        table_of slots (sound.before ++ sound.after) entries.ring.nodes spares (sym sound.in_order) sound.table
 
     module _ (key : Key) (at : NodePtr (Entry A B)) (leads : node_at slots key ≡ Some at) where
-      pub lies : Lies line.ring.nodes key at.ptr
-      lies = lies_in slots line.ring.nodes spares key at table_is leads
+      pub lies : Lies entries.ring.nodes key at.ptr
+      lies = lies_in slots entries.ring.nodes spares key at table_is leads
 
-      pub stands_at : IsAt line.ring.nodes at.ptr
+      pub stands_at : IsAt entries.ring.nodes at.ptr
       stands_at = (lies.front, lies.node, lies.rest, lies.is, lies.place)
 
       pub slot_within : key.slot < length slots
       slot_within =
-          let some = linked_slot slots line.ring.nodes spares table_is key at leads in
-          within slots line.ring.nodes spares table_is key.slot (omega arith)
+          let some = linked_slot slots entries.ring.nodes spares table_is key at leads in
+          within slots entries.ring.nodes spares table_is key.slot (omega arith)
 
       pub spare_room : length spares < length slots
       spare_room =
@@ -133,24 +141,24 @@ module _ {A B : Type 0} where
 
       module _ {X : Type 0} (value : Held A B → Option X) where
         -- what a key finds
-        pub looked : lookup (is_key key) (entries value line.ring.nodes) ≡ value lies.node.entry.held
+        pub looked : lookup (is_key key) (entries_by value entries.ring.nodes) ≡ value lies.node.entry.held
         looked =
-            ap (λ nodes. lookup (is_key key) (entries value nodes)) lies.is
+            ap (λ nodes. lookup (is_key key) (entries_by value nodes)) lies.is
             ∙ lookup_cut value key lies.front lies.rest lies.node lies.off_front lies.off_rest lies.slot_is
             ∙ ap (λ b. cond b (value lies.node.entry.held) None) (eq-eqb key.serial lies.node.entry.serial (sym lies.serial_is))
 
         -- a test of the node at the place
         abbrev pub Tests : Bool → Type 0
         Tests result =
-            AtNode line.ring.nodes at.ptr (λ _ n _. IsTrue result ↔ IsSome (value n.entry.held))
+            AtNode entries.ring.nodes at.ptr (λ _ n _. IsTrue result ↔ IsSome (value n.entry.held))
 
-        pub tests_lookup : (result : Bool) → Tests result → IsTrue result ↔ IsSome (lookup (is_key key) (entries value line.ring.nodes))
+        pub tests_lookup : (result : Bool) → Tests result → IsTrue result ↔ IsSome (lookup (is_key key) (entries_by value entries.ring.nodes))
         tests_lookup result tests =
             rw looked (tests lies.front lies.node lies.rest lies.is lies.place)
 
-        pub misses : (result : Bool) → Tests result → result ≡ false → lookup (is_key key) (entries value line.ring.nodes) ≡ None
+        pub misses : (result : Bool) → Tests result → result ≡ false → lookup (is_key key) (entries_by value entries.ring.nodes) ≡ None
         misses result tests fails =
-            none_value (lookup (is_key key) (entries value line.ring.nodes)) result (tests_lookup result tests).1 fails
+            none_value (lookup (is_key key) (entries_by value entries.ring.nodes)) result (tests_lookup result tests).1 fails
           where
             none_value : (o : Option X) (test : Bool) → (IsSome o → IsTrue test) → test ≡ false → o ≡ None
             none_value None test passes fails = refl
@@ -162,11 +170,13 @@ module _ {A B : Type 0} where
     pub key_is : key_of lies.node.entry ≡ key
     pub x : X
     pub held : value lies.node.entry.held ≡ Some x
-    pub looked : lookup (is_key key) (entries value nodes) ≡ Some x
+    pub looked : lookup (is_key key) (entries_by value nodes) ≡ Some x
 
-  pub finds : (line : Line A B) (slots : Slots A B) (spares : List (Spare A B)) (before_len after_len : ℕ) (sound : IsSound (Some line) slots spares before_len after_len) (key : Key) (at : NodePtr (Entry A B)) (leads : node_at slots key ≡ Some at) {X : Type 0} (value : Held A B → Option X) (result : Bool) → Tests line slots spares before_len after_len sound key at leads value result → result ≡ true → Finds value line.ring.nodes key at.ptr
-  finds line slots spares before_len after_len sound key at leads {X} value result tests passes =
-      let lies = lies line slots spares before_len after_len sound key at leads in
+  pub finds : (entries : Entries A B) (slots : Slots A B) (spares : List (Spare A B)) (before_len after_len : ℕ) (sound : IsSound (Some entries) slots spares before_len after_len)
+      (key : Key) (at : NodePtr (Entry A B)) (leads : node_at slots key ≡ Some at) {X : Type 0} (value : Held A B → Option X) (result : Bool)
+      → Tests entries slots spares before_len after_len sound key at leads value result → result ≡ true → Finds value entries.ring.nodes key at.ptr
+  finds entries slots spares before_len after_len sound key at leads {X} value result tests passes =
+      let lies = lies entries slots spares before_len after_len sound key at leads in
       let some = (tests lies.front lies.node lies.rest lies.is lies.place).0 passes in
       let held = some_value (value lies.node.entry.held) some in
       record {
@@ -174,15 +184,17 @@ module _ {A B : Type 0} where
         key_is = ap₂ {C = Key} (λ a b. record { slot = a; serial = b }) lies.slot_is lies.serial_is;
         x = held.0;
         held = held.1;
-        looked = looked line slots spares before_len after_len sound key at leads value ∙ held.1;
+        looked = looked entries slots spares before_len after_len sound key at leads value ∙ held.1;
       }
 
   -- a key that leads nowhere
-  pub leads_nowhere : (line : Option (Line A B)) (slots : Slots A B) (spares : List (Spare A B)) (before_len after_len : ℕ) (sound : IsSound line slots spares before_len after_len) (key : Key) → node_at slots key ≡ None → {X : Type 0} (value : Held A B → Option X) → lookup (is_key key) (entries value (nodes_of line)) ≡ None
-  leads_nowhere line slots spares before_len after_len sound key nowhere value =
-      elim (cases_lt 0 (times key.slot (slots_of (nodes_of line)))) [
+  pub leads_nowhere : (entries : Option (Entries A B)) (slots : Slots A B) (spares : List (Spare A B)) (before_len after_len : ℕ)
+      (sound : IsSound entries slots spares before_len after_len) (key : Key) → node_at slots key ≡ None → {X : Type 0} (value : Held A B → Option X)
+      → lookup (is_key key) (entries_by value (nodes_of entries)) ≡ None
+  leads_nowhere entries slots spares before_len after_len sound key nowhere value =
+      elim (cases_lt 0 (times key.slot (slots_of (nodes_of entries)))) [
         | inl some ↦
-            let cut = cut_at key.slot (nodes_of line) some in
+            let cut = cut_at key.slot (nodes_of entries) some in
             let table = table_of slots (sound.before ++ sound.after) (cut.front ++ cut.node ∷ cut.rest) spares (sym sound.in_order ∙ cut.is) sound.table in
             let there = leads_to slots cut.front cut.rest cut.node key cut.at table.mapped in
             let fails = nothing_there (eqb cut.node.entry.serial key.serial) (record { ptr = cut.node.at }) (sym there ∙ nowhere) in
@@ -190,10 +202,10 @@ module _ {A B : Type 0} where
             let split = times-slots_of-append key.slot cut.front (cut.node ∷ cut.rest) in
             let one = times_same key.slot cut.node.entry.slot (slots_of cut.rest) (sym cut.at) in
             let most = once slots (cut.front ++ cut.node ∷ cut.rest) spares table key.slot in
-            ap (λ nodes. lookup (is_key key) (entries value nodes)) cut.is
+            ap (λ nodes. lookup (is_key key) (entries_by value nodes)) cut.is
             ∙ lookup_cut value key cut.front cut.rest cut.node (omega (arith, split, one, most)) (omega (arith, split, one, most)) cut.at
             ∙ ap (λ b. cond b (value cut.node.entry.held) None) other
-        | inr none ↦ lookup_absent value key (nodes_of line) (omega arith)
+        | inr none ↦ lookup_absent value key (nodes_of entries) (omega arith)
       ]
     where
       nothing_there : (b : Bool) (p : NodePtr (Entry A B)) → ◌≡◌ {A = Option (NodePtr (Entry A B))} (cond b (Some p) None) None → b ≡ false
@@ -201,7 +213,8 @@ module _ {A B : Type 0} where
       nothing_there false p nothing = refl
 
   -- ---- an entry before the cursor leaves
-  module _ (line : Line A B) (slots : Slots A B) (spares : List (Spare A B)) (before_len after_len : ℕ) (sound : IsSound (Some line) slots spares before_len after_len) (key : Key) (at : Ptr) (finds : Finds value_before line.ring.nodes key at) where
+  module _ (entries : Entries A B) (slots : Slots A B) (spares : List (Spare A B)) (before_len after_len : ℕ) (sound : IsSound (Some entries) slots spares before_len after_len)
+      (key : Key) (at : Ptr) (finds : Finds value_before entries.ring.nodes key at) where
     split_found_before : (more : List (Node A B)) × (sound.before ≡ finds.lies.front ++ finds.lies.node ∷ more) × (finds.lies.rest ≡ more ++ sound.after)
     split_found_before =
         split_before sound.before sound.after finds.lies.front finds.lies.rest finds.lies.node (sym sound.in_order ∙ finds.lies.is) sound.are_after finds.x finds.held
@@ -211,7 +224,9 @@ module _ {A B : Type 0} where
         let split = split_found_before in
         omega (arith, sound.before_len_is, ap length split.1, length-append finds.lies.front (finds.lies.node ∷ split.0))
 
-    pub IsSound-without_before : (later : Line A B) (spare : Spare A B) → later.ring.nodes ≡ finds.lies.front ++ finds.lies.rest → later.ring.at ≡ line.ring.at → later.cursor ≡ line.cursor → spare.nodes ≡ [] → spare.entry ≡ spare_entry finds.lies.node.entry.slot → IsSound (Some later) (set slots key.slot None) (spares ++ spare ∷ []) (before_len - 1) after_len
+    pub IsSound-without_before : (later : Entries A B) (spare : Spare A B) → later.ring.nodes ≡ finds.lies.front ++ finds.lies.rest → later.ring.at ≡ entries.ring.at
+        → later.cursor ≡ entries.cursor → spare.nodes ≡ [] → spare.entry ≡ spare_entry finds.lies.node.entry.slot
+        → IsSound (Some later) (set slots key.slot None) (spares ++ spare ∷ []) (before_len - 1) after_len
     IsSound-without_before later spare nodes root cursor alone is =
         let lies = finds.lies in
         let split = split_found_before in
@@ -232,39 +247,41 @@ module _ {A B : Type 0} where
           cursor = ap (λ (c : NodePtr (Entry A B)). c.ptr) cursor ∙ sound.cursor ∙ ap (λ (p : Ptr). first_place sound.after p) (sym root);
         }
 
-    pub before_removed : (later : List (Node A B)) → later ≡ finds.lies.front ++ finds.lies.rest → entries value_before later ≡ remove_entry (is_key key) (entries value_before line.ring.nodes)
+    pub before_removed : (later : List (Node A B)) → later ≡ finds.lies.front ++ finds.lies.rest
+        → entries_by value_before later ≡ remove_entry (is_key key) (entries_by value_before entries.ring.nodes)
     before_removed later nodes =
-        ap (λ ns. entries value_before ns) nodes
+        ap (λ ns. entries_by value_before ns) nodes
         ∙ sym (remove_cut value_before key finds.lies.front finds.lies.rest finds.lies.node finds.x finds.lies.off_front finds.key_is finds.held)
-        ∙ ap (λ ns. remove_entry (is_key key) (entries value_before ns)) (sym finds.lies.is)
+        ∙ ap (λ ns. remove_entry (is_key key) (entries_by value_before ns)) (sym finds.lies.is)
 
-    pub after_kept : (later : List (Node A B)) → later ≡ finds.lies.front ++ finds.lies.rest → entries value_after later ≡ entries value_after line.ring.nodes
+    pub after_kept : (later : List (Node A B)) → later ≡ finds.lies.front ++ finds.lies.rest → entries_by value_after later ≡ entries_by value_after entries.ring.nodes
     after_kept later nodes =
         let none : value_after finds.lies.node.entry.held ≡ None = rw (is_before finds.lies.node.entry.held finds.x finds.held) refl in
-        ap (λ ns. entries value_after ns) nodes
+        ap (λ ns. entries_by value_after ns) nodes
         ∙ sym (entries_skip value_after finds.lies.front finds.lies.rest finds.lies.node none)
-        ∙ ap (λ ns. entries value_after ns) (sym finds.lies.is)
+        ∙ ap (λ ns. entries_by value_after ns) (sym finds.lies.is)
 
   -- ---- the cursor, where an entry is after it
-  pub record Cursor (line : Line A B) (before after : List (Node A B)) : Type 0 where
+  pub record Cursor (entries : Entries A B) (before after : List (Node A B)) : Type 0 where
     pub first : Node A B
     pub others : List (Node A B)
     pub after_is : after ≡ first ∷ others
-    pub is : line.ring.nodes ≡ before ++ first ∷ others
-    pub place : first.at ≡ line.cursor.ptr
+    pub is : entries.ring.nodes ≡ before ++ first ∷ others
+    pub place : first.at ≡ entries.cursor.ptr
 
-  cursor_in : (line : Line A B) (before after : List (Node A B)) → line.ring.nodes ≡ before ++ after → line.cursor.ptr ≡ first_place after line.ring.at → 0 < length after → Cursor line before after
-  cursor_in line before [] is at some = absurd (omega arith)
-  cursor_in line before (first ∷ others) is at some =
+  cursor_in : (entries : Entries A B) (before after : List (Node A B)) → entries.ring.nodes ≡ before ++ after → entries.cursor.ptr ≡ first_place after entries.ring.at
+      → 0 < length after → Cursor entries before after
+  cursor_in entries before [] is at some = absurd (omega arith)
+  cursor_in entries before (first ∷ others) is at some =
       record { first = first; others = others; after_is = refl; is = is; place = sym at }
 
-  module _ (line : Line A B) (slots : Slots A B) (spares : List (Spare A B)) (before_len after_len : ℕ) (sound : IsSound (Some line) slots spares before_len after_len) where
-    pub cursor_is : 0 < after_len → Cursor line sound.before sound.after
+  module _ (entries : Entries A B) (slots : Slots A B) (spares : List (Spare A B)) (before_len after_len : ℕ) (sound : IsSound (Some entries) slots spares before_len after_len) where
+    pub cursor_is : 0 < after_len → Cursor entries sound.before sound.after
     cursor_is some =
-        cursor_in line sound.before sound.after sound.in_order sound.cursor (omega (arith, sound.after_len_is))
+        cursor_in entries sound.before sound.after sound.in_order sound.cursor (omega (arith, sound.after_len_is))
 
     -- ---- an entry after the cursor leaves
-    module _ (key : Key) (at : Ptr) (finds : Finds value_after line.ring.nodes key at) where
+    module _ (key : Key) (at : Ptr) (finds : Finds value_after entries.ring.nodes key at) where
       split_found_after : (more : List (Node A B)) × (sound.after ≡ more ++ finds.lies.node ∷ finds.lies.rest) × (finds.lies.front ≡ sound.before ++ more)
       split_found_after =
           split_after sound.before sound.after finds.lies.front finds.lies.rest finds.lies.node (sym sound.in_order ∙ finds.lies.is) sound.are_before finds.x finds.held
@@ -275,7 +292,8 @@ module _ {A B : Type 0} where
           omega (arith, sound.after_len_is, ap length split.1, length-append split.0 (finds.lies.node ∷ finds.lies.rest))
 
       -- the cursor skips the entry
-      skipped : (first node : Node A B) (others more rest : List (Node A B)) (cursor root now : Ptr) → first ∷ others ≡ more ++ node ∷ rest → first.at ≡ cursor → times node.entry.slot (slots_of more) ≡ 0 → now ≡ cond (eqb first.entry.slot node.entry.slot) (first_place rest root) cursor → now ≡ first_place (more ++ rest) root
+      skipped : (first node : Node A B) (others more rest : List (Node A B)) (cursor root now : Ptr) → first ∷ others ≡ more ++ node ∷ rest → first.at ≡ cursor
+          → times node.entry.slot (slots_of more) ≡ 0 → now ≡ cond (eqb first.entry.slot node.entry.slot) (first_place rest root) cursor → now ≡ first_place (more ++ rest) root
       skipped first node others [] rest cursor root now is place off skips =
           let same : first ≡ node = cc in
           let slots_same : first.entry.slot ≡ node.entry.slot = ap (λ (n : Node A B). n.entry.slot) same in
@@ -287,7 +305,10 @@ module _ {A B : Type 0} where
           let other = ne_eqb first.entry.slot node.entry.slot (λ equal. apart (sym equal ∙ slot_of_first)) in
           skips ∙ ap (λ b. cond b (first_place rest root) cursor) other ∙ sym place ∙ ap (λ (n : Node A B). n.at) same
 
-      pub IsSound-without_after : (cursor : Cursor line sound.before sound.after) (later : Line A B) (spare : Spare A B) → later.ring.nodes ≡ finds.lies.front ++ finds.lies.rest → later.ring.at ≡ line.ring.at → later.cursor.ptr ≡ cond (eqb cursor.first.entry.slot finds.lies.node.entry.slot) (first_place finds.lies.rest line.ring.at) line.cursor.ptr → spare.nodes ≡ [] → spare.entry ≡ spare_entry finds.lies.node.entry.slot → IsSound (Some later) (set slots key.slot None) (spares ++ spare ∷ []) before_len (after_len - 1)
+      pub IsSound-without_after : (cursor : Cursor entries sound.before sound.after) (later : Entries A B) (spare : Spare A B)
+          → later.ring.nodes ≡ finds.lies.front ++ finds.lies.rest → later.ring.at ≡ entries.ring.at
+          → later.cursor.ptr ≡ cond (eqb cursor.first.entry.slot finds.lies.node.entry.slot) (first_place finds.lies.rest entries.ring.at) entries.cursor.ptr → spare.nodes ≡ []
+          → spare.entry ≡ spare_entry finds.lies.node.entry.slot → IsSound (Some later) (set slots key.slot None) (spares ++ spare ∷ []) before_len (after_len - 1)
       IsSound-without_after cursor later spare nodes root skips alone is =
           let lies = finds.lies in
           let split = split_found_after in
@@ -308,45 +329,46 @@ module _ {A B : Type 0} where
             before_len_is = sound.before_len_is;
             after_len_is = omega (arith, sound.after_len_is, ap length split.1, length-append split.0 (lies.node ∷ lies.rest), length-append split.0 lies.rest);
             table = table_of (set slots key.slot None) (lies.front ++ lies.rest) (sound.before ++ (split.0 ++ lies.rest)) (spares ++ spare ∷ []) order returned;
-            cursor = skipped cursor.first lies.node cursor.others split.0 lies.rest line.cursor.ptr line.ring.at later.cursor.ptr (sym cursor.after_is ∙ split.1) cursor.place off skips
+            cursor = skipped cursor.first lies.node cursor.others split.0 lies.rest entries.cursor.ptr entries.ring.at later.cursor.ptr (sym cursor.after_is ∙ split.1) cursor.place off skips
                 ∙ ap (λ (p : Ptr). first_place (split.0 ++ lies.rest) p) (sym root);
           }
 
-      pub after_removed : (later : List (Node A B)) → later ≡ finds.lies.front ++ finds.lies.rest → entries value_after later ≡ remove_entry (is_key key) (entries value_after line.ring.nodes)
+      pub after_removed : (later : List (Node A B)) → later ≡ finds.lies.front ++ finds.lies.rest → entries_by value_after later ≡ remove_entry (is_key key) (entries_by value_after entries.ring.nodes)
       after_removed later nodes =
-          ap (λ ns. entries value_after ns) nodes
+          ap (λ ns. entries_by value_after ns) nodes
           ∙ sym (remove_cut value_after key finds.lies.front finds.lies.rest finds.lies.node finds.x finds.lies.off_front finds.key_is finds.held)
-          ∙ ap (λ ns. remove_entry (is_key key) (entries value_after ns)) (sym finds.lies.is)
+          ∙ ap (λ ns. remove_entry (is_key key) (entries_by value_after ns)) (sym finds.lies.is)
 
       no_value_before : value_before finds.lies.node.entry.held ≡ None
       no_value_before = rw (is_after finds.lies.node.entry.held finds.x finds.held) refl
 
-      pub before_kept : (later : List (Node A B)) → later ≡ finds.lies.front ++ finds.lies.rest → entries value_before later ≡ entries value_before line.ring.nodes
+      pub before_kept : (later : List (Node A B)) → later ≡ finds.lies.front ++ finds.lies.rest → entries_by value_before later ≡ entries_by value_before entries.ring.nodes
       before_kept later nodes =
-          ap (λ ns. entries value_before ns) nodes
+          ap (λ ns. entries_by value_before ns) nodes
           ∙ sym (entries_skip value_before finds.lies.front finds.lies.rest finds.lies.node no_value_before)
-          ∙ ap (λ ns. entries value_before ns) (sym finds.lies.is)
+          ∙ ap (λ ns. entries_by value_before ns) (sym finds.lies.is)
 
       -- ---- an entry after the cursor gets another value
-      module _ (later : Line A B) (other : Node A B) (y : B) (nodes : later.ring.nodes ≡ finds.lies.front ++ other ∷ finds.lies.rest) (same_place : other.at ≡ finds.lies.node.at) (same_key : key_of other.entry ≡ key_of finds.lies.node.entry) (held : other.entry.held ≡ After y) where
-        pub after_set : entries value_after later.ring.nodes ≡ set_value (is_key key) (entries value_after line.ring.nodes) y
+      module _ (later : Entries A B) (other : Node A B) (y : B) (nodes : later.ring.nodes ≡ finds.lies.front ++ other ∷ finds.lies.rest)
+          (same_place : other.at ≡ finds.lies.node.at) (same_key : key_of other.entry ≡ key_of finds.lies.node.entry) (held : other.entry.held ≡ After y) where
+        pub after_set : entries_by value_after later.ring.nodes ≡ set_value (is_key key) (entries_by value_after entries.ring.nodes) y
         after_set =
-            ap (λ ns. entries value_after ns) nodes
+            ap (λ ns. entries_by value_after ns) nodes
             ∙ sym (set_cut value_after key finds.lies.front finds.lies.rest finds.lies.node other finds.x y finds.lies.off_front finds.key_is finds.held same_key (ap value_after held))
-            ∙ ap (λ ns. set_value (is_key key) (entries value_after ns) y) (sym finds.lies.is)
+            ∙ ap (λ ns. set_value (is_key key) (entries_by value_after ns) y) (sym finds.lies.is)
 
-        pub before_unset : entries value_before later.ring.nodes ≡ entries value_before line.ring.nodes
+        pub before_unset : entries_by value_before later.ring.nodes ≡ entries_by value_before entries.ring.nodes
         before_unset =
-            ap (λ ns. entries value_before ns) nodes
+            ap (λ ns. entries_by value_before ns) nodes
             ∙ entries_skip value_before finds.lies.front finds.lies.rest other (ap value_before held)
             ∙ sym (entries_skip value_before finds.lies.front finds.lies.rest finds.lies.node no_value_before)
-            ∙ ap (λ ns. entries value_before ns) (sym finds.lies.is)
+            ∙ ap (λ ns. entries_by value_before ns) (sym finds.lies.is)
 
         first_place_set : (more rest : List (Node A B)) (node : Node A B) (root : Ptr) → other.at ≡ node.at → first_place (more ++ node ∷ rest) root ≡ first_place (more ++ other ∷ rest) root
         first_place_set [] rest node root same = sym same
         first_place_set (m ∷ ms) rest node root same = refl
 
-        pub IsSound-set : later.ring.at ≡ line.ring.at → later.cursor ≡ line.cursor → IsSound (Some later) slots spares before_len after_len
+        pub IsSound-set : later.ring.at ≡ entries.ring.at → later.cursor ≡ entries.cursor → IsSound (Some later) slots spares before_len after_len
         IsSound-set root cursor =
             let lies = finds.lies in
             let split = split_found_after in
@@ -367,21 +389,22 @@ module _ {A B : Type 0} where
               table = table_of slots (lies.front ++ other ∷ lies.rest) (sound.before ++ (split.0 ++ other ∷ lies.rest)) spares order changed;
               cursor = ap (λ (c : NodePtr (Entry A B)). c.ptr) cursor
                   ∙ sound.cursor
-                  ∙ ap (λ ns. first_place ns line.ring.at) split.1
-                  ∙ first_place_set split.0 lies.rest lies.node line.ring.at same_place
+                  ∙ ap (λ ns. first_place ns entries.ring.at) split.1
+                  ∙ first_place_set split.0 lies.rest lies.node entries.ring.at same_place
                   ∙ ap (λ (p : Ptr). first_place (split.0 ++ other ∷ lies.rest) p) (sym root);
             }
 
     -- ---- the cursor moves past the first entry after it
-    module _ (cursor : Cursor line sound.before sound.after) where
+    module _ (cursor : Cursor entries sound.before sound.after) where
       pub cursor_after : IsSome (value_after cursor.first.entry.held)
       cursor_after = (subst AreAfter cursor.after_is sound.are_after).0
 
-      module _ (later : Line A B) (other : Node A B) (x : A) (y : B) (nodes : later.ring.nodes ≡ sound.before ++ other ∷ cursor.others) (same_place : other.at ≡ cursor.first.at) (same_key : key_of other.entry ≡ key_of cursor.first.entry) (held : other.entry.held ≡ Before x) (former : cursor.first.entry.held ≡ After y) where
+      module _ (later : Entries A B) (other : Node A B) (x : A) (y : B) (nodes : later.ring.nodes ≡ sound.before ++ other ∷ cursor.others) (same_place : other.at ≡ cursor.first.at)
+          (same_key : key_of other.entry ≡ key_of cursor.first.entry) (held : other.entry.held ≡ Before x) (former : cursor.first.entry.held ≡ After y) where
         are_others : AreAfter cursor.others
         are_others = (subst AreAfter cursor.after_is sound.are_after).1
 
-        pub IsSound-advanced : later.ring.at ≡ line.ring.at → later.cursor.ptr ≡ first_place cursor.others line.ring.at → IsSound (Some later) slots spares (before_len + 1) (after_len - 1)
+        pub IsSound-advanced : later.ring.at ≡ entries.ring.at → later.cursor.ptr ≡ first_place cursor.others entries.ring.at → IsSound (Some later) slots spares (before_len + 1) (after_len - 1)
         IsSound-advanced root moved =
             let order : sound.before ++ other ∷ cursor.others ≡ (sound.before ++ other ∷ []) ++ cursor.others =
             sym (append_assoc sound.before (other ∷ []) cursor.others) in
@@ -400,61 +423,64 @@ module _ {A B : Type 0} where
               cursor = moved ∙ ap (λ (p : Ptr). first_place cursor.others p) (sym root);
             }
 
-        pub after_advanced : entries value_after line.ring.nodes ≡ (key_of cursor.first.entry, y) ∷ entries value_after later.ring.nodes
+        pub after_advanced : entries_by value_after entries.ring.nodes ≡ (key_of cursor.first.entry, y) ∷ entries_by value_after later.ring.nodes
         after_advanced =
             let none = none_after sound.before sound.are_before in
-            let old = ap (λ ns. entries value_after ns) cursor.is
-            ∙ entries-append value_after sound.before (cursor.first ∷ cursor.others)
-            ∙ ap (λ es. es ++ entries value_after (cursor.first ∷ cursor.others)) none
+            let old = ap (λ ns. entries_by value_after ns) cursor.is
+            ∙ entries_by-append value_after sound.before (cursor.first ∷ cursor.others)
+            ∙ ap (λ es. es ++ entries_by value_after (cursor.first ∷ cursor.others)) none
             ∙ entries_some value_after cursor.first cursor.others y (ap value_after former) in
-            let new = ap (λ ns. entries value_after ns) nodes
+            let new = ap (λ ns. entries_by value_after ns) nodes
             ∙ entries_skip value_after sound.before cursor.others other (ap value_after held)
-            ∙ entries-append value_after sound.before cursor.others
-            ∙ ap (λ es. es ++ entries value_after cursor.others) none in
+            ∙ entries_by-append value_after sound.before cursor.others
+            ∙ ap (λ es. es ++ entries_by value_after cursor.others) none in
             old ∙ ap (λ es. (key_of cursor.first.entry, y) ∷ es) (sym new)
 
-        pub before_advanced : entries value_before later.ring.nodes ≡ entries value_before line.ring.nodes ++ (key_of cursor.first.entry, x) ∷ []
+        pub before_advanced : entries_by value_before later.ring.nodes ≡ entries_by value_before entries.ring.nodes ++ (key_of cursor.first.entry, x) ∷ []
         before_advanced =
             let none = none_before cursor.others are_others in
-            let old = ap (λ ns. entries value_before ns) cursor.is
+            let old = ap (λ ns. entries_by value_before ns) cursor.is
             ∙ entries_skip value_before sound.before cursor.others cursor.first (ap value_before former)
-            ∙ entries-append value_before sound.before cursor.others
-            ∙ ap (λ es. entries value_before sound.before ++ es) none
-            ∙ append-nil (entries value_before sound.before) in
-            let new = ap (λ ns. entries value_before ns) nodes
-            ∙ entries-append value_before sound.before (other ∷ cursor.others)
-            ∙ ap (λ es. entries value_before sound.before ++ es) (entries_some value_before other cursor.others x (ap value_before held))
-            ∙ ap (λ es. entries value_before sound.before ++ (key_of other.entry, x) ∷ es) none
-            ∙ ap (λ (k : Key). entries value_before sound.before ++ (k, x) ∷ []) same_key in
+            ∙ entries_by-append value_before sound.before cursor.others
+            ∙ ap (λ es. entries_by value_before sound.before ++ es) none
+            ∙ append-nil (entries_by value_before sound.before) in
+            let new = ap (λ ns. entries_by value_before ns) nodes
+            ∙ entries_by-append value_before sound.before (other ∷ cursor.others)
+            ∙ ap (λ es. entries_by value_before sound.before ++ es) (entries_some value_before other cursor.others x (ap value_before held))
+            ∙ ap (λ es. entries_by value_before sound.before ++ (key_of other.entry, x) ∷ es) none
+            ∙ ap (λ (k : Key). entries_by value_before sound.before ++ (k, x) ∷ []) same_key in
             new ∙ ap (λ es. es ++ (key_of cursor.first.entry, x) ∷ []) (sym old)
 
     -- ---- an entry is pushed
-    module _ (later : Line A B) (node : Node A B) (y : B) (nodes : later.ring.nodes ≡ line.ring.nodes ++ node ∷ []) (held : node.entry.held ≡ After y) where
-      pub after_pushed : entries value_after later.ring.nodes ≡ entries value_after line.ring.nodes ++ (key_of node.entry, y) ∷ []
+    module _ (later : Entries A B) (node : Node A B) (y : B) (nodes : later.ring.nodes ≡ entries.ring.nodes ++ node ∷ []) (held : node.entry.held ≡ After y) where
+      pub after_pushed : entries_by value_after later.ring.nodes ≡ entries_by value_after entries.ring.nodes ++ (key_of node.entry, y) ∷ []
       after_pushed =
-          ap (λ ns. entries value_after ns) nodes
-          ∙ entries-append value_after line.ring.nodes (node ∷ [])
-          ∙ ap (λ es. entries value_after line.ring.nodes ++ es) (entries_some value_after node [] y (ap value_after held))
+          ap (λ ns. entries_by value_after ns) nodes
+          ∙ entries_by-append value_after entries.ring.nodes (node ∷ [])
+          ∙ ap (λ es. entries_by value_after entries.ring.nodes ++ es) (entries_some value_after node [] y (ap value_after held))
 
-      pub before_pushed : entries value_before later.ring.nodes ≡ entries value_before line.ring.nodes
+      pub before_pushed : entries_by value_before later.ring.nodes ≡ entries_by value_before entries.ring.nodes
       before_pushed =
-          ap (λ ns. entries value_before ns) nodes
-          ∙ entries-append value_before line.ring.nodes (node ∷ [])
-          ∙ ap (λ es. entries value_before line.ring.nodes ++ es) (entries_none value_before node [] (ap value_before held))
-          ∙ append-nil (entries value_before line.ring.nodes)
+          ap (λ ns. entries_by value_before ns) nodes
+          ∙ entries_by-append value_before entries.ring.nodes (node ∷ [])
+          ∙ ap (λ es. entries_by value_before entries.ring.nodes ++ es) (entries_none value_before node [] (ap value_before held))
+          ∙ append-nil (entries_by value_before entries.ring.nodes)
 
-      pushed_cursor : (after : List (Node A B)) (root cursor now : Ptr) → cursor ≡ first_place after root → now ≡ cond (eqb (length after) 0) node.at cursor → now ≡ first_place (after ++ node ∷ []) root
+      pushed_cursor : (after : List (Node A B)) (root cursor now : Ptr) → cursor ≡ first_place after root → now ≡ cond (eqb (length after) 0) node.at cursor
+          → now ≡ first_place (after ++ node ∷ []) root
       pushed_cursor [] root cursor now at moved = moved
       pushed_cursor (a ∷ as') root cursor now at moved =
           let some : length (a ∷ as') ≢ 0 = λ none. omega arith in
           moved ∙ ap (λ b. cond b node.at cursor) (ne_eqb (length (a ∷ as')) 0 some) ∙ at
 
-      pub IsSound-pushed : (spare : Spare A B) (others : List (Spare A B)) → spares ≡ others ++ spare ∷ [] → node.at ≡ spare.at → node.entry.slot ≡ spare.entry.slot → later.ring.at ≡ line.ring.at → later.cursor.ptr ≡ cond (eqb after_len 0) node.at line.cursor.ptr → IsSound (Some later) (set slots spare.entry.slot (Some (node.entry.serial, record { ptr = spare.at }))) others before_len (after_len + 1)
+      pub IsSound-pushed : (spare : Spare A B) (others : List (Spare A B)) → spares ≡ others ++ spare ∷ [] → node.at ≡ spare.at → node.entry.slot ≡ spare.entry.slot
+          → later.ring.at ≡ entries.ring.at → later.cursor.ptr ≡ cond (eqb after_len 0) node.at entries.cursor.ptr
+          → IsSound (Some later) (set slots spare.entry.slot (Some (node.entry.serial, record { ptr = spare.at }))) others before_len (after_len + 1)
       IsSound-pushed spare others spares_are same_place same_slot root moved =
-          let order : line.ring.nodes ++ node ∷ [] ≡ sound.before ++ (sound.after ++ node ∷ []) =
+          let order : entries.ring.nodes ++ node ∷ [] ≡ sound.before ++ (sound.after ++ node ∷ []) =
           ap (λ ns. ns ++ node ∷ []) sound.in_order ∙ append_assoc sound.before sound.after (node ∷ []) in
-          let table = subst (λ (ss : List (Spare A B)). IsTable slots line.ring.nodes ss) spares_are (table_is line slots spares before_len after_len sound) in
-          let linked = IsTable-linked slots line.ring.nodes others spare node same_place same_slot table in
+          let table = subst (λ (ss : List (Spare A B)). IsTable slots entries.ring.nodes ss) spares_are (table_is entries slots spares before_len after_len sound) in
+          let linked = IsTable-linked slots entries.ring.nodes others spare node same_place same_slot table in
           let some : IsSome (value_after node.entry.held) = rw held refl in
           record {
             before = sound.before;
@@ -464,13 +490,15 @@ module _ {A B : Type 0} where
             are_after = AreAfter-append sound.after (node ∷ []) sound.are_after (some, tt);
             before_len_is = sound.before_len_is;
             after_len_is = omega (arith, sound.after_len_is, length-append sound.after (node ∷ []));
-            table = table_of (set slots spare.entry.slot (Some (node.entry.serial, record { ptr = spare.at }))) (line.ring.nodes ++ node ∷ []) (sound.before ++ (sound.after ++ node ∷ [])) others order linked;
-            cursor = pushed_cursor sound.after line.ring.at line.cursor.ptr later.cursor.ptr sound.cursor (moved ∙ ap (λ n. cond (eqb n 0) node.at line.cursor.ptr) sound.after_len_is)
+            table = table_of (set slots spare.entry.slot (Some (node.entry.serial, record { ptr = spare.at }))) (entries.ring.nodes ++ node ∷ [])
+                (sound.before ++ (sound.after ++ node ∷ [])) others order linked;
+            cursor = pushed_cursor sound.after entries.ring.at entries.cursor.ptr later.cursor.ptr sound.cursor (moved ∙ ap (λ n. cond (eqb n 0) node.at entries.cursor.ptr) sound.after_len_is)
                 ∙ ap (λ (p : Ptr). first_place (sound.after ++ node ∷ []) p) (sym root);
           }
 
   -- ---- a spare node is taken
-  module _ (line : Option (Line A B)) (slots : Slots A B) (spares others : List (Spare A B)) (spare : Spare A B) (before_len after_len : ℕ) (sound : IsSound line slots spares before_len after_len) (spares_are : spares ≡ others ++ spare ∷ []) where
+  module _ (entries : Option (Entries A B)) (slots : Slots A B) (spares others : List (Spare A B)) (spare : Spare A B) (before_len after_len : ℕ)
+      (sound : IsSound entries slots spares before_len after_len) (spares_are : spares ≡ others ++ spare ∷ []) where
     spare_table : IsTable slots (sound.before ++ sound.after) (others ++ spare ∷ [])
     spare_table =
         subst (λ (ss : List (Spare A B)). IsTable slots (sound.before ++ sound.after) ss) spares_are sound.table
@@ -481,19 +509,22 @@ module _ {A B : Type 0} where
     pub spare_slot_within : spare.entry.slot < length slots
     spare_slot_within = spare_within slots (sound.before ++ sound.after) others spare spare_table
 
-    pub spare_is_free : {X : Type 0} (value : Held A B → Option X) → All (λ entry. entry.0.slot ≢ spare.entry.slot) (entries value (nodes_of line))
+    pub spare_is_free : {X : Type 0} (value : Held A B → Option X) → All (λ entry. entry.0.slot ≢ spare.entry.slot) (entries_by value (nodes_of entries))
     spare_is_free value =
         let off = not_linked slots (sound.before ++ sound.after) others spare spare_table in
-        all_other value spare.entry.slot (nodes_of line) (ap (λ ns. times spare.entry.slot (slots_of ns)) sound.in_order ∙ off)
+        all_other value spare.entry.slot (nodes_of entries) (ap (λ ns. times spare.entry.slot (slots_of ns)) sound.in_order ∙ off)
 
-  -- ---- there is a line where something is spare or linked
-  pub no_line : (slots : Slots A B) (spares : List (Spare A B)) (before_len after_len : ℕ) → IsSound {A = A} {B = B} None slots spares before_len after_len → 0 < before_len + after_len + length spares → ⊥
-  no_line slots spares before_len after_len sound some =
+  -- ---- there is a ring where something is spare or linked
+  pub no_entries : (slots : Slots A B) (spares : List (Spare A B)) (before_len after_len : ℕ) → IsSound {A = A} {B = B} None slots spares before_len after_len
+      → 0 < before_len + after_len + length spares → ⊥
+  no_entries slots spares before_len after_len sound some =
       omega (arith, total_is None slots spares before_len after_len sound, sound.cursor)
 
-  -- ---- the line is made, and the table grows
-  pub IsSound-lined : (old new : Option (Line A B)) (slots slots' : Slots A B) (spares spares' : List (Spare A B)) (before_len after_len : ℕ) → IsSound old slots spares before_len after_len → IsLined old new → nodes_of new ≡ nodes_of old → GrowsTo slots spares slots' spares' → IsSound new slots' spares' before_len after_len
-  IsSound-lined old new slots slots' spares spares' before_len after_len sound lined nodes grows =
+  -- ---- the ring is made, and the table grows
+  pub IsSound-started : (old new : Option (Entries A B)) (slots slots' : Slots A B) (spares spares' : List (Spare A B)) (before_len after_len : ℕ)
+      → IsSound old slots spares before_len after_len → IsStarted old new → nodes_of new ≡ nodes_of old → GrowsTo slots spares slots' spares'
+      → IsSound new slots' spares' before_len after_len
+  IsSound-started old new slots slots' spares spares' before_len after_len sound started nodes grows =
       record {
         before = sound.before;
         after = sound.after;
@@ -503,7 +534,7 @@ module _ {A B : Type 0} where
         before_len_is = sound.before_len_is;
         after_len_is = sound.after_len_is;
         table = grows (sound.before ++ sound.after) sound.table;
-        cursor = lined_cursor old new sound.after lined sound.in_order sound.cursor;
+        cursor = started_cursor old new sound.after started sound.in_order sound.cursor;
       }
     where
       first_of_none : (before after : List (Node A B)) (root : Ptr) → [] ≡ before ++ after → root ≡ first_place after root
@@ -511,9 +542,10 @@ module _ {A B : Type 0} where
       first_of_none [] (n ∷ ns) root none = absurd (cc)
       first_of_none (b ∷ bs) (n ∷ ns) root none = absurd (cc)
 
-      lined_cursor : (old new : Option (Line A B)) (after : List (Node A B)) → IsLined old new → nodes_of old ≡ sound.before ++ after → HasCursor old after (length slots) → HasCursor new after (length slots')
-      lined_cursor None None after lined order at = absurd lined
-      lined_cursor (Some line) None after lined order at = absurd lined
-      lined_cursor None (Some later) after lined order at = lined ∙ first_of_none sound.before after later.ring.at order
-      lined_cursor (Some line) (Some later) after lined order at =
-          ap (λ (l : Line A B). l.cursor.ptr) lined ∙ at ∙ ap (λ (l : Line A B). first_place after l.ring.at) (sym lined)
+      started_cursor : (old new : Option (Entries A B)) (after : List (Node A B)) → IsStarted old new → nodes_of old ≡ sound.before ++ after → HasCursor old after (length slots)
+          → HasCursor new after (length slots')
+      started_cursor None None after started order at = absurd started
+      started_cursor (Some entries) None after started order at = absurd started
+      started_cursor None (Some later) after started order at = started ∙ first_of_none sound.before after later.ring.at order
+      started_cursor (Some entries) (Some later) after started order at =
+          ap (λ (l : Entries A B). l.cursor.ptr) started ∙ at ∙ ap (λ (l : Entries A B). first_place after l.ring.at) (sym started)

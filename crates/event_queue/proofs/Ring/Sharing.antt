@@ -21,7 +21,8 @@ use Rattle.event_queue.specs.RingMemory.{next_of, previous_of, edge, path, edge_
 
 path_lent_laws : (a : Ptr) (ps : List Ptr) → ShrLaws (path_lent a ps)
 path_lent_laws a [] = nothing_shr_laws
-path_lent_laws a (p ∷ ps) = beside_shr_laws _ _ (beside_shr_laws _ _ (lent_at_shr_laws RawPtr ptr_row_laws (next_of a) p) (lent_at_shr_laws RawPtr ptr_row_laws (previous_of p) a)) (path_lent_laws p ps)
+path_lent_laws a (p ∷ ps) = beside_shr_laws _ _ (beside_shr_laws _ _ (lent_at_shr_laws RawPtr ptr_row_laws (next_of a) p) (lent_at_shr_laws RawPtr ptr_row_laws (previous_of p) a))
+    (path_lent_laws p ps)
 
 module _ (E : RattleType) (L : RowLaws E) where
   nodes_lent_laws : (ns : List (Placed E.Denot)) → ShrLaws (nodes_lent E ns)
@@ -32,14 +33,14 @@ module _ (E : RattleType) (L : RowLaws E) where
   ring_lent_laws at entry ns = beside_shr_laws _ _ (path_lent_laws at (places ns ++ at ∷ [])) (nodes_lent_laws (placed at entry ∷ ns))
 
 module _ {M : Type 1} {𝓤 : Ura M} (𝓛 : Logic 𝓤) (l : Lft) where
-  link : (p x : Ptr) → Lends 𝓛 (lies_at RawPtr full_share p x) (lent_at RawPtr p x) l
-  link p x = Lends-lies 𝓛 RawPtr l p x (Shares-less 𝓛 RawPtr [] l (⊑_static l) ((copy_shared RawPtr-field RawPtr-copy).shares M 𝓤 𝓛) x)
+  Lends-link : (p x : Ptr) → Lends 𝓛 (lies_at RawPtr full_share p x) (lent_at RawPtr p x) l
+  Lends-link p x = Lends-lies 𝓛 RawPtr l p x (Shares-less 𝓛 RawPtr [] l (⊑_static l) ((copy_shared RawPtr-field RawPtr-copy).shares M 𝓤 𝓛) x)
 
   Lends-path : (a : Ptr) (ps : List Ptr) → Lends 𝓛 (path a ps) (path_lent a ps) l
   Lends-path a [] = Lends-nothing 𝓛 ftrue l
   Lends-path a (p ∷ ps) =
       Lends-both 𝓛 (edge a p) (path p ps) (edge_lent a p) (path_lent p ps) l
-      (Lends-both 𝓛 _ _ (lent_at RawPtr (next_of a) p) (lent_at RawPtr (previous_of p) a) l (link (next_of a) p) (link (previous_of p) a)) (Lends-path p ps)
+      (Lends-both 𝓛 _ _ (lent_at RawPtr (next_of a) p) (lent_at RawPtr (previous_of p) a) l (Lends-link (next_of a) p) (Lends-link (previous_of p) a)) (Lends-path p ps)
 
   module _ (E : RattleType) (L : Laws E) (alloc : Global) (inc : Incl l E.lives) where
     Lends-nodes : (ns : List (Placed E.Denot)) → Lends 𝓛 (nodes_own E alloc ns) (nodes_lent E ns) l

@@ -4,6 +4,7 @@ use Rattle.std.specs.List.{AllByRecursion, IsDistinct}
 use Rattle.std.proofs.lemmas.List.{map-append}
 use lib.Dec.{eqb_refl}
 use denote.RawPtr.{Ptr, block_ptr, null_ptr}
+use Rattle.event_queue.proofs.Lists.{All-append, All-front, All-back}
 use Rattle.event_queue.specs.Ring.{Placed, placed, is_same_place, IsApart, places, first_place}
 
 module _ {X : Type 0} where
@@ -33,45 +34,32 @@ module _ {X : Type 0} where
   first_of_push [] t = (t, [], refl)
   first_of_push (x ∷ xs) t = (x, xs ++ t ∷ [], refl)
 
-  module _ (P : X → Type 0) where
-    pub all_left : (xs ys : List X) → AllByRecursion P (xs ++ ys) → AllByRecursion P xs
-    all_left [] ys h = tt
-    all_left (x ∷ xs) ys h = (h.0, all_left xs ys h.1)
-
-    pub all_right : (xs ys : List X) → AllByRecursion P (xs ++ ys) → AllByRecursion P ys
-    all_right [] ys h = h
-    all_right (x ∷ xs) ys h = all_right xs ys h.1
-
-    pub all_both : (xs ys : List X) → AllByRecursion P xs → AllByRecursion P ys → AllByRecursion P (xs ++ ys)
-    all_both [] ys g h = h
-    all_both (x ∷ xs) ys g h = (g.0, all_both xs ys g.1 h)
-
-true_of : (b : Bool) → T b → b ≡ true
-true_of true t = refl
-true_of false t = absurd t
+true_from_T : (b : Bool) → T b → b ≡ true
+true_from_T true t = refl
+true_from_T false t = absurd t
 
 pub is_same_place-refl : (p : Ptr) → is_same_place p p ≡ true
-is_same_place-refl (block_ptr b o) = λ i. true_of (b == b) (eqb_refl b) i && true_of (o == o) (eqb_refl o) i
+is_same_place-refl (block_ptr b o) = λ i. true_from_T (b == b) (eqb_refl b) i && true_from_T (o == o) (eqb_refl o) i
 is_same_place-refl null_ptr = refl
 
-both : (x y : Bool) → (x && y) ≡ true → T x × T y
-both true true e = (tt, tt)
-both true false e = cc
-both false y e = cc
+both_true : (x y : Bool) → (x && y) ≡ true → T x × T y
+both_true true true e = (tt, tt)
+both_true true false e = cc
+both_true false y e = cc
 
 pub is_same_place-eq : (p q : Ptr) → is_same_place p q ≡ true → p ≡ q
-is_same_place-eq (block_ptr b o) (block_ptr c p) e = let t = both (b == c) (o == p) e in λ i. block_ptr (eqb→eq b c t.0 i) (eqb→eq o p t.1 i)
+is_same_place-eq (block_ptr b o) (block_ptr c p) e = let t = both_true (b == c) (o == p) e in λ i. block_ptr (eqb→eq b c t.0 i) (eqb→eq o p t.1 i)
 is_same_place-eq (block_ptr b o) null_ptr e = cc
 is_same_place-eq null_ptr (block_ptr c p) e = cc
 is_same_place-eq null_ptr null_ptr e = refl
 
-alike : (x y : Bool) → (x ≡ true → y ≡ true) → (y ≡ true → x ≡ true) → x ≡ y
-alike true y f g = sym (f refl)
-alike false true f g = g refl
-alike false false f g = refl
+equal_if_both_ways : (x y : Bool) → (x ≡ true → y ≡ true) → (y ≡ true → x ≡ true) → x ≡ y
+equal_if_both_ways true y f g = sym (f refl)
+equal_if_both_ways false true f g = g refl
+equal_if_both_ways false false f g = refl
 
 pub is_same_place-sym : (p q : Ptr) → is_same_place p q ≡ is_same_place q p
-is_same_place-sym p q = alike (is_same_place p q) (is_same_place q p)
+is_same_place-sym p q = equal_if_both_ways (is_same_place p q) (is_same_place q p)
     (λ e. subst (λ r. is_same_place r p ≡ true) (is_same_place-eq p q e) (is_same_place-refl p)) (λ e. subst (λ r. is_same_place r q ≡ true) (is_same_place-eq q p e) (is_same_place-refl q))
 
 -- p is none of these
@@ -83,19 +71,19 @@ unfolding IsDistinct
 apart_without [] p ys d = d.1
 apart_without (z ∷ xs) p ys d =
     let P : Ptr → Type 0 = λ q. is_same_place z q ≡ false in
-    (all_both P xs ys (all_left P xs (p ∷ ys) d.0) (all_right P xs (p ∷ ys) d.0).1, apart_without xs p ys d.1)
+    (All-append P xs ys (All-front P xs (p ∷ ys) d.0) (All-back P xs (p ∷ ys) d.0).1, apart_without xs p ys d.1)
 
 pub apart_last : (xs : List Ptr) (p : Ptr) → IsNew p xs → IsApart xs → IsApart (xs ++ p ∷ [])
 unfolding IsDistinct
 apart_last [] p n d = (tt, tt)
-apart_last (z ∷ xs) p n d = (all_both (λ q. is_same_place z q ≡ false) xs (p ∷ []) d.0 (is_same_place-sym z p ∙ n.0, tt), apart_last xs p n.1 d.1)
+apart_last (z ∷ xs) p n d = (All-append (λ q. is_same_place z q ≡ false) xs (p ∷ []) d.0 (is_same_place-sym z p ∙ n.0, tt), apart_last xs p n.1 d.1)
 
 pub apart_one : (p : Ptr) → IsApart (p ∷ [])
 unfolding IsDistinct
 apart_one p = (tt, tt)
 
-clash : (p : Ptr) (us vs : List Ptr) → AllByRecursion (λ q. is_same_place p q ≡ false) (us ++ p ∷ vs) → ⊥
-clash p us vs all = true≢false (sym (is_same_place-refl p) ∙ (all_right (λ q. is_same_place p q ≡ false) us (p ∷ vs) all).0)
+not_new_among : (p : Ptr) (us vs : List Ptr) → AllByRecursion (λ q. is_same_place p q ≡ false) (us ++ p ∷ vs) → ⊥
+not_new_among p us vs all = true≢false (sym (is_same_place-refl p) ∙ (All-back (λ q. is_same_place p q ≡ false) us (p ∷ vs) all).0)
 
 module _ {E : Type 0} where
   abbrev places_of : List (Placed E) → List Ptr
@@ -121,25 +109,26 @@ module _ {E : Type 0} where
   pub apart_replaced : (h : Ptr) (xs : List (Placed E)) (n : Placed E) (e : E) (ys : List (Placed E)) → IsApart (h ∷ places (xs ++ n ∷ ys)) → IsApart (h ∷ places (xs ++ placed n.at e ∷ ys))
   apart_replaced h xs n e ys d = subst (λ l. IsApart (h ∷ l)) (places_cut xs n ys ∙ sym (places_cut xs (placed n.at e) ys)) d
 
-  one_cut : (xs : List (Placed E)) (n : Placed E) (ys us : List (Placed E)) (m : Placed E) (vs : List (Placed E)) → IsApart (places (xs ++ n ∷ ys)) → xs ++ n ∷ ys ≡ us ++ m ∷ vs → n.at ≡ m.at
+  cut_once : (xs : List (Placed E)) (n : Placed E) (ys us : List (Placed E)) (m : Placed E) (vs : List (Placed E)) → IsApart (places (xs ++ n ∷ ys)) → xs ++ n ∷ ys ≡ us ++ m ∷ vs → n.at ≡ m.at
       → (xs ≡ us) × (n ≡ m) × (ys ≡ vs)
   unfolding IsDistinct
-  one_cut [] n ys [] m vs d e at = (refl, heads_equal n m ys vs e, tails_equal n m ys vs e)
-  one_cut [] n ys (u ∷ us) m vs d e at =
-      absurd (clash n.at (places us) (places vs) (subst (λ p. AllByRecursion (λ q. is_same_place n.at q ≡ false) (places us ++ p ∷ places vs)) (sym at)
+  cut_once [] n ys [] m vs d e at = (refl, heads_equal n m ys vs e, tails_equal n m ys vs e)
+  cut_once [] n ys (u ∷ us) m vs d e at =
+      absurd (not_new_among n.at (places us) (places vs) (subst (λ p. AllByRecursion (λ q. is_same_place n.at q ≡ false) (places us ++ p ∷ places vs)) (sym at)
       (subst (AllByRecursion (λ q. is_same_place n.at q ≡ false)) (ap places_of (tails_equal n u ys (us ++ m ∷ vs) e) ∙ places_cut us m vs) d.0)))
-  one_cut (z ∷ xs) n ys [] m vs d e at =
+  cut_once (z ∷ xs) n ys [] m vs d e at =
       let first : z.at ≡ n.at = ap (λ (k : Placed E). k.at) (heads_equal z m (xs ++ n ∷ ys) vs e) ∙ sym at in
-      absurd (clash z.at (places xs) (places ys) (subst (λ p. AllByRecursion (λ q. is_same_place z.at q ≡ false) (places xs ++ p ∷ places ys)) (sym first)
+      absurd (not_new_among z.at (places xs) (places ys) (subst (λ p. AllByRecursion (λ q. is_same_place z.at q ≡ false) (places xs ++ p ∷ places ys)) (sym first)
       (subst (AllByRecursion (λ q. is_same_place z.at q ≡ false)) (places_cut xs n ys) d.0)))
-  one_cut (z ∷ xs) n ys (u ∷ us) m vs d e at =
-      let on = one_cut xs n ys us m vs d.1 (tails_equal z u (xs ++ n ∷ ys) (us ++ m ∷ vs) e) at in
+  cut_once (z ∷ xs) n ys (u ∷ us) m vs d e at =
+      let on = cut_once xs n ys us m vs d.1 (tails_equal z u (xs ++ n ∷ ys) (us ++ m ∷ vs) e) at in
       let first = heads_equal z u (xs ++ n ∷ ys) (us ++ m ∷ vs) e in
       (λ i. first i ∷ on.0 i, on.1, on.2)
 
-  pub same_node : (h : Ptr) (ns xs : List (Placed E)) (n : Placed E) (ys us : List (Placed E)) (m : Placed E) (vs : List (Placed E)) → IsApart (h ∷ places ns) → ns ≡ xs ++ n ∷ ys → ns ≡ us ++ m ∷ vs → n.at ≡ m.at
+  pub same_node : (h : Ptr) (ns xs : List (Placed E)) (n : Placed E) (ys us : List (Placed E)) (m : Placed E) (vs : List (Placed E)) → IsApart (h ∷ places ns) → ns ≡ xs ++ n ∷ ys
+      → ns ≡ us ++ m ∷ vs → n.at ≡ m.at
       → (xs ≡ us) × (n ≡ m) × (ys ≡ vs)
-  same_node h ns xs n ys us m vs d a b at = one_cut xs n ys us m vs (subst (λ l. IsApart (places l)) a (apart_without [] h (places ns) d)) (sym a ∙ b) at
+  same_node h ns xs n ys us m vs d a b at = cut_once xs n ys us m vs (subst (λ l. IsApart (places l)) a (apart_without [] h (places ns) d)) (sym a ∙ b) at
 
   -- what is behind the nodes ys on the way to the root
   pub round_first : (ys : List (Placed E)) (h : Ptr) → (zs : List Ptr) × (places ys ++ h ∷ [] ≡ first_place ys h ∷ zs)

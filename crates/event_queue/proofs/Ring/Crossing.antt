@@ -19,55 +19,59 @@ use Rattle.event_queue.specs.Ring.{Placed, placed}
 use Rattle.event_queue.specs.RingMemory.{path, path_lent, node_type, nodes_own, nodes_lent}
 use Rattle.event_queue.specs.contracts.node.ring.pointers.Ring as Ring
 
-room : (τ : Ty) (p : Ptr) → Keyless (room_for τ p)
-room τ (block_ptr b o) = tt
-room τ null_ptr = tt
+room-Keyless : (τ : Ty) (p : Ptr) → Keyless (room_for τ p)
+room-Keyless τ (block_ptr b o) = tt
+room-Keyless τ null_ptr = tt
 
-quiet : {D X : Type 0} (to : D → X) (e : Exit X) → Quiet e → Quiet (hidden (under to e))
-quiet to unchanged q = λ x w. tt
-quiet to (leaves L l S s r₀) q = λ d. q (to d)
+Quiet-hidden : {D X : Type 0} (to : D → X) (e : Exit X) → Quiet e → Quiet (hidden (under to e))
+Quiet-hidden to unchanged q = λ x w. tt
+Quiet-hidden to (leaves L l S s r₀) q = λ d. q (to d)
 
-lies : (R : RattleType) → IsSend R → (p : Ptr) (x : R.Denot) → Keyless (lies_at R full_share p x)
-lies R s (block_ptr b o) x = part_keyless R s full_share x b o
-lies R s null_ptr x = tt
+lies-Keyless : (R : RattleType) → IsSend R → (p : Ptr) (x : R.Denot) → Keyless (lies_at R full_share p x)
+lies-Keyless R s (block_ptr b o) x = part_keyless R s full_share x b o
+lies-Keyless R s null_ptr x = tt
 
-somewhere : (p : Ptr) → Keyless (in_block p ftrue)
-somewhere (block_ptr b o) = tt
-somewhere null_ptr = tt
+in_block-Keyless : (p : Ptr) → Keyless (in_block p ftrue)
+in_block-Keyless (block_ptr b o) = tt
+in_block-Keyless null_ptr = tt
 
-seen : (R : RattleType) → IsSync R → (p : Ptr) (x : R.Denot) → Common (lent_at R p x)
-seen R s p x κ = (somewhere p, s.shared x (block_of p) (count_of p) κ)
+lent-Common : (R : RattleType) → IsSync R → (p : Ptr) (x : R.Denot) → Common (lent_at R p x)
+lent-Common R s p x κ = (in_block-Keyless p, s.shared x (block_of p) (count_of p) κ)
 
-link_send : IsSend RawPtr
-link_send = search sendable
+RawPtr-send : IsSend RawPtr
+RawPtr-send = search sendable
 
-link_sync : IsSync RawPtr
-link_sync = search sendable
+RawPtr-sync : IsSync RawPtr
+RawPtr-sync = search sendable
 
 path-Keyless : (a : Ptr) (ps : List Ptr) → Keyless (path a ps)
 path-Keyless a [] = tt
-path-Keyless a (p ∷ ps) = ((lies RawPtr link_send _ p, lies RawPtr link_send _ a), path-Keyless p ps)
+path-Keyless a (p ∷ ps) = ((lies-Keyless RawPtr RawPtr-send _ p, lies-Keyless RawPtr RawPtr-send _ a), path-Keyless p ps)
 
 path_lent-Common : (a : Ptr) (ps : List Ptr) → Common (path_lent a ps)
 path_lent-Common a [] κ = tt
-path_lent-Common a (p ∷ ps) κ = ((seen RawPtr link_sync _ p κ, seen RawPtr link_sync _ a κ), path_lent-Common p ps κ)
+path_lent-Common a (p ∷ ps) κ = ((lent-Common RawPtr RawPtr-sync _ p κ, lent-Common RawPtr RawPtr-sync _ a κ), path_lent-Common p ps κ)
 
 module _ (E : RattleType) where
   nodes-Keyless : IsSend E → (alloc : Global) (ns : List (Placed E.Denot)) → Keyless (nodes_own E alloc ns)
   nodes-Keyless s alloc [] = tt
-  nodes-Keyless s alloc (n ∷ ns) = ((lies E s _ n.entry, (heap.frees.frees alloc (node_type E) n.at, (((room _ _, room _ _), room _ _), room _ n.at))), nodes-Keyless s alloc ns)
+  nodes-Keyless s alloc (n ∷ ns) =
+      ((lies-Keyless E s _ n.entry, (heap.frees.frees alloc (node_type E) n.at, (((room-Keyless _ _, room-Keyless _ _), room-Keyless _ _), room-Keyless _ n.at))), nodes-Keyless s alloc ns)
 
   nodes_lent-Common : IsSync E → (ns : List (Placed E.Denot)) → Common (nodes_lent E ns)
   nodes_lent-Common y [] κ = tt
-  nodes_lent-Common y (n ∷ ns) κ = (seen E y _ n.entry κ, nodes_lent-Common y ns κ)
+  nodes_lent-Common y (n ∷ ns) κ = (lent-Common E y _ n.entry κ, nodes_lent-Common y ns κ)
 
   pub Ring-send : IsSend E → IsSend (Ring.the_row E)
   Ring-send s =
       let O = Ring.the_type E in let all : AllSend (fields O) = (search sendable, (handle.the_field_send, tt)) in
       owning_send O all (λ d. (path-Keyless d.at _, nodes-Keyless s d.alloc (placed d.at d.entry ∷ d.nodes)))
-      (λ k. quiet (to O) (exits_of k (fields O)) ((struct_send (shape O) all).leaving k))
+      (λ k. Quiet-hidden (to O) (exits_of k (fields O)) ((struct_send (shape O) all).leaving k))
 
   pub Ring-sync : IsSync E → IsSync (Ring.the_row E)
   Ring-sync y = let O = Ring.the_type E in record {
-    shared = λ d b o κ. ((struct_sync (shape O) (search sendable, (handle.the_field_sync, tt))).shared (to O d) b o κ, (path_lent-Common d.at _ κ, nodes_lent-Common y (placed d.at d.entry ∷ d.nodes) κ));
+    shared = λ d b o κ. (
+      (struct_sync (shape O) (search sendable, (handle.the_field_sync, tt))).shared (to O d) b o κ,
+      (path_lent-Common d.at _ κ, nodes_lent-Common y (placed d.at d.entry ∷ d.nodes) κ),
+    );
   }

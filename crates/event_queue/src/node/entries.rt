@@ -3,7 +3,7 @@ ghost use Rattle.std.specs.Prelude.{◌≡◌, ◌+◌, [], ◌∷◌, ◌++◌,
 ghost use Rattle.event_queue.specs.Ring.{placed, first_place, IsAt, AtNode};
 ghost use Rattle.event_queue.specs.Nodes.{key_of, value_before, value_after, spare_entry};
 
-use super::ring::{NodePtr, Reached, Ring, Steps};
+use super::ring::{NodePtr, NodeRef, Ring, Steps};
 use crate::key::Key;
 use std::alloc::{AllocError, AllocFailed, Global};
 use std::sync::ledger::Ledger;
@@ -59,9 +59,9 @@ impl<A, B> Entry<A, B> {
         held
     }
 
-    /// Lets a payload go that holds nothing.
+    /// Drops what a spare node carries.
     #[inline(always)]
-    pub(super) fn let_go(self)
+    pub(super) fn drop_spare(self)
         requires { self.held ≡ Held.Nothing }
     {
         match self.into_held() {
@@ -73,25 +73,25 @@ impl<A, B> Entry<A, B> {
 
 /// Nodes in order, and the first of them after the cursor, or the root where none is.
 #[derive(Drop)]
-pub(super) struct Line<A, B> {
+pub(super) struct Entries<A, B> {
     ring: Ring<Entry<A, B>>,
     cursor: NodePtr<Entry<A, B>>,
 }
 
-impl<A, B> Line<A, B> {
-    /// A line with no entry.
+impl<A, B> Entries<A, B> {
+    /// A ring with no entry.
     pub(super) fn new(alloc: Global) -> Result<Self, AllocError>
-        ensures nodes { IfOk result (λ line. line.ring.nodes ≡ []) }
-        ensures cursor { IfOk result (λ line. line.cursor.ptr ≡ line.ring.at) }
+        ensures nodes { IfOk result (λ entries. entries.ring.nodes ≡ []) }
+        ensures cursor { IfOk result (λ entries. entries.cursor.ptr ≡ entries.ring.at) }
     {
         match Ring::alone(alloc, Entry::spare(0)) {
             Ok(ring) => {
                 let cursor = ring.root();
-                Ok(Line { ring, cursor })
+                Ok(Entries { ring, cursor })
             }
             Err(refused) => {
                 let AllocFailed { value } = refused;
-                value.let_go();
+                value.drop_spare();
                 Err(AllocError)
             }
         }
@@ -99,7 +99,7 @@ impl<A, B> Line<A, B> {
 
     /// Whether the node's entry is before the cursor.
     #[inline(always)]
-    pub(super) fn is_before(&self, own: &Reached<Entry<A, B>>) -> bool
+    pub(super) fn is_before(&self, own: &NodeRef<Entry<A, B>>) -> bool
         requires { IsAt self.now.ring.nodes own.now.ptr }
         ensures { AtNode self.now.ring.nodes own.now.ptr (λ _ n _. IsTrue result ↔ IsSome (value_before n.entry.held)) }
     {
@@ -109,7 +109,7 @@ impl<A, B> Line<A, B> {
 
     /// Whether the node's entry is after the cursor.
     #[inline(always)]
-    pub(super) fn is_after(&self, own: &Reached<Entry<A, B>>) -> bool
+    pub(super) fn is_after(&self, own: &NodeRef<Entry<A, B>>) -> bool
         requires { IsAt self.now.ring.nodes own.now.ptr }
         ensures { AtNode self.now.ring.nodes own.now.ptr (λ _ n _. IsTrue result ↔ IsSome (value_after n.entry.held)) }
     {
@@ -128,7 +128,7 @@ impl<A, B> Line<A, B> {
         value: B,
         is_first: bool,
         steps: &mut Steps<L>,
-    ) -> (usize, Reached<Entry<A, B>>)
+    ) -> (usize, NodeRef<Entry<A, B>>)
         requires alone { node.nodes ≡ [] }
         requires spare { node.entry.held ≡ Held.Nothing }
         ensures slot { result.0 ≡ node.entry.slot }
@@ -147,7 +147,7 @@ impl<A, B> Line<A, B> {
             serial,
             held: Held::After(value),
         };
-        self.ring.replace(&own, entry).let_go();
+        self.ring.replace(&own, entry).drop_spare();
         if is_first {
             self.cursor = own.place();
         }
@@ -158,7 +158,7 @@ impl<A, B> Line<A, B> {
     #[inline(always)]
     pub(super) fn take<L: Ledger>(
         &mut self,
-        own: Reached<Entry<A, B>>,
+        own: NodeRef<Entry<A, B>>,
         steps: &mut Steps<L>,
     ) -> (Ring<Entry<A, B>>, Held<A, B>)
         requires { IsAt self.old.ring.nodes own.ptr }
@@ -178,12 +178,12 @@ impl<A, B> Line<A, B> {
         (self.ring.take(own, steps), entry.into_held())
     }
 
-    /// Takes a node out that is after the cursor, as [`Line::take`] does. If it is the first of these, the cursor moves
+    /// Takes a node out that is after the cursor, as [`Entries::take`] does. If it is the first of these, the cursor moves
     /// behind it.
     #[inline(always)]
     pub(super) fn take_after<L: Ledger>(
         &mut self,
-        own: Reached<Entry<A, B>>,
+        own: NodeRef<Entry<A, B>>,
         steps: &mut Steps<L>,
     ) -> (Ring<Entry<A, B>>, Held<A, B>)
         requires node { IsAt self.old.ring.nodes own.ptr }
@@ -212,7 +212,7 @@ impl<A, B> Line<A, B> {
 
     /// Gives an entry another value, which is after the cursor, and returns the one that it had.
     #[inline(always)]
-    pub(super) fn replace(&mut self, own: &Reached<Entry<A, B>>, value: B) -> Held<A, B>
+    pub(super) fn replace(&mut self, own: &NodeRef<Entry<A, B>>, value: B) -> Held<A, B>
         requires { IsAt self.old.ring.nodes own.now.ptr }
         ensures root { self.new.ring.at ≡ self.old.ring.at }
         ensures cursor { self.new.cursor ≡ self.old.cursor }

@@ -54,13 +54,15 @@ module _ {T W : Type 0} where
     RegistersWith-gone Registered new after queue step = tt
     RegistersWith-gone NeverInserted new after queue step = tt
 
-    pub RegistersWith-order_without : (reply : RegisterResult T) (new : Queue T W) (after : C) → IsQueue old → RegistersWith exchanged old key before reply new after → OnNotified reply (order_of new ≡ without key (order_of old))
+    pub RegistersWith-order_without : (reply : RegisterResult T) (new : Queue T W) (after : C) → IsQueue old → RegistersWith exchanged old key before reply new after
+        → OnNotified reply (order_of new ≡ without key (order_of old))
     RegistersWith-order_without (Notified tag) new after queue step =
         ap order_of step.1 ∙ took_tag-order key old tag queue step.0
     RegistersWith-order_without Registered new after queue step = tt
     RegistersWith-order_without NeverInserted new after queue step = tt
 
-    pub RegistersWith-order_kept : (reply : RegisterResult T) (new : Queue T W) (after : C) → RegistersWith exchanged old key before reply new after → UnlessNotified reply (order_of new ≡ order_of old)
+    pub RegistersWith-order_kept : (reply : RegisterResult T) (new : Queue T W) (after : C) → RegistersWith exchanged old key before reply new after
+        → UnlessNotified reply (order_of new ≡ order_of old)
     RegistersWith-order_kept (Notified tag) new after step = tt
     RegistersWith-order_kept Registered new after step =
         ap order_of step.stored ∙ order_of-after_storing key step.task old

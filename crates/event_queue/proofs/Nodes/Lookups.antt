@@ -5,11 +5,11 @@ use Rattle.std.specs.Map.{lookup, remove_entry, set_value}
 use Rattle.std.proofs.lemmas.Bool.{eq-eqb, ne_eqb, and_left}
 use Rattle.std.proofs.lemmas.List.Elements.{All-nil, All-cons, filter_map-append}
 use Rattle.event_queue.specs.declared.key.Key.{Key}
-use Rattle.event_queue.specs.declared.node.line.Held.{Held}
-use Rattle.event_queue.specs.declared.node.line.Held.TheVariants.{Before, After, Nothing}
+use Rattle.event_queue.specs.declared.node.entries.Held.{Held}
+use Rattle.event_queue.specs.declared.node.entries.Held.TheVariants.{Before, After, Nothing}
 use Rattle.event_queue.specs.Key.{is_key}
 use Rattle.event_queue.specs.Nodes.{Node, times, slots_of, key_of, value_before, value_after, AreBefore, AreAfter}
-use Rattle.event_queue.proofs.NodeTable.{times-cons_le, apart_from_times}
+use Rattle.event_queue.proofs.Nodes.Slots.{times-cons_le, apart_from_times}
 
 pub cases_option : {X : Type 0} (o : Option X) → (o ≡ None) ⊎ ((x : X) × (o ≡ Some x))
 cases_option None = inl refl
@@ -36,32 +36,32 @@ same_key key other same =
 
 module _ {A B X : Type 0} (value : Held A B → Option X) where
   -- the entries of the nodes for which there is a value
-  abbrev pub entries : List (Node A B) → List (Key × X)
-  entries nodes = filter_map (λ (n : Node A B). option_map (λ (x : X). (key_of n.entry, x)) (value n.entry.held)) nodes
+  abbrev pub entries_by : List (Node A B) → List (Key × X)
+  entries_by nodes = filter_map (λ (n : Node A B). option_map (λ (x : X). (key_of n.entry, x)) (value n.entry.held)) nodes
 
-  pub entries-append : (xs ys : List (Node A B)) → entries (xs ++ ys) ≡ entries xs ++ entries ys
-  entries-append xs ys =
+  pub entries_by-append : (xs ys : List (Node A B)) → entries_by (xs ++ ys) ≡ entries_by xs ++ entries_by ys
+  entries_by-append xs ys =
       filter_map-append (λ (n : Node A B). option_map (λ (x : X). (key_of n.entry, x)) (value n.entry.held)) xs ys
 
-  pub entries_some : (n : Node A B) (ns : List (Node A B)) (x : X) → value n.entry.held ≡ Some x → entries (n ∷ ns) ≡ (key_of n.entry, x) ∷ entries ns
+  pub entries_some : (n : Node A B) (ns : List (Node A B)) (x : X) → value n.entry.held ≡ Some x → entries_by (n ∷ ns) ≡ (key_of n.entry, x) ∷ entries_by ns
   entries_some n ns x is = rw is refl
 
-  pub entries_none : (n : Node A B) (ns : List (Node A B)) → value n.entry.held ≡ None → entries (n ∷ ns) ≡ entries ns
+  pub entries_none : (n : Node A B) (ns : List (Node A B)) → value n.entry.held ≡ None → entries_by (n ∷ ns) ≡ entries_by ns
   entries_none n ns is = rw is refl
 
   -- no entry has a slot that no node has
-  pub all_other : (slot : ℕ) (nodes : List (Node A B)) → times slot (slots_of nodes) ≡ 0 → All (λ entry. entry.0.slot ≢ slot) (entries nodes)
+  pub all_other : (slot : ℕ) (nodes : List (Node A B)) → times slot (slots_of nodes) ≡ 0 → All (λ entry. entry.0.slot ≢ slot) (entries_by nodes)
   all_other slot [] off = All-nil (λ entry. entry.0.slot ≢ slot)
   all_other slot (n ∷ ns) off =
       let later = all_other slot ns (omega (arith, times-cons_le slot n.entry.slot (slots_of ns))) in
       let apart = apart_from_times slot n.entry.slot (slots_of ns) off in
       elim (cases_option (value n.entry.held)) [
         | inl none ↦ rw none later
-        | inr some ↦ rw some.1 (All-cons (λ entry. entry.0.slot ≢ slot) (key_of n.entry, some.0) (entries ns) (λ same. apart (sym same)) later)
+        | inr some ↦ rw some.1 (All-cons (λ entry. entry.0.slot ≢ slot) (key_of n.entry, some.0) (entries_by ns) (λ same. apart (sym same)) later)
       ]
 
   -- ---- a key and the node that has its slot
-  pub lookup_absent : (key : Key) (nodes : List (Node A B)) → times key.slot (slots_of nodes) ≡ 0 → lookup (is_key key) (entries nodes) ≡ None
+  pub lookup_absent : (key : Key) (nodes : List (Node A B)) → times key.slot (slots_of nodes) ≡ 0 → lookup (is_key key) (entries_by nodes) ≡ None
   lookup_absent key [] off = refl
   lookup_absent key (n ∷ ns) off =
       let later = lookup_absent key ns (omega (arith, times-cons_le key.slot n.entry.slot (slots_of ns))) in
@@ -71,7 +71,8 @@ module _ {A B X : Type 0} (value : Held A B → Option X) where
             rw (some.1, other_slot key (key_of n.entry) (apart_from_times key.slot n.entry.slot (slots_of ns) off)) later
       ]
 
-  pub lookup_cut : (key : Key) (front rest : List (Node A B)) (node : Node A B) → times key.slot (slots_of front) ≡ 0 → times key.slot (slots_of rest) ≡ 0 → node.entry.slot ≡ key.slot → lookup (is_key key) (entries (front ++ node ∷ rest)) ≡ cond (eqb key.serial node.entry.serial) (value node.entry.held) None
+  pub lookup_cut : (key : Key) (front rest : List (Node A B)) (node : Node A B) → times key.slot (slots_of front) ≡ 0 → times key.slot (slots_of rest) ≡ 0
+      → node.entry.slot ≡ key.slot → lookup (is_key key) (entries_by (front ++ node ∷ rest)) ≡ cond (eqb key.serial node.entry.serial) (value node.entry.held) None
   lookup_cut key [] rest node off_front off_rest at =
       let later = lookup_absent key rest off_rest in
       elim (cases_option (value node.entry.held)) [
@@ -86,7 +87,8 @@ module _ {A B X : Type 0} (value : Held A B → Option X) where
             rw (some.1, other_slot key (key_of n.entry) (apart_from_times key.slot n.entry.slot (slots_of ns) off_front)) later
       ]
 
-  pub remove_cut : (key : Key) (front rest : List (Node A B)) (node : Node A B) (x : X) → times key.slot (slots_of front) ≡ 0 → key_of node.entry ≡ key → value node.entry.held ≡ Some x → remove_entry (is_key key) (entries (front ++ node ∷ rest)) ≡ entries (front ++ rest)
+  pub remove_cut : (key : Key) (front rest : List (Node A B)) (node : Node A B) (x : X) → times key.slot (slots_of front) ≡ 0 → key_of node.entry ≡ key
+      → value node.entry.held ≡ Some x → remove_entry (is_key key) (entries_by (front ++ node ∷ rest)) ≡ entries_by (front ++ rest)
   remove_cut key [] rest node x off is held =
       rw (held, same_key key (key_of node.entry) is) refl
   remove_cut key (n ∷ ns) rest node x off is held =
@@ -98,7 +100,9 @@ module _ {A B X : Type 0} (value : Held A B → Option X) where
             (ap (λ es. (key_of n.entry, some.0) ∷ es) later)
       ]
 
-  pub set_cut : (key : Key) (front rest : List (Node A B)) (node other : Node A B) (x y : X) → times key.slot (slots_of front) ≡ 0 → key_of node.entry ≡ key → value node.entry.held ≡ Some x → key_of other.entry ≡ key_of node.entry → value other.entry.held ≡ Some y → set_value (is_key key) (entries (front ++ node ∷ rest)) y ≡ entries (front ++ other ∷ rest)
+  pub set_cut : (key : Key) (front rest : List (Node A B)) (node other : Node A B) (x y : X) → times key.slot (slots_of front) ≡ 0 → key_of node.entry ≡ key
+      → value node.entry.held ≡ Some x → key_of other.entry ≡ key_of node.entry → value other.entry.held ≡ Some y
+      → set_value (is_key key) (entries_by (front ++ node ∷ rest)) y ≡ entries_by (front ++ other ∷ rest)
   set_cut key [] rest node other x y off is held same held' =
       rw (held, held', same_key key (key_of node.entry) is, same) refl
   set_cut key (n ∷ ns) rest node other x y off is held same held' =
@@ -111,11 +115,11 @@ module _ {A B X : Type 0} (value : Held A B → Option X) where
       ]
 
   -- a node that has no value before and none after
-  pub entries_skip : (front rest : List (Node A B)) (node : Node A B) → value node.entry.held ≡ None → entries (front ++ node ∷ rest) ≡ entries (front ++ rest)
+  pub entries_skip : (front rest : List (Node A B)) (node : Node A B) → value node.entry.held ≡ None → entries_by (front ++ node ∷ rest) ≡ entries_by (front ++ rest)
   entries_skip front rest node held =
-      entries-append front (node ∷ rest)
-      ∙ ap (λ es. entries front ++ es) (entries_none node rest held)
-      ∙ sym (entries-append front rest)
+      entries_by-append front (node ∷ rest)
+      ∙ ap (λ es. entries_by front ++ es) (entries_none node rest held)
+      ∙ sym (entries_by-append front rest)
 
 module _ {A B : Type 0} where
   not_before : (held : Held A B) → IsSome (value_after held) → value_before held ≡ None
@@ -138,24 +142,24 @@ module _ {A B : Type 0} where
   is_after (After x) value is = let same : x ≡ value = cc in ap (λ v. After v) same
   is_after Nothing value is = absurd (cc)
 
-  pub none_before : (after : List (Node A B)) → AreAfter after → entries value_before after ≡ []
+  pub none_before : (after : List (Node A B)) → AreAfter after → entries_by value_before after ≡ []
   none_before [] are_after = refl
   none_before (n ∷ ns) are_after =
       entries_none value_before n ns (not_before n.entry.held are_after.0) ∙ none_before ns are_after.1
 
-  pub none_after : (before : List (Node A B)) → AreBefore before → entries value_after before ≡ []
+  pub none_after : (before : List (Node A B)) → AreBefore before → entries_by value_after before ≡ []
   none_after [] are_before = refl
   none_after (n ∷ ns) are_before =
       entries_none value_after n ns (not_after n.entry.held are_before.0) ∙ none_after ns are_before.1
 
-  length_of_before : (before : List (Node A B)) → AreBefore before → length (entries value_before before) ≡ length before
+  length_of_before : (before : List (Node A B)) → AreBefore before → length (entries_by value_before before) ≡ length before
   length_of_before [] are_before = refl
   length_of_before (n ∷ ns) are_before =
       let here = some_value (value_before n.entry.held) are_before.0 in
       ap length (entries_some value_before n ns here.0 here.1)
       ∙ omega (arith, length_of_before ns are_before.1)
 
-  length_of_after : (after : List (Node A B)) → AreAfter after → length (entries value_after after) ≡ length after
+  length_of_after : (after : List (Node A B)) → AreAfter after → length (entries_by value_after after) ≡ length after
   length_of_after [] are_after = refl
   length_of_after (n ∷ ns) are_after =
       let here = some_value (value_after n.entry.held) are_after.0 in
@@ -179,19 +183,19 @@ module _ {A B : Type 0} where
 
   -- ---- nodes before the cursor and then those after it
   module _ (before after : List (Node A B)) (are_before : AreBefore before) (are_after : AreAfter after) where
-    pub before_is : entries value_before (before ++ after) ≡ entries value_before before
+    pub before_is : entries_by value_before (before ++ after) ≡ entries_by value_before before
     before_is =
-        entries-append value_before before after
-        ∙ ap (λ es. entries value_before before ++ es) (none_before after are_after)
-        ∙ append-nil (entries value_before before)
+        entries_by-append value_before before after
+        ∙ ap (λ es. entries_by value_before before ++ es) (none_before after are_after)
+        ∙ append-nil (entries_by value_before before)
 
-    pub after_is : entries value_after (before ++ after) ≡ entries value_after after
+    pub after_is : entries_by value_after (before ++ after) ≡ entries_by value_after after
     after_is =
-        entries-append value_after before after
-        ∙ ap (λ es. es ++ entries value_after after) (none_after before are_before)
+        entries_by-append value_after before after
+        ∙ ap (λ es. es ++ entries_by value_after after) (none_after before are_before)
 
-    pub length-before : length (entries value_before (before ++ after)) ≡ length before
+    pub length-before : length (entries_by value_before (before ++ after)) ≡ length before
     length-before = ap length before_is ∙ length_of_before before are_before
 
-    pub length-after : length (entries value_after (before ++ after)) ≡ length after
+    pub length-after : length (entries_by value_after (before ++ after)) ≡ length after
     length-after = ap length after_is ∙ length_of_after after are_after

@@ -1,0 +1,4 @@
+-- How a chain keeps its entries on nodes.
+pub mod Slots
+pub mod Lookups
+pub mod ChainSteps
