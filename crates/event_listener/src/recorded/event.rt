@@ -2,9 +2,9 @@
 ghost use Rattle.std.specs.Prelude.{◌≡◌, ◌↔◌, length, All, IsTrue, IsErrAnd, IfOk, IfErr};
 ghost use Rattle.event_listener.specs.Closing.{AreAllHands, are_hands_below, are_notes_of_all, entries_of_hands, notes_of_all};
 ghost use Rattle.event_listener.specs.Noting.{Owns, new_hands};
-ghost use Rattle.event_listener.specs.Recording.{HandlessAreEnds};
-ghost use Rattle.event_listener.specs.Replay.{replays};
-ghost use Rattle.event_listener.specs.RecordedCalls.{Listens, NotesNotify, NotesTotal, NotesIsNotified};
+ghost use Rattle.event_listener.specs.recording.State.{HandlessAreEnds};
+ghost use Rattle.event_listener.specs.recording.Replay.{replays};
+ghost use Rattle.event_listener.specs.recording.Calls.{Listens, NotesNotify, NotesTotal, NotesIsNotified};
 
 use super::call::StepCall;
 use super::close::{CloseError, are_all_hands, are_hands_below, are_notes_of_all};

@@ -1,6 +1,6 @@
 //! Those that call a recorded event, and what they note.
 ghost use Rattle.std.specs.Prelude.{◌≡◌, [], OnErr, IfErr, IfOk};
-ghost use Rattle.event_listener.specs.RecordedStep.{IsReplyTo, without_task};
+ghost use Rattle.event_listener.specs.recording.Step.{IsReplyTo, without_task};
 ghost use Rattle.event_listener.specs.Noting.{noted, new_hands};
 
 mod exchange;

@@ -1,8 +1,8 @@
 //! The listeners of a recorded event.
 ghost use Rattle.std.specs.Prelude.{◌≡◌, ⊤};
 ghost use Rattle.event_listener.specs.Noting.{Owns};
-ghost use Rattle.event_listener.specs.RecordedCalls.{Polls, Discards};
-ghost use Rattle.event_listener.specs.RecordedWait.{NotesWait, as_some};
+ghost use Rattle.event_listener.specs.recording.Calls.{Polls, Discards};
+ghost use Rattle.event_listener.specs.recording.Wait.{NotesWait, as_some};
 
 use super::call::StepCall;
 use super::event::RecordedEvent;

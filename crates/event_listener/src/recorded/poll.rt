@@ -3,7 +3,7 @@ ghost use Rattle.std.specs.Prelude.{◌≡◌, IfOk};
 ghost use Rattle.futures.specs.Task.{IsArmed, Keeps};
 ghost use Rattle.futures.specs.Poll.{OnPending};
 ghost use Rattle.event_listener.specs.Noting.{Owns};
-ghost use Rattle.event_listener.specs.RecordedCalls.{Polls};
+ghost use Rattle.event_listener.specs.recording.Calls.{Polls};
 
 use super::hand::Hand;
 use super::listener::{RecordedListener, RecordedPollError};

@@ -1,6 +1,6 @@
 //! Whether a record replays.
 ghost use Rattle.std.specs.Prelude.{◌≡◌, IfOk};
-ghost use Rattle.event_listener.specs.Replay.{replays, slot_in};
+ghost use Rattle.event_listener.specs.recording.Replay.{replays, slot_in};
 
 mod entries;
 mod replayed_queue;

@@ -3,9 +3,9 @@ ghost use Rattle.std.specs.Prelude.{◌≡◌, ◌+◌, ◌≤◌, true, [], ◌
 ghost use Rattle.std.specs.List.{FoldsTo};
 ghost use Rattle.event_queue.specs.Queue.{IsQueue, IsAbsent};
 ghost use Rattle.event_queue.specs.Remove.{woken_by_removal};
-ghost use Rattle.event_listener.specs.RecordedStep.{StepsAnySpare, IsReplyTo, without_task, task_of, woken_by_call};
-ghost use Rattle.event_listener.specs.Replay.{ReplaysTo, replays};
-ghost use Rattle.event_listener.specs.Recording.{Ends, HandlessAreEnds};
+ghost use Rattle.event_listener.specs.recording.Step.{StepsAnySpare, IsReplyTo, without_task, task_of, woken_by_call};
+ghost use Rattle.event_listener.specs.recording.Replay.{ReplaysTo, replays};
+ghost use Rattle.event_listener.specs.recording.State.{Ends, HandlessAreEnds};
 
 mod exchange;
 
@@ -34,7 +34,7 @@ pub struct RecordedState<T: Copy + Eq> {
 
 impl<T: Copy + Eq> Model for RecordedState<T> {
     ghost use Rattle.std.specs.Prelude.{vec_len, vec_capacity};
-    ghost use Rattle.event_listener.specs.Recording.{Recording, IsRecording};
+    ghost use Rattle.event_listener.specs.recording.State.{Recording, IsRecording};
 
     ghost Value = { Recording T };
 

@@ -3,9 +3,9 @@ ghost use Rattle.std.specs.Prelude.{◌≡◌, replicate};
 ghost use Rattle.std.specs.List.{FoldsTo};
 ghost use Rattle.event_queue.specs.Queue.{IsQueue, how_many, after_telling, tasks_of};
 ghost use Rattle.event_queue.specs.Remove.{woken_by_removal};
-ghost use Rattle.event_listener.specs.RecordedStep.{Steps, RemovesAs, without_task, task_of, woken_by_call};
-ghost use Rattle.event_listener.specs.RecordedPoll.{RegistersSome, ExchangesIfWaiting};
-ghost use Rattle.event_listener.specs.Recording.{unspared};
+ghost use Rattle.event_listener.specs.recording.Step.{Steps, RemovesAs, without_task, task_of, woken_by_call};
+ghost use Rattle.event_listener.specs.recording.Exchange.{RegistersSome, ExchangesIfWaiting};
+ghost use Rattle.event_listener.specs.recording.State.{unspared};
 
 use super::call::StepCall;
 use super::copied_tag::CopiedTag;

@@ -1,8 +1,8 @@
 //! How a recorded listener waits: as any listener does, with a note of each step.
 ghost use Rattle.std.specs.Prelude.{◌≡◌, ◌≢◌};
 ghost use Rattle.event_listener.specs.declared.listener.wait.Limit.TheVariants.{Never};
-ghost use Rattle.event_listener.specs.RecordedWait.{NotesWait};
-ghost use Rattle.event_listener.specs.RecordedWaitSteps.{GoesOn, EndsRound, EndsRemoval};
+ghost use Rattle.event_listener.specs.recording.Wait.{NotesWait};
+ghost use Rattle.event_listener.specs.recording.WaitSteps.{GoesOn, EndsRound, EndsRemoval};
 
 use super::call::StepCall;
 use super::hand::Hand;

@@ -1,7 +1,7 @@
 //! A registration of a hand whose task is made of the one that is stored.
 ghost use Rattle.std.specs.Prelude.{◌≡◌, OnErr, IfErr, IfOk};
-ghost use Rattle.event_listener.specs.RecordedStep.{IsReplyTo};
-ghost use Rattle.event_listener.specs.RecordedPoll.{ExchangesIfWaiting};
+ghost use Rattle.event_listener.specs.recording.Step.{IsReplyTo};
+ghost use Rattle.event_listener.specs.recording.Exchange.{ExchangesIfWaiting};
 ghost use Rattle.event_listener.specs.declared.recorded.call.RecordedCall.TheVariants.{Register};
 ghost use Rattle.event_listener.specs.Noting.{noted};
 

@@ -1,7 +1,7 @@
 //! A registration of a recorded queue whose task is made of the one that is stored.
 ghost use Rattle.std.specs.Prelude.{◌≡◌, ◌∷◌, [], ◌++◌, OnErr, IfOk, IfErr};
-ghost use Rattle.event_listener.specs.RecordedStep.{IsReplyTo};
-ghost use Rattle.event_listener.specs.RecordedPoll.{RegistersSomeAnySpare, ExchangesIfWaiting};
+ghost use Rattle.event_listener.specs.recording.Step.{IsReplyTo};
+ghost use Rattle.event_listener.specs.recording.Exchange.{RegistersSomeAnySpare, ExchangesIfWaiting};
 ghost use Rattle.event_listener.specs.declared.recorded.call.RecordedCall.TheVariants.{Register};
 
 use super::super::call::RecordedCall;

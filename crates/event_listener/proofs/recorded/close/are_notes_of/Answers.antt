@@ -1,5 +1,5 @@
 use Rattle.std.proofs.Common.{◌∙◌, sym}
-use Rattle.event_listener.proofs.ClosingLemmas.{notes_skip, notes_end, notes_differ, notes_go_on}
+use Rattle.event_listener.proofs.recording.ClosingLemmas.{notes_skip, notes_end, notes_differ, notes_go_on}
 use Rattle.event_listener.proofs.recorded.close.are_notes_of.Goals as goal
 use Rattle.event_listener.proofs.recorded.close.are_notes_of.Goals.{then-is_by+in-Some+else-not-is_note_of, else-is_by}
 

@@ -1,9 +1,9 @@
 use Rattle.std.proofs.Common.{◌≡◌, true, false, not, sym, ap, ◌∙◌}
 use Rattle.std.specs.Prelude.{is_some}
 use Rattle.std.proofs.lemmas.Bool.{not-true, not-false}
-use Rattle.event_listener.specs.Replay.{same_reply}
-use Rattle.event_listener.proofs.ReplayLemmas.{replay_from-next, replay_from-refused}
-use Rattle.event_listener.proofs.SameReplyLemmas.{derived_same}
+use Rattle.event_listener.specs.recording.Replay.{same_reply}
+use Rattle.event_listener.proofs.recording.ReplayLemmas.{replay_from-next, replay_from-refused}
+use Rattle.event_listener.proofs.recording.SameReplyLemmas.{derived_same}
 use Rattle.event_listener.proofs.recorded.replay.replays.Goals as goal
 
 pub returns-then-ne : goal.returns-then-ne

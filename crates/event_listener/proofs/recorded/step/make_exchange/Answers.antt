@@ -1,4 +1,4 @@
-use Rattle.event_listener.proofs.ExchangeLemmas.{registers_some, exchanges_if_waiting}
+use Rattle.event_listener.proofs.recording.ExchangeLemmas.{registers_some, exchanges_if_waiting}
 use Rattle.event_listener.proofs.recorded.step.make_exchange.Goals as goal
 
 pub returns-clause-step : goal.returns-clause-step

@@ -1,4 +1,4 @@
-use Rattle.event_listener.proofs.CopiedTagLemmas.{told_with_copies}
+use Rattle.event_listener.proofs.recording.CopiedTagLemmas.{told_with_copies}
 use Rattle.event_listener.proofs.recorded.step.make_notification.Goals as goal
 
 pub returns-clause-queue_after : goal.returns-clause-queue_after

@@ -1,8 +1,8 @@
 use Rattle.std.proofs.Common.{◌≡◌, ◌≤◌, ap, refl, subst, arith}
 use Rattle.event_queue.specs.Queue.{listeners_of}
-use Rattle.event_listener.specs.RecordedStep.{newcomers_of, without_task, task_of, StepsAnySpare}
-use Rattle.event_listener.proofs.RecordingLemmas.{IsRecording-grown, IsRecording-step, replays_same, step_kind, no_more_than_newcomers, steps_any_spare, with_no_spare}
-use Rattle.event_listener.specs.Recording.{unspared}
+use Rattle.event_listener.specs.recording.Step.{newcomers_of, without_task, task_of, StepsAnySpare}
+use Rattle.event_listener.proofs.recording.StateLemmas.{IsRecording-grown, IsRecording-step, replays_same, step_kind, no_more_than_newcomers, steps_any_spare, with_no_spare}
+use Rattle.event_listener.specs.recording.State.{unspared}
 use Rattle.event_listener.proofs.recorded.state.RecordedState.apply.Goals as goal
 
 pub invariant_of-self : goal.invariant_of-self

@@ -1,10 +1,10 @@
 use Rattle.std.proofs.Common.{true, [], ◌∷◌, ◌++◌, None, Some, ap, sym, refl, ◌∙◌, subst, arith}
 use Rattle.event_queue.specs.Queue.{IsAbsent}
-use Rattle.event_listener.specs.RecordedStep.{StepsAnySpare}
+use Rattle.event_listener.specs.recording.Step.{StepsAnySpare}
 use Rattle.event_listener.specs.declared.recorded.call.RecordedCall.TheVariants.{Remove}
 use Rattle.event_listener.specs.declared.recorded.reply.RecordedReply.TheVariants.{Removed}
-use Rattle.event_listener.proofs.RecordingLemmas.{IsRecording-grown, IsRecording-step, nobody_removed, somebody_removed, steps_any_spare}
-use Rattle.event_listener.specs.Recording.{unspared}
+use Rattle.event_listener.proofs.recording.StateLemmas.{IsRecording-grown, IsRecording-step, nobody_removed, somebody_removed, steps_any_spare}
+use Rattle.event_listener.specs.recording.State.{unspared}
 use Rattle.event_listener.proofs.recorded.state.RecordedState.apply_end.Goals as goal
 
 -- nobody has that key

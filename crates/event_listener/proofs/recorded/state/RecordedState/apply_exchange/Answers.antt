@@ -1,8 +1,8 @@
 use Rattle.std.proofs.Common.{Some, refl, ap, subst, arith}
-use Rattle.event_listener.specs.RecordedStep.{StepsAnySpare}
+use Rattle.event_listener.specs.recording.Step.{StepsAnySpare}
 use Rattle.event_listener.specs.declared.recorded.call.RecordedCall.TheVariants.{Register}
-use Rattle.event_listener.proofs.RecordingLemmas.{IsRecording-grown, IsRecording-step, replays_same, step_kind, no_more_than_newcomers, steps_any_spare}
-use Rattle.event_listener.specs.Recording.{unspared}
+use Rattle.event_listener.proofs.recording.StateLemmas.{IsRecording-grown, IsRecording-step, replays_same, step_kind, no_more_than_newcomers, steps_any_spare}
+use Rattle.event_listener.specs.recording.State.{unspared}
 use Rattle.event_listener.proofs.recorded.state.RecordedState.apply_exchange.Goals as goal
 
 pub invariant_of-self : goal.invariant_of-self

@@ -6,7 +6,7 @@ use Rattle.event_listener.specs.declared.recorded.entry.Entry.{Entry}
 use Rattle.event_listener.specs.declared.recorded.hand.Note.{Note}
 use Rattle.event_listener.specs.Closing.{is_by, is_below, entries_of, entries_of_hands, are_notes, are_notes_of_all, notes_of_all, how_many_with, AreAllHands, are_hands_below, same_call}
 use Rattle.event_listener.specs.Noting.{HandNotes}
-use Rattle.event_listener.specs.Replay.{same_reply}
+use Rattle.event_listener.specs.recording.Replay.{same_reply}
 
 module _ {T : Type 0} (eq : T → T → Bool) (hand : ℕ) (entries : List (Entry T)) (at : ℕ) (x : Entry T) (here : x ≡ get_or entries at x) (within : at < length entries) where
   entries_by : is_by hand x.hand ≡ true → entries_of hand (drop at entries) ≡ x ∷ entries_of hand (drop (at + 1) entries)

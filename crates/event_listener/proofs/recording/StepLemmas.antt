@@ -24,10 +24,10 @@ use Rattle.event_listener.specs.declared.recorded.call.RecordedCall.TheVariants 
 use Rattle.event_listener.specs.declared.recorded.reply.RecordedReply.{RecordedReply}
 use Rattle.event_listener.specs.declared.recorded.reply.RecordedReply.TheVariants as reply
 use Rattle.event_listener.specs.declared.recorded.reply.Former.{Former}
-use Rattle.event_listener.specs.RecordedStep.{Steps, RemovesAs, IsReplyTo, former_of}
-use Rattle.event_listener.specs.Recording.{unspared}
-use Rattle.event_listener.specs.Replay.{shape_of, serials_used_up, newcomer, tells, waiting_at, answer_at, after_notice, after_call, slot_in, passed}
-use Rattle.event_listener.proofs.ShapeLemmas.{waiting_at-shape, tells-shape, told_by_passing-shape, shape-waiting_leaves, shape-after_storing, shape-nobody_leaves, shape-nobody_stores, shape-after_telling}
+use Rattle.event_listener.specs.recording.Step.{Steps, RemovesAs, IsReplyTo, former_of}
+use Rattle.event_listener.specs.recording.State.{unspared}
+use Rattle.event_listener.specs.recording.Replay.{shape_of, serials_used_up, newcomer, tells, waiting_at, answer_at, after_notice, after_call, slot_in, passed}
+use Rattle.event_listener.proofs.recording.ShapeLemmas.{waiting_at-shape, tells-shape, told_by_passing-shape, shape-waiting_leaves, shape-after_storing, shape-nobody_leaves, shape-nobody_stores, shape-after_telling}
 
 -- what a look-up finds
 pub found_value : {X : Type 0} (o : Option X) (P : X → Type 0) → IsSomeAnd o P → (x : X) × (o ≡ Some x) × P x

@@ -7,8 +7,8 @@ use Rattle.event_listener.specs.declared.listener.wait.WaitOutcome.TheVariants.{
 use Rattle.event_listener.specs.declared.recorded.hand.Note.{Note}
 use Rattle.event_listener.specs.declared.recorded.wait.RecordedPlace.{RecordedPlace}
 use Rattle.event_listener.specs.Noting.{HandNotes, RecordedListening}
-use Rattle.event_listener.specs.RecordedWait.{NotesWait, still_waiting}
-use Rattle.event_listener.specs.RecordedWaitSteps.{GoesOn, EndsRound, EndsRemoval}
+use Rattle.event_listener.specs.recording.Wait.{NotesWait, still_waiting}
+use Rattle.event_listener.specs.recording.WaitSteps.{GoesOn, EndsRound, EndsRemoval}
 use Rattle.event_listener.specs.Waiting.{Rounds, Waits, answer_of}
 
 module _ {T : Type 0} where

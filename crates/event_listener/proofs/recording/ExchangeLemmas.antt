@@ -9,7 +9,7 @@ use Rattle.event_queue.specs.Exchange.{RegistersWith}
 use Rattle.event_listener.specs.declared.task.Task.{Task}
 use Rattle.event_listener.specs.declared.task.TaskKind.TheVariants.{Unmade}
 use Rattle.event_listener.specs.declared.recorded.reply.RecordedReply.TheVariants as reply
-use Rattle.event_listener.specs.RecordedPoll.{RegistersSome, ExchangesIfWaiting}
+use Rattle.event_listener.specs.recording.Exchange.{RegistersSome, ExchangesIfWaiting}
 
 module _ {T C : Type 0} (exchanged : C → Option Task → Task → C → Type 0) (old : Queue T Task) (key : Key) (before : C) where
   unmade : Task

@@ -16,8 +16,8 @@ use Rattle.event_listener.specs.declared.recorded.reply.RecordedReply.{RecordedR
 use Rattle.event_listener.specs.declared.recorded.reply.RecordedReply.TheVariants as reply
 use Rattle.event_listener.specs.declared.recorded.reply.Former.{Former}
 use Rattle.event_listener.specs.declared.recorded.reply.Former.TheVariants as former
-use Rattle.event_listener.specs.Replay.{Shape, shape_of, answer_at, after_call, slot_in, same_registration, same_removal, same_listening, same_reply, replay_entry, replay_from}
-use Rattle.event_listener.proofs.StepLemmas.{Follows}
+use Rattle.event_listener.specs.recording.Replay.{Shape, shape_of, answer_at, after_call, slot_in, same_registration, same_removal, same_listening, same_reply, replay_entry, replay_from}
+use Rattle.event_listener.proofs.recording.StepLemmas.{Follows}
 
 both_true : (a b : Bool) → a ≡ true → b ≡ true → a && b ≡ true
 both_true a b h k = rw h k

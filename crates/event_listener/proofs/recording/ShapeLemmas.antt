@@ -10,7 +10,7 @@ use Rattle.event_queue.specs.Key.{is_key}
 use Rattle.event_queue.specs.Queue.{Queue, how_many, told_with, after_telling, told_leaves, waiting_leaves}
 use Rattle.event_queue.specs.Register.{after_storing}
 use Rattle.event_queue.specs.Remove.{told_by_passing}
-use Rattle.event_listener.specs.Replay.{shape_of, tells, waiting_at, after_notice, without_told, told_by_passing_at}
+use Rattle.event_listener.specs.recording.Replay.{shape_of, tells, waiting_at, after_notice, without_told, told_by_passing_at}
 
 module _ {K X Y : Type 0} (test : K → Bool) (f : X → Y) where
   abbrev mapped : List (K × X) → List (K × Y)

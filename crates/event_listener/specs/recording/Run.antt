@@ -3,8 +3,8 @@ use Rattle.std.specs.Prelude.{◌≡◌, Bool, true, List, [], ◌∷◌, Option
 use Rattle.event_queue.specs.Queue.{Queue}
 use Rattle.event_listener.specs.declared.recorded.entry.Entry.{Entry}
 use Rattle.event_listener.specs.declared.recorded.reply.RecordedReply.{RecordedReply}
-use Rattle.event_listener.specs.RecordedStep.{StepsAnySpare, IsReplyTo}
-use Rattle.event_listener.specs.Replay.{same_reply}
+use Rattle.event_listener.specs.recording.Step.{StepsAnySpare, IsReplyTo}
+use Rattle.event_listener.specs.recording.Replay.{same_reply}
 
 -- an empty queue, whose first listener gets the serial 0
 abbrev pub empty_queue : {T W : Type 0} → Queue T W

@@ -12,7 +12,7 @@ use Rattle.event_listener.specs.declared.recorded.reply.RecordedReply.{RecordedR
 use Rattle.event_listener.specs.declared.recorded.reply.RecordedReply.TheVariants as reply
 use Rattle.event_listener.specs.declared.recorded.reply.Former.{Former}
 use Rattle.event_listener.specs.declared.recorded.reply.Former.TheVariants as former
-use Rattle.event_listener.specs.Replay.{same_reply}
+use Rattle.event_listener.specs.recording.Replay.{same_reply}
 use Rattle.event_listener.specs.contracts.recorded.reply.RecordedReplyPartialEq.TheImpl.{ghosts}
 
 module _ (row : RattleType) (bound : Ghosts row.Denot) (dict : Dict) where

@@ -27,13 +27,13 @@ use Rattle.event_listener.specs.declared.recorded.call.RecordedCall.TheVariants 
 use Rattle.event_listener.specs.declared.recorded.entry.Entry.{Entry}
 use Rattle.event_listener.specs.declared.recorded.reply.RecordedReply.{RecordedReply}
 use Rattle.event_listener.specs.declared.recorded.reply.RecordedReply.TheVariants as reply
-use Rattle.event_listener.specs.RecordedStep.{Steps, RemovesAs, IsReplyTo, former_of}
-use Rattle.event_listener.specs.RecordedRun.{IsStep, IsRun, empty_queue}
-use Rattle.event_listener.specs.Replay.{Shape, shape_of, empty_shape, serials_used_up, answer_at, after_call, slot_in, same_reply, replay_from, replays, ReplaysTo}
-use Rattle.event_listener.proofs.StepLemmas.{step_follows, found_value, no_serial_left}
-use Rattle.event_listener.specs.Recording.{unspared}
-use Rattle.event_listener.proofs.ReplayLemmas.{replay_entry-by, replay_entry-follows, refused_entry}
-use Rattle.event_listener.proofs.RecordingLemmas.{with_no_spare, removal_kind}
+use Rattle.event_listener.specs.recording.Step.{Steps, RemovesAs, IsReplyTo, former_of}
+use Rattle.event_listener.specs.recording.Run.{IsStep, IsRun, empty_queue}
+use Rattle.event_listener.specs.recording.Replay.{Shape, shape_of, empty_shape, serials_used_up, answer_at, after_call, slot_in, same_reply, replay_from, replays, ReplaysTo}
+use Rattle.event_listener.proofs.recording.StepLemmas.{step_follows, found_value, no_serial_left}
+use Rattle.event_listener.specs.recording.State.{unspared}
+use Rattle.event_listener.proofs.recording.ReplayLemmas.{replay_entry-by, replay_entry-follows, refused_entry}
+use Rattle.event_listener.proofs.recording.StateLemmas.{with_no_spare, removal_kind}
 
 -- keys whose serials rise from one number on and below another are no more than lie between
 

@@ -7,7 +7,7 @@ use Rattle.event_listener.specs.declared.task.Task.{Task}
 use Rattle.event_listener.specs.declared.recorded.call.RecordedCall.TheVariants as call
 use Rattle.event_listener.specs.declared.recorded.reply.RecordedReply.{RecordedReply}
 use Rattle.event_listener.specs.declared.recorded.reply.RecordedReply.TheVariants as reply
-use Rattle.event_listener.specs.RecordedStep.{Steps, StepsAnySpare}
+use Rattle.event_listener.specs.recording.Step.{Steps, StepsAnySpare}
 
 module _ {T : Type 0} where
   -- the step is a registration with some task

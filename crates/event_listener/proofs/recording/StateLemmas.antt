@@ -28,11 +28,11 @@ use Rattle.event_listener.specs.declared.recorded.entry.Entry.{Entry}
 use Rattle.event_listener.specs.declared.recorded.reply.RecordedReply.{RecordedReply}
 use Rattle.event_listener.specs.declared.recorded.reply.RecordedReply.TheVariants as reply
 use Rattle.event_listener.specs.declared.recorded.reply.Former.{Former}
-use Rattle.event_listener.specs.RecordedStep.{Steps, StepsAnySpare, RemovesAs, IsReplyTo, WasKept, former_of, newcomers_of}
-use Rattle.event_listener.specs.Replay.{ReplaysTo, shape_of}
-use Rattle.event_listener.specs.Recording.{IsRecording, IsEnd, HandlessAreEnds, unspared}
-use Rattle.event_listener.proofs.StepLemmas.{step_follows, found_value}
-use Rattle.event_listener.proofs.ReplayLemmas.{same_reply-refl, replay_entry-follows, replay_from-push}
+use Rattle.event_listener.specs.recording.Step.{Steps, StepsAnySpare, RemovesAs, IsReplyTo, WasKept, former_of, newcomers_of}
+use Rattle.event_listener.specs.recording.Replay.{ReplaysTo, shape_of}
+use Rattle.event_listener.specs.recording.State.{IsRecording, IsEnd, HandlessAreEnds, unspared}
+use Rattle.event_listener.proofs.recording.StepLemmas.{step_follows, found_value}
+use Rattle.event_listener.proofs.recording.ReplayLemmas.{same_reply-refl, replay_entry-follows, replay_from-push}
 
 module _ {T W : Type 0} where
   -- where room for a newcomer was made, the reply is of the call's kind

@@ -9,8 +9,8 @@ use Rattle.event_listener.specs.declared.recorded.entry.Entry.{Entry}
 use Rattle.event_listener.specs.declared.recorded.reply.RecordedReply.{RecordedReply}
 use Rattle.event_listener.specs.declared.recorded.reply.RecordedReply.TheVariants.{Removed}
 use Rattle.event_listener.specs.declared.recorded.reply.Former.{Former}
-use Rattle.event_listener.specs.RecordedStep.{StepsAnySpare}
-use Rattle.event_listener.specs.Replay.{ReplaysTo}
+use Rattle.event_listener.specs.recording.Step.{StepsAnySpare}
+use Rattle.event_listener.specs.recording.Replay.{ReplaysTo}
 
 -- a queue with nothing spare
 abbrev pub unspared : {T W : Type 0} → Queue T W → Queue T W
