@@ -87,7 +87,7 @@ impl<'ev, T: Copy + Eq, R: Wait + Clock + Clone> RecordedListener<'ev, T, R> {
             key: self.key,
             task: Task::from_waker(waker),
         };
-        let Ok(reply) = hand.make(&self.runtime, self.event.state(), call) else {
+        let Ok(reply) = hand.perform(&self.runtime, self.event.state(), call) else {
             return Err(RecordedPollError::Memory);
         };
         match reply {
@@ -115,7 +115,7 @@ impl<'ev, T: Copy + Eq, R: Wait + Clock + Clone> RecordedListener<'ev, T, R> {
             key: self.key,
             propagate: false,
         };
-        let Ok(reply) = hand.make(&self.runtime, self.event.state(), call) else {
+        let Ok(reply) = hand.perform(&self.runtime, self.event.state(), call) else {
             return Err(WaitError::Memory(self));
         };
         self.forget();

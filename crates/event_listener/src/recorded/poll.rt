@@ -33,7 +33,7 @@ impl<T: Copy + Eq, R: Wait + Clock + Clone> RecordedListener<'_, T, R> {
     {
         let source = EventSource::new();
         let state = self.event.state();
-        let Ok(reply) = hand.make_exchange(&self.runtime, state, self.key, &source, cx) else {
+        let Ok(reply) = hand.perform_exchange(&self.runtime, state, self.key, &source, cx) else {
             return Err(RecordedPollError::Memory);
         };
         match reply {

@@ -40,7 +40,7 @@ impl<T: Copy + Eq> WaitSteps<T> for RecordedPlace {
         task: Task,
     ) -> Option<WaitOutcome<T>> {
         let key = self.key;
-        match notes.make(rt, queue, StepCall::Register { key, task }) {
+        match notes.perform(rt, queue, StepCall::Register { key, task }) {
             Ok(RecordedReply::Registered(RegisterResult::Notified(tag))) => {
                 Some(WaitOutcome::Told(tag))
             }
@@ -61,7 +61,7 @@ impl<T: Copy + Eq> WaitSteps<T> for RecordedPlace {
     ) -> WaitOutcome<T> {
         let key = self.key;
         let propagate = false;
-        match notes.make(rt, queue, StepCall::Remove { key, propagate }) {
+        match notes.perform(rt, queue, StepCall::Remove { key, propagate }) {
             Ok(RecordedReply::Removed(Some(Former::Notified { additional: _, tag }))) => {
                 WaitOutcome::Told(tag)
             }

@@ -44,9 +44,9 @@ impl<T: Copy> ReplayedQueue<T> {
         }
     }
 
-    /// Makes the call, and returns what it answers where a newcomer gets this slot. A refusal of memory is the error,
+    /// Performs the call, and returns what it answers where a newcomer gets this slot. A refusal of memory is the error,
     /// after which the queue is of no use.
-    pub(super) fn make_call(
+    pub(super) fn perform_call(
         &mut self,
         call: RecordedCall<T>,
         slot: usize,

@@ -18,4 +18,4 @@ loop-entry-preserved g c =
     let entry = c.entry-item.result in
     let agree : not (same_reply g.T.PartialEq.eq c.in_ok-reply.reply entry.reply) ≡ false = ap not (sym (derived_same g.row.T g.T.PartialEq g.T.PartialEq-dict c.in_ok-reply.reply entry.reply)) ∙ sym c.ne.ensures ∙ c.if-ne.false in
     c.loop-entry.invariant
-    ∙ replay_from-next g.T.PartialEq.eq c.loop-entry.queue c.make_call.new.self c.args.entries.now c.loop-entry.entry-index entry c.slot_in.result c.in_ok-reply.reply c.loop-entry-test.true c.entry-item.is c.slot_in.ensures c.in_ok-reply.ensures.answer (not-false _ agree) c.in_ok-reply.ensures.shape
+    ∙ replay_from-next g.T.PartialEq.eq c.loop-entry.queue c.perform_call.new.self c.args.entries.now c.loop-entry.entry-index entry c.slot_in.result c.in_ok-reply.reply c.loop-entry-test.true c.entry-item.is c.slot_in.ensures c.in_ok-reply.ensures.answer (not-false _ agree) c.in_ok-reply.ensures.shape

@@ -1,5 +1,5 @@
 use Rattle.event_listener.proofs.recording.CopiedTagLemmas.{told_with_copies}
-use Rattle.event_listener.proofs.recorded.step.make_notification.Goals as goal
+use Rattle.event_listener.proofs.recorded.step.perform_notification.Goals as goal
 
 pub returns-clause-queue_after : goal.returns-clause-queue_after
 returns-clause-queue_after g c =
