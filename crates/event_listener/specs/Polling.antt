@@ -4,12 +4,12 @@ use Rattle.futures.specs.Task.{Hears, IsArmed, Keeps, Wakes}
 use Rattle.futures.specs.declared.task.context.Context.{Context}
 use Rattle.event_listener.specs.declared.task.Task.{Task}
 use Rattle.event_listener.specs.declared.task.TaskKind.{TaskKind}
-use Rattle.event_listener.specs.declared.task.TaskKind.TheVariants.{Polled, Unmade, Parked}
+use Rattle.event_listener.specs.declared.task.TaskKind.TheVariants.{Polled, NoWaker, Parked}
 
 -- it wakes the task that polls
 abbrev pub IsWakerOf : Context → TaskKind → Type 0
 IsWakerOf cx (Polled waker) = Wakes waker cx
-IsWakerOf cx Unmade = ⊥
+IsWakerOf cx NoWaker = ⊥
 IsWakerOf cx (Parked unparker) = ⊥
 
 -- the poll registered at that source with this task, which wakes the task that polls; where no waker could be made, the

@@ -7,13 +7,13 @@ use Rattle.event_queue.specs.declared.reply.RegisterResult.TheVariants.{Notified
 use Rattle.event_queue.specs.Queue.{Queue}
 use Rattle.event_queue.specs.Exchange.{RegistersWith}
 use Rattle.event_listener.specs.declared.task.Task.{Task}
-use Rattle.event_listener.specs.declared.task.TaskKind.TheVariants.{Unmade}
+use Rattle.event_listener.specs.declared.task.TaskKind.TheVariants.{NoWaker}
 use Rattle.event_listener.specs.declared.recorded.reply.RecordedReply.TheVariants as reply
 use Rattle.event_listener.specs.recording.Exchange.{RegistersSome, ExchangesIfWaiting}
 
 module _ {T C : Type 0} (exchanged : C → Option Task → Task → C → Type 0) (old : Queue T Task) (key : Key) (before : C) where
   unmade : Task
-  unmade = record { 0 = Unmade }
+  unmade = record { 0 = NoWaker }
 
   pub registers_some : (answer : RegisterResult T) (new : Queue T Task) (after : C) → RegistersWith exchanged old key before answer new after → RegistersSome old key (reply.Registered answer) new
   registers_some (Notified tag) new after step = record { task = unmade; step = (step.0, step.1) }

@@ -2,8 +2,8 @@
 use Rattle.std.proofs.Common.{◌≡◌, ◌∙◌, refl, sym, ◌++◌, ◌∷◌, [], ap, ℕ, zero, suc, List, replicate, inl, inr, arith}
 use Rattle.std.proofs.lemmas.List.{append-nil, append_assoc, replicate_more}
 use Rattle.std.proofs.Math.Numerals.{suc-eq-add-one}
-use Rattle.event_listener.specs.declared.listener.wait.WaitOutcome.{WaitOutcome}
-use Rattle.event_listener.specs.declared.listener.wait.WaitOutcome.TheVariants.{Told, TimedOut, Absent, Refused}
+use Rattle.event_listener.specs.declared.listener.wait.outcome.WaitOutcome.{WaitOutcome}
+use Rattle.event_listener.specs.declared.listener.wait.outcome.WaitOutcome.TheVariants.{Told, TimedOut, Absent, Refused}
 use Rattle.event_listener.specs.declared.recorded.hand.Note.{Note}
 use Rattle.event_listener.specs.declared.recorded.wait.RecordedPlace.{RecordedPlace}
 use Rattle.event_listener.specs.Noting.{HandNotes, RecordedListening}

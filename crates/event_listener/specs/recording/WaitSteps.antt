@@ -2,8 +2,8 @@
 use Rattle.std.specs.Prelude.{◌≡◌, ◌⊎◌, Bool, false, Some, None}
 use Rattle.event_queue.specs.declared.key.Key.{Key}
 use Rattle.event_queue.specs.declared.reply.RegisterResult.TheVariants as register
-use Rattle.event_listener.specs.declared.listener.wait.WaitOutcome.{WaitOutcome}
-use Rattle.event_listener.specs.declared.listener.wait.WaitOutcome.TheVariants.{Told, TimedOut, Absent, Refused}
+use Rattle.event_listener.specs.declared.listener.wait.outcome.WaitOutcome.{WaitOutcome}
+use Rattle.event_listener.specs.declared.listener.wait.outcome.WaitOutcome.TheVariants.{Told, TimedOut, Absent, Refused}
 use Rattle.event_listener.specs.declared.recorded.call.RecordedCall.TheVariants as call
 use Rattle.event_listener.specs.declared.recorded.reply.Former.TheVariants as former
 use Rattle.event_listener.specs.declared.recorded.reply.RecordedReply.TheVariants as reply

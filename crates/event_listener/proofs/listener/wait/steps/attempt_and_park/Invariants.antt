@@ -1,6 +1,6 @@
 use Rattle.std.proofs.Common.{ℕ}
 use Rattle.event_listener.specs.Waiting.{Rounds}
-use Rattle.event_listener.proofs.listener.wait.wait_on.Given as goal
+use Rattle.event_listener.proofs.listener.wait.steps.attempt_and_park.Given as goal
 
 -- some rounds have found the listener waiting
 abbrev pub invariant-loop : goal.invariant-loop
