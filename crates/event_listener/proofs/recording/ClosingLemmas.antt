@@ -42,7 +42,9 @@ module _ {T : Type 0} (eq : T → T → Bool) (hand : ℕ) (entries : List (Entr
       pub notes_go_on : same_call eq x.call note.call && same_reply eq x.reply note.reply ≡ true → all ≡ are_notes eq (entries_of hand (drop (at + 1) entries)) rest
       notes_go_on agree = by_parts (same_call {T = T} eq x.call note.call) (same_reply {T = T} eq x.reply note.reply) agree (rw (entries_by by, next) at so_far)
         where
-          by_parts : (call reply : Bool) → call && reply ≡ true → all ≡ (call && reply && are_notes eq (entries_of hand (drop (at + 1) entries)) rest) → all ≡ are_notes eq (entries_of hand (drop (at + 1) entries)) rest
+          by_parts : (call reply : Bool) → call && reply ≡ true
+              → all ≡ (call && reply && are_notes eq (entries_of hand (drop (at + 1) entries)) rest)
+              → all ≡ are_notes eq (entries_of hand (drop (at + 1) entries)) rest
           by_parts true true agree same = same
           by_parts true false agree same = absurd (cc)
           by_parts false reply agree same = absurd (cc)
@@ -60,7 +62,9 @@ module _ {T : Type 0} where
   as_many_notes eq (entry ∷ entries) (note ∷ notes) same =
       by_parts (same_call eq entry.call note.call) (same_reply eq entry.reply note.reply) same (as_many_notes eq entries notes)
     where
-      by_parts : (call reply : Bool) → (call && reply && are_notes eq entries notes) ≡ true → (are_notes eq entries notes ≡ true → length entries ≡ length notes) → suc (length entries) ≡ suc (length notes)
+      by_parts : (call reply : Bool) → (call && reply && are_notes eq entries notes) ≡ true
+          → (are_notes eq entries notes ≡ true → length entries ≡ length notes)
+          → suc (length entries) ≡ suc (length notes)
       by_parts true true same others = ap suc (others same)
       by_parts true false same others = absurd (cc)
       by_parts false reply same others = absurd (cc)
@@ -70,7 +74,10 @@ module _ {T : Type 0} where
   notes_are_entries eq entries (hand ∷ rest) same =
       by_first (are_notes eq (entries_of hand.number entries) hand.notes) refl same (notes_are_entries eq entries rest)
     where
-      by_first : (first : Bool) → are_notes eq (entries_of hand.number entries) hand.notes ≡ first → (first && are_notes_of_all eq entries rest) ≡ true → (are_notes_of_all eq entries rest ≡ true → entries_of_all rest entries ≡ notes_of_all rest) → entries_of_all (hand ∷ rest) entries ≡ notes_of_all (hand ∷ rest)
+      by_first : (first : Bool) → are_notes eq (entries_of hand.number entries) hand.notes ≡ first
+          → (first && are_notes_of_all eq entries rest) ≡ true
+          → (are_notes_of_all eq entries rest ≡ true → entries_of_all rest entries ≡ notes_of_all rest)
+          → entries_of_all (hand ∷ rest) entries ≡ notes_of_all (hand ∷ rest)
       by_first true is same others =
           let one = as_many_notes eq (entries_of hand.number entries) hand.notes is in
           let more = others same in omega (arith, one, more)
@@ -84,12 +91,16 @@ module _ {T : Type 0} where
       let mine : length (entries_of hand.number (entry ∷ entries)) ≡ length (entries_of hand.number entries) = rw nobody refl in
       omega (arith, mine, others)
 
-  entries_of_all-some : (hands : List (HandNotes T)) (entry : Entry T) (entries : List (Entry T)) (number : ℕ) → entry.hand ≡ Some number → entries_of_all hands (entry ∷ entries) ≡ how_many_with number hands + entries_of_all hands entries
+  entries_of_all-some : (hands : List (HandNotes T)) (entry : Entry T) (entries : List (Entry T)) (number : ℕ)
+      → entry.hand ≡ Some number
+      → entries_of_all hands (entry ∷ entries) ≡ how_many_with number hands + entries_of_all hands entries
   entries_of_all-some [] entry entries number is = refl
   entries_of_all-some (hand ∷ rest) entry entries number is =
       by_test (number == hand.number) refl (entries_of_all-some rest entry entries number is)
     where
-      by_test : (b : Bool) → (number == hand.number) ≡ b → entries_of_all rest (entry ∷ entries) ≡ how_many_with number rest + entries_of_all rest entries → entries_of_all (hand ∷ rest) (entry ∷ entries) ≡ how_many_with number (hand ∷ rest) + entries_of_all (hand ∷ rest) entries
+      by_test : (b : Bool) → (number == hand.number) ≡ b
+          → entries_of_all rest (entry ∷ entries) ≡ how_many_with number rest + entries_of_all rest entries
+          → entries_of_all (hand ∷ rest) (entry ∷ entries) ≡ how_many_with number (hand ∷ rest) + entries_of_all (hand ∷ rest) entries
       by_test true test others =
           let mine : length (entries_of hand.number (entry ∷ entries)) ≡ suc (length (entries_of hand.number entries)) = rw (is, test) refl in
           let found : how_many_with number (hand ∷ rest) ≡ 1 + how_many_with number rest = rw test refl in
@@ -104,12 +115,15 @@ module _ {T : Type 0} where
   entries_of_all-empty (hand ∷ rest) = let none = entries_of_all-empty rest in omega (arith, none)
 
   -- the entries of hands are as many as those of these hands, where each number below the count is that of one of them
-  entries_counted : (count : ℕ) (hands : List (HandNotes T)) → AreAllHands count hands → (entries : List (Entry T)) → are_hands_below count entries ≡ true → entries_of_all hands entries ≡ length (entries_of_hands entries)
+  entries_counted : (count : ℕ) (hands : List (HandNotes T)) → AreAllHands count hands → (entries : List (Entry T))
+      → are_hands_below count entries ≡ true → entries_of_all hands entries ≡ length (entries_of_hands entries)
   entries_counted count hands all [] below = entries_of_all-empty hands
   entries_counted count hands all (entry ∷ entries) below =
       by_hand entry.hand refl below (entries_counted count hands all entries)
     where
-      by_hand : (by : Option ℕ) → entry.hand ≡ by → (is_below count by && are_hands_below count entries) ≡ true → (are_hands_below count entries ≡ true → entries_of_all hands entries ≡ length (entries_of_hands entries)) → entries_of_all hands (entry ∷ entries) ≡ length (entries_of_hands (entry ∷ entries))
+      by_hand : (by : Option ℕ) → entry.hand ≡ by → (is_below count by && are_hands_below count entries) ≡ true
+          → (are_hands_below count entries ≡ true → entries_of_all hands entries ≡ length (entries_of_hands entries))
+          → entries_of_all hands (entry ∷ entries) ≡ length (entries_of_hands (entry ∷ entries))
       by_hand None is below others =
           let none = entries_of_all-none hands entry entries is in
           let apart : length (entries_of_hands (entry ∷ entries)) ≡ length (entries_of_hands entries) = rw is refl in
@@ -125,6 +139,8 @@ module _ {T : Type 0} where
               let more = others below in omega (arith, some, one, counts, more)
           by_test false test below = absurd (cc)
 
-  pub as_many_as_notes : (eq : T → T → Bool) (count : ℕ) (hands : List (HandNotes T)) (entries : List (Entry T)) → AreAllHands count hands → are_hands_below count entries ≡ true → are_notes_of_all eq entries hands ≡ true → length (entries_of_hands entries) ≡ notes_of_all hands
+  pub as_many_as_notes : (eq : T → T → Bool) (count : ℕ) (hands : List (HandNotes T)) (entries : List (Entry T))
+      → AreAllHands count hands → are_hands_below count entries ≡ true → are_notes_of_all eq entries hands ≡ true
+      → length (entries_of_hands entries) ≡ notes_of_all hands
   as_many_as_notes eq count hands entries all below same =
       sym (entries_counted count hands all entries below) ∙ notes_are_entries eq entries hands same

@@ -19,6 +19,8 @@ module _ {T N : Type 0} (tag_of : N → T) where
       ap (λ t. t ∷ tags) first ∙ ap (λ ts. tag_of source ∷ ts) (rest ∙ ap (λ s. replicate (length tags) (tag_of s)) stays)
 
   -- each listener told has that tag
-  pub told_with_copies : {W : Type 0} (additional : Bool) (old : Queue T W) (source : N) (told : ℕ) (new : Queue T W) (source' : N) → Tells GivesItsTag additional old source told new source' → new ≡ after_telling additional (replicate told (tag_of source)) old
+  pub told_with_copies : {W : Type 0} (additional : Bool) (old : Queue T W) (source : N) (told : ℕ) (new : Queue T W) (source' : N)
+      → Tells GivesItsTag additional old source told new source'
+      → new ≡ after_telling additional (replicate told (tag_of source)) old
   told_with_copies additional old source told new source' tells =
       tells.queue ∙ ap (λ tags. after_telling additional tags old) (copies source tells.tags source' tells.given ∙ ap (λ n. replicate n (tag_of source)) tells.as_many)

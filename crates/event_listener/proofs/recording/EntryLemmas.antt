@@ -14,7 +14,9 @@ module _ {X : Type 0} where
     pub taken : remove_entry (is_key key) entries ≡ remove entries at
     pub changed : (value : X) → set_value (is_key key) entries value ≡ slice_set entries at ((get_or entries at default).0, value)
 
-  by_first : (key : Key) (entries : List (Key × X)) (at : ℕ) (default : Key × X) → at < length entries → is_key key (get_or entries at default).0 ≡ true → ((k : ℕ) → k < at → is_key key (get_or entries k default).0 ≡ false) → IsAt key entries at default
+  by_first : (key : Key) (entries : List (Key × X)) (at : ℕ) (default : Key × X) → at < length entries
+      → is_key key (get_or entries at default).0 ≡ true
+      → ((k : ℕ) → k < at → is_key key (get_or entries k default).0 ≡ false) → IsAt key entries at default
   by_first key [] at default within here before = absurd (omega arith)
   by_first key (first ∷ rest) zero default within here before = record {
     found = rw here refl;
@@ -41,7 +43,9 @@ module _ {X : Type 0} where
   position_within key [] value found = absurd (cc)
   position_within key (first ∷ rest) value found = by_test (is_key key first.0) refl (position_within key rest value)
     where
-      by_test : (b : Bool) → is_key key first.0 ≡ b → (lookup (is_key key) rest ≡ Some value → position_or_len (λ e. is_key key e.0) rest < length rest) → position_or_len (λ e. is_key key e.0) (first ∷ rest) < length (first ∷ rest)
+      by_test : (b : Bool) → is_key key first.0 ≡ b
+          → (lookup (is_key key) rest ≡ Some value → position_or_len (λ e. is_key key e.0) rest < length rest)
+          → position_or_len (λ e. is_key key e.0) (first ∷ rest) < length (first ∷ rest)
       by_test true here later = rw here (omega arith)
       by_test false apart later = rw apart (omega (arith, later (rw apart at found)))
 

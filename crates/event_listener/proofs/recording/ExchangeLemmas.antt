@@ -20,7 +20,9 @@ module _ {T C : Type 0} (exchanged : C → Option Task → Task → C → Type 0
   registers_some Registered new after step = record { task = step.task; step = (rw step.found refl, step.stored) }
   registers_some NeverInserted new after step = record { task = unmade; step = (step.0, step.1) }
 
-  pub exchanges_if_waiting : (answer : RegisterResult T) (new : Queue T Task) (after : C) → RegistersWith exchanged old key before answer new after → ExchangesIfWaiting exchanged before (reply.Registered answer) after
+  pub exchanges_if_waiting : (answer : RegisterResult T) (new : Queue T Task) (after : C)
+      → RegistersWith exchanged old key before answer new after
+      → ExchangesIfWaiting exchanged before (reply.Registered answer) after
   exchanges_if_waiting (Notified tag) new after step = step.2
   exchanges_if_waiting Registered new after step = record { handed_out = step.handed_out; task = step.task; made = step.made }
   exchanges_if_waiting NeverInserted new after step = step.2

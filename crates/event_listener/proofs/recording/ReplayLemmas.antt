@@ -1,5 +1,6 @@
 -- A record replays entry by entry.
-use Rattle.std.proofs.Common.{◌≡◌, ℕ, suc, ◌+◌, ◌<◌, Bool, true, false, ◌&&◌, nat_eq, List, [], ◌∷◌, ◌++◌, length, drop, get_or, drop-cons, arith, refl, sym, ap, ◌∙◌, Option, Some, None, Result, Ok, Err}
+use Rattle.std.proofs.Common.{◌≡◌, ℕ, suc, ◌+◌, ◌<◌, Bool, true, false, ◌&&◌, nat_eq, List, [], ◌∷◌, ◌++◌}
+use Rattle.std.proofs.Common.{length, drop, get_or, drop-cons, arith, refl, sym, ap, ◌∙◌, Option, Some, None, Result, Ok, Err}
 use Rattle.std.specs.Prelude.{option_and_then}
 use Rattle.std.specs.Cmp.{IsEquivalence, bool_eq_equiv}
 use Rattle.std.proofs.lemmas.Cmp.{nat_eq_equiv}
@@ -73,26 +74,37 @@ module _ {T : Type 0} (eq : T → T → Bool) where
   same_reply-slot _ _ same = absurd (cc)
 
   -- an entry replays where its call answers its reply
-  pub replay_entry-by : (shape after : Shape T) (entry : Entry T) (r : RecordedReply T) → answer_at shape (slot_in entry.reply) entry.call ≡ r → same_reply eq r entry.reply ≡ true → after_call shape (slot_in entry.reply) entry.call ≡ after → replay_entry eq shape entry ≡ Some after
+  pub replay_entry-by : (shape after : Shape T) (entry : Entry T) (r : RecordedReply T)
+      → answer_at shape (slot_in entry.reply) entry.call ≡ r → same_reply eq r entry.reply ≡ true
+      → after_call shape (slot_in entry.reply) entry.call ≡ after → replay_entry eq shape entry ≡ Some after
   replay_entry-by shape after entry r answers same leaves = rw (answers, same, leaves) refl
 
-  pub refused_entry : (shape : Shape T) (entry : Entry T) (r : RecordedReply T) → answer_at shape (slot_in entry.reply) entry.call ≡ r → same_reply eq r entry.reply ≡ false → replay_entry eq shape entry ≡ None
+  pub refused_entry : (shape : Shape T) (entry : Entry T) (r : RecordedReply T)
+      → answer_at shape (slot_in entry.reply) entry.call ≡ r → same_reply eq r entry.reply ≡ false
+      → replay_entry eq shape entry ≡ None
   refused_entry shape entry r answers differs = rw (answers, differs) refl
 
-  pub replay_entry-follows : {W : Type 0} (old new : Queue T W) (entry : Entry T) (r : RecordedReply T) → Follows old entry.call r new → same_reply eq r entry.reply ≡ true → replay_entry eq (shape_of old) entry ≡ Some (shape_of new)
+  pub replay_entry-follows : {W : Type 0} (old new : Queue T W) (entry : Entry T) (r : RecordedReply T)
+      → Follows old entry.call r new → same_reply eq r entry.reply ≡ true
+      → replay_entry eq (shape_of old) entry ≡ Some (shape_of new)
   replay_entry-follows old new entry r follows same =
       let slot = same_reply-slot r entry.reply same in
-      replay_entry-by (shape_of old) (shape_of new) entry r (ap (λ s. answer_at (shape_of old) s entry.call) (sym slot) ∙ follows.answers) same (ap (λ s. after_call (shape_of old) s entry.call) (sym slot) ∙ follows.leaves)
+      replay_entry-by (shape_of old) (shape_of new) entry r (ap (λ s. answer_at (shape_of old) s entry.call) (sym slot) ∙ follows.answers) same
+      (ap (λ s. after_call (shape_of old) s entry.call) (sym slot) ∙ follows.leaves)
 
   -- one more entry
-  pub replay_from-push : (shape between after : Shape T) (entries : List (Entry T)) (entry : Entry T) → replay_from eq shape entries ≡ Some between → replay_entry eq between entry ≡ Some after → replay_from eq shape (entries ++ entry ∷ []) ≡ Some after
+  pub replay_from-push : (shape between after : Shape T) (entries : List (Entry T)) (entry : Entry T)
+      → replay_from eq shape entries ≡ Some between → replay_entry eq between entry ≡ Some after
+      → replay_from eq shape (entries ++ entry ∷ []) ≡ Some after
   replay_from-push shape between after [] entry replays last =
       let same : shape ≡ between = cc in
       rw (same, last) refl
   replay_from-push shape between after (first ∷ rest) entry replays last =
       by_first (replay_entry eq shape first) refl (λ next. replay_from-push next between after rest entry)
     where
-      by_first : (o : Option (Shape T)) → replay_entry eq shape first ≡ o → ((next : Shape T) → replay_from eq next rest ≡ Some between → replay_entry eq between entry ≡ Some after → replay_from eq next (rest ++ entry ∷ []) ≡ Some after) → replay_from eq shape (first ∷ rest ++ entry ∷ []) ≡ Some after
+      by_first : (o : Option (Shape T)) → replay_entry eq shape first ≡ o
+          → ((next : Shape T) → replay_from eq next rest ≡ Some between → replay_entry eq between entry ≡ Some after → replay_from eq next (rest ++ entry ∷ []) ≡ Some after)
+          → replay_from eq shape (first ∷ rest ++ entry ∷ []) ≡ Some after
       by_first None none later = absurd (let h : None ≡ Some between = ap (option_and_then (λ next. replay_from eq next rest)) (sym none) ∙ replays in cc)
       by_first (Some next) some later =
           let h : replay_from eq next rest ≡ Some between = ap (option_and_then (λ next. replay_from eq next rest)) (sym some) ∙ replays in
@@ -105,12 +117,20 @@ module _ {T : Type 0} (eq : T → T → Bool) where
       let one : suc i ≡ i + 1 = omega arith in
       drop-cons entries i entry within ∙ ap (λ (e : Entry T). e ∷ drop (suc i) entries) (sym here) ∙ ap (λ n. entry ∷ drop n entries) one
 
-  pub replay_from-next : (shape after : Shape T) (entries : List (Entry T)) (i : ℕ) (entry : Entry T) (slot : ℕ) (r : RecordedReply T) → i < length entries → entry ≡ get_or entries i entry → slot ≡ slot_in entry.reply → r ≡ answer_at shape slot entry.call → same_reply eq r entry.reply ≡ true → after ≡ after_call shape slot entry.call → replay_from eq shape (drop i entries) ≡ replay_from eq after (drop (i + 1) entries)
+  pub replay_from-next : (shape after : Shape T) (entries : List (Entry T)) (i : ℕ) (entry : Entry T) (slot : ℕ) (r : RecordedReply T)
+      → i < length entries → entry ≡ get_or entries i entry → slot ≡ slot_in entry.reply
+      → r ≡ answer_at shape slot entry.call → same_reply eq r entry.reply ≡ true
+      → after ≡ after_call shape slot entry.call
+      → replay_from eq shape (drop i entries) ≡ replay_from eq after (drop (i + 1) entries)
   replay_from-next shape after entries i entry slot r within here slot_is answers same leaves =
-      let replays = replay_entry-by shape after entry r (ap (λ s. answer_at shape s entry.call) (sym slot_is) ∙ sym answers) same (ap (λ s. after_call shape s entry.call) (sym slot_is) ∙ sym leaves) in
+      let replays = replay_entry-by shape after entry r (ap (λ s. answer_at shape s entry.call) (sym slot_is) ∙ sym answers) same
+      (ap (λ s. after_call shape s entry.call) (sym slot_is) ∙ sym leaves) in
       ap (replay_from eq shape) (next_entry entries i entry within here) ∙ ap (option_and_then (λ next. replay_from eq next (drop (i + 1) entries))) replays
 
-  pub replay_from-refused : (shape : Shape T) (entries : List (Entry T)) (i : ℕ) (entry : Entry T) (slot : ℕ) (r : RecordedReply T) → i < length entries → entry ≡ get_or entries i entry → slot ≡ slot_in entry.reply → r ≡ answer_at shape slot entry.call → same_reply eq r entry.reply ≡ false → replay_from eq shape (drop i entries) ≡ None
+  pub replay_from-refused : (shape : Shape T) (entries : List (Entry T)) (i : ℕ) (entry : Entry T) (slot : ℕ) (r : RecordedReply T)
+      → i < length entries → entry ≡ get_or entries i entry → slot ≡ slot_in entry.reply
+      → r ≡ answer_at shape slot entry.call → same_reply eq r entry.reply ≡ false
+      → replay_from eq shape (drop i entries) ≡ None
   replay_from-refused shape entries i entry slot r within here slot_is answers differs =
       let none = refused_entry shape entry r (ap (λ s. answer_at shape s entry.call) (sym slot_is) ∙ sym answers) differs in
       ap (replay_from eq shape) (next_entry entries i entry within here) ∙ ap (option_and_then (λ next. replay_from eq next (drop (i + 1) entries))) none

@@ -1,5 +1,6 @@
 -- A record replays exactly if it is a run.
-use Rattle.std.proofs.Common.{◌≡◌, ◌≢◌, ℕ, ◌+◌, ◌<◌, ◌≤◌, ◌^◌, Bool, true, false, nat_lt, List, [], ◌∷◌, ◌++◌, length, replicate, refl, sym, ap, ◌∙◌, subst, arith, Option, Some, None, Result, Ok, Err, IsTrue, length-append}
+use Rattle.std.proofs.Common.{◌≡◌, ◌≢◌, ℕ, ◌+◌, ◌<◌, ◌≤◌, ◌^◌, Bool, true, false, nat_lt, List, [], ◌∷◌, ◌++◌}
+use Rattle.std.proofs.Common.{length, replicate, refl, sym, ap, ◌∙◌, subst, arith, Option, Some, None, Result, Ok, Err, IsTrue, length-append}
 use Rattle.std.specs.Prelude.{is_some, option_map, option_and_then}
 use Rattle.std.specs.List.{AllByRecursion}
 use Rattle.std.specs.Map.{keys_of, lookup}
@@ -44,7 +45,9 @@ no_serial_is_less (key ∷ keys) = (omega arith, no_serial_is_less keys)
 length_below : (keys : List Key) (low n : ℕ) → AllByRecursion (λ key. low ≤ key.serial) keys → Rises keys n → low ≤ n → length keys + low ≤ n
 length_below [] low n above rises within = omega (arith, within)
 length_below (key ∷ keys) low n above rises within =
-    let rest = length_below keys (key.serial + 1) n (All-implied (λ later. key.serial < later.serial) (λ later. key.serial + 1 ≤ later.serial) keys (λ later h. omega (arith, h)) rises.0) rises.2 (omega (arith, rises.1)) in
+    let rest = length_below keys (key.serial + 1) n
+    (All-implied (λ later. key.serial < later.serial) (λ later. key.serial + 1 ≤ later.serial) keys (λ later h. omega (arith, h)) rises.0) rises.2
+    (omega (arith, rises.1)) in
     omega (arith, rest, above.0)
 
 module _ {T W : Type 0} where
@@ -90,7 +93,8 @@ module _ {T W : Type 0} where
   keeps_removing old key propagate (Some (state.Lost additional tag)) new queue step =
       keeps_propagating old key propagate new queue (propagates-lost old key propagate additional tag new step)
 
-  keeps_queue : (old : Queue T W) (call : RecordedCall T) (task : Option W) (reply : RecordedReply T) (new : Queue T W) → IsQueue (unspared old) → Steps old call task reply new → IsQueue (unspared new)
+  keeps_queue : (old : Queue T W) (call : RecordedCall T) (task : Option W) (reply : RecordedReply T) (new : Queue T W)
+      → IsQueue (unspared old) → Steps old call task reply new → IsQueue (unspared new)
   keeps_queue old call.Listen None (reply.Listened answer) new queue step = keeps_inserting old answer new queue step
   keeps_queue old (call.Register key) (Some task) (reply.Registered answer) new queue step =
       keeps_registering old key task answer new queue step
@@ -140,7 +144,9 @@ module _ {T W : Type 0} where
         leaves = refl;
       }
 
-  makes_registering : (task : W) (old : Queue T W) (key : Key) (slot : ℕ) (told : Option (Notice T)) (waiting : Option (Option W)) → lookup (is_key key) old.told ≡ told → lookup (is_key key) old.waiting ≡ waiting → Makes old (call.Register key) slot
+  makes_registering : (task : W) (old : Queue T W) (key : Key) (slot : ℕ) (told : Option (Notice T)) (waiting : Option (Option W))
+      → lookup (is_key key) old.told ≡ told → lookup (is_key key) old.waiting ≡ waiting
+      → Makes old (call.Register key) slot
   makes_registering task old key slot (Some notice) waiting found w = record {
     task = Some task;
     reply = reply.Registered (register.Notified notice.tag);
@@ -183,7 +189,9 @@ module _ {T W : Type 0} where
       }
 
   -- a notification that is passed on tells one or nobody
-  makes_passing : (old : Queue T W) (key : Key) (slot : ℕ) (notice : Notice T) (keys : List Key) → lookup (is_key key) old.told ≡ Some notice → told_by_passing notice (told_leaves key old) ≡ keys → length keys ≤ 1 → Makes old (call.Remove key true) slot
+  makes_passing : (old : Queue T W) (key : Key) (slot : ℕ) (notice : Notice T) (keys : List Key)
+      → lookup (is_key key) old.told ≡ Some notice → told_by_passing notice (told_leaves key old) ≡ keys
+      → length keys ≤ 1 → Makes old (call.Remove key true) slot
   makes_passing old key slot notice [] found told one =
       let new = after_passing notice (told_leaves key old) in
       let passes : PassesTo [] notice (told_leaves key old) new = record { told = told; queue = refl } in
@@ -194,7 +202,9 @@ module _ {T W : Type 0} where
       removed_so old key true slot (Some (state.Passed to)) new (refl, rw found passes)
   makes_passing old key slot notice (to ∷ other ∷ more) found told one = absurd (omega (arith, one))
 
-  makes_removing : (old : Queue T W) (key : Key) (propagate : Bool) (slot : ℕ) (told : Option (Notice T)) (waiting : Option (Option W)) → lookup (is_key key) old.told ≡ told → lookup (is_key key) old.waiting ≡ waiting → Makes old (call.Remove key propagate) slot
+  makes_removing : (old : Queue T W) (key : Key) (propagate : Bool) (slot : ℕ) (told : Option (Notice T)) (waiting : Option (Option W))
+      → lookup (is_key key) old.told ≡ told → lookup (is_key key) old.waiting ≡ waiting
+      → Makes old (call.Remove key propagate) slot
   makes_removing old key true slot (Some notice) waiting found w =
       makes_passing old key slot notice (told_by_passing notice (told_leaves key old)) found refl (one_told_at_most notice (told_leaves key old))
   makes_removing old key false slot (Some notice) waiting found w =
@@ -263,7 +273,8 @@ module _ {T W : Type 0} where
 
     -- what replays is a run
 
-    run_of : (task : W) (old : Queue T W) (entries : List (Entry T)) (after : Shape T) → IsQueue (unspared old) → replay_from eq (shape_of old) entries ≡ Some after → (new : Queue T W) × IsRun eq old entries new
+    run_of : (task : W) (old : Queue T W) (entries : List (Entry T)) (after : Shape T) → IsQueue (unspared old)
+        → replay_from eq (shape_of old) entries ≡ Some after → (new : Queue T W) × IsRun eq old entries new
     run_of task old [] after queue replays = (old, refl)
     run_of task old (entry ∷ rest) after queue replays =
         by_same (same_reply eq made.reply entry.reply) refl (λ new. run_of task new rest after)
@@ -271,7 +282,9 @@ module _ {T W : Type 0} where
         made : Makes (unspared old) entry.call (slot_in entry.reply)
         made = makes task (unspared old) entry.call (slot_in entry.reply) refl queue.serial_fits
 
-        by_same : (b : Bool) → same_reply eq made.reply entry.reply ≡ b → ((next : Queue T W) → IsQueue (unspared next) → replay_from eq (shape_of next) rest ≡ Some after → (new : Queue T W) × IsRun eq next rest new) → (new : Queue T W) × IsRun eq old (entry ∷ rest) new
+        by_same : (b : Bool) → same_reply eq made.reply entry.reply ≡ b
+            → ((next : Queue T W) → IsQueue (unspared next) → replay_from eq (shape_of next) rest ≡ Some after → (new : Queue T W) × IsRun eq next rest new)
+            → (new : Queue T W) × IsRun eq old (entry ∷ rest) new
         by_same true same later =
             let follows = step_follows (unspared old) entry.call made.task made.reply made.new queue made.step made.kind in
             let replayed = replay_entry-by eq (shape_of old) (shape_of made.new) entry made.reply (made.answers ∙ follows.answers) same (made.leaves ∙ follows.leaves) in

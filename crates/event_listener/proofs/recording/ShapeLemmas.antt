@@ -28,7 +28,8 @@ module _ {K X Y : Type 0} (test : K → Bool) (f : X → Y) where
   set_value-mapped [] value = refl
   set_value-mapped (e ∷ es) value = by_test (test e.0) refl (set_value-mapped es value)
     where
-      by_test : (b : Bool) → test e.0 ≡ b → set_value test (mapped es) (f value) ≡ mapped (set_value test es value) → set_value test (mapped (e ∷ es)) (f value) ≡ mapped (set_value test (e ∷ es) value)
+      by_test : (b : Bool) → test e.0 ≡ b → set_value test (mapped es) (f value) ≡ mapped (set_value test es value)
+          → set_value test (mapped (e ∷ es)) (f value) ≡ mapped (set_value test (e ∷ es) value)
       by_test true here rest = rw here refl
       by_test false apart rest = rw apart (ap (λ (xs : List (K × Y)). (e.0, f e.1) ∷ xs) rest)
 
@@ -111,13 +112,15 @@ module _ {T W : Type 0} where
 
   -- the first so many are told with one tag
 
-  told_with-copies : (additional : Bool) (tag : T) (count : ℕ) (waiting : List (Key × Option W)) → told_with additional (replicate count tag) waiting ≡ map (λ e. (e.0, record { additional = additional; tag = tag })) (take count (flags waiting))
+  told_with-copies : (additional : Bool) (tag : T) (count : ℕ) (waiting : List (Key × Option W))
+      → told_with additional (replicate count tag) waiting ≡ map (λ e. (e.0, record { additional = additional; tag = tag })) (take count (flags waiting))
   told_with-copies additional tag zero waiting = refl
   told_with-copies additional tag (suc count) [] = refl
   told_with-copies additional tag (suc count) (first ∷ rest) =
       ap (λ (es : List (Key × Notice T)). (first.0, record { additional = additional; tag = tag }) ∷ es) (told_with-copies additional tag count rest)
 
-  pub shape-after_telling : (additional : Bool) (tag : T) (count : ℕ) (q : Queue T W) → after_notice count (record { additional = additional; tag = tag }) (shape_of q) ≡ shape_of (after_telling additional (replicate count tag) q)
+  pub shape-after_telling : (additional : Bool) (tag : T) (count : ℕ) (q : Queue T W)
+      → after_notice count (record { additional = additional; tag = tag }) (shape_of q) ≡ shape_of (after_telling additional (replicate count tag) q)
   shape-after_telling additional tag count q =
       let told = ap (λ es. q.told ++ es) (sym (told_with-copies additional tag count q.waiting)) in
       let waiting : drop count (flags q.waiting) ≡ flags (drop (length (replicate count tag)) q.waiting) =

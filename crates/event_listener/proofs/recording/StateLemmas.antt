@@ -50,12 +50,14 @@ module _ {T W : Type 0} where
   not_passed_on old key (Some (state.Passed to)) new step = absurd (let e = step.0 in cc)
   not_passed_on old key (Some (state.Lost additional tag)) new step = absurd (let e = step.0 in cc)
 
-  pub removal_kind : (old : Queue T W) (key : Key) (propagate : Bool) (answer : Option (Former T)) (new : Queue T W) → RemovesAs old key propagate answer new → IsReplyTo (call.Remove key propagate) (reply.Removed answer)
+  pub removal_kind : (old : Queue T W) (key : Key) (propagate : Bool) (answer : Option (Former T)) (new : Queue T W)
+      → RemovesAs old key propagate answer new → IsReplyTo (call.Remove key propagate) (reply.Removed answer)
   removal_kind old key true answer new step = tt
   removal_kind old key false answer new step =
       subst WasKept (sym step.answered) (not_passed_on old key step.was new step.removes)
 
-  pub step_kind : (old : Queue T W) (call : RecordedCall T) (task : Option W) (reply : RecordedReply T) (new : Queue T W) → newcomers_of call ≤ old.spare → Steps old call task reply new → IsReplyTo call reply
+  pub step_kind : (old : Queue T W) (call : RecordedCall T) (task : Option W) (reply : RecordedReply T) (new : Queue T W)
+      → newcomers_of call ≤ old.spare → Steps old call task reply new → IsReplyTo call reply
   step_kind old call.Listen None (reply.Listened answer) new room step = room_for_one old answer new room step
   step_kind old (call.Register key) (Some task) (reply.Registered answer) new room step = tt
   step_kind old (call.Remove key propagate) None (reply.Removed answer) new room step =
@@ -104,7 +106,8 @@ module _ {T W : Type 0} where
   one_more_listens old (Err Memory) new step = omega (arith, ap listeners_of step.2)
   one_more_listens old (Err SerialsUsedUp) new step = omega (arith, ap listeners_of step.1)
 
-  pub no_more_than_newcomers : (old : Queue T W) (call : RecordedCall T) (task : Option W) (reply : RecordedReply T) (new : Queue T W) → Steps old call task reply new → listeners_of new ≤ listeners_of old + newcomers_of call
+  pub no_more_than_newcomers : (old : Queue T W) (call : RecordedCall T) (task : Option W) (reply : RecordedReply T) (new : Queue T W)
+      → Steps old call task reply new → listeners_of new ≤ listeners_of old + newcomers_of call
   no_more_than_newcomers old call.Listen None (reply.Listened answer) new step = one_more_listens old answer new step
   no_more_than_newcomers old (call.Register key) (Some task) (reply.Registered answer) new step =
       omega (arith, no_more_registered old key task answer new step)
@@ -123,7 +126,9 @@ module _ {T W : Type 0} where
   with_no_spare q queue = record { rising = queue.rising; serial_fits = queue.serial_fits; slots_fit = omega (arith, queue.slots_fit) }
 
   -- a step after room was made for it
-  pub steps_any_spare : (old mid new : Queue T W) (call : RecordedCall T) (task : Option W) (reply : RecordedReply T) → mid ≡ record old { spare = mid.spare } → Steps mid call task reply new → StepsAnySpare (unspared old) call task reply (unspared new)
+  pub steps_any_spare : (old mid new : Queue T W) (call : RecordedCall T) (task : Option W) (reply : RecordedReply T)
+      → mid ≡ record old { spare = mid.spare } → Steps mid call task reply new
+      → StepsAnySpare (unspared old) call task reply (unspared new)
   steps_any_spare old mid new call task reply same step = record {
     spare = mid.spare;
     spare' = new.spare;
@@ -132,11 +137,13 @@ module _ {T W : Type 0} where
 
   -- a removal of nobody, and of somebody
 
-  absent_only : (old : Queue T W) (key : Key) (propagate : Bool) (was : Option (State T W)) (new : Queue T W) → Removes old key propagate was new → None ≡ option_map former_of was → IsAbsent key old × (new ≡ old)
+  absent_only : (old : Queue T W) (key : Key) (propagate : Bool) (was : Option (State T W)) (new : Queue T W)
+      → Removes old key propagate was new → None ≡ option_map former_of was → IsAbsent key old × (new ≡ old)
   absent_only old key propagate None new step none = step
   absent_only old key propagate (Some was) new step none = absurd (cc)
 
-  pub nobody_removed : (old : Queue T W) (key : Key) (propagate : Bool) (answer : Option (Former T)) (new : Queue T W) → RemovesAs old key propagate answer new → answer ≡ None → IsAbsent key old × (new ≡ old)
+  pub nobody_removed : (old : Queue T W) (key : Key) (propagate : Bool) (answer : Option (Former T)) (new : Queue T W)
+      → RemovesAs old key propagate answer new → answer ≡ None → IsAbsent key old × (new ≡ old)
   nobody_removed old key propagate answer new step none = absent_only old key propagate step.was new step.removes (sym none ∙ step.answered)
 
   found_told : (old : Queue T W) (key : Key) (propagate : Bool) (new : Queue T W) → Propagates old key propagate new → ¬ IsAbsent key old
@@ -146,7 +153,8 @@ module _ {T W : Type 0} where
   found_one : (old : Queue T W) (key : Key) (propagate : Bool) (was : State T W) (new : Queue T W) → Removes old key propagate (Some was) new → ¬ IsAbsent key old
   found_one old key propagate state.Created new step = λ absent. let none : Option W = None in let no : None ≡ Some none = sym absent.unwaiting ∙ step.0 in absurd (cc)
   found_one old key propagate (state.Task task) new step = λ absent. let no : None ≡ Some (Some task) = sym absent.unwaiting ∙ step.0 in absurd (cc)
-  found_one old key propagate (state.Notified additional tag) new step = λ absent. let notice : Notice T = record { additional = additional; tag = tag } in let no : None ≡ Some notice = sym absent.untold ∙ step.1 in absurd (cc)
+  found_one old key propagate (state.Notified additional tag) new step = λ absent. let notice : Notice T = record
+      { additional = additional; tag = tag } in let no : None ≡ Some notice = sym absent.untold ∙ step.1 in absurd (cc)
   found_one old key propagate (state.Passed to) new step =
       found_told old key propagate new (propagates-passed old key propagate to new step)
   found_one old key propagate (state.Lost additional tag) new step =
@@ -156,19 +164,23 @@ module _ {T W : Type 0} where
     pub present : ¬ IsAbsent key old
     pub fewer : listeners_of new + 1 ≡ listeners_of old
 
-  removed_one : (old : Queue T W) (key : Key) (propagate : Bool) (was : Option (State T W)) (former : Former T) (new : Queue T W) → Removes old key propagate was new → Some former ≡ option_map former_of was → RemovedOne old key new
+  removed_one : (old : Queue T W) (key : Key) (propagate : Bool) (was : Option (State T W)) (former : Former T) (new : Queue T W)
+      → Removes old key propagate was new → Some former ≡ option_map former_of was → RemovedOne old key new
   removed_one old key propagate None former new step some = absurd (cc)
   removed_one old key propagate (Some was) former new step some = record {
     present = found_one old key propagate was new step;
     fewer = one_left old key propagate was new step;
   }
 
-  pub somebody_removed : (old : Queue T W) (key : Key) (propagate : Bool) (answer : Option (Former T)) (former : Former T) (new : Queue T W) → RemovesAs old key propagate answer new → answer ≡ Some former → RemovedOne old key new
+  pub somebody_removed : (old : Queue T W) (key : Key) (propagate : Bool) (answer : Option (Former T)) (former : Former T) (new : Queue T W)
+      → RemovesAs old key propagate answer new → answer ≡ Some former → RemovedOne old key new
   somebody_removed old key propagate answer former new step some = removed_one old key propagate step.was former new step.removes (sym some ∙ step.answered)
 
 module _ {T : Type 0} (eq : T → T → Bool) where
   -- of a new state
-  pub IsRecording-empty : (entries : List (Entry T)) (q : Queue T Task) (len capacity : ℕ) → entries ≡ [] → q ≡ record { told = []; waiting = []; next_serial = 0; spare = 0 } → IsQueue q → len ≡ 0 → IsRecording eq entries (unspared q) len capacity
+  pub IsRecording-empty : (entries : List (Entry T)) (q : Queue T Task) (len capacity : ℕ) → entries ≡ []
+      → q ≡ record { told = []; waiting = []; next_serial = 0; spare = 0 } → IsQueue q → len ≡ 0
+      → IsRecording eq entries (unspared q) len capacity
   IsRecording-empty entries q len capacity none empty queue short = record {
     replays = rw (none, empty) refl;
     is_queue = with_no_spare q queue;
@@ -177,7 +189,9 @@ module _ {T : Type 0} (eq : T → T → Bool) where
   }
 
   -- as room is made, or nothing changes
-  pub IsRecording-grown : (entries entries' : List (Entry T)) (q q' : Queue T Task) (len len' capacity capacity' : ℕ) → IsRecording eq entries (unspared q) len capacity → entries' ≡ entries → unspared q' ≡ unspared q → len' ≡ len → capacity ≤ capacity' → IsRecording eq entries' (unspared q') len' capacity'
+  pub IsRecording-grown : (entries entries' : List (Entry T)) (q q' : Queue T Task) (len len' capacity capacity' : ℕ)
+      → IsRecording eq entries (unspared q) len capacity → entries' ≡ entries → unspared q' ≡ unspared q → len' ≡ len
+      → capacity ≤ capacity' → IsRecording eq entries' (unspared q') len' capacity'
   IsRecording-grown entries entries' q q' len len' capacity capacity' is same_entries same_queue same_len grown =
       rw (same_entries, same_queue, same_len) (record { replays = is.replays; is_queue = is.is_queue; ends = is.ends; has_room = omega (arith, is.has_room) })
 
@@ -190,13 +204,21 @@ module _ {T : Type 0} (eq : T → T → Bool) where
 
   module _ (equivalence : IsEquivalence eq) where
     -- the record with one more step
-    replays_step : {W : Type 0} (entries : List (Entry T)) (old : Queue T W) (hand : Option ℕ) (call : RecordedCall T) (task : Option W) (reply : RecordedReply T) (new : Queue T W) → ReplaysTo eq entries old → IsQueue (unspared old) → Steps old call task reply new → IsReplyTo call reply → ReplaysTo eq (entries ++ record { hand = hand; call = call; reply = reply } ∷ []) new
+    replays_step : {W : Type 0} (entries : List (Entry T)) (old : Queue T W) (hand : Option ℕ) (call : RecordedCall T) (task : Option W) (reply : RecordedReply T) (new : Queue T W)
+        → ReplaysTo eq entries old → IsQueue (unspared old) → Steps old call task reply new → IsReplyTo call reply
+        → ReplaysTo eq (entries ++ record { hand = hand; call = call; reply = reply } ∷ []) new
     replays_step entries old hand call task reply new replays queue step kind =
         let follows = step_follows old call task reply new queue step kind in
-        replay_from-push eq _ (shape_of old) (shape_of new) entries _ replays (replay_entry-follows eq old new (record { hand = hand; call = call; reply = reply }) reply follows (same_reply-refl eq equivalence reply))
+        replay_from-push eq _ (shape_of old) (shape_of new) entries _ replays
+        (replay_entry-follows eq old new (record { hand = hand; call = call; reply = reply }) reply follows (same_reply-refl eq equivalence reply))
 
     -- as a step is made and recorded
-    pub IsRecording-step : (entries entries' : List (Entry T)) (old new : Queue T Task) (hand : Option ℕ) (call recorded : RecordedCall T) (task : Option Task) (reply : RecordedReply T) (len' capacity' : ℕ) → ReplaysTo eq entries old → IsQueue (unspared old) → Steps old call task reply new → IsReplyTo call reply → IsQueue new → HandlessAreEnds entries → (hand ≡ None → IsEnd recorded reply) → recorded ≡ call → entries' ≡ entries ++ record { hand = hand; call = recorded; reply = reply } ∷ [] → len' + listeners_of new ≤ capacity' → IsRecording eq entries' (unspared new) len' capacity'
+    pub IsRecording-step : (entries entries' : List (Entry T)) (old new : Queue T Task) (hand : Option ℕ) (call recorded : RecordedCall T)
+        (task : Option Task) (reply : RecordedReply T) (len' capacity' : ℕ)
+        → ReplaysTo eq entries old → IsQueue (unspared old) → Steps old call task reply new → IsReplyTo call reply
+        → IsQueue new → HandlessAreEnds entries → (hand ≡ None → IsEnd recorded reply) → recorded ≡ call
+        → entries' ≡ entries ++ record { hand = hand; call = recorded; reply = reply } ∷ []
+        → len' + listeners_of new ≤ capacity' → IsRecording eq entries' (unspared new) len' capacity'
     IsRecording-step entries entries' old new hand call recorded task reply len' capacity' replays was_queue step kind queue ends end same pushed room = record {
       replays = rw (pushed, same) (replays_step entries old hand call task reply new replays was_queue step kind);
       is_queue = with_no_spare new queue;

@@ -1,6 +1,7 @@
 -- What a step of a queue says of its shape: the reply is the one that the shape answers, and the shape after it is that of
 -- the queue that the step leaves.
-use Rattle.std.proofs.Common.{◌≡◌, ◌≢◌, ◌↔◌, ℕ, zero, suc, ◌+◌, ◌-◌, ◌<◌, ◌≤◌, ◌^◌, min, if◌then◌else◌, Bool, true, false, nat_lt, List, [], ◌∷◌, ◌++◌, length, take, replicate, refl, sym, ap, ◌∙◌, arith, Option, Some, None, Result, Ok, Err, IsSomeAnd, IsSome, IsTrue}
+use Rattle.std.proofs.Common.{◌≡◌, ◌≢◌, ◌↔◌, ℕ, zero, suc, ◌+◌, ◌-◌, ◌<◌, ◌≤◌, ◌^◌, min, if◌then◌else◌, Bool, true, false, nat_lt, List, []}
+use Rattle.std.proofs.Common.{◌∷◌, ◌++◌, length, take, replicate, refl, sym, ap, ◌∙◌, arith, Option, Some, None, Result, Ok, Err, IsSomeAnd, IsSome, IsTrue}
 use Rattle.std.specs.Prelude.{is_some, option_map}
 use Rattle.std.specs.Map.{lookup}
 use Rattle.std.proofs.lemmas.Bool.{eqb-true, false_from_ne_true, ltb-true, lt-ltb}
@@ -27,7 +28,8 @@ use Rattle.event_listener.specs.declared.recorded.reply.Former.{Former}
 use Rattle.event_listener.specs.recording.Step.{Steps, RemovesAs, IsReplyTo, former_of}
 use Rattle.event_listener.specs.recording.State.{unspared}
 use Rattle.event_listener.specs.recording.Replay.{shape_of, serials_used_up, newcomer, tells, waiting_at, answer_at, after_notice, after_call, slot_in, passed}
-use Rattle.event_listener.proofs.recording.ShapeLemmas.{waiting_at-shape, tells-shape, told_by_passing-shape, shape-waiting_leaves, shape-after_storing, shape-nobody_leaves, shape-nobody_stores, shape-after_telling}
+use Rattle.event_listener.proofs.recording.ShapeLemmas.{waiting_at-shape, tells-shape, told_by_passing-shape, shape-waiting_leaves}
+use Rattle.event_listener.proofs.recording.ShapeLemmas.{shape-after_storing, shape-nobody_leaves, shape-nobody_stores, shape-after_telling}
 
 -- what a look-up finds
 pub found_value : {X : Type 0} (o : Option X) (P : X → Type 0) → IsSomeAnd o P → (x : X) × (o ≡ Some x) × P x
@@ -66,7 +68,8 @@ module _ {T W : Type 0} where
 
   -- a newcomer joins
 
-  joined_shape : (old : Queue T W) (key : Key) (new : Queue T W) → Joins old key new → record (shape_of old) { waiting = (shape_of old).waiting ++ (key, false) ∷ []; next_serial = old.next_serial + 1 } ≡ shape_of new
+  joined_shape : (old : Queue T W) (key : Key) (new : Queue T W) → Joins old key new
+      → record (shape_of old) { waiting = (shape_of old).waiting ++ (key, false) ∷ []; next_serial = old.next_serial + 1 } ≡ shape_of new
   joined_shape old key new joins =
       let waiting : (shape_of old).waiting ++ (key, false) ∷ [] ≡ (shape_of new).waiting =
       sym (map-append (λ (e : Key × Option W). (e.0, is_some e.1)) old.waiting ((key, None) ∷ [])) ∙ ap (λ q. (shape_of q).waiting) (sym joins.queue) in
@@ -87,7 +90,9 @@ module _ {T W : Type 0} where
       let none = no_serial_left old step.0 in
       record { answers = rw none refl; leaves = rw none (ap shape_of (sym step.1)) }
 
-  register_follows : (old : Queue T W) (key : Key) (task : W) (answer : RegisterResult T) (new : Queue T W) → IsQueue (unspared old) → Registers old key task answer new → Follows old (call.Register key) (reply.Registered answer) new
+  register_follows : (old : Queue T W) (key : Key) (task : W) (answer : RegisterResult T) (new : Queue T W)
+      → IsQueue (unspared old) → Registers old key task answer new
+      → Follows old (call.Register key) (reply.Registered answer) new
   register_follows old key task (register.Notified tag) new queue step =
       let found = found_value (lookup (is_key key) old.told) (λ n. n.tag ≡ tag) step.0 in
       record {
@@ -122,7 +127,9 @@ module _ {T W : Type 0} where
       ∙ shape-after_telling notice.additional notice.tag count q
       ∙ ap (λ tags. shape_of (after_telling notice.additional tags q)) (sym (one_copy count notice.tag one))
 
-  passing_follows : (old : Queue T W) (key : Key) (propagate : Bool) (notice : Notice T) (keys : List Key) (new : Queue T W) → propagate ≡ true → lookup (is_key key) old.told ≡ Some notice → PassesTo keys notice (told_leaves key old) new → Follows old (call.Remove key propagate) (reply.Removed (Some (passed notice keys))) new
+  passing_follows : (old : Queue T W) (key : Key) (propagate : Bool) (notice : Notice T) (keys : List Key) (new : Queue T W)
+      → propagate ≡ true → lookup (is_key key) old.told ≡ Some notice → PassesTo keys notice (told_leaves key old) new
+      → Follows old (call.Remove key propagate) (reply.Removed (Some (passed notice keys))) new
   passing_follows old key propagate notice keys new propagates found passes =
       let left = told_leaves key old in
       record {
@@ -130,7 +137,9 @@ module _ {T W : Type 0} where
         leaves = rw (propagates, found) (passed_shape left notice ∙ ap shape_of (sym passes.queue));
       }
 
-  removal_follows : (old : Queue T W) (key : Key) (propagate : Bool) (was : Option (State T W)) (new : Queue T W) → IsQueue (unspared old) → Removes old key propagate was new → Follows old (call.Remove key propagate) (reply.Removed (option_map former_of was)) new
+  removal_follows : (old : Queue T W) (key : Key) (propagate : Bool) (was : Option (State T W)) (new : Queue T W)
+      → IsQueue (unspared old) → Removes old key propagate was new
+      → Follows old (call.Remove key propagate) (reply.Removed (option_map former_of was)) new
   removal_follows old key propagate None new queue step =
       let here : waiting_at key (shape_of old) ≡ None = waiting_at-shape key old ∙ ap (option_map is_some) step.0.unwaiting in
       record {
@@ -162,11 +171,15 @@ module _ {T W : Type 0} where
   removal_follows old key propagate (Some (state.Lost additional tag)) new queue step =
       passing_follows old key propagate _ [] new step.0 step.1 step.2
 
-  remove_follows : (old : Queue T W) (key : Key) (propagate : Bool) (answer : Option (Former T)) (new : Queue T W) → IsQueue (unspared old) → RemovesAs old key propagate answer new → Follows old (call.Remove key propagate) (reply.Removed answer) new
+  remove_follows : (old : Queue T W) (key : Key) (propagate : Bool) (answer : Option (Former T)) (new : Queue T W)
+      → IsQueue (unspared old) → RemovesAs old key propagate answer new
+      → Follows old (call.Remove key propagate) (reply.Removed answer) new
   remove_follows old key propagate answer new queue step =
       rw step.answered (removal_follows old key propagate step.was new queue step.removes)
 
-  notify_follows : (old : Queue T W) (count : ℕ) (additional : Bool) (tag : T) (told : ℕ) (new : Queue T W) → told ≡ how_many count additional old → new ≡ after_telling additional (replicate told tag) old → Follows old (call.Notify count additional tag) (reply.Notified told) new
+  notify_follows : (old : Queue T W) (count : ℕ) (additional : Bool) (tag : T) (told : ℕ) (new : Queue T W)
+      → told ≡ how_many count additional old → new ≡ after_telling additional (replicate told tag) old
+      → Follows old (call.Notify count additional tag) (reply.Notified told) new
   notify_follows old count additional tag told new told_is new_is =
       let same : tells count additional (shape_of old) ≡ told = tells-shape count additional old ∙ sym told_is in
       record {
@@ -186,7 +199,8 @@ module _ {T W : Type 0} where
     leaves = ap shape_of (sym same);
   }
 
-  pub step_follows : (old : Queue T W) (call : RecordedCall T) (task : Option W) (reply : RecordedReply T) (new : Queue T W) → IsQueue (unspared old) → Steps old call task reply new → IsReplyTo call reply → Follows old call reply new
+  pub step_follows : (old : Queue T W) (call : RecordedCall T) (task : Option W) (reply : RecordedReply T) (new : Queue T W)
+      → IsQueue (unspared old) → Steps old call task reply new → IsReplyTo call reply → Follows old call reply new
   step_follows old call.Listen None (reply.Listened answer) new queue step kind = listen_follows old answer new step kind
   step_follows old (call.Register key) (Some task) (reply.Registered answer) new queue step kind =
       register_follows old key task answer new queue step

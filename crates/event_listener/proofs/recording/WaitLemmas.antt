@@ -36,7 +36,9 @@ module _ {T : Type 0} where
       let notes = append_assoc before.1.notes (replicate rounds (still_waiting before.0.key)) (still_waiting before.0.key ∷ []) ∙ ap (λ later. before.1.notes ++ later) more in
       (waited.2.0 ∙ earlier.0, now ∙ ap (λ (all : List (Note T)). record before.1 { notes = all }) notes)
 
-  pub noted_wait : (may_end : Type 0) (before : RecordedPlace × HandNotes T) (listener : RecordedListening) (outcome : WaitOutcome T) (after : RecordedPlace × HandNotes T) → before.0.key ≡ listener.key → Waits Goes Ends Leaves may_end before outcome after → NotesWait may_end listener before.1 (answer_of listener outcome) after.1
+  pub noted_wait : (may_end : Type 0) (before : RecordedPlace × HandNotes T) (listener : RecordedListening) (outcome : WaitOutcome T) (after : RecordedPlace × HandNotes T)
+      → before.0.key ≡ listener.key → Waits Goes Ends Leaves may_end before outcome after
+      → NotesWait may_end listener before.1 (answer_of listener outcome) after.1
   noted_wait may_end before listener (Told tag) after key (inl round) =
       let earlier = noted_rounds round.rounds before round.between round.waited in
       let last = rw (earlier.0, earlier.1, key) at round.ended.1 in

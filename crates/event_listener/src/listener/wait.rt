@@ -4,7 +4,8 @@
 //! [`wait_within`]. For either kind of listener, these make [`InnerListener::wait`] with the queue of its event.
 //!
 //! That, and the wait of a recorded listener (`recorded/wait`), is [`wait_in`]: there is one wait, whatever it makes its
-//! steps on. [`WaitSteps`] is what it needs of a listener: a registration, and the removal at the deadline.
+//! steps on. [`WaitSteps`] is what it needs of a listener: an attempt, which registers, and the removal at the deadline.
+//! Both stand in `steps`; how long a wait goes on is in `deadline`, and how it ends in `outcome`.
 ghost use Rattle.std.specs.Prelude.{◌≡◌, ◌≢◌, ◌⊎◌, Bool, true, false, None, IsSome, IsErr, IfOk, IfErr};
 ghost use Rattle.event_listener.specs.declared.listener.wait.deadline.Limit.TheVariants.{Never};
 ghost use Rattle.event_listener.specs.declared.listener.wait.outcome.WaitOutcome.TheVariants.{TimedOut, Refused};

@@ -9,10 +9,10 @@ use super::event::RecordedEvent;
 use super::hand::Hand;
 use super::reply::{Former, RecordedReply};
 use super::wait::wait_within;
-use crate::listener::{Limit, WaitError};
+use crate::listener::{Limit, WaitError, poll_of};
 use crate::locks::take_lock;
 use crate::task::{Task, Waking};
-use event_queue::{Key, RegisterResult};
+use event_queue::Key;
 use futures::task::{Poll, Waker};
 use std::fmt;
 use std::marker::Model;
@@ -91,11 +91,7 @@ impl<'ev, T: Copy + Eq, R: Wait + Clock + Clone> RecordedListener<'ev, T, R> {
             return Err(RecordedPollError::Memory);
         };
         match reply {
-            RecordedReply::Registered(RegisterResult::Notified(tag)) => Ok(Poll::Ready(tag)),
-            RecordedReply::Registered(RegisterResult::Registered) => Ok(Poll::Pending),
-            RecordedReply::Registered(RegisterResult::NeverInserted) => {
-                Err(RecordedPollError::NeverInserted)
-            }
+            RecordedReply::Registered(found) => poll_of(found, RecordedPollError::NeverInserted),
             _ => unreachable!(),
         }
     }
@@ -179,7 +175,7 @@ impl<'ev, T: Copy + Eq, R: Wait + Clock + Clone> RecordedListener<'ev, T, R> {
         wait_within(self, hand, Limit::At(deadline))
     }
 
-    // Lets go of a listener that has left the queue, with no call on the queue.
+    // Ends a listener that has left the queue, with no call on the queue.
     pub(super) fn forget(self) {
         let Self {
             event: _,

@@ -8,8 +8,8 @@ ghost use Rattle.event_listener.specs.recording.Calls.{Polls};
 use super::hand::Hand;
 use super::listener::{RecordedListener, RecordedPollError};
 use super::reply::RecordedReply;
+use crate::listener::poll_of;
 use crate::task::EventSource;
-use event_queue::RegisterResult;
 use futures::task::{Context, Poll};
 use std::sync::Wait;
 use std::time::Clock;
@@ -37,11 +37,7 @@ impl<T: Copy + Eq, R: Wait + Clock + Clone> RecordedListener<'_, T, R> {
             return Err(RecordedPollError::Memory);
         };
         match reply {
-            RecordedReply::Registered(RegisterResult::Notified(tag)) => Ok(Poll::Ready(tag)),
-            RecordedReply::Registered(RegisterResult::Registered) => Ok(Poll::Pending),
-            RecordedReply::Registered(RegisterResult::NeverInserted) => {
-                Err(RecordedPollError::NeverInserted)
-            }
+            RecordedReply::Registered(found) => poll_of(found, RecordedPollError::NeverInserted),
             _ => unreachable!(),
         }
     }

@@ -22,10 +22,10 @@ use std::marker::Model;
 /// A queue and the record of every step that it made: what stands under the lock of a recorded event.
 ///
 /// The type keeps that the record replays to the queue, that each entry of no hand is the end of a listener, and room to
-/// record the end of each listener that stands in the queue.
-/// Only [`apply`](RecordedState::apply), [`apply_end`](RecordedState::apply_end) and the polls of this crate change it;
-/// each makes one step of the queue and records it. No call takes a lock, and none waits unless its sink does. A contract
-/// sees a state as its entries and its queue, but for how much is spare.
+/// record the end of each listener that stands in the queue. Only [`apply`](RecordedState::apply),
+/// [`apply_end`](RecordedState::apply_end) and the polls of this crate change it; each makes one step of the queue and
+/// records it. No call takes a lock, and none waits unless its sink does. A contract sees a state as its entries and its
+/// queue, but for how much is spare.
 #[derive(Drop)]
 pub struct RecordedState<T: Copy + Eq> {
     list: List<T, Task>,
@@ -194,8 +194,8 @@ impl<T: Copy + Eq> RecordedState<T> {
         self.list.total_listeners()
     }
 
-    /// The record alone, which replays, and of which each entry of no hand is the end of a listener. The call drops the queue with its tasks and tags, and neither allocates nor
-    /// waits.
+    /// The record alone, which replays, and of which each entry of no hand is the end of a listener. The call drops the
+    /// queue with its tasks and tags, and neither allocates nor waits.
     pub(crate) fn into_entries(self) -> Vec<Entry<T>>
         ensures value { result.items ≡ self.entries }
         ensures replays { IsTrue (replays T.eq result.items) }

@@ -3,7 +3,8 @@ ghost use Rattle.std.specs.Prelude.{◌≡◌, ◌≤◌, ◌<◌, ◌+◌, min,
 ghost use Rattle.event_queue.specs.declared.notice.Notice.{Notice};
 ghost use Rattle.event_listener.specs.declared.recorded.call.RecordedCall.TheVariants.{Listen};
 ghost use Rattle.event_listener.specs.declared.recorded.reply.RecordedReply.TheVariants.{Listened};
-ghost use Rattle.event_listener.specs.recording.Replay.{empty_shape, tells, after_notice, told_at, waiting_at, registered, after_register, removed, passed, told_by_passing_at, after_removal, answer_at, after_call};
+ghost use Rattle.event_listener.specs.recording.Replay.{empty_shape, tells, after_notice, told_at, waiting_at, registered, after_register, removed};
+ghost use Rattle.event_listener.specs.recording.Replay.{passed, told_by_passing_at, after_removal, answer_at, after_call};
 
 use super::entries::{set_entry, take_entry};
 use crate::recorded::call::RecordedCall;

@@ -11,7 +11,15 @@ loop-preserved-in-None-left g c =
 
 pub returns-in-Some-left : goal.returns-in-Some-left
 returns-in-Some-left g c =
-    inr (inl (Prim.search (rules), record { rounds = c.loop.invariant.0; between = (c.attempt.new.self, c.attempt.new.notes); waited = ((c.loop.steps, c.loop.notes), c.loop.invariant.1, Prim.search (rules)); left = c.time_out.ensures }))
+    inr (inl (
+      Prim.search (rules),
+      record {
+        rounds = c.loop.invariant.0;
+        between = (c.attempt.new.self, c.attempt.new.notes);
+        waited = ((c.loop.steps, c.loop.notes), c.loop.invariant.1, Prim.search (rules));
+        left = c.time_out.ensures;
+      },
+    ))
 
 pub loop-preserved : goal.loop-preserved
 loop-preserved g c =

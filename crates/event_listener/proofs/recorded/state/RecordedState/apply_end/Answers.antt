@@ -36,7 +36,10 @@ pub invariant_of-self-2 : goal.invariant_of-self-2
 invariant_of-self-2 g c =
     let one = somebody_removed _ _ _ _ c.in-Some.was _ c.perform_removal.ensures.step c.in-Some.is in
     let step = rw c.in-Some.is at c.perform_removal.ensures.step in
-    IsRecording-step g.T.PartialEq.eq g.met.T.Eq.laws _ _ c.self.inside.list c.perform_removal.new.list _ (Remove c.args.key true) _ None _ _ _ c.self.invariant.replays c.self.invariant.is_queue step tt c.perform_removal.ensures.queue c.self.invariant.ends (λ none. tt) refl c.push_reserved.ensures.items (omega (arith, one.fewer, c.self.invariant.has_room, c.push_reserved.ensures.len, c.push_reserved.ensures.capacity))
+    IsRecording-step g.T.PartialEq.eq g.met.T.Eq.laws _ _ c.self.inside.list c.perform_removal.new.list _ (Remove c.args.key true) _ None _ _ _
+    c.self.invariant.replays c.self.invariant.is_queue step tt c.perform_removal.ensures.queue c.self.invariant.ends (λ none. tt) refl
+    c.push_reserved.ensures.items
+    (omega (arith, one.fewer, c.self.invariant.has_room, c.push_reserved.ensures.len, c.push_reserved.ensures.capacity))
 
 pub returns-clause-ends : goal.returns-clause-ends
 returns-clause-ends g c =

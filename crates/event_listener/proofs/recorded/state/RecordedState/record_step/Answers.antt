@@ -11,7 +11,8 @@ invariant_of-self g c =
 
 pub invariant_of-self-in_err-reserve : goal.invariant_of-self-in_err-reserve
 invariant_of-self-in_err-reserve g c =
-    IsRecording-grown g.T.PartialEq.eq _ _ c.self.inside.list c.reserve.new.self _ _ _ _ c.self.invariant c.make_room.ensures.items (ap unspared c.reserve.ensures.listeners) c.make_room.ensures.len c.make_room.ensures.kept
+    IsRecording-grown g.T.PartialEq.eq _ _ c.self.inside.list c.reserve.new.self _ _ _ _ c.self.invariant c.make_room.ensures.items
+    (ap unspared c.reserve.ensures.listeners) c.make_room.ensures.len c.make_room.ensures.kept
 
 pub invariant_of-self-2 : goal.invariant_of-self-2
 invariant_of-self-2 g c =
@@ -23,7 +24,20 @@ invariant_of-self-2 g c =
     let as_many : listeners_of mid ≡ listeners_of c.self.inside.list = ap listeners_of c.reserve.ensures.listeners in
     let same : unspared mid ≡ unspared c.self.inside.list = ap unspared c.reserve.ensures.listeners in
     let replays = replays_same g.T.PartialEq.eq _ c.make_room.new.entries.items c.self.inside.list mid c.self.invariant.replays c.make_room.ensures.items same in
-    IsRecording-step g.T.PartialEq.eq g.met.T.Eq.laws _ _ mid new _ call c.recorded-recorded.result (task_of c.args.call) c.perform_step-reply.result _ _ replays (with_no_spare mid c.reserve.ensures.queue) step (step_kind mid call _ _ new spare step) c.perform_step-reply.ensures.queue (rw c.make_room.ensures.items c.self.invariant.ends) (λ none. absurd (cc)) c.recorded-recorded.ensures (rw c.by_hand-entry.ensures at c.push_reserved.ensures.items) (omega (arith, as_many, no_more_than_newcomers mid call _ _ new step, c.newcomers-newcomers.ensures.value, c.total_listeners-listeners.ensures.value, c.in_ok-make_room.ensures.room, c.push_reserved.ensures.len, c.push_reserved.ensures.capacity))
+    IsRecording-step g.T.PartialEq.eq g.met.T.Eq.laws _ _ mid new _ call c.recorded-recorded.result (task_of c.args.call) c.perform_step-reply.result
+    _ _ replays (with_no_spare mid c.reserve.ensures.queue) step (step_kind mid call _ _ new spare step) c.perform_step-reply.ensures.queue
+    (rw c.make_room.ensures.items c.self.invariant.ends) (λ none. absurd (cc)) c.recorded-recorded.ensures
+    (rw c.by_hand-entry.ensures at c.push_reserved.ensures.items)
+    (omega (
+      arith,
+      as_many,
+      no_more_than_newcomers mid call _ _ new step,
+      c.newcomers-newcomers.ensures.value,
+      c.total_listeners-listeners.ensures.value,
+      c.in_ok-make_room.ensures.room,
+      c.push_reserved.ensures.len,
+      c.push_reserved.ensures.capacity,
+    ))
 
 pub returns-clause-kind : goal.returns-clause-kind
 returns-clause-kind g c =
@@ -33,4 +47,5 @@ returns-clause-kind g c =
 pub returns-clause-step : goal.returns-clause-step
 returns-clause-step g c =
     let step = steps_any_spare c.self.inside.list c.reserve.new.self c.perform_step-reply.new.list _ _ _ c.reserve.ensures.listeners c.perform_step-reply.ensures.step in
-    rw c.by_hand-entry.ensures (subst (λ q. StepsAnySpare q (without_task c.args.call) (task_of c.args.call) c.perform_step-reply.result (unspared c.perform_step-reply.new.list)) (ap (λ r. r.queue) c.self.view_is) step)
+    rw c.by_hand-entry.ensures
+    (subst (λ q. StepsAnySpare q (without_task c.args.call) (task_of c.args.call) c.perform_step-reply.result (unspared c.perform_step-reply.new.list)) (ap (λ r. r.queue) c.self.view_is) step)
