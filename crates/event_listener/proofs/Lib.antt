@@ -1,15 +1,3 @@
 pub mod IdentityLemmas
 pub mod WaitLemmas
-pub mod RecordedWaitLemmas
-pub mod CopiedTagLemmas
-pub mod EntryLemmas
-pub mod ShapeLemmas
-pub mod StepLemmas
-pub mod SameReplyLemmas
-pub mod SameCallLemmas
-pub mod ReplayLemmas
-pub mod RecordingLemmas
-pub mod ClosingLemmas
-pub mod HandLemmas
-pub mod RecordedRunLemmas
-pub mod ExchangeLemmas
+pub mod recording

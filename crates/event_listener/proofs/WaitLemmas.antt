@@ -1,7 +1,7 @@
 -- What the rounds of a wait leave, where a round that goes on leaves all as it was.
 use Rattle.std.proofs.Common.{◌≡◌, ◌∙◌, ap, ℕ, zero, suc, Bool, true, false, inl, inr}
-use Rattle.event_listener.specs.declared.listener.wait.WaitOutcome.{WaitOutcome}
-use Rattle.event_listener.specs.declared.listener.wait.WaitOutcome.TheVariants.{Refused}
+use Rattle.event_listener.specs.declared.listener.wait.outcome.WaitOutcome.{WaitOutcome}
+use Rattle.event_listener.specs.declared.listener.wait.outcome.WaitOutcome.TheVariants.{Refused}
 use Rattle.event_listener.specs.Waiting.{Rounds, Waits, EndsWait, IsFault}
 
 module _ {S : Type 0} (is_out : S → Bool) where

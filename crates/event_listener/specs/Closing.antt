@@ -7,7 +7,7 @@ use Rattle.event_listener.specs.declared.recorded.call.RecordedCall.TheVariants.
 use Rattle.event_listener.specs.declared.recorded.entry.Entry.{Entry}
 use Rattle.event_listener.specs.declared.recorded.hand.Note.{Note}
 use Rattle.event_listener.specs.Noting.{HandNotes}
-use Rattle.event_listener.specs.Replay.{same_reply}
+use Rattle.event_listener.specs.recording.Replay.{same_reply}
 
 -- that hand made the call
 abbrev pub is_by : ℕ → Option ℕ → Bool

@@ -3,13 +3,6 @@ pub mod Event
 pub mod Listening
 pub mod Polling
 pub mod Waiting
-pub mod RecordedStep
-pub mod Replay
-pub mod Recording
 pub mod Noting
 pub mod Closing
-pub mod RecordedPoll
-pub mod RecordedCalls
-pub mod RecordedWait
-pub mod RecordedWaitSteps
-pub mod RecordedRun
+pub mod recording

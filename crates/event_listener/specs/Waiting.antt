@@ -1,13 +1,15 @@
 -- How a wait ends.
 use Rattle.std.specs.Prelude.{◌≡◌, ◌≢◌, ◌⊎◌, ℕ, zero, suc, Option, Some, None, Result, Ok, Err, ⊤}
+use Rattle.event_queue.specs.declared.reply.RegisterResult.{RegisterResult}
+use Rattle.event_queue.specs.declared.reply.RegisterResult.TheVariants as register
 use Rattle.event_queue.specs.declared.reply.State.{State}
 use Rattle.event_queue.specs.declared.reply.State.TheVariants.{Created, Notified, Task, Passed, Lost}
 use Rattle.event_listener.specs.declared.listener.wait_error.WaitError.{WaitError}
 use Rattle.event_listener.specs.declared.listener.wait_error.WaitError.TheVariants.{NeverInserted, Memory}
 use Rattle.event_listener.specs.declared.listener.wait_error.WaitReason.{WaitReason}
 use Rattle.event_listener.specs.declared.listener.wait_error.WaitReason.TheVariants as reason
-use Rattle.event_listener.specs.declared.listener.wait.WaitOutcome.{WaitOutcome}
-use Rattle.event_listener.specs.declared.listener.wait.WaitOutcome.TheVariants.{Told, TimedOut, Absent, Refused}
+use Rattle.event_listener.specs.declared.listener.wait.outcome.WaitOutcome.{WaitOutcome}
+use Rattle.event_listener.specs.declared.listener.wait.outcome.WaitOutcome.TheVariants.{Told, TimedOut, Absent, Refused}
 
 -- a wait that is refused memory hands the same listener back
 abbrev pub HandsBack : {L : Type 0} → L → WaitError L → Type 0
@@ -20,6 +22,12 @@ reason_of NeverInserted = reason.NeverInserted
 reason_of (Memory listener) = reason.Memory
 
 module _ {T : Type 0} where
+  -- how a registration with this answer ends a wait, if it does
+  abbrev pub outcome_of_registration : RegisterResult T → Option (WaitOutcome T)
+  outcome_of_registration (register.Notified tag) = Some (Told tag)
+  outcome_of_registration register.Registered = None
+  outcome_of_registration register.NeverInserted = Some Absent
+
   -- the wait found no listener in the queue, or was refused memory
   abbrev pub IsFault : WaitOutcome T → Type 0
   IsFault outcome = (outcome ≡ Absent) ⊎ (outcome ≡ Refused)

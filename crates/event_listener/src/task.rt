@@ -22,7 +22,7 @@ pub struct Task(TaskKind);
 enum TaskKind {
     Polled(Waker),
     // A poll could make no waker, and has asked for another poll instead.
-    Unmade,
+    NoWaker,
     Parked(Unparker),
 }
 
@@ -46,7 +46,7 @@ impl Task {
                 waker.wake();
                 None
             }
-            TaskKind::Unmade => None,
+            TaskKind::NoWaker => None,
             TaskKind::Parked(unparker) => Some(unparker.set_token(rt)),
         }
     }

@@ -5,9 +5,10 @@ ghost use Rattle.futures.specs.Task.{Covers, Keeps};
 
 use super::NeverInserted;
 use super::membership::Membership;
+use super::polled::poll_of;
 use crate::event::Shared;
 use crate::task::Task;
-use event_queue::{Key, RegisterResult, State};
+use event_queue::{Key, State};
 use futures::task::{Context, Poll, Waker};
 use std::alloc::Global;
 use std::sync::Wait;
@@ -52,11 +53,8 @@ impl<R: Wait + Clock + Clone> InnerListener<R> {
         ensures err { OnErr result (self.new.membership.is_finished ≡ true) }
     {
         let task = Task::from_waker(waker);
-        match self.membership.register(&self.runtime, shared, task) {
-            RegisterResult::Notified(tag) => Ok(Poll::Ready(tag)),
-            RegisterResult::Registered => Ok(Poll::Pending),
-            RegisterResult::NeverInserted => Err(NeverInserted),
-        }
+        let found = self.membership.register(&self.runtime, shared, task);
+        poll_of(found, NeverInserted)
     }
 
     /// Takes the tag if there is one, and else leaves a waker of the task that polls.
@@ -74,11 +72,8 @@ impl<R: Wait + Clock + Clone> InnerListener<R> {
         ensures registered { IfOk result (λ polled. OnPending polled (Covers cx.new (λ s. s ≡ shared.now.source.source.id))) }
         ensures kept { Keeps cx.old cx.new }
     {
-        match self.membership.register_in(&self.runtime, shared, cx) {
-            RegisterResult::Notified(tag) => Ok(Poll::Ready(tag)),
-            RegisterResult::Registered => Ok(Poll::Pending),
-            RegisterResult::NeverInserted => Err(NeverInserted),
-        }
+        let found = self.membership.register_in(&self.runtime, shared, cx);
+        poll_of(found, NeverInserted)
     }
 
     /// Takes the listener out of the queue, if it is there, and answers whether it was told. With `propagate` its

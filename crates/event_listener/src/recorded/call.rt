@@ -1,6 +1,6 @@
 //! One call of a recorded queue, as a value.
 ghost use Rattle.std.specs.Prelude.{◌≡◌, ◌≤◌};
-ghost use Rattle.event_listener.specs.RecordedStep.{without_task, newcomers_of};
+ghost use Rattle.event_listener.specs.recording.Step.{without_task, newcomers_of};
 
 use crate::task::Task;
 use event_queue::Key;

@@ -1,7 +1,7 @@
 //! Whether the record of an event and the notes of its hands are one history.
 ghost use Rattle.std.specs.Prelude.{◌≡◌, ◌↔◌, ◌&&◌, IsTrue};
 ghost use Rattle.event_listener.specs.Closing.{AreAllHands, are_hands_below, are_notes, are_notes_of_all, entries_of, how_many_with, is_by, same_call};
-ghost use Rattle.event_listener.specs.Replay.{same_reply};
+ghost use Rattle.event_listener.specs.recording.Replay.{same_reply};
 
 use super::entry::Entry;
 use super::hand::{Hand, Note};

@@ -1,3 +1,6 @@
+//! An entry of a record.
+ghost use Rattle.std.specs.Prelude.{◌≡◌, Some};
+
 use super::call::RecordedCall;
 use super::reply::RecordedReply;
 
@@ -11,4 +14,18 @@ pub struct Entry<T> {
     pub call: RecordedCall<T>,
     /// The answer.
     pub reply: RecordedReply<T>,
+}
+
+impl<T> Entry<T> {
+    // The entry of a call that this hand made.
+    #[inline(always)]
+    pub(super) fn by_hand(hand: usize, call: RecordedCall<T>, reply: RecordedReply<T>) -> Self
+        ensures { result ≡ record { hand = Some hand; call = call; reply = reply } }
+    {
+        Entry {
+            hand: Some(hand),
+            call,
+            reply,
+        }
+    }
 }

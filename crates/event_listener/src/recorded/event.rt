@@ -2,9 +2,9 @@
 ghost use Rattle.std.specs.Prelude.{◌≡◌, ◌↔◌, length, All, IsTrue, IsErrAnd, IfOk, IfErr};
 ghost use Rattle.event_listener.specs.Closing.{AreAllHands, are_hands_below, are_notes_of_all, entries_of_hands, notes_of_all};
 ghost use Rattle.event_listener.specs.Noting.{Owns, new_hands};
-ghost use Rattle.event_listener.specs.Recording.{HandlessAreEnds};
-ghost use Rattle.event_listener.specs.Replay.{replays};
-ghost use Rattle.event_listener.specs.RecordedCalls.{Listens, NotesNotify, NotesTotal, NotesIsNotified};
+ghost use Rattle.event_listener.specs.recording.State.{HandlessAreEnds};
+ghost use Rattle.event_listener.specs.recording.Replay.{replays};
+ghost use Rattle.event_listener.specs.recording.Calls.{Listens, NotesNotify, NotesTotal, NotesIsNotified};
 
 use super::call::StepCall;
 use super::close::{CloseError, are_all_hands, are_hands_below, are_notes_of_all};
@@ -122,7 +122,7 @@ impl<T: Copy + Eq> RecordedEvent<T> {
         let Ok(runtime) = rt.clone() else {
             return Err(RecordError::Memory);
         };
-        let reply = hand.make(rt, &self.state, StepCall::Listen)?;
+        let reply = hand.perform(rt, &self.state, StepCall::Listen)?;
         match reply {
             RecordedReply::Listened(Ok(key)) => { Ok(RecordedListener::new(self, key, runtime)) }
             RecordedReply::Listened(Err(ListenError::SerialsUsedUp)) => {
@@ -156,7 +156,7 @@ impl<T: Copy + Eq> RecordedEvent<T> {
             additional,
             tag,
         };
-        match hand.make(rt, &self.state, call)? {
+        match hand.perform(rt, &self.state, call)? {
             RecordedReply::Notified(told) => Ok(told),
             _ => unreachable!(),
         }
@@ -170,7 +170,7 @@ impl<T: Copy + Eq> RecordedEvent<T> {
         requires { Owns self.now hand.old }
         ensures noted { NotesIsNotified hand.old result hand.new }
     {
-        match hand.make(rt, &self.state, StepCall::IsNotified)? {
+        match hand.perform(rt, &self.state, StepCall::IsNotified)? {
             RecordedReply::IsNotified(told) => Ok(told),
             _ => unreachable!(),
         }
@@ -184,7 +184,7 @@ impl<T: Copy + Eq> RecordedEvent<T> {
         requires { Owns self.now hand.old }
         ensures noted { NotesTotal hand.old result hand.new }
     {
-        match hand.make(rt, &self.state, StepCall::TotalListeners)? {
+        match hand.perform(rt, &self.state, StepCall::TotalListeners)? {
             RecordedReply::TotalListeners(total) => Ok(total),
             _ => unreachable!(),
         }

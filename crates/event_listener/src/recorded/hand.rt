@@ -1,16 +1,18 @@
 //! Those that call a recorded event, and what they note.
 ghost use Rattle.std.specs.Prelude.{◌≡◌, [], OnErr, IfErr, IfOk};
-ghost use Rattle.event_listener.specs.RecordedStep.{IsReplyTo, without_task};
-ghost use Rattle.event_listener.specs.Noting.{noted, new_hands};
-
-mod exchange;
+ghost use Rattle.event_listener.specs.recording.Step.{IsReplyTo, without_task};
+ghost use Rattle.event_listener.specs.recording.Exchange.{ExchangesIfWaiting};
+ghost use Rattle.event_listener.specs.Noting.{note, noted, new_hands};
+ghost use Rattle.event_listener.specs.declared.recorded.call.RecordedCall.TheVariants.{Register};
 
 use super::call::{RecordedCall, StepCall};
+use super::entry::Entry;
 use super::error::RecordError;
 use super::reply::RecordedReply;
 use super::state::RecordedState;
 use crate::locks::take_lock;
-use crate::task::Waking;
+use crate::task::{Task, Waking};
+use event_queue::{Key, TaskExchange};
 use std::alloc::{AllocError, Global};
 use std::marker::Model;
 use std::sync::{Mutex, Wait};
@@ -22,6 +24,19 @@ pub struct Note<T> {
     pub call: RecordedCall<T>,
     /// The reply.
     pub reply: RecordedReply<T>,
+}
+
+impl<T: Copy> Note<T> {
+    // What a hand notes of an entry that is its own.
+    #[inline(always)]
+    fn of(entry: &Entry<T>) -> Self
+        ensures { result ≡ note entry.now.call entry.now.reply }
+    {
+        Note {
+            call: entry.call,
+            reply: entry.reply,
+        }
+    }
 }
 
 /// One of those that call a [`RecordedEvent`](crate::RecordedEvent). It notes each of its calls with the reply that it
@@ -100,10 +115,10 @@ pub(super) fn new_hands<T>(
 }
 
 impl<T: Copy + Eq> Hand<T> {
-    // Makes one call under the lock, and notes it with its reply. Room for the note is made first, so a refusal leaves
+    // Performs one call under the lock, and notes it with its reply. Room for the note is made first, so a refusal leaves
     // queue, record and notes as they were.
     #[inline(always)]
-    pub(super) fn make<R: Wait>(
+    pub(super) fn perform<R: Wait>(
         &mut self,
         rt: &R,
         state: &Mutex<RecordedState<T>>,
@@ -115,15 +130,34 @@ impl<T: Copy + Eq> Hand<T> {
         ensures memory { IfErr result (λ error. error ≡ RecordError.Memory) }
     {
         self.notes.reserve(1)?;
-        let recorded = call.recorded();
         let mut waking = Waking::new(rt);
-        let applied = take_lock(state, rt).apply(self.number, call, &mut waking);
+        let recorded = take_lock(state, rt).record_step(self.number, call, &mut waking);
         waking.finish();
-        let reply = applied?;
-        self.notes.push_reserved(Note {
-            call: recorded,
-            reply,
-        });
-        Ok(reply)
+        let entry = recorded?;
+        self.notes.push_reserved(Note::of(&entry));
+        Ok(entry.reply)
+    }
+
+    // Performs a registration whose task is made of the one that is stored, and notes it with its reply. As in
+    // `perform`, a refusal leaves everything as it was.
+    pub(super) fn perform_exchange<R: Wait, C, X: TaskExchange<Task, C>>(
+        &mut self,
+        rt: &R,
+        state: &Mutex<RecordedState<T>>,
+        key: Key,
+        exchange: &X,
+        on: &mut C,
+    ) -> Result<RecordedReply<T>, RecordError>
+        ensures noted { IfOk result (λ reply. self.new ≡ noted self.old (Register key) reply) }
+        ensures kind { IfOk result (λ reply. IsReplyTo (Register key) reply) }
+        ensures exchanged { IfOk result (λ reply. ExchangesIfWaiting (X.exchanged exchange.now) on.old reply on.new) }
+        ensures unchanged { OnErr result (self.new ≡ self.old) }
+        ensures untouched { OnErr result (on.new ≡ on.old) }
+        ensures memory { IfErr result (λ error. error ≡ RecordError.Memory) }
+    {
+        self.notes.reserve(1)?;
+        let entry = take_lock(state, rt).record_exchange(self.number, key, exchange, on)?;
+        self.notes.push_reserved(Note::of(&entry));
+        Ok(entry.reply)
     }
 }

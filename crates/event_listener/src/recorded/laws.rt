@@ -1,8 +1,8 @@
 //! What ties replay to the steps of a queue.
 ghost use Rattle.std.specs.Prelude.{◌≡◌, IsTrue, List};
 ghost use Rattle.event_queue.specs.Queue.{Queue};
-ghost use Rattle.event_listener.specs.Replay.{ReplaysTo, replays, same_reply};
-ghost use Rattle.event_listener.specs.RecordedRun.{IsRun, empty_queue};
+ghost use Rattle.event_listener.specs.recording.Replay.{ReplaysTo, replays, same_reply};
+ghost use Rattle.event_listener.specs.recording.Run.{IsRun, empty_queue};
 ghost use Rattle.event_listener.specs.Closing.{same_call};
 ghost use Rattle.event_listener.specs.declared.recorded.call.RecordedCall.{RecordedCall};
 ghost use Rattle.event_listener.specs.declared.recorded.entry.Entry.{Entry};

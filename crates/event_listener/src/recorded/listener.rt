@@ -1,18 +1,18 @@
 //! The listeners of a recorded event.
 ghost use Rattle.std.specs.Prelude.{◌≡◌, ⊤};
 ghost use Rattle.event_listener.specs.Noting.{Owns};
-ghost use Rattle.event_listener.specs.RecordedCalls.{Polls, Discards};
-ghost use Rattle.event_listener.specs.RecordedWait.{NotesWait, as_some};
+ghost use Rattle.event_listener.specs.recording.Calls.{Polls, Discards};
+ghost use Rattle.event_listener.specs.recording.Wait.{NotesWait, as_some};
 
 use super::call::StepCall;
 use super::event::RecordedEvent;
 use super::hand::Hand;
 use super::reply::{Former, RecordedReply};
 use super::wait::wait_within;
-use crate::listener::{Limit, WaitError};
+use crate::listener::{Limit, WaitError, poll_of};
 use crate::locks::take_lock;
 use crate::task::{Task, Waking};
-use event_queue::{Key, RegisterResult};
+use event_queue::Key;
 use futures::task::{Poll, Waker};
 use std::fmt;
 use std::marker::Model;
@@ -87,15 +87,11 @@ impl<'ev, T: Copy + Eq, R: Wait + Clock + Clone> RecordedListener<'ev, T, R> {
             key: self.key,
             task: Task::from_waker(waker),
         };
-        let Ok(reply) = hand.make(&self.runtime, self.event.state(), call) else {
+        let Ok(reply) = hand.perform(&self.runtime, self.event.state(), call) else {
             return Err(RecordedPollError::Memory);
         };
         match reply {
-            RecordedReply::Registered(RegisterResult::Notified(tag)) => Ok(Poll::Ready(tag)),
-            RecordedReply::Registered(RegisterResult::Registered) => Ok(Poll::Pending),
-            RecordedReply::Registered(RegisterResult::NeverInserted) => {
-                Err(RecordedPollError::NeverInserted)
-            }
+            RecordedReply::Registered(found) => poll_of(found, RecordedPollError::NeverInserted),
             _ => unreachable!(),
         }
     }
@@ -115,7 +111,7 @@ impl<'ev, T: Copy + Eq, R: Wait + Clock + Clone> RecordedListener<'ev, T, R> {
             key: self.key,
             propagate: false,
         };
-        let Ok(reply) = hand.make(&self.runtime, self.event.state(), call) else {
+        let Ok(reply) = hand.perform(&self.runtime, self.event.state(), call) else {
             return Err(WaitError::Memory(self));
         };
         self.forget();
@@ -179,7 +175,7 @@ impl<'ev, T: Copy + Eq, R: Wait + Clock + Clone> RecordedListener<'ev, T, R> {
         wait_within(self, hand, Limit::At(deadline))
     }
 
-    // Lets go of a listener that has left the queue, with no call on the queue.
+    // Ends a listener that has left the queue, with no call on the queue.
     pub(super) fn forget(self) {
         let Self {
             event: _,

@@ -3,13 +3,13 @@ ghost use Rattle.std.specs.Prelude.{◌≡◌, IfOk};
 ghost use Rattle.futures.specs.Task.{IsArmed, Keeps};
 ghost use Rattle.futures.specs.Poll.{OnPending};
 ghost use Rattle.event_listener.specs.Noting.{Owns};
-ghost use Rattle.event_listener.specs.RecordedCalls.{Polls};
+ghost use Rattle.event_listener.specs.recording.Calls.{Polls};
 
 use super::hand::Hand;
 use super::listener::{RecordedListener, RecordedPollError};
 use super::reply::RecordedReply;
+use crate::listener::poll_of;
 use crate::task::EventSource;
-use event_queue::RegisterResult;
 use futures::task::{Context, Poll};
 use std::sync::Wait;
 use std::time::Clock;
@@ -33,15 +33,11 @@ impl<T: Copy + Eq, R: Wait + Clock + Clone> RecordedListener<'_, T, R> {
     {
         let source = EventSource::new();
         let state = self.event.state();
-        let Ok(reply) = hand.make_exchange(&self.runtime, state, self.key, &source, cx) else {
+        let Ok(reply) = hand.perform_exchange(&self.runtime, state, self.key, &source, cx) else {
             return Err(RecordedPollError::Memory);
         };
         match reply {
-            RecordedReply::Registered(RegisterResult::Notified(tag)) => Ok(Poll::Ready(tag)),
-            RecordedReply::Registered(RegisterResult::Registered) => Ok(Poll::Pending),
-            RecordedReply::Registered(RegisterResult::NeverInserted) => {
-                Err(RecordedPollError::NeverInserted)
-            }
+            RecordedReply::Registered(found) => poll_of(found, RecordedPollError::NeverInserted),
             _ => unreachable!(),
         }
     }

@@ -1,7 +1,7 @@
 //! The record of an event that was closed.
 ghost use Rattle.std.specs.Prelude.{◌≡◌, IfOk, IsTrue};
-ghost use Rattle.event_listener.specs.Recording.{HandlessAreEnds};
-ghost use Rattle.event_listener.specs.Replay.{replays};
+ghost use Rattle.event_listener.specs.recording.State.{HandlessAreEnds};
+ghost use Rattle.event_listener.specs.recording.Replay.{replays};
 
 use super::entry::Entry;
 use super::replay;
@@ -18,8 +18,8 @@ pub struct Record<T: Copy + Eq> {
 impl<T: Copy + Eq> Model for Record<T> {
     ghost use Rattle.std.specs.Prelude.{List, IsTrue};
     ghost use Rattle.event_listener.specs.declared.recorded.entry.Entry.{Entry};
-    ghost use Rattle.event_listener.specs.Recording.{HandlessAreEnds};
-    ghost use Rattle.event_listener.specs.Replay.{replays};
+    ghost use Rattle.event_listener.specs.recording.State.{HandlessAreEnds};
+    ghost use Rattle.event_listener.specs.recording.Replay.{replays};
 
     ghost Value = { List (Entry T) };
 

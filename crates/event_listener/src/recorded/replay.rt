@@ -1,6 +1,6 @@
 //! Whether a record replays.
 ghost use Rattle.std.specs.Prelude.{◌≡◌, IfOk};
-ghost use Rattle.event_listener.specs.Replay.{replays, slot_in};
+ghost use Rattle.event_listener.specs.recording.Replay.{replays, slot_in};
 
 mod entries;
 mod replayed_queue;
@@ -24,7 +24,7 @@ pub fn replays<T: Copy + Eq>(alloc: Global, entries: &[Entry<T>]) -> Result<bool
 {
     let mut queue = ReplayedQueue::new(alloc);
     for entry in entries {
-        let reply = queue.make_call(entry.call, slot_in(&entry.reply))?;
+        let reply = queue.perform_call(entry.call, slot_in(&entry.reply))?;
         if reply != entry.reply {
             return Ok(false);
         }

@@ -1,6 +1,6 @@
 //! What a recorded queue answered, as a value.
 ghost use Rattle.std.specs.Prelude.{◌≡◌};
-ghost use Rattle.event_listener.specs.RecordedStep.{former_of};
+ghost use Rattle.event_listener.specs.recording.Step.{former_of};
 
 use event_queue::{Key, ListenError, RegisterResult, State};
 

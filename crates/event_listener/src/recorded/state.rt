@@ -3,29 +3,29 @@ ghost use Rattle.std.specs.Prelude.{◌≡◌, ◌+◌, ◌≤◌, true, [], ◌
 ghost use Rattle.std.specs.List.{FoldsTo};
 ghost use Rattle.event_queue.specs.Queue.{IsQueue, IsAbsent};
 ghost use Rattle.event_queue.specs.Remove.{woken_by_removal};
-ghost use Rattle.event_listener.specs.RecordedStep.{StepsAnySpare, IsReplyTo, without_task, task_of, woken_by_call};
-ghost use Rattle.event_listener.specs.Replay.{ReplaysTo, replays};
-ghost use Rattle.event_listener.specs.Recording.{Ends, HandlessAreEnds};
-
-mod exchange;
+ghost use Rattle.event_listener.specs.recording.Step.{StepsAnySpare, IsReplyTo, without_task, task_of, woken_by_call};
+ghost use Rattle.event_listener.specs.recording.Exchange.{RegistersSomeAnySpare, ExchangesIfWaiting};
+ghost use Rattle.event_listener.specs.recording.Replay.{ReplaysTo, replays};
+ghost use Rattle.event_listener.specs.recording.State.{Ends, HandlessAreEnds};
+ghost use Rattle.event_listener.specs.declared.recorded.call.RecordedCall.TheVariants.{Register};
 
 use super::call::{RecordedCall, StepCall};
 use super::entry::Entry;
 use super::error::RecordError;
 use super::reply::RecordedReply;
-use super::step::{make_removal, make_step};
+use super::step::{perform_exchange, perform_removal, perform_step};
 use crate::task::Task;
-use event_queue::{Key, List, WakeSink};
+use event_queue::{Key, List, TaskExchange, WakeSink};
 use std::alloc::Global;
 use std::marker::Model;
 
 /// A queue and the record of every step that it made: what stands under the lock of a recorded event.
 ///
 /// The type keeps that the record replays to the queue, that each entry of no hand is the end of a listener, and room to
-/// record the end of each listener that stands in the queue.
-/// Only [`apply`](RecordedState::apply), [`apply_end`](RecordedState::apply_end) and the polls of this crate change it;
-/// each makes one step of the queue and records it. No call takes a lock, and none waits unless its sink does. A contract
-/// sees a state as its entries and its queue, but for how much is spare.
+/// record the end of each listener that stands in the queue. Only [`apply`](RecordedState::apply),
+/// [`apply_end`](RecordedState::apply_end) and the polls of this crate change it; each makes one step of the queue and
+/// records it. No call takes a lock, and none waits unless its sink does. A contract sees a state as its entries and its
+/// queue, but for how much is spare.
 #[derive(Drop)]
 pub struct RecordedState<T: Copy + Eq> {
     list: List<T, Task>,
@@ -34,7 +34,7 @@ pub struct RecordedState<T: Copy + Eq> {
 
 impl<T: Copy + Eq> Model for RecordedState<T> {
     ghost use Rattle.std.specs.Prelude.{vec_len, vec_capacity};
-    ghost use Rattle.event_listener.specs.Recording.{Recording, IsRecording};
+    ghost use Rattle.event_listener.specs.recording.State.{Recording, IsRecording};
 
     ghost Value = { Recording T };
 
@@ -97,18 +97,61 @@ impl<T: Copy + Eq> RecordedState<T> {
         ensures unchanged { OnErr result (self.new ≡ self.old) }
         ensures sink_unchanged { OnErr result (sink.new ≡ sink.old) }
     {
+        Ok(self.record_step(hand, call, sink)?.reply)
+    }
+
+    // Does what `apply` does, and returns the entry that it made.
+    #[inline(always)]
+    pub(super) fn record_step<S: WakeSink<Task>>(
+        &mut self,
+        hand: usize,
+        call: StepCall<T>,
+        sink: &mut S,
+    ) -> Result<Entry<T>, RecordError>
+        ensures step { IfOk result (λ entry. StepsAnySpare self.old.queue (without_task call) (task_of call) entry.reply self.new.queue) }
+        ensures wakes { OnOk result (FoldsTo S.woke sink.old (woken_by_call (without_task call) self.old.queue) sink.new) }
+        ensures recorded { IfOk result (λ entry. self.new.entries ≡ self.old.entries ++ record { hand = Some hand; call = without_task call; reply = entry.reply } ∷ []) }
+        ensures entry { IfOk result (λ entry. entry ≡ record { hand = Some hand; call = without_task call; reply = entry.reply }) }
+        ensures kind { IfOk result (λ entry. IsReplyTo (without_task call) entry.reply) }
+        ensures memory { IfErr result (λ error. error ≡ RecordError.Memory) }
+        ensures unchanged { OnErr result (self.new ≡ self.old) }
+        ensures sink_unchanged { OnErr result (sink.new ≡ sink.old) }
+    {
         let newcomers = call.newcomers();
         let listeners = self.list.total_listeners();
         make_room(&mut self.entries, listeners, 1 + newcomers)?;
         self.list.reserve(newcomers)?;
         let recorded = call.recorded();
-        let reply = make_step(&mut self.list, call, sink);
-        self.entries.push_reserved(Entry {
-            hand: Some(hand),
-            call: recorded,
-            reply,
-        });
-        Ok(reply)
+        let reply = perform_step(&mut self.list, call, sink);
+        let entry = Entry::by_hand(hand, recorded, reply);
+        self.entries.push_reserved(entry);
+        Ok(entry)
+    }
+
+    // Registers a listener, with a task that is made of the one that it stored, records that as a call of this hand, and
+    // returns the entry. A refusal leaves everything as it was.
+    pub(super) fn record_exchange<C, X: TaskExchange<Task, C>>(
+        &mut self,
+        hand: usize,
+        key: Key,
+        exchange: &X,
+        on: &mut C,
+    ) -> Result<Entry<T>, RecordError>
+        ensures step { IfOk result (λ entry. RegistersSomeAnySpare self.old.queue key entry.reply self.new.queue) }
+        ensures exchanged { IfOk result (λ entry. ExchangesIfWaiting (X.exchanged exchange.now) on.old entry.reply on.new) }
+        ensures recorded { IfOk result (λ entry. self.new.entries ≡ self.old.entries ++ record { hand = Some hand; call = Register key; reply = entry.reply } ∷ []) }
+        ensures entry { IfOk result (λ entry. entry ≡ record { hand = Some hand; call = Register key; reply = entry.reply }) }
+        ensures kind { IfOk result (λ entry. IsReplyTo (Register key) entry.reply) }
+        ensures memory { IfErr result (λ error. error ≡ RecordError.Memory) }
+        ensures unchanged { OnErr result (self.new ≡ self.old) }
+        ensures untouched { OnErr result (on.new ≡ on.old) }
+    {
+        let listeners = self.list.total_listeners();
+        make_room(&mut self.entries, listeners, 1)?;
+        let reply = perform_exchange(&mut self.list, key, exchange, on);
+        let entry = Entry::by_hand(hand, RecordedCall::Register { key }, reply);
+        self.entries.push_reserved(entry);
+        Ok(entry)
     }
 
     /// Removes a listener that is dropped: its notification, if it was told, is passed on, and the removal is recorded
@@ -121,7 +164,7 @@ impl<T: Copy + Eq> RecordedState<T> {
         ensures unchanged { IsAbsent key self.old.queue → self.new ≡ self.old }
         ensures sink_unchanged { IsAbsent key self.old.queue → sink.new ≡ sink.old }
     {
-        let Some(was) = make_removal(&mut self.list, key, true, sink) else {
+        let Some(was) = perform_removal(&mut self.list, key, true, sink) else {
             return;
         };
         self.entries.push_reserved(Entry {
@@ -151,8 +194,8 @@ impl<T: Copy + Eq> RecordedState<T> {
         self.list.total_listeners()
     }
 
-    /// The record alone, which replays, and of which each entry of no hand is the end of a listener. The call drops the queue with its tasks and tags, and neither allocates nor
-    /// waits.
+    /// The record alone, which replays, and of which each entry of no hand is the end of a listener. The call drops the
+    /// queue with its tasks and tags, and neither allocates nor waits.
     pub(crate) fn into_entries(self) -> Vec<Entry<T>>
         ensures value { result.items ≡ self.entries }
         ensures replays { IsTrue (replays T.eq result.items) }

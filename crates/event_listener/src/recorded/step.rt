@@ -3,9 +3,9 @@ ghost use Rattle.std.specs.Prelude.{◌≡◌, replicate};
 ghost use Rattle.std.specs.List.{FoldsTo};
 ghost use Rattle.event_queue.specs.Queue.{IsQueue, how_many, after_telling, tasks_of};
 ghost use Rattle.event_queue.specs.Remove.{woken_by_removal};
-ghost use Rattle.event_listener.specs.RecordedStep.{Steps, RemovesAs, without_task, task_of, woken_by_call};
-ghost use Rattle.event_listener.specs.RecordedPoll.{RegistersSome, ExchangesIfWaiting};
-ghost use Rattle.event_listener.specs.Recording.{unspared};
+ghost use Rattle.event_listener.specs.recording.Step.{Steps, RemovesAs, without_task, task_of, woken_by_call};
+ghost use Rattle.event_listener.specs.recording.Exchange.{RegistersSome, ExchangesIfWaiting};
+ghost use Rattle.event_listener.specs.recording.State.{unspared};
 
 use super::call::StepCall;
 use super::copied_tag::CopiedTag;
@@ -13,9 +13,9 @@ use super::reply::{Former, RecordedReply};
 use crate::task::Task;
 use event_queue::{Key, List, TaskExchange, WakeSink};
 
-/// Makes the call, and returns what the queue answered. It allocates where an insertion does, and never waits.
+/// Performs the call, and returns what the queue answered. It allocates where an insertion does, and never waits.
 #[inline(always)]
-pub(super) fn make_step<T: Copy, S: WakeSink<Task>>(
+pub(super) fn perform_step<T: Copy, S: WakeSink<Task>>(
     list: &mut List<T, Task>,
     call: StepCall<T>,
     sink: &mut S,
@@ -30,7 +30,7 @@ pub(super) fn make_step<T: Copy, S: WakeSink<Task>>(
             key, task,
         )),
         StepCall::Remove { key, propagate } => {
-            RecordedReply::Removed(make_removal(list, key, propagate, sink))
+            RecordedReply::Removed(perform_removal(list, key, propagate, sink))
         }
         StepCall::Notify {
             count,
@@ -42,7 +42,7 @@ pub(super) fn make_step<T: Copy, S: WakeSink<Task>>(
                 additional,
                 tag,
             };
-            RecordedReply::Notified(make_notification(list, source, sink))
+            RecordedReply::Notified(perform_notification(list, source, sink))
         }
         StepCall::TotalListeners => RecordedReply::TotalListeners(list.total_listeners()),
         StepCall::IsNotified => RecordedReply::IsNotified(list.is_notified()),
@@ -51,7 +51,7 @@ pub(super) fn make_step<T: Copy, S: WakeSink<Task>>(
 
 /// Registers a listener, with a task that is made of the one that it stored. It allocates and waits where the exchange
 /// does.
-pub(super) fn make_exchange<T: Copy, C, X: TaskExchange<Task, C>>(
+pub(super) fn perform_exchange<T: Copy, C, X: TaskExchange<Task, C>>(
     list: &mut List<T, Task>,
     key: Key,
     exchange: &X,
@@ -66,7 +66,7 @@ pub(super) fn make_exchange<T: Copy, C, X: TaskExchange<Task, C>>(
 
 /// Removes a listener, and returns what it was without its task. It neither allocates nor waits.
 #[inline(always)]
-pub(super) fn make_removal<T: Copy, S: WakeSink<Task>>(
+pub(super) fn perform_removal<T: Copy, S: WakeSink<Task>>(
     list: &mut List<T, Task>,
     key: Key,
     propagate: bool,
@@ -80,7 +80,7 @@ pub(super) fn make_removal<T: Copy, S: WakeSink<Task>>(
 }
 
 // Notifies with copies of one tag, and returns how many listeners were told. No copy is refused.
-fn make_notification<T: Copy, S: WakeSink<Task>>(
+fn perform_notification<T: Copy, S: WakeSink<Task>>(
     list: &mut List<T, Task>,
     mut source: CopiedTag<T>,
     sink: &mut S,

@@ -1,8 +1,8 @@
 //! How a recorded listener waits: as any listener does, with a note of each step.
 ghost use Rattle.std.specs.Prelude.{◌≡◌, ◌≢◌};
-ghost use Rattle.event_listener.specs.declared.listener.wait.Limit.TheVariants.{Never};
-ghost use Rattle.event_listener.specs.RecordedWait.{NotesWait};
-ghost use Rattle.event_listener.specs.RecordedWaitSteps.{GoesOn, EndsRound, EndsRemoval};
+ghost use Rattle.event_listener.specs.declared.listener.wait.deadline.Limit.TheVariants.{Never};
+ghost use Rattle.event_listener.specs.recording.Wait.{NotesWait};
+ghost use Rattle.event_listener.specs.recording.WaitSteps.{GoesOn, EndsRound, EndsRemoval};
 
 use super::call::StepCall;
 use super::hand::Hand;
@@ -11,7 +11,7 @@ use super::reply::{Former, RecordedReply};
 use super::state::RecordedState;
 use crate::listener::{Limit, WaitError, WaitOutcome, WaitSteps, wait_in};
 use crate::task::Task;
-use event_queue::{Key, RegisterResult};
+use event_queue::Key;
 use std::sync::{Mutex, Wait};
 use std::time::Clock;
 
@@ -32,7 +32,7 @@ impl<T: Copy + Eq> WaitSteps<T> for RecordedPlace {
 
     ghost leaves = { λ before outcome after. (after.0 ≡ before.0) × EndsRemoval before.0.key before.1 outcome after.1 };
 
-    fn round<R: Wait>(
+    fn attempt<R: Wait>(
         &mut self,
         rt: &R,
         queue: &Mutex<RecordedState<T>>,
@@ -40,20 +40,14 @@ impl<T: Copy + Eq> WaitSteps<T> for RecordedPlace {
         task: Task,
     ) -> Option<WaitOutcome<T>> {
         let key = self.key;
-        match notes.make(rt, queue, StepCall::Register { key, task }) {
-            Ok(RecordedReply::Registered(RegisterResult::Notified(tag))) => {
-                Some(WaitOutcome::Told(tag))
-            }
-            Ok(RecordedReply::Registered(RegisterResult::Registered)) => None,
-            Ok(RecordedReply::Registered(RegisterResult::NeverInserted)) => {
-                Some(WaitOutcome::Absent)
-            }
+        match notes.perform(rt, queue, StepCall::Register { key, task }) {
+            Ok(RecordedReply::Registered(found)) => WaitOutcome::of_registration(found),
             Ok(_) => unreachable!(),
             Err(_) => Some(WaitOutcome::Refused),
         }
     }
 
-    fn leave<R: Wait>(
+    fn time_out<R: Wait>(
         &mut self,
         rt: &R,
         queue: &Mutex<RecordedState<T>>,
@@ -61,7 +55,7 @@ impl<T: Copy + Eq> WaitSteps<T> for RecordedPlace {
     ) -> WaitOutcome<T> {
         let key = self.key;
         let propagate = false;
-        match notes.make(rt, queue, StepCall::Remove { key, propagate }) {
+        match notes.perform(rt, queue, StepCall::Remove { key, propagate }) {
             Ok(RecordedReply::Removed(Some(Former::Notified { additional: _, tag }))) => {
                 WaitOutcome::Told(tag)
             }

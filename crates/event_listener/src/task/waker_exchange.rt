@@ -34,7 +34,7 @@ impl<'cx> TaskExchange<Task, Context<'cx>> for EventSource {
             None => None,
         };
         let _: Poll<()> = cx.register(&self.source, &mut waker);
-        Task::from_slot(waker)
+        Task::from_made(waker)
     }
 }
 
@@ -44,18 +44,18 @@ impl Task {
         let Task(kind) = self;
         match kind {
             TaskKind::Polled(waker) => Some(waker),
-            TaskKind::Unmade => None,
+            TaskKind::NoWaker => None,
             TaskKind::Parked(_unparker) => None,
         }
     }
 
     // The task that this waker wakes, if one could be made.
-    fn from_slot(waker: Option<Waker>) -> Task
+    fn from_made(waker: Option<Waker>) -> Task
         ensures { IfSome waker (λ w. result.0 ≡ Polled w) }
     {
         Task(match waker {
             Some(waker) => TaskKind::Polled(waker),
-            None => TaskKind::Unmade,
+            None => TaskKind::NoWaker,
         })
     }
 }

@@ -3,7 +3,8 @@ ghost use Rattle.std.specs.Prelude.{◌≡◌, ◌≤◌, ◌<◌, ◌+◌, min,
 ghost use Rattle.event_queue.specs.declared.notice.Notice.{Notice};
 ghost use Rattle.event_listener.specs.declared.recorded.call.RecordedCall.TheVariants.{Listen};
 ghost use Rattle.event_listener.specs.declared.recorded.reply.RecordedReply.TheVariants.{Listened};
-ghost use Rattle.event_listener.specs.Replay.{empty_shape, tells, after_notice, told_at, waiting_at, registered, after_register, removed, passed, told_by_passing_at, after_removal, answer_at, after_call};
+ghost use Rattle.event_listener.specs.recording.Replay.{empty_shape, tells, after_notice, told_at, waiting_at, registered, after_register, removed};
+ghost use Rattle.event_listener.specs.recording.Replay.{passed, told_by_passing_at, after_removal, answer_at, after_call};
 
 use super::entries::{set_entry, take_entry};
 use crate::recorded::call::RecordedCall;
@@ -22,7 +23,7 @@ pub(super) struct ReplayedQueue<T> {
 
 impl<T> Model for ReplayedQueue<T> {
     ghost use Rattle.std.specs.Prelude.{◌≤◌, ◌+◌, length};
-    ghost use Rattle.event_listener.specs.Replay.{Shape};
+    ghost use Rattle.event_listener.specs.recording.Replay.{Shape};
 
     ghost Value = { Shape T };
 
@@ -44,9 +45,9 @@ impl<T: Copy> ReplayedQueue<T> {
         }
     }
 
-    /// Makes the call, and returns what it answers where a newcomer gets this slot. A refusal of memory is the error,
+    /// Performs the call, and returns what it answers where a newcomer gets this slot. A refusal of memory is the error,
     /// after which the queue is of no use.
-    pub(super) fn make_call(
+    pub(super) fn perform_call(
         &mut self,
         call: RecordedCall<T>,
         slot: usize,

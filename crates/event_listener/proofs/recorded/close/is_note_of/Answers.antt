@@ -1,6 +1,6 @@
 use Rattle.std.proofs.Common.{◌∙◌, sym}
-use Rattle.event_listener.proofs.SameCallLemmas.{derived_same_call}
-use Rattle.event_listener.proofs.SameReplyLemmas.{derived_same}
+use Rattle.event_listener.proofs.recording.SameCallLemmas.{derived_same_call}
+use Rattle.event_listener.proofs.recording.SameReplyLemmas.{derived_same}
 use Rattle.event_listener.proofs.recorded.close.is_note_of.Goals as goal
 
 pub returns-then-eq : goal.returns-then-eq

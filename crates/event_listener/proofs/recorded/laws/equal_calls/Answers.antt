@@ -1,4 +1,4 @@
-use Rattle.event_listener.proofs.SameCallLemmas.{derived_same_call}
+use Rattle.event_listener.proofs.recording.SameCallLemmas.{derived_same_call}
 use Rattle.event_listener.proofs.recorded.laws.equal_calls.Goals as goal
 
 pub returns : goal.returns

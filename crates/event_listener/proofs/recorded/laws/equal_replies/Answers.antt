@@ -1,4 +1,4 @@
-use Rattle.event_listener.proofs.SameReplyLemmas.{derived_same}
+use Rattle.event_listener.proofs.recording.SameReplyLemmas.{derived_same}
 use Rattle.event_listener.proofs.recorded.laws.equal_replies.Goals as goal
 
 pub returns : goal.returns

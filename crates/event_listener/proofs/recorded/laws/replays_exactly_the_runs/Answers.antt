@@ -1,4 +1,4 @@
-use Rattle.event_listener.proofs.RecordedRunLemmas.{run_replays, replayed_is_run}
+use Rattle.event_listener.proofs.recording.RunLemmas.{run_replays, replayed_is_run}
 use Rattle.event_listener.proofs.recorded.laws.replays_exactly_the_runs.Goals as goal
 
 pub returns-clause-run_replays : goal.returns-clause-run_replays

@@ -1,5 +1,5 @@
 use Rattle.std.proofs.Common.{◌≡◌, drop}
-use Rattle.event_listener.specs.Replay.{empty_shape, replay_from}
+use Rattle.event_listener.specs.recording.Replay.{empty_shape, replay_from}
 use Rattle.event_listener.proofs.recorded.replay.replays.Given as goal
 
 abbrev pub invariant-loop-entry : goal.invariant-loop-entry

@@ -1,5 +1,5 @@
 use Rattle.std.proofs.Common.{ap}
-use Rattle.event_listener.proofs.RecordedWaitLemmas.{noted_wait}
+use Rattle.event_listener.proofs.recording.WaitLemmas.{noted_wait}
 use Rattle.event_listener.proofs.recorded.wait.wait_within.Goals as goal
 
 pub returns-in-Refused : goal.returns-in-Refused

@@ -1,5 +1,5 @@
 use Rattle.std.proofs.Common.{◌∙◌, sym}
-use Rattle.event_listener.proofs.ClosingLemmas.{as_many_as_notes}
+use Rattle.event_listener.proofs.recording.ClosingLemmas.{as_many_as_notes}
 use Rattle.event_listener.proofs.recorded.event.RecordedEvent.close.Goals as goal
 
 pub returns-then-not-are_all_hands-clause-differ : goal.returns-then-not-are_all_hands-clause-differ

@@ -1,5 +1,5 @@
 use Rattle.std.proofs.Common.{arith}
-use Rattle.event_listener.proofs.HandLemmas.{new_hands_are_owned}
+use Rattle.event_listener.proofs.recording.HandLemmas.{new_hands_are_owned}
 use Rattle.event_listener.proofs.recorded.event.RecordedEvent.new.Goals as goal
 
 pub returns-clause-owned : goal.returns-clause-owned

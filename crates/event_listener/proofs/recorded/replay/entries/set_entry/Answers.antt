@@ -1,6 +1,6 @@
 use Rattle.std.proofs.Common.{sym, ◌∙◌, ap, Some, slice_set}
-use Rattle.event_listener.proofs.EntryLemmas.{at_position, nowhere}
-use Rattle.event_listener.proofs.ShapeLemmas.{set_value-absent}
+use Rattle.event_listener.proofs.recording.EntryLemmas.{at_position, nowhere}
+use Rattle.event_listener.proofs.recording.ShapeLemmas.{set_value-absent}
 use Rattle.event_queue.specs.Key.{is_key}
 use Rattle.event_listener.proofs.recorded.replay.entries.set_entry.Goals as goal
 

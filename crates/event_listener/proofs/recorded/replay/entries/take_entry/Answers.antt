@@ -1,6 +1,6 @@
 use Rattle.std.proofs.Common.{sym, ◌∙◌, ap, Some}
-use Rattle.event_listener.proofs.EntryLemmas.{at_position, nowhere}
-use Rattle.event_listener.proofs.ShapeLemmas.{remove_entry-absent, remove_entry-no_longer}
+use Rattle.event_listener.proofs.recording.EntryLemmas.{at_position, nowhere}
+use Rattle.event_listener.proofs.recording.ShapeLemmas.{remove_entry-absent, remove_entry-no_longer}
 use Rattle.event_queue.specs.Key.{is_key}
 use Rattle.event_listener.proofs.recorded.replay.entries.take_entry.Goals as goal
 

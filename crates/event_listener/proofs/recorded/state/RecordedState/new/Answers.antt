@@ -1,4 +1,4 @@
-use Rattle.event_listener.proofs.RecordingLemmas.{IsRecording-empty}
+use Rattle.event_listener.proofs.recording.StateLemmas.{IsRecording-empty}
 use Rattle.event_listener.proofs.recorded.state.RecordedState.new.Goals as goal
 
 pub invariant_of-result : goal.invariant_of-result

@@ -1,7 +1,7 @@
 use Rattle.std.proofs.Common.{◌≡◌, None, sym, ◌∙◌}
 use Rattle.std.specs.Map.{lookup}
 use Rattle.event_queue.specs.Key.{is_key}
-use Rattle.event_listener.proofs.ShapeLemmas.{remove_entry-absent}
+use Rattle.event_listener.proofs.recording.ShapeLemmas.{remove_entry-absent}
 use Rattle.event_listener.proofs.recorded.replay.replayed_queue.ReplayedQueue.register.Goals as goal
 
 pub returns-clause-shape : goal.returns-clause-shape

@@ -3,8 +3,8 @@ use Rattle.std.specs.Map.{lookup}
 use Rattle.event_queue.specs.declared.key.Key.{Key}
 use Rattle.event_queue.specs.declared.notice.Notice.{Notice}
 use Rattle.event_queue.specs.Key.{is_key}
-use Rattle.event_listener.specs.Replay.{Shape, after_notice, tells}
-use Rattle.event_listener.proofs.ShapeLemmas.{remove_entry-absent}
+use Rattle.event_listener.specs.recording.Replay.{Shape, after_notice, tells}
+use Rattle.event_listener.proofs.recording.ShapeLemmas.{remove_entry-absent}
 use Rattle.event_listener.proofs.recorded.replay.replayed_queue.ReplayedQueue.remove.Goals as goal
 
 -- the shape with these told, once one of its waiting was told with that notice
