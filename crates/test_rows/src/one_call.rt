@@ -1,7 +1,7 @@
 //! The hook of both drivers, which refuses memory during one call of a row.
 use crate::counts::Counts;
-use test_support::Budget;
 use rows_harness::{Hook, Request};
+use test_support::Budget;
 
 /// Which calls of a row the one is chosen from.
 #[derive(Clone, Copy, Debug, PartialEq, Eq)]

@@ -4,11 +4,11 @@ use crate::drivers::{refuse_each_request, starve_each_call};
 use crate::ends::EndRow;
 use crate::support::{Runtime, check};
 use rows_events::{EventRow, IdentityRow, TagRow, WaitRow};
+use rows_harness::{Request, Row};
 use rows_queue::QueueRow;
 use rows_recorded::RecordedRow;
 use rows_worlds::{FlagRow, MutexRow, SemaphoreRow};
 use std::process::Abort;
-use rows_harness::{Request, Row};
 
 // The counts of the first driver, which found nothing wrong.
 fn refused<F: Row, R: Runtime>(rt: &R) -> Counts {

@@ -2,10 +2,10 @@
 use crate::drivers::{Driver, Wrong};
 use crate::one_call::{Among, Fault, OneCall};
 use crate::support::check;
+use rows_harness::{Harness, Hook, Refusal, Request, Row, Subject, Wakers};
 use std::alloc::{AllocError, Global};
 use std::sync::Wait;
 use std::time::Clock;
-use rows_harness::{Harness, Hook, Refusal, Request, Row, Subject, Wakers};
 
 // A row of one call, which takes two blocks.
 #[derive(Clone, Copy, PartialEq, Eq)]

@@ -2,8 +2,8 @@
 use crate::counts::Counts;
 use crate::one_call::{Among, Fault, OneCall, Refusing, Stage};
 use crate::support::{Runtime, new_budget};
-use test_support::Budget;
 use rows_harness::{Row, run_in_task};
+use test_support::Budget;
 
 // More calls than a row makes.
 const MOST_CALLS: usize = 500;

@@ -4,13 +4,13 @@ use crate::counts::Counts;
 use crate::one_call::{Among, OneCall, Refusing, Stage};
 use crate::support::{Runtime, check, new_budget};
 use rows_events::{EventRow, IdentityRow, TagRow, WaitRow};
+use rows_harness::{Row, Undisturbed, print_rows};
 use rows_queue::QueueRow;
 use rows_recorded::RecordedRow;
 use rows_worlds::{FlagRow, MutexRow};
 use std::cell::Cell;
 use std::process::Abort;
 use test_support::Budget;
-use rows_harness::{Row, Undisturbed, print_rows};
 
 // More than is printed of a family.
 const ROOM: usize = 4096;

@@ -1,10 +1,10 @@
 //! Rows of no family: room that is made in advance, and numbers at their ends.
 use event_listener::{EventIds, IdsUsedUp, List, ListenError, RecordError, RecordedEvent};
 use event_worlds::MutexWorld;
+use rows_harness::{Harness, Hook, Refusal, Request, Row, Subject, Wakers};
 use std::alloc::Global;
 use std::sync::Wait;
 use std::time::Clock;
-use rows_harness::{Harness, Hook, Refusal, Request, Row, Subject, Wakers};
 
 /// A row of no family.
 #[derive(Clone, Copy)]
