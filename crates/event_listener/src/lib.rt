@@ -9,7 +9,7 @@
 //!
 //! The queue itself is the crate `event_queue`. Its public names are exported here too.
 //!
-//! The examples below are in the crate `listener_examples`, where they are proved.
+//! The examples below are in the crate `example_events`, where they are proved.
 //!
 //! # A flag that threads wait for
 //!
@@ -192,7 +192,7 @@
 //! A [`RecordedEvent`] records every step of its queue. Whoever calls it has a [`Hand`], which notes its calls and the
 //! replies that it got. Once its listeners are gone, [`RecordedEvent::close`] gives its [`Record`] where the notes are
 //! its entries: one history of the queue, in which the calls of each hand stand, each once and in order. [`replays`]
-//! says of any entries whether they are such a history. The crate `recorded_example` has a flag that keeps a record.
+//! says of any entries whether they are such a history. The crate `example_events` has a flag that keeps a record.
 //!
 //! # What the contracts say
 //!

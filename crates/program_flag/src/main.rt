@@ -2,7 +2,7 @@
 #![tactic(auto)]
 
 use event_listener::EventIds;
-use example_flag::wait_for_setter;
+use example_events::meeting::wait_for_setter;
 use std::process::ExitCode;
 
 fn main(rt: HostRuntime) -> ExitCode {

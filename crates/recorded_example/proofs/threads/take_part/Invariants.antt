@@ -1,7 +1,0 @@
-use Rattle.event_listener.specs.Noting.{Owns}
-use Rattle.recorded_example.proofs.threads.take_part.Given as goal
-
--- each call leaves the hand one of the flag's
-abbrev pub invariant-loop : goal.invariant-loop
-invariant-loop g l =
-    (goal.iterator-loop g).can_next l.iterator' × (goal.iterator-loop g).is_finite l.iterator' × Owns l.flag l.hand

@@ -1,0 +1,4 @@
+//! The lock.
+mod blocking;
+mod polled;
+mod second_try;
