@@ -1,8 +1,8 @@
 //! Lists of calls, one after another.
+use crate::queues::Queues;
 use anyhow::Result;
-use random_calls::{Comparison, Request, Shown, Started, shorten};
-use fuzz_events::{self, Events, Runtime};
-use fuzz_queue::{self, Queues};
+use fuzz_events::{Events, Runtime, random_event_calls};
+use random_calls::{Comparison, Request, Shown, Started, random_queue_calls, shorten};
 use std::alloc::Global;
 use std::fmt::Debug;
 use std::io::Print;
@@ -10,20 +10,29 @@ use std::io::Print;
 // How many lists that differ are printed.
 const PRINTED: u64 = 5;
 
-/// How many lists were tried, and how many of them differ.
+// So many lists bring about each kind of answer.
+const LISTS_FOR_EACH_KIND: u64 = 1_000;
+
+/// How many lists were tried, how many of them differ, and whether a kind of answer is missing.
 #[derive(Clone, Copy)]
 pub struct Tally {
     pub lists: u64,
     pub differing: u64,
+    /// Whether some kind of answer came up in none of the lists, which were enough for each.
+    pub is_kind_missing: bool,
 }
 
 /// Tries a list of each seed from the first one on, until the limit comes. Prints the first lists that differ, as short
-/// as they were made. The error says that there was no memory, no clock or nothing to print to.
+/// as they were made, and the kinds of answers that are missing. The error says that there was no memory, no clock or
+/// nothing to print to.
 pub fn try_lists<R: Runtime + Print>(rt: &R, request: Request) -> Result<Tally> {
     let started = Started::new(rt, request.limit)?;
+    let mut queues = Queues::new(rt.alloc());
+    let mut events = Events::new(rt);
     let mut tally = Tally {
         lists: 0,
         differing: 0,
+        is_kind_missing: false,
     };
     for times in 0..u64::MAX {
         if !started.goes_on(rt, times)? {
@@ -31,29 +40,40 @@ pub fn try_lists<R: Runtime + Print>(rt: &R, request: Request) -> Result<Tally> 
         }
         let seed = request.seed.wrapping_add(times);
         let is_printed = tally.differing < PRINTED;
-        let differs = try_list(rt, seed, is_printed)?;
+        let differs = try_list(rt, &mut queues, &mut events, seed, is_printed)?;
         tally.lists = tally.lists.saturating_add(1);
         tally.differing = tally.differing.saturating_add(u64::from(differs));
+    }
+    if tally.lists >= LISTS_FOR_EACH_KIND {
+        let of_queues = queues.kinds.print_missing(rt)?;
+        let of_events = events.kinds.print_missing(rt)?;
+        tally.is_kind_missing = of_queues || of_events;
     }
     Ok(tally)
 }
 
 // Tries the list of this seed: every second one is of calls on a queue. Answers whether it differs.
-fn try_list<R: Runtime + Print>(rt: &R, seed: u64, is_printed: bool) -> Result<bool> {
+fn try_list<R: Runtime + Print>(
+    rt: &R,
+    queues: &mut Queues,
+    events: &mut Events<'_, R>,
+    seed: u64,
+    is_printed: bool,
+) -> Result<bool> {
     let alloc = rt.alloc();
     if seed % 2 == 0 {
-        let calls = fuzz_queue::draw_list(alloc, seed)?;
-        try_calls(rt, alloc, &Queues { alloc }, seed, calls, is_printed)
+        let calls = random_queue_calls(alloc, seed)?;
+        try_calls(rt, alloc, queues, seed, calls, is_printed)
     } else {
-        let calls = fuzz_events::draw_list(alloc, seed)?;
-        try_calls(rt, alloc, &Events { rt }, seed, calls, is_printed)
+        let calls = random_event_calls(alloc, seed)?;
+        try_calls(rt, alloc, events, seed, calls, is_printed)
     }
 }
 
 fn try_calls<C: Comparison, R: Print>(
     rt: &R,
     alloc: Global,
-    comparison: &C,
+    comparison: &mut C,
     seed: u64,
     calls: Vec<C::Call>,
     is_printed: bool,

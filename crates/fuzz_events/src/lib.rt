@@ -1,16 +1,23 @@
-//! Drawn lists of calls on an event and on a recorded event, each beside a queue, in one thread.
+//! Random lists of calls on an event and on a recorded event, each beside a queue, in one thread.
 #![tactic(auto)]
 
-mod event;
-mod recorded;
+mod answer_kinds;
+mod event_call;
+mod event_subject;
+mod queue_subject;
+mod recorded_subject;
+mod subject;
+mod wakes;
 
 use anyhow::{Result, anyhow};
-use random_calls::{Comparison, Difference};
-use event::EventSubject;
+pub use event_call::{EventCall, random_event_calls};
 use event_listener::{Event, EventIds, Hand, RecordedEvent};
-pub use fuzz_subjects::{Drawn, Runtime, draw_list};
-use fuzz_subjects::{Made, QueueSubject, run};
-use recorded::RecordedSubject;
+use event_subject::EventSubject;
+use queue_subject::QueueSubject;
+use random_calls::{Comparison, Difference, Kinds};
+use recorded_subject::RecordedSubject;
+pub use subject::Runtime;
+use subject::{Outcome, run};
 use test_support::recorded::{Calls, On, close, new_event};
 use test_support::{Borrowing, ListenerKind, Sharing};
 
@@ -19,15 +26,27 @@ const HANDS: usize = 3;
 /// Events, each beside a queue.
 #[derive(Clone, Copy)]
 pub struct Events<'a, R> {
-    pub rt: &'a R,
+    rt: &'a R,
+    /// The kinds of answers that came up, and whether a task was woken.
+    pub kinds: Kinds,
+}
+
+impl<'a, R> Events<'a, R> {
+    pub fn new(rt: &'a R) -> Self {
+        Events {
+            rt,
+            kinds: Kinds::new(answer_kinds::NAMES.as_slice()),
+        }
+    }
 }
 
 impl<'a, R: Runtime> Comparison for Events<'a, R> {
-    type Call = Drawn;
+    type Call = EventCall;
 
-    fn compare(&self, calls: &[Drawn]) -> Result<Option<Difference>> {
+    fn compare(&mut self, calls: &[EventCall]) -> Result<Option<Difference>> {
         let rt = self.rt;
         let expected = on_queue(rt, calls)?;
+        answer_kinds::note(&mut self.kinds, expected.as_slice());
         let event = Event::with_tag(EventIds::new().next()?);
         let made = on_event::<Sharing, Borrowing, _>(rt, &event, calls)?;
         if let Some(difference) = first_difference(rt, "event", made, expected.as_slice())? {
@@ -51,12 +70,16 @@ impl<'a, R: Runtime> Comparison for Events<'a, R> {
     }
 }
 
-fn on_queue<R: Runtime>(rt: &R, calls: &[Drawn]) -> Result<Vec<Made>> {
+fn on_queue<R: Runtime>(rt: &R, calls: &[EventCall]) -> Result<Vec<Outcome>> {
     let mut subject = QueueSubject::new(rt, calls.len())?;
     run(rt, &mut subject, calls)
 }
 
-fn on_event<'ev, A, B, R>(rt: &'ev R, event: &'ev Event<u32>, calls: &[Drawn]) -> Result<Vec<Made>>
+fn on_event<'ev, A, B, R>(
+    rt: &'ev R,
+    event: &'ev Event<u32>,
+    calls: &[EventCall],
+) -> Result<Vec<Outcome>>
 where
     A: ListenerKind<'ev, u32, R>,
     B: ListenerKind<'ev, u32, R>,
@@ -67,7 +90,7 @@ where
 }
 
 // Also whether the record of the event replays.
-fn on_recorded_event<R: Runtime>(rt: &R, calls: &[Drawn]) -> Result<(Vec<Made>, bool)> {
+fn on_recorded_event<R: Runtime>(rt: &R, calls: &[EventCall]) -> Result<(Vec<Outcome>, bool)> {
     let made = new_event(rt.alloc(), HANDS);
     let (event, mut hands) = made.ok_or_else(|| anyhow!("no memory for the hands"))?;
     let on = On { rt, event: &event };
@@ -80,8 +103,8 @@ fn on_calls<'ev, C: Calls + Drop, R: Runtime>(
     rt: &'ev R,
     on: C,
     hands: &mut Vec<Hand<u32>>,
-    calls: &[Drawn],
-) -> Result<Vec<Made>> {
+    calls: &[EventCall],
+) -> Result<Vec<Outcome>> {
     let mut subject = RecordedSubject::<C, C::Listener, R>::new(rt, on, hands)?;
     run(rt, &mut subject, calls)
 }
@@ -98,8 +121,8 @@ fn replays<R: Runtime>(rt: &R, event: RecordedEvent<u32>, hands: Vec<Hand<u32>>)
 fn first_difference<R: Runtime>(
     rt: &R,
     subject: &str,
-    made: Vec<Made>,
-    expected: &[Made],
+    made: Vec<Outcome>,
+    expected: &[Outcome],
 ) -> Result<Option<Difference>> {
     for (call, (one, other)) in made.iter().zip(expected.iter()).enumerate() {
         if one != other {

@@ -1,13 +1,13 @@
 //! The queue as its definitions say it: two plain lists, searched from the front.
-ghost use Rattle.std.specs.Prelude.{◌≡◌, ◌+◌, ◌-◌, ◌<◌, ◌≤◌, ◌^◌, ◌↔◌, min, max, true, false, [], ◌∷◌, ◌++◌, length, take, IsTrue, IsFalse, IsOk, IsSome, OnOk, OnErr, IfOk, IfErr, IfNone, OnSome, vec_len, vec_capacity};
+ghost use Rattle.std.specs.Prelude.{◌≡◌, ◌+◌, ◌<◌, ◌^◌, ◌↔◌, max, [], ◌∷◌, length, take, IsTrue, IsFalse, IsSome, OnOk, OnErr, IfOk, IfErr, IfNone, OnSome, vec_capacity};
 ghost use Rattle.std.specs.List.{FoldsTo, position};
 ghost use Rattle.std.specs.Map.{keys_of, lookup, remove_entry, set_value};
-ghost use Rattle.event_queue.specs.Key.{is_key, without};
-ghost use Rattle.event_queue.specs.Queue.{IsQueue, IsGone, IsToldAs, order_of, listeners_of, how_many, after_telling, tasks_of};
+ghost use Rattle.event_queue.specs.Key.{is_key};
+ghost use Rattle.event_queue.specs.Queue.{IsQueue, how_many, after_telling, tasks_of};
 ghost use Rattle.event_queue.specs.Insert.{Inserts, Joins};
-ghost use Rattle.event_queue.specs.Register.{Registers, OnNotified, UnlessNotified};
+ghost use Rattle.event_queue.specs.Register.{Registers};
 ghost use Rattle.event_queue.specs.Remove.{Removes, woken_by_removal, woken_by_passing, told_by_passing, after_passing};
-ghost use Rattle.event_queue.specs.Notify.{Notifies, NeverRefuses, told_by};
+ghost use Rattle.event_queue.specs.Notify.{Notifies, told_by};
 
 use event_queue::{
     Key, ListenError, Notice, Notification, NotifyError, RegisterResult, State, WakeSink,
@@ -18,8 +18,8 @@ use std::marker::Model;
 /// A queue of listeners as two plain lists, each in order of listening: the told with their notices, and the waiting
 /// with their tasks.
 ///
-/// Its calls have the contracts of [`List`](event_queue::List). It is made to be read: every look-up goes through a
-/// list from the front.
+/// Each call is proved to be its step of the definitions, as that of [`List`](event_queue::List) is. It is made to be
+/// read: every look-up goes through a list from the front.
 #[derive(Drop)]
 pub struct PlainQueue<T, W> {
     told: Vec<(Key, Notice<T>)>,
@@ -108,14 +108,12 @@ impl<T, W> PlainQueue<T, W> {
 
     /// Inserts a listener, which waits at the end of the queue with no task stored, and returns its key.
     ///
-    /// It allocates only where [`spare`](PlainQueue::spare) is 0, and returns [`ListenError::Memory`] where that is
-    /// refused. Where the serials are used up it returns [`ListenError::SerialsUsedUp`] and allocates nothing. Both
-    /// leave the queue as it was.
+    /// It allocates only where no slot is spare, and returns [`ListenError::Memory`] where that is refused. Where the
+    /// serials are used up it returns [`ListenError::SerialsUsedUp`] and allocates nothing. Both leave the queue as it
+    /// was.
     pub fn insert(&mut self) -> Result<Key, ListenError>
         ensures step { Inserts self.old result self.new }
         ensures queue { IsQueue self.new }
-        ensures order { IfOk result (λ key. order_of self.new ≡ order_of self.old ++ key ∷ []) }
-        ensures serial { self.old.next_serial ≤ self.new.next_serial }
     {
         if self.next_serial == u64::MAX {
             return Err(ListenError::SerialsUsedUp);
@@ -167,22 +165,6 @@ impl<T, W> PlainQueue<T, W> {
         W: Drop,
         ensures step { Registers self.old key task result self.new }
         ensures queue { IsQueue self.new }
-
-        // A listener that took its tag is gone; else the order of listening is as it was.
-        ensures gone { OnNotified result (IsGone key self.new) }
-        ensures order_without { OnNotified result (order_of self.new ≡ without key (order_of self.old)) }
-        ensures order_kept { UnlessNotified result (order_of self.new ≡ order_of self.old) }
-        ensures serial { self.new.next_serial ≡ self.old.next_serial }
-    {
-        self.register_step(key, task)
-    }
-
-    fn register_step(&mut self, key: Key, task: W) -> RegisterResult<T>
-    where
-        W: Drop,
-        ensures step { Registers self.old key task result self.new }
-        ensures was_queue { IsQueue self.old }
-        ensures queue { IsQueue self.new }
     {
         if let Some(notice) = take_entry(&mut self.told, key) {
             self.spare += 1;
@@ -208,29 +190,6 @@ impl<T, W> PlainQueue<T, W> {
     ) -> Option<State<T, W>>
         ensures step { Removes self.old key propagate result self.new }
         ensures wakes { FoldsTo S.woke sink.old (woken_by_removal key propagate self.old) sink.new }
-        ensures queue { IsQueue self.new }
-
-        // The others keep their order, and the listener is gone.
-        ensures order { order_of self.new ≡ without key (order_of self.old) }
-        ensures gone { OnSome result (IsGone key self.new) }
-        ensures serial { self.new.next_serial ≡ self.old.next_serial }
-
-        // How many are told once a told listener's notification was passed on.
-        ensures drop_default { IsTrue propagate → IsToldAs key false self.old → length self.new.told ≡ max (length self.old.told - 1) (min 1 (listeners_of self.old - 1)) }
-        ensures drop_additional { IsTrue propagate → IsToldAs key true self.old → length self.new.told ≡ min (length self.old.told) (listeners_of self.old - 1) }
-    {
-        self.remove_step(key, propagate, sink)
-    }
-
-    fn remove_step<S: WakeSink<W>>(
-        &mut self,
-        key: Key,
-        propagate: bool,
-        sink: &mut S,
-    ) -> Option<State<T, W>>
-        ensures step { Removes self.old key propagate result self.new }
-        ensures wakes { FoldsTo S.woke sink.old (woken_by_removal key propagate self.old) sink.new }
-        ensures was_queue { IsQueue self.old }
         ensures queue { IsQueue self.new }
     {
         if let Some(task) = take_entry(&mut self.waiting, key) {
@@ -283,27 +242,6 @@ impl<T, W> PlainQueue<T, W> {
         ensures step { Notifies N.tag_gives (N.count n.old) (N.is_additional n.old) self.old n.old result self.new n.new }
         ensures wakes { FoldsTo S.woke sink.old (tasks_of (told_by result) self.old) sink.new }
         ensures queue { IsQueue self.new }
-        ensures order { order_of self.new ≡ order_of self.old }
-        ensures serial { self.new.next_serial ≡ self.old.next_serial }
-
-        // How many are told where no tag is refused, and a source that never refuses one is answered `Ok`.
-        ensures default_leaves { IsOk result → IsFalse (N.is_additional n.old) → length self.new.told ≡ max (length self.old.told) (min (N.count n.old) (listeners_of self.old)) }
-        ensures additional_tells { IsOk result → IsTrue (N.is_additional n.old) → length self.new.told ≡ length self.old.told + min (N.count n.old) (length self.old.waiting) }
-        ensures unrefused { NeverRefuses N.tag_gives → IsOk result }
-    {
-        self.notify_step(n, sink)
-    }
-
-    fn notify_step<N: Notification<Tag = T>, S: WakeSink<W>>(
-        &mut self,
-        n: &mut N,
-        sink: &mut S,
-    ) -> Result<usize, NotifyError>
-        requires { N.can_tag n.old }
-        ensures step { Notifies N.tag_gives (N.count n.old) (N.is_additional n.old) self.old n.old result self.new n.new }
-        ensures wakes { FoldsTo S.woke sink.old (tasks_of (told_by result) self.old) sink.new }
-        ensures was_queue { IsQueue self.old }
-        ensures queue { IsQueue self.new }
     {
         let additional = n.is_additional();
         let count = self.how_many(n.count(), additional);
@@ -343,14 +281,6 @@ impl<T, W> PlainQueue<T, W> {
             sink.wake(task);
         }
         key
-    }
-
-    /// How many slots are spare: as many more insertions allocate nothing. The call allocates nothing.
-    pub fn spare(&self) -> usize
-        ensures value { result ≡ self.now.spare }
-        ensures queue { IsQueue self.now }
-    {
-        self.spare
     }
 
     /// How many listeners there are, told or waiting. The call allocates nothing.

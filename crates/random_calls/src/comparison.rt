@@ -8,9 +8,9 @@ pub trait Comparison {
     /// A call. Every list of calls can be made.
     type Call: Copy + Debug;
 
-    /// Makes the calls on new things. The answer is the first difference, if there is one. An error says that there was
-    /// no memory, or no clock.
-    fn compare(&self, calls: &[Self::Call]) -> Result<Option<Difference>>;
+    /// Makes the calls on new things, and may note what came up. The answer is the first difference, if there is one.
+    /// An error says that there was no memory, or no clock.
+    fn compare(&mut self, calls: &[Self::Call]) -> Result<Option<Difference>>;
 }
 
 /// Where two answers differ.
@@ -35,7 +35,7 @@ pub struct Shown<C> {
 /// it gives.
 pub fn shorten<C: Comparison>(
     alloc: Global,
-    comparison: &C,
+    comparison: &mut C,
     shown: Shown<C::Call>,
 ) -> Result<Shown<C::Call>> {
     let mut shown = shown;
@@ -52,7 +52,7 @@ pub fn shorten<C: Comparison>(
 // Tries each call once, from the last to the first.
 fn leave_out<C: Comparison>(
     alloc: Global,
-    comparison: &C,
+    comparison: &mut C,
     shown: Shown<C::Call>,
 ) -> Result<Shown<C::Call>> {
     let mut shown = shown;

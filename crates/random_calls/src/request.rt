@@ -8,7 +8,7 @@ use std::time::{Clock, Duration, Instant};
 /// What the command line asks for: `seed SEED times N` or `seed SEED seconds N`.
 #[derive(Clone, Copy, Debug, PartialEq, Eq)]
 pub struct Request {
-    /// What everything is drawn from.
+    /// What all random numbers come from.
     pub seed: u64,
     /// When to end.
     pub limit: Limit,

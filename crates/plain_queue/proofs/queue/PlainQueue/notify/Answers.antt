@@ -1,20 +1,6 @@
-use Rattle.std.proofs.Common.{arith}
-use Rattle.event_queue.proofs.NotifyLemmas.{Notifies-order, Notifies-told}
+use Rattle.event_queue.proofs.NotifyLemmas.{one_more_told}
 use Rattle.plain_queue.proofs.queue.PlainQueue.notify.Goals as goal
 
-pub returns-clause-order : goal.returns-clause-order
-returns-clause-order g c = Notifies-order g.N.Notification.tag_gives (g.N.Notification.count c.args.n.now) (g.N.Notification.is_additional c.args.n.now) c.args.self.now c.args.n.now c.notify_step.result c.notify_step.new.self c.notify_step.new.n c.notify_step.ensures.step
-
-pub returns-clause-default_leaves : goal.returns-clause-default_leaves
-returns-clause-default_leaves g c =
-    λ ok kind.
-    let counts = Notifies-told g.N.Notification.tag_gives (g.N.Notification.count c.args.n.now) (g.N.Notification.is_additional c.args.n.now) c.args.self.now c.args.n.now c.notify_step.result c.notify_step.new.self c.notify_step.new.n c.notify_step.ensures.step ok in
-    let told = rw kind at counts in
-    omega (arith, told)
-
-pub returns-clause-additional_tells : goal.returns-clause-additional_tells
-returns-clause-additional_tells g c =
-    λ ok kind.
-    let counts = Notifies-told g.N.Notification.tag_gives (g.N.Notification.count c.args.n.now) (g.N.Notification.is_additional c.args.n.now) c.args.self.now c.args.n.now c.notify_step.result c.notify_step.new.self c.notify_step.new.n c.notify_step.ensures.step ok in
-    let told = rw kind at counts in
-    omega (arith, told)
+pub loop-told-preserved : goal.loop-told-preserved
+loop-told-preserved g c =
+    one_more_told _ _ _ _ _ _ _ _ _ _ _ c.in-Ok.tag _ _ _ c.loop-told.invariant c.in-Ok.ensures.gives c.next_tag.ensures.again c.tell_first.ensures.told c.tell_first.ensures.wakes c.tell_first.ensures.queue

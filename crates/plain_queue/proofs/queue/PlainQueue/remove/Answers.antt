@@ -1,16 +1,30 @@
-use Rattle.event_queue.proofs.LawLemmas.{Removes-order, Removes-gone, Removes-drop_default, Removes-drop_additional}
+use Rattle.std.proofs.Common.{sym, refl}
+use Rattle.event_queue.proofs.QueueLemmas.{IsQueue-told_leaves, IsQueue-waiting_leaves}
+use Rattle.event_queue.proofs.LawLemmas.{untold-waiting}
+use Rattle.plain_queue.proofs.RoomLemmas.{HasRoom-told_leaves, HasRoom-waiting_leaves}
 use Rattle.plain_queue.proofs.queue.PlainQueue.remove.Goals as goal
 
-pub returns-clause-order : goal.returns-clause-order
-returns-clause-order g c = Removes-order _ _ _ _ _ c.remove_step.ensures.was_queue c.remove_step.ensures.step
+pub invariant_of-self : goal.invariant_of-self
+invariant_of-self g c =
+    rw (c.in-Some.ensures.taken, c.take_entry.ensures.capacity) (HasRoom-waiting_leaves c.args.key _ c.in-Some.task _ _ c.self.invariant (sym c.in-Some.ensures.value))
 
-pub returns-clause-gone : goal.returns-clause-gone
-returns-clause-gone g c = Removes-gone _ _ _ _ _ c.remove_step.ensures.was_queue c.remove_step.ensures.step
+pub returns-in-Some-clause-queue : goal.returns-in-Some-clause-queue
+returns-in-Some-clause-queue g c =
+    rw c.in-Some.ensures.taken (IsQueue-waiting_leaves c.args.key _ c.in-Some.task c.self.invariant.queue (sym c.in-Some.ensures.value))
 
-pub returns-clause-drop_default : goal.returns-clause-drop_default
-returns-clause-drop_default g c =
-    λ passes told. Removes-drop_default _ _ _ _ c.remove_step.ensures.was_queue (rw passes at c.remove_step.ensures.step) told
+pub returns-in-Some-clause-wakes : goal.returns-in-Some-clause-wakes
+returns-in-Some-clause-wakes g c =
+    let untold = untold-waiting c.args.key _ c.in-Some.task c.self.invariant.queue (sym c.in-Some.ensures.value) in
+    rw (← c.self.view_is, untold) refl
 
-pub returns-clause-drop_additional : goal.returns-clause-drop_additional
-returns-clause-drop_additional g c =
-    λ passes told. Removes-drop_additional _ _ _ _ c.remove_step.ensures.was_queue (rw passes at c.remove_step.ensures.step) told
+pub invariant_of-self-then-propagate : goal.invariant_of-self-then-propagate
+invariant_of-self-then-propagate g c =
+    rw (c.in_ok-notice.ensures.taken, c.take_entry-2.ensures.capacity, c.in_default.ensures.absent, c.take_entry.ensures.capacity) (HasRoom-told_leaves c.args.key _ c.in_ok-notice.notice _ _ c.self.invariant (sym c.in_ok-notice.ensures.value))
+
+pub invariant_of-self-else-propagate : goal.invariant_of-self-else-propagate
+invariant_of-self-else-propagate g c =
+    rw (c.in_ok-notice.ensures.taken, c.take_entry-2.ensures.capacity, c.in_default.ensures.absent, c.take_entry.ensures.capacity) (HasRoom-told_leaves c.args.key _ c.in_ok-notice.notice _ _ c.self.invariant (sym c.in_ok-notice.ensures.value))
+
+pub returns-clause-queue : goal.returns-clause-queue
+returns-clause-queue g c =
+    rw (c.in_ok-notice.ensures.taken, c.in_default.ensures.absent) (IsQueue-told_leaves c.args.key _ c.in_ok-notice.notice c.self.invariant.queue (sym c.in_ok-notice.ensures.value))

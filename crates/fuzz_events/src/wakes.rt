@@ -1,6 +1,6 @@
 //! The tasks of polls, in the order in which they are woken or let go.
 use crate::subject::Runtime;
-use anyhow::{Result, anyhow};
+use anyhow::{Result, anyhow, bail};
 use futures::task::Waker;
 use test_support::WakeOrder;
 
@@ -31,8 +31,9 @@ impl<'a, R: Runtime> Wakes<'a, R> {
     /// A waker of a new task of that name.
     pub fn waker(&mut self, name: u32) -> Result<Waker> {
         let (task, waker) = self.order.task(self.rt)?;
-        if let Some(place) = self.names.get_mut(task) {
-            *place = name;
+        match self.names.get_mut(task) {
+            Some(place) => *place = name,
+            None => bail!("no room for a name"),
         }
         Ok(waker)
     }
@@ -53,7 +54,8 @@ impl<'a, R: Runtime> Wakes<'a, R> {
                 Some(task) if task != last => {
                     woken.push(self.names.get(task).copied().unwrap_or(u32::MAX))?;
                 }
-                _ => break,
+                Some(_) => break,
+                None => bail!("the task that marks the end was not woken"),
             }
         }
         Ok(woken)

@@ -1,5 +1,5 @@
 //! What the lists of calls are made on.
-use crate::draw::Drawn;
+use crate::event_call::EventCall;
 use anyhow::Result;
 use std::alloc::AllocGlobal;
 use std::random::RandomSource;
@@ -30,7 +30,7 @@ pub enum Answer {
 
 /// What a call did.
 #[derive(Debug, PartialEq, Eq, Drop)]
-pub struct Made {
+pub struct Outcome {
     pub answer: Answer,
     /// The tasks that it woke or let go, in order.
     pub woken: Vec<u32>,
@@ -38,8 +38,8 @@ pub struct Made {
 
 /// What a list of calls is made on.
 pub trait Subject {
-    /// Makes a call.
-    fn make(&mut self, drawn: Drawn) -> Result<Answer>;
+    /// Performs a call.
+    fn perform(&mut self, call: EventCall) -> Result<Answer>;
 
     /// Comes before a call.
     fn begin(&mut self) -> Result<()>;
@@ -48,33 +48,18 @@ pub trait Subject {
     fn end(&mut self) -> Result<Vec<u32>>;
 }
 
-/// Which of so many listeners is at that place.
-pub fn listener_at(place: usize, listeners: usize) -> Option<usize> {
-    if listeners == 0 {
-        None
-    } else {
-        Some(place % listeners)
-    }
-}
-
-/// Takes out the listener at that place.
-pub fn take<L>(listeners: &mut Vec<L>, place: usize) -> Option<L> {
-    let at = listener_at(place, listeners.len())?;
-    if at < listeners.len() {
-        Some(listeners.remove(at))
-    } else {
-        None
-    }
-}
-
-/// Makes the calls. For each, gives the answer and the tasks that it woke or let go, in order.
-pub fn run<S: Subject, R: Runtime>(rt: &R, subject: &mut S, calls: &[Drawn]) -> Result<Vec<Made>> {
-    let mut all_made = Vec::new(rt.alloc());
-    for drawn in calls {
+/// Performs the calls. For each, gives the answer and the tasks that it woke or let go, in order.
+pub fn run<S: Subject, R: Runtime>(
+    rt: &R,
+    subject: &mut S,
+    calls: &[EventCall],
+) -> Result<Vec<Outcome>> {
+    let mut outcomes = Vec::new(rt.alloc());
+    for call in calls {
         subject.begin()?;
-        let answer = subject.make(*drawn)?;
+        let answer = subject.perform(*call)?;
         let woken = subject.end()?;
-        all_made.push(Made { answer, woken })?;
+        outcomes.push(Outcome { answer, woken })?;
     }
-    Ok(all_made)
+    Ok(outcomes)
 }

@@ -1,19 +1,19 @@
-//! Numbers that are drawn from a seed.
+//! Random numbers from a seed.
 ghost use Rattle.std.specs.Prelude.{◌<◌};
 
 use rand_core::Rng;
 use rand_pcg::Pcg32;
 
-/// A sequence of numbers. One seed and one stream give one sequence, so what was drawn can be drawn again.
+/// A sequence of random numbers. One seed and one stream give one sequence, so that it can be had again.
 #[derive(Drop)]
-pub struct Draws {
+pub struct RandomNumbers {
     generator: Pcg32,
 }
 
-impl Draws {
+impl RandomNumbers {
     /// The sequence of that seed and that stream.
     pub fn new(seed: u64, stream: u64) -> Self {
-        Draws {
+        RandomNumbers {
             generator: Pcg32::new(seed, stream),
         }
     }

@@ -1,8 +1,9 @@
 //! Queues as subjects.
-use crate::draw::Drawn;
-use crate::subject::{Answer, Runtime, Subject, listener_at, take};
+use crate::event_call::EventCall;
+use crate::subject::{Answer, Runtime, Subject};
 use anyhow::Result;
 use event_listener::{IntoNotification, IntoTagged, Key, List, RegisterResult, State, Woken};
+use random_calls::{listener_at, take_listener};
 use std::alloc::Global;
 use std::mem;
 
@@ -60,7 +61,7 @@ impl QueueSubject {
 
     // A wait registers, and leaves the queue where it was not told.
     fn wait_now(&mut self, place: usize) -> Answer {
-        let Some(mut taken) = take(&mut self.places, place) else {
+        let Some(mut taken) = take_listener(&mut self.places, place) else {
             return Answer::Nobody;
         };
         match register(&mut self.list, &mut taken, WAIT, &mut self.let_go) {
@@ -92,7 +93,7 @@ impl QueueSubject {
 
     // Removes the listener at that place. Answers whether it was told.
     fn remove(&mut self, place: usize, propagate: bool) -> Option<bool> {
-        let taken = take(&mut self.places, place)?;
+        let taken = take_listener(&mut self.places, place)?;
         match self
             .list
             .remove_uncounted(taken.key, propagate, &mut self.woken)
@@ -126,26 +127,26 @@ fn register(
 }
 
 impl Subject for QueueSubject {
-    fn make(&mut self, drawn: Drawn) -> Result<Answer> {
-        match drawn {
-            Drawn::Listen { borrowing: _ } => self.listen(),
-            Drawn::Poll { place, task } => Ok(self.poll(place, task)),
-            Drawn::WaitNow { place } => Ok(self.wait_now(place)),
-            Drawn::Notify {
+    fn perform(&mut self, call: EventCall) -> Result<Answer> {
+        match call {
+            EventCall::Listen { borrowing: _ } => self.listen(),
+            EventCall::Poll { place, task } => Ok(self.poll(place, task)),
+            EventCall::WaitNow { place } => Ok(self.wait_now(place)),
+            EventCall::Notify {
                 count,
                 additional,
                 tag,
             } => self.notify(count, additional, tag),
-            Drawn::Discard { place } => Ok(match self.remove(place, false) {
+            EventCall::Discard { place } => Ok(match self.remove(place, false) {
                 Some(was_told) => Answer::Discarded(was_told),
                 None => Answer::Nobody,
             }),
-            Drawn::Drop { place } => Ok(match self.remove(place, true) {
+            EventCall::Drop { place } => Ok(match self.remove(place, true) {
                 Some(_) => Answer::Dropped,
                 None => Answer::Nobody,
             }),
-            Drawn::TotalListeners => Ok(Answer::TotalListeners(self.list.total_listeners())),
-            Drawn::IsNotified => Ok(Answer::IsNotified(self.list.is_notified())),
+            EventCall::TotalListeners => Ok(Answer::TotalListeners(self.list.total_listeners())),
+            EventCall::IsNotified => Ok(Answer::IsNotified(self.list.is_notified())),
         }
     }
 

@@ -1,5 +1,5 @@
 use Rattle.event_queue.proofs.NotifyLemmas.{ToldSoFar}
-use Rattle.plain_queue.proofs.queue.PlainQueue.notify_step.Given as goal
+use Rattle.plain_queue.proofs.queue.PlainQueue.notify.Given as goal
 
 abbrev pub invariant-loop-told : goal.invariant-loop-told
 invariant-loop-told g l =

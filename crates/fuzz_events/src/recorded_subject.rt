@@ -1,10 +1,13 @@
 //! Recorded events as subjects.
+use crate::event_call::EventCall;
+use crate::subject::{Answer, Runtime, Subject};
+use crate::wakes::Wakes;
 use anyhow::{Result, bail};
 use event_listener::Hand;
 use futures::task::Poll;
-use fuzz_subjects::{Answer, Drawn, Runtime, Subject, Wakes, listener_at, take};
-use test_support::recorded::{Calls, Refusal};
+use random_calls::{listener_at, take_listener};
 use std::time::Duration;
+use test_support::recorded::{Calls, Refusal};
 
 /// A recorded event, whose hands take turns.
 #[derive(Drop)]
@@ -80,7 +83,7 @@ where
     }
 
     fn wait_now(&mut self, place: usize) -> Result<Answer> {
-        let Some(listener) = take(&mut self.listeners, place) else {
+        let Some(listener) = take_listener(&mut self.listeners, place) else {
             return Ok(Answer::Nobody);
         };
         let hand = in_turn(self.hands, &mut self.turn)?;
@@ -100,7 +103,7 @@ where
     }
 
     fn discard(&mut self, place: usize) -> Result<Answer> {
-        let Some(listener) = take(&mut self.listeners, place) else {
+        let Some(listener) = take_listener(&mut self.listeners, place) else {
             return Ok(Answer::Nobody);
         };
         let hand = in_turn(self.hands, &mut self.turn)?;
@@ -109,7 +112,7 @@ where
     }
 
     fn drop_listener(&mut self, place: usize) -> Answer {
-        match take(&mut self.listeners, place) {
+        match take_listener(&mut self.listeners, place) {
             Some(listener) => {
                 drop(listener);
                 Answer::Dropped
@@ -125,23 +128,23 @@ where
     L: Drop,
     R: Runtime,
 {
-    fn make(&mut self, drawn: Drawn) -> Result<Answer> {
-        match drawn {
-            Drawn::Listen { borrowing: _ } => self.listen(),
-            Drawn::Poll { place, task } => self.poll(place, task),
-            Drawn::WaitNow { place } => self.wait_now(place),
-            Drawn::Notify {
+    fn perform(&mut self, call: EventCall) -> Result<Answer> {
+        match call {
+            EventCall::Listen { borrowing: _ } => self.listen(),
+            EventCall::Poll { place, task } => self.poll(place, task),
+            EventCall::WaitNow { place } => self.wait_now(place),
+            EventCall::Notify {
                 count,
                 additional,
                 tag,
             } => self.notify(count, additional, tag),
-            Drawn::Discard { place } => self.discard(place),
-            Drawn::Drop { place } => Ok(self.drop_listener(place)),
-            Drawn::TotalListeners => {
+            EventCall::Discard { place } => self.discard(place),
+            EventCall::Drop { place } => Ok(self.drop_listener(place)),
+            EventCall::TotalListeners => {
                 let hand = in_turn(self.hands, &mut self.turn)?;
                 Ok(Answer::TotalListeners(answered(self.on.total_listeners(hand))?))
             }
-            Drawn::IsNotified => {
+            EventCall::IsNotified => {
                 let hand = in_turn(self.hands, &mut self.turn)?;
                 Ok(Answer::IsNotified(answered(self.on.is_notified(hand))?))
             }

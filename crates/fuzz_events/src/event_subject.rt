@@ -1,8 +1,11 @@
 //! Events as subjects.
+use crate::event_call::EventCall;
+use crate::subject::{Answer, Runtime, Subject};
+use crate::wakes::Wakes;
 use anyhow::{Result, bail};
 use event_listener::{Event, IntoNotification, IntoTagged, Listener, NeverInserted, WaitError};
 use futures::task::{Poll, Waker};
-use fuzz_subjects::{Answer, Drawn, Runtime, Subject, Wakes, listener_at, take};
+use random_calls::{listener_at, take_listener};
 use std::marker::PhantomData;
 use std::time::Duration;
 use test_support::ListenerKind;
@@ -86,7 +89,7 @@ where
     }
 
     fn wait_now(&mut self, place: usize) -> Result<Answer> {
-        match take(&mut self.listeners, place) {
+        match take_listener(&mut self.listeners, place) {
             Some(Either::Sharing(listener)) => wait_now(listener),
             Some(Either::Borrowing(listener)) => wait_now(listener),
             None => Ok(Answer::Nobody),
@@ -103,7 +106,7 @@ where
     }
 
     fn discard(&mut self, place: usize) -> Answer {
-        match take(&mut self.listeners, place) {
+        match take_listener(&mut self.listeners, place) {
             Some(Either::Sharing(listener)) => Answer::Discarded(listener.discard()),
             Some(Either::Borrowing(listener)) => Answer::Discarded(listener.discard()),
             None => Answer::Nobody,
@@ -111,7 +114,7 @@ where
     }
 
     fn drop_listener(&mut self, place: usize) -> Answer {
-        match take(&mut self.listeners, place) {
+        match take_listener(&mut self.listeners, place) {
             Some(listener) => {
                 drop(listener);
                 Answer::Dropped
@@ -129,22 +132,22 @@ where
     M: Listener<u32> + Drop,
     R: Runtime,
 {
-    fn make(&mut self, drawn: Drawn) -> Result<Answer> {
-        match drawn {
-            Drawn::Listen { borrowing } => self.listen(borrowing),
-            Drawn::Poll { place, task } => self.poll(place, task),
-            Drawn::WaitNow { place } => self.wait_now(place),
-            Drawn::Notify {
+    fn perform(&mut self, call: EventCall) -> Result<Answer> {
+        match call {
+            EventCall::Listen { borrowing } => self.listen(borrowing),
+            EventCall::Poll { place, task } => self.poll(place, task),
+            EventCall::WaitNow { place } => self.wait_now(place),
+            EventCall::Notify {
                 count,
                 additional,
                 tag,
             } => self.notify(count, additional, tag),
-            Drawn::Discard { place } => Ok(self.discard(place)),
-            Drawn::Drop { place } => Ok(self.drop_listener(place)),
-            Drawn::TotalListeners => Ok(Answer::TotalListeners(
+            EventCall::Discard { place } => Ok(self.discard(place)),
+            EventCall::Drop { place } => Ok(self.drop_listener(place)),
+            EventCall::TotalListeners => Ok(Answer::TotalListeners(
                 self.event.total_listeners(self.rt),
             )),
-            Drawn::IsNotified => Ok(Answer::IsNotified(self.event.is_notified(self.rt))),
+            EventCall::IsNotified => Ok(Answer::IsNotified(self.event.is_notified(self.rt))),
         }
     }
 
