@@ -1,5 +1,4 @@
 //! What ends a test. The assertion stands here once, in a generic function, and is proved once.
-use event_queue::{Key, List};
 use std::fmt::Debug;
 use std::process::Abort;
 
@@ -11,9 +10,4 @@ where
     R: Abort,
 {
     assert_eq!(rt; answer, expected, "{asked:?}");
-}
-
-/// A new listener.
-pub fn insert<T, W, R: Abort>(rt: &R, queue: &mut List<T, W>) -> Key {
-    queue.insert_uncounted().expect(rt, "a listener")
 }
