@@ -1,19 +1,15 @@
 //! All places of the clients and setters of a flag by all acts, and what a client that leaves passes on.
-use crate::checks::check;
+use crate::support::{check, flag_state};
 use event_worlds::{Act, FlagPlace, FlagWorld, SetterPlace, Step};
 use std::alloc::AllocGlobal;
 use std::process::Abort;
 
 // Where a client is, whether it is told, whether it has its wake-up, and whether the flag is set.
-type Spot = (FlagPlace, bool, bool, bool);
+type State = (FlagPlace, bool, bool, bool);
 
-fn spot(world: &FlagWorld, client: usize) -> Option<Spot> {
-    if client >= world.clients() {
-        return None;
-    }
-    let is_told = world.is_told(client);
-    let has_wake = world.has_wake(client);
-    Some((world.place(client), is_told, has_wake, world.flag()))
+fn state(world: &FlagWorld, client: usize) -> Option<State> {
+    let (place, is_told, has_wake) = flag_state(world, client)?;
+    Some((place, is_told, has_wake, world.flag()))
 }
 
 fn setter(world: &FlagWorld) -> Option<SetterPlace> {
@@ -25,41 +21,41 @@ fn setter(world: &FlagWorld) -> Option<SetterPlace> {
 
 // The world of two clients, 0 and 1, and one setter, 2, after each of these went so many times, in order. Each time is
 // a step.
-fn world_after<R: Abort + AllocGlobal>(rt: &R, way: &[(usize, usize)]) -> FlagWorld {
+fn world_after<R: Abort + AllocGlobal>(rt: &R, schedule: &[(usize, usize)]) -> FlagWorld {
     let mut world = FlagWorld::new(rt.alloc(), 2, 1).expect(rt, "a world");
-    for (actor, times) in way {
+    for (actor, times) in schedule {
         for _ in 0..*times {
-            check(rt, (way, *actor), world.step(*actor, Act::Go), true);
+            check(rt, (schedule, *actor), world.step(*actor, Act::Go), true);
         }
     }
     world
 }
 
-// After this way no act of the actor but `Go` is a step.
-fn only_goes<R: Abort + AllocGlobal>(rt: &R, way: &[(usize, usize)], actor: usize) {
-    let mut world = world_after(rt, way);
-    let before = (spot(&world, 0), spot(&world, 1), setter(&world));
+// After this schedule no act of the actor but `Go` is a step.
+fn only_goes<R: Abort + AllocGlobal>(rt: &R, schedule: &[(usize, usize)], actor: usize) {
+    let mut world = world_after(rt, schedule);
+    let before = (state(&world, 0), state(&world, 1), setter(&world));
     for act in [Act::Poll, Act::TimeOut, Act::Cancel] {
-        check(rt, (way, act), world.step(actor, act), false);
+        check(rt, (schedule, act), world.step(actor, act), false);
     }
-    let now = (spot(&world, 0), spot(&world, 1), setter(&world));
-    check(rt, (way, "nothing changed"), now, before);
+    let now = (state(&world, 0), state(&world, 1), setter(&world));
+    check(rt, (schedule, "nothing changed"), now, before);
 }
 
-// After this way client 0 goes there, and any other act is no step.
-fn goes<R: Abort + AllocGlobal>(rt: &R, way: &[(usize, usize)], to: Spot) {
-    let mut world = world_after(rt, way);
-    check(rt, (way, Act::Go), world.step(0, Act::Go), true);
-    check(rt, (way, "client 0"), spot(&world, 0), Some(to));
-    only_goes(rt, way, 0);
+// After this schedule client 0 goes there, and any other act is no step.
+fn goes<R: Abort + AllocGlobal>(rt: &R, schedule: &[(usize, usize)], to: State) {
+    let mut world = world_after(rt, schedule);
+    check(rt, (schedule, Act::Go), world.step(0, Act::Go), true);
+    check(rt, (schedule, "client 0"), state(&world, 0), Some(to));
+    only_goes(rt, schedule, 0);
 }
 
-// After this way client 0 stays where it is, whatever it does.
-fn stays<R: Abort + AllocGlobal>(rt: &R, way: &[(usize, usize)], at: Spot) {
-    let mut world = world_after(rt, way);
-    check(rt, (way, Act::Go), world.step(0, Act::Go), false);
-    check(rt, (way, "client 0"), spot(&world, 0), Some(at));
-    only_goes(rt, way, 0);
+// After this schedule client 0 stays where it is, whatever it does.
+fn stays<R: Abort + AllocGlobal>(rt: &R, schedule: &[(usize, usize)], at: State) {
+    let mut world = world_after(rt, schedule);
+    check(rt, (schedule, Act::Go), world.step(0, Act::Go), false);
+    check(rt, (schedule, "client 0"), state(&world, 0), Some(at));
+    only_goes(rt, schedule, 0);
 }
 
 #[test]
@@ -148,7 +144,7 @@ fn a_client_that_is_told(rt: HostRuntime) {
     // A parked client has its wake-up.
     let parked = world_after(&rt, &[(0, 4), (2, 2)]);
     let told = (FlagPlace::Parked, true, true, true);
-    check(&rt, "parked", spot(&parked, 0), Some(told));
+    check(&rt, "parked", state(&parked, 0), Some(told));
 }
 
 #[test]
@@ -165,7 +161,7 @@ fn a_setter(rt: HostRuntime) {
     check(
         &rt,
         "client 0",
-        spot(&world, 0),
+        state(&world, 0),
         Some((FlagPlace::Check2, false, false, true)),
     );
     check(&rt, "it notifies", world.step(2, Act::Go), true);
@@ -173,7 +169,7 @@ fn a_setter(rt: HostRuntime) {
     check(
         &rt,
         "client 0",
-        spot(&world, 0),
+        state(&world, 0),
         Some((FlagPlace::Check2, true, false, true)),
     );
     check(&rt, "it does no more", world.step(2, Act::Go), false);
@@ -188,13 +184,13 @@ fn a_setter_tells_everybody(rt: HostRuntime) {
     check(
         &rt,
         "client 0",
-        spot(&world, 0),
+        state(&world, 0),
         Some((FlagPlace::Parked, true, true, true)),
     );
     check(
         &rt,
         "client 1",
-        spot(&world, 1),
+        state(&world, 1),
         Some((FlagPlace::ToRegister, true, false, true)),
     );
 }
@@ -206,20 +202,20 @@ fn a_told_client_that_leaves_passes_on(rt: HostRuntime) {
     check(
         &rt,
         "client 0",
-        spot(&world, 0),
+        state(&world, 0),
         Some((FlagPlace::Dropping, true, false, true)),
     );
     check(
         &rt,
         "client 1",
-        spot(&world, 1),
+        state(&world, 1),
         Some((FlagPlace::Check2, false, false, true)),
     );
     check(&rt, "client 0 leaves", world.step(0, Act::Go), true);
     check(
         &rt,
         "client 1",
-        spot(&world, 1),
+        state(&world, 1),
         Some((FlagPlace::Check2, true, false, true)),
     );
 }
@@ -241,7 +237,7 @@ fn a_run_counts_the_steps_that_are_taken(rt: HostRuntime) {
     check(
         &rt,
         "client 0",
-        spot(&world, 0),
+        state(&world, 0),
         Some((FlagPlace::Check2, false, false, true)),
     );
 }

@@ -1,67 +1,99 @@
 //! All places of a client of a lock by all acts, and what a client that leaves passes on.
-use crate::checks::check;
+use crate::support::{ACTS, FIRST, WOKEN, check, mutex_state};
 use event_worlds::{Act, MutexWorld, Place, Step};
 use std::alloc::AllocGlobal;
 use std::process::Abort;
 
-const FIRST: Place = Place::First { woken: false };
-
-const WOKEN: Place = Place::First { woken: true };
-
 // Where a client is, whether it is told, whether it has its wake-up, and who holds the lock.
-type Spot = (Place, bool, bool, Option<usize>);
+type State = (Place, bool, bool, Option<usize>);
 
 // Client 1 of a world of three is looked at.
-fn spot(world: &MutexWorld) -> Option<Spot> {
-    spot_of(world, 1)
+fn state(world: &MutexWorld) -> Option<State> {
+    state_of(world, 1)
 }
 
-fn spot_of(world: &MutexWorld, client: usize) -> Option<Spot> {
-    if client >= world.clients() {
-        return None;
-    }
-    let is_told = world.is_told(client);
-    let has_wake = world.has_wake(client);
-    Some((world.place(client), is_told, has_wake, world.holder()))
+fn state_of(world: &MutexWorld, client: usize) -> Option<State> {
+    let (place, is_told, has_wake) = mutex_state(world, client)?;
+    Some((place, is_told, has_wake, world.holder()))
 }
 
 // The world after each of these clients went so many times, in order. Each time is a step.
-fn world_after<R: Abort + AllocGlobal>(rt: &R, way: &[(usize, usize)]) -> MutexWorld {
+fn world_after<R: Abort + AllocGlobal>(rt: &R, schedule: &[(usize, usize)]) -> MutexWorld {
     let mut world = MutexWorld::new(rt.alloc(), 3).expect(rt, "a world");
-    for (client, times) in way {
+    for (client, times) in schedule {
         for _ in 0..*times {
-            check(rt, (way, *client), world.step(*client, Act::Go), true);
+            check(rt, (schedule, *client), world.step(*client, Act::Go), true);
         }
     }
     world
 }
 
-// Where the act takes client 1 after this way, or `None` where it is no step. That leaves everything as it was.
-fn after<R: Abort + AllocGlobal>(rt: &R, way: &[(usize, usize)], act: Act) -> Option<Spot> {
-    let mut world = world_after(rt, way);
-    let before = spot(&world);
+// Where the act takes client 1 after this schedule, or `None` where it is no step. That leaves everything as it was.
+fn after<R: Abort + AllocGlobal>(rt: &R, schedule: &[(usize, usize)], act: Act) -> Option<State> {
+    let mut world = world_after(rt, schedule);
+    let before = state(&world);
     if world.step(1, act) {
-        return spot(&world);
+        return state(&world);
     }
-    check(rt, (way, act), spot(&world), before);
+    check(rt, (schedule, act), state(&world), before);
     None
 }
 
-// After this way client 1 goes there, and any other act is no step.
-fn goes<R: Abort + AllocGlobal>(rt: &R, way: &[(usize, usize)], to: Spot) {
-    check(rt, (way, Act::Go), after(rt, way, Act::Go), Some(to));
-    check(rt, (way, Act::Poll), after(rt, way, Act::Poll), None);
-    check(rt, (way, Act::TimeOut), after(rt, way, Act::TimeOut), None);
-    check(rt, (way, Act::Cancel), after(rt, way, Act::Cancel), None);
+// After this schedule client 1 goes there, and any other act is no step.
+fn goes<R: Abort + AllocGlobal>(rt: &R, schedule: &[(usize, usize)], to: State) {
+    check(
+        rt,
+        (schedule, Act::Go),
+        after(rt, schedule, Act::Go),
+        Some(to),
+    );
+    check(
+        rt,
+        (schedule, Act::Poll),
+        after(rt, schedule, Act::Poll),
+        None,
+    );
+    check(
+        rt,
+        (schedule, Act::TimeOut),
+        after(rt, schedule, Act::TimeOut),
+        None,
+    );
+    check(
+        rt,
+        (schedule, Act::Cancel),
+        after(rt, schedule, Act::Cancel),
+        None,
+    );
 }
 
-// After this way client 1 is about to register. It goes there, or is cancelled, and any other act is no step.
-fn registers<R: Abort + AllocGlobal>(rt: &R, way: &[(usize, usize)], to: Spot, cancelled: Spot) {
-    check(rt, (way, Act::Go), after(rt, way, Act::Go), Some(to));
-    check(rt, (way, Act::Poll), after(rt, way, Act::Poll), None);
-    check(rt, (way, Act::TimeOut), after(rt, way, Act::TimeOut), None);
-    let cancel = after(rt, way, Act::Cancel);
-    check(rt, (way, Act::Cancel), cancel, Some(cancelled));
+// After this schedule client 1 is about to register. It goes there, or is cancelled, and any other act is no step.
+fn registers<R: Abort + AllocGlobal>(
+    rt: &R,
+    schedule: &[(usize, usize)],
+    to: State,
+    cancelled: State,
+) {
+    check(
+        rt,
+        (schedule, Act::Go),
+        after(rt, schedule, Act::Go),
+        Some(to),
+    );
+    check(
+        rt,
+        (schedule, Act::Poll),
+        after(rt, schedule, Act::Poll),
+        None,
+    );
+    check(
+        rt,
+        (schedule, Act::TimeOut),
+        after(rt, schedule, Act::TimeOut),
+        None,
+    );
+    let cancel = after(rt, schedule, Act::Cancel);
+    check(rt, (schedule, Act::Cancel), cancel, Some(cancelled));
 }
 
 #[test]
@@ -90,20 +122,20 @@ fn a_client_without_a_listener(rt: HostRuntime) {
 #[test]
 fn the_second_try(rt: HostRuntime) {
     // Waiting, with the lock held and free.
-    let way = [(0, 2), (1, 3)];
-    goes(&rt, &way, (Place::ToRegister, false, false, Some(0)));
-    let way = [(0, 2), (1, 3), (0, 1)];
-    goes(&rt, &way, (Place::Ending, false, false, Some(1)));
+    let schedule = [(0, 2), (1, 3)];
+    goes(&rt, &schedule, (Place::ToRegister, false, false, Some(0)));
+    let schedule = [(0, 2), (1, 3), (0, 1)];
+    goes(&rt, &schedule, (Place::Ending, false, false, Some(1)));
     // Told, with the lock free and held.
-    let way = [(0, 2), (1, 3), (0, 2)];
-    goes(&rt, &way, (Place::Ending, true, false, Some(1)));
-    let way = [(0, 2), (1, 3), (0, 4)];
-    goes(&rt, &way, (Place::ToRegister, true, false, Some(0)));
+    let schedule = [(0, 2), (1, 3), (0, 2)];
+    goes(&rt, &schedule, (Place::Ending, true, false, Some(1)));
+    let schedule = [(0, 2), (1, 3), (0, 4)];
+    goes(&rt, &schedule, (Place::ToRegister, true, false, Some(0)));
     // Its listener is dropped, waiting and told.
-    let way = [(0, 2), (1, 3), (0, 1), (1, 1)];
-    goes(&rt, &way, (Place::Holding, false, false, Some(1)));
-    let way = [(0, 2), (1, 3), (0, 2), (1, 1)];
-    goes(&rt, &way, (Place::Holding, false, false, Some(1)));
+    let schedule = [(0, 2), (1, 3), (0, 1), (1, 1)];
+    goes(&rt, &schedule, (Place::Holding, false, false, Some(1)));
+    let schedule = [(0, 2), (1, 3), (0, 2), (1, 1)];
+    goes(&rt, &schedule, (Place::Holding, false, false, Some(1)));
 }
 
 #[test]
@@ -176,14 +208,14 @@ fn a_wake_up_stays_until_its_client_listens_again(rt: HostRuntime) {
     check(
         &rt,
         "fails",
-        spot(&world),
+        state(&world),
         Some((Place::ToListen, false, true, Some(0))),
     );
     check(&rt, "client 1 listens", world.step(1, Act::Go), true);
     check(
         &rt,
         "anew",
-        spot(&world),
+        state(&world),
         Some((Place::Second, false, false, Some(0))),
     );
 }
@@ -198,7 +230,7 @@ fn a_wake_up_comes_to_those_registered_alone(rt: HostRuntime) {
     check(
         &rt,
         "registered",
-        spot(&world),
+        state(&world),
         Some((Place::ToRegister, true, true, None)),
     );
     // One that never registered has none.
@@ -206,49 +238,63 @@ fn a_wake_up_comes_to_those_registered_alone(rt: HostRuntime) {
     check(
         &rt,
         "not registered",
-        spot(&world),
+        state(&world),
         Some((Place::ToRegister, true, false, None)),
     );
 }
 
 // Client 1 is told, and client 2 waits behind it. How client 2 stands after client 1's act.
-fn second_after<R: Abort + AllocGlobal>(rt: &R, way: &[(usize, usize)], act: Act) -> Option<Spot> {
-    let mut world = world_after(rt, way);
-    check(rt, (way, act), world.step(1, act), true);
-    spot_of(&world, 2)
+fn second_after<R: Abort + AllocGlobal>(
+    rt: &R,
+    schedule: &[(usize, usize)],
+    act: Act,
+) -> Option<State> {
+    let mut world = world_after(rt, schedule);
+    check(rt, (schedule, act), world.step(1, act), true);
+    state_of(&world, 2)
 }
 
-// After this way and client 1's act, client 2 stands there.
-fn leaves_second_at<R: Abort + AllocGlobal>(rt: &R, way: &[(usize, usize)], act: Act, spot: Spot) {
-    check(rt, (way, act), second_after(rt, way, act), Some(spot));
+// After this schedule and client 1's act, client 2 stands there.
+fn leaves_second_at<R: Abort + AllocGlobal>(
+    rt: &R,
+    schedule: &[(usize, usize)],
+    act: Act,
+    state: State,
+) {
+    check(
+        rt,
+        (schedule, act),
+        second_after(rt, schedule, act),
+        Some(state),
+    );
 }
 
 #[test]
 fn what_a_told_client_that_leaves_passes_on(rt: HostRuntime) {
     // Both parked, and client 1 is told.
-    let way = [(0, 2), (1, 5), (2, 5), (0, 2)];
+    let schedule = [(0, 2), (1, 5), (2, 5), (0, 2)];
     let passed = (Place::Parked, true, true, None);
     let kept = (Place::Parked, false, false, None);
-    leaves_second_at(&rt, &way, Act::Cancel, passed);
-    leaves_second_at(&rt, &way, Act::TimeOut, kept);
+    leaves_second_at(&rt, &schedule, Act::Cancel, passed);
+    leaves_second_at(&rt, &schedule, Act::TimeOut, kept);
 
     // Client 1 is told before it has registered, and is cancelled or takes its tag.
-    let way = [(0, 2), (1, 4), (2, 5), (0, 2)];
-    leaves_second_at(&rt, &way, Act::Cancel, passed);
-    leaves_second_at(&rt, &way, Act::Go, kept);
+    let schedule = [(0, 2), (1, 4), (2, 5), (0, 2)];
+    leaves_second_at(&rt, &schedule, Act::Cancel, passed);
+    leaves_second_at(&rt, &schedule, Act::Go, kept);
 
     // Client 1 took the lock with its listener still there.
-    let way = [(0, 2), (1, 3), (2, 5), (0, 2), (1, 1)];
+    let schedule = [(0, 2), (1, 3), (2, 5), (0, 2), (1, 1)];
     let passed = (Place::Parked, true, true, Some(1));
-    leaves_second_at(&rt, &way, Act::Go, passed);
+    leaves_second_at(&rt, &schedule, Act::Go, passed);
 }
 
 #[test]
 fn a_waiting_client_that_leaves_passes_nothing_on(rt: HostRuntime) {
-    let way = [(0, 2), (1, 5), (2, 5)];
+    let schedule = [(0, 2), (1, 5), (2, 5)];
     let waits = (Place::Parked, false, false, Some(0));
-    leaves_second_at(&rt, &way, Act::Cancel, waits);
-    leaves_second_at(&rt, &way, Act::TimeOut, waits);
+    leaves_second_at(&rt, &schedule, Act::Cancel, waits);
+    leaves_second_at(&rt, &schedule, Act::TimeOut, waits);
 }
 
 #[test]
@@ -258,13 +304,13 @@ fn a_release_counts_the_told(rt: HostRuntime) {
     check(
         &rt,
         "client 1",
-        spot(&world),
+        state(&world),
         Some((Place::Parked, true, true, None)),
     );
     check(
         &rt,
         "client 2",
-        spot_of(&world, 2),
+        state_of(&world, 2),
         Some((Place::Parked, false, false, None)),
     );
 }
@@ -272,14 +318,14 @@ fn a_release_counts_the_told(rt: HostRuntime) {
 #[test]
 fn clients_that_are_not_there(rt: HostRuntime) {
     let mut world = world_after(&rt, &[(0, 2), (1, 5)]);
-    for act in [Act::Go, Act::Poll, Act::TimeOut, Act::Cancel] {
+    for act in ACTS {
         check(&rt, act, world.step(3, act), false);
         check(&rt, act, world.step(usize::MAX, act), false);
     }
     check(
         &rt,
         "nothing changed",
-        spot(&world),
+        state(&world),
         Some((Place::Parked, false, false, Some(0))),
     );
 }
@@ -310,7 +356,7 @@ fn a_run_counts_the_steps_that_are_taken(rt: HostRuntime) {
     check(
         &rt,
         "client 1",
-        spot(&world),
+        state(&world),
         Some((Place::Holding, false, false, Some(1))),
     );
 }

@@ -1,12 +1,12 @@
 //! All places of a client of a lock by all news.
-use crate::checks::check;
+use crate::support::{FIRST, WOKEN, check};
 use event_worlds::{News, Place};
 
 // Every place.
 const PLACES: [Place; 10] = [
     Place::Idle,
-    Place::First { woken: false },
-    Place::First { woken: true },
+    FIRST,
+    WOKEN,
     Place::ToListen,
     Place::Second,
     Place::Ending,
@@ -34,21 +34,21 @@ const NEWS: [News; 12] = [
 
 // From each place, where each news takes it that can come there.
 const TABLE: [(Place, News, Place); 19] = [
-    (Place::Idle, News::Begin, Place::First { woken: false }),
-    (Place::First { woken: false }, News::Got, Place::Holding),
-    (Place::First { woken: true }, News::Got, Place::Holding),
-    (Place::First { woken: false }, News::Busy, Place::ToListen),
-    (Place::First { woken: true }, News::Busy, Place::ToListen),
+    (Place::Idle, News::Begin, FIRST),
+    (FIRST, News::Got, Place::Holding),
+    (WOKEN, News::Got, Place::Holding),
+    (FIRST, News::Busy, Place::ToListen),
+    (WOKEN, News::Busy, Place::ToListen),
     (Place::ToListen, News::Listening, Place::Second),
     (Place::ToListen, News::Refused, Place::Idle),
     (Place::Second, News::Got, Place::Ending),
     (Place::Second, News::Busy, Place::ToRegister),
     (Place::Ending, News::Dropped, Place::Holding),
-    (Place::ToRegister, News::Told, Place::First { woken: true }),
+    (Place::ToRegister, News::Told, WOKEN),
     (Place::ToRegister, News::Registered, Place::Parked),
     (Place::ToRegister, News::Dropped, Place::Idle),
     (Place::Parked, News::Woke, Place::ToRegister),
-    (Place::Parked, News::Told, Place::First { woken: true }),
+    (Place::Parked, News::Told, WOKEN),
     (Place::Parked, News::TimedOut, Place::Idle),
     (Place::Parked, News::Dropped, Place::Idle),
     (Place::Holding, News::Freed, Place::Releasing),

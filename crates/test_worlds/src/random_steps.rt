@@ -1,19 +1,20 @@
-//! Drawn steps of each world, compared with a plain program after each of them.
-use crate::checks::check;
-use crate::plain_worlds::{PlainClient, PlainFlag, PlainMutex, PlainSemaphore};
+//! Random steps of each world, compared with a plain program after each of them.
+use crate::plain_line::PlainLine;
+use crate::plain_worlds::{PlainFlag, PlainMutex, PlainSemaphore};
+use crate::support::{ClientState, Own, check, flag_state, mutex_state, semaphore_state};
 use event_worlds::{Act, FlagPlace, FlagWorld, MutexWorld, Place, SemAct, SemaphoreWorld};
 use std::alloc::AllocGlobal;
 use std::process::Abort;
 
-// Numbers that follow from a seed.
+// Random numbers, which follow from a seed.
 #[derive(Clone, Copy)]
-struct Draws {
+struct Random {
     state: u64,
 }
 
-impl Draws {
-    fn new(seed: u64) -> Draws {
-        Draws { state: seed }
+impl Random {
+    fn new(seed: u64) -> Random {
+        Random { state: seed }
     }
 
     // A number below `end`, which is not 0.
@@ -22,8 +23,8 @@ impl Draws {
             .state
             .wrapping_mul(6_364_136_223_846_793_005)
             .wrapping_add(1_442_695_040_888_963_407);
-        let drawn = (self.state >> 33) as usize;
-        drawn.checked_rem(end).unwrap_or(0)
+        let number = (self.state >> 33) as usize;
+        number.checked_rem(end).unwrap_or(0)
     }
 
     // A client goes three times of four.
@@ -46,47 +47,36 @@ impl Draws {
     }
 }
 
-// Where a client is, whether it is told, and whether it has its wake-up.
-type Spot<P> = (P, bool, bool);
-
-fn mutex_spot(world: &MutexWorld, client: usize) -> Option<Spot<Place>> {
-    if client >= world.clients() {
-        return None;
-    }
-    let told = world.is_told(client);
-    Some((world.place(client), told, world.has_wake(client)))
+// The state of a client of a plain program that is at this place, or nothing if it is not there.
+fn plain_state<P>(place: Option<P>, line: &PlainLine, client: usize) -> Option<ClientState<P>> {
+    place.map(|place| (place, line.is_told(client), line.has_wake(client)))
 }
 
-fn plain_mutex_spot(plain: &PlainMutex, client: usize) -> Option<Spot<Place>> {
-    let place = plain.places.get(client).copied()?;
-    Some((
-        place,
-        plain.line.is_told(client),
-        plain.line.has_wake(client),
-    ))
+fn plain_mutex_state(plain: &PlainMutex, client: usize) -> Option<ClientState<Place>> {
+    plain_state(plain.places.get(client).copied(), &plain.line, client)
 }
 
-// So many drawn steps of a lock with so many clients. One number in some is of nobody.
+// So many random steps of a lock with so many clients. One number in some is of nobody.
 fn mutex_steps<R: Abort + AllocGlobal>(rt: &R, clients: usize, first: u64, steps: usize) {
-    let mut draws = Draws::new(clients as u64);
+    let mut random = Random::new(clients as u64);
     let mut world = MutexWorld::starting_at(rt.alloc(), clients, first).expect(rt, "a world");
     let mut plain = PlainMutex::new(rt, clients, first);
     for number in 0..steps {
-        let actor = draws.below(clients.saturating_add(1));
-        let act = draws.act();
+        let actor = random.below(clients.saturating_add(1));
+        let act = random.act();
         let asked = (clients, number, actor, act);
         let taken = plain.step(rt, actor, act);
         check(rt, asked, world.step(actor, act), taken);
         check(rt, asked, world.holder(), plain.holder);
         for client in 0..clients {
-            let spot = plain_mutex_spot(&plain, client);
-            check(rt, asked, mutex_spot(&world, client), spot);
+            let state = plain_mutex_state(&plain, client);
+            check(rt, asked, mutex_state(&world, client), state);
         }
     }
 }
 
 #[test]
-fn drawn_steps_of_a_lock(rt: HostRuntime) {
+fn random_steps_of_a_lock(rt: HostRuntime) {
     for clients in 1..6 {
         mutex_steps(&rt, clients, 0, 4_500);
         // The serials run out.
@@ -94,45 +84,32 @@ fn drawn_steps_of_a_lock(rt: HostRuntime) {
     }
 }
 
-// The same of a client of a semaphore, with what it holds and owes.
-fn semaphore_spot(world: &SemaphoreWorld, client: usize) -> Option<Spot<PlainClient>> {
-    if client >= world.clients() {
-        return None;
-    }
-    let own = PlainClient {
-        place: world.place(client),
-        held: world.held(client),
-        owed: world.owed(client),
-    };
-    let told = world.is_told(client);
-    Some((own, told, world.has_wake(client)))
-}
-
-fn plain_semaphore_spot(plain: &PlainSemaphore, client: usize) -> Option<Spot<PlainClient>> {
+fn plain_semaphore_state(plain: &PlainSemaphore, client: usize) -> Option<ClientState<Own>> {
     let own = plain.clients.get(client).copied()?;
-    Some((own, plain.line.is_told(client), plain.line.has_wake(client)))
+    let own = (own.place, own.held, own.owed);
+    plain_state(Some(own), &plain.line, client)
 }
 
 fn semaphore_steps<R: Abort + AllocGlobal>(rt: &R, clients: usize, permits: usize, steps: usize) {
-    let mut draws = Draws::new((clients as u64).wrapping_add((permits as u64) << 8));
+    let mut random = Random::new((clients as u64).wrapping_add((permits as u64) << 8));
     let mut world = SemaphoreWorld::new(rt.alloc(), clients, permits).expect(rt, "a world");
     let mut plain = PlainSemaphore::new(rt, clients, permits);
     for number in 0..steps {
-        let actor = draws.below(clients.saturating_add(1));
-        let act = draws.sem_act();
+        let actor = random.below(clients.saturating_add(1));
+        let act = random.sem_act();
         let asked = (clients, permits, number, (actor, act));
         let taken = plain.step(rt, actor, act);
         check(rt, asked, world.step(actor, act), taken);
         check(rt, asked, world.free(), plain.free);
         for client in 0..clients {
-            let spot = plain_semaphore_spot(&plain, client);
-            check(rt, asked, semaphore_spot(&world, client), spot);
+            let state = plain_semaphore_state(&plain, client);
+            check(rt, asked, semaphore_state(&world, client), state);
         }
     }
 }
 
 #[test]
-fn drawn_steps_of_a_semaphore(rt: HostRuntime) {
+fn random_steps_of_a_semaphore(rt: HostRuntime) {
     for clients in 1..6 {
         for permits in 0..5 {
             semaphore_steps(&rt, clients, permits, 1_000);
@@ -140,21 +117,8 @@ fn drawn_steps_of_a_semaphore(rt: HostRuntime) {
     }
 }
 
-fn flag_spot(world: &FlagWorld, client: usize) -> Option<Spot<FlagPlace>> {
-    if client >= world.clients() {
-        return None;
-    }
-    let told = world.is_told(client);
-    Some((world.place(client), told, world.has_wake(client)))
-}
-
-fn plain_flag_spot(plain: &PlainFlag, client: usize) -> Option<Spot<FlagPlace>> {
-    let place = plain.places.get(client).copied()?;
-    Some((
-        place,
-        plain.line.is_told(client),
-        plain.line.has_wake(client),
-    ))
+fn plain_flag_state(plain: &PlainFlag, client: usize) -> Option<ClientState<FlagPlace>> {
+    plain_state(plain.places.get(client).copied(), &plain.line, client)
 }
 
 // The flag is set, and each setter is where it is to be.
@@ -166,10 +130,10 @@ fn same_setters<R: Abort>(rt: &R, world: &FlagWorld, plain: &PlainFlag) {
     }
 }
 
-// So many drawn steps of a new flag, whose clients and setters come to an end soon.
+// So many random steps of a new flag, whose clients and setters come to an end soon.
 fn flag_steps<R: Abort + AllocGlobal>(
     rt: &R,
-    draws: &mut Draws,
+    random: &mut Random,
     clients: usize,
     setters: usize,
     first: u64,
@@ -179,30 +143,30 @@ fn flag_steps<R: Abort + AllocGlobal>(
     );
     let mut plain = PlainFlag::new(rt, clients, setters, first);
     for number in 0..50 {
-        let actor = draws.below(clients.saturating_add(setters).saturating_add(1));
-        let act = draws.act();
+        let actor = random.below(clients.saturating_add(setters).saturating_add(1));
+        let act = random.act();
         let asked = (clients, setters, number, (actor, act));
         let taken = plain.step(rt, actor, act);
         check(rt, asked, world.step(actor, act), taken);
         same_setters(rt, &world, &plain);
         for client in 0..clients {
-            let spot = plain_flag_spot(&plain, client);
-            check(rt, asked, flag_spot(&world, client), spot);
+            let state = plain_flag_state(&plain, client);
+            check(rt, asked, flag_state(&world, client), state);
         }
     }
 }
 
 #[test]
-fn drawn_steps_of_a_flag(rt: HostRuntime) {
-    let mut draws = Draws::new(7);
+fn random_steps_of_a_flag(rt: HostRuntime) {
+    let mut random = Random::new(7);
     for clients in 1..6 {
         for setters in 0..4 {
             for _ in 0..23 {
-                flag_steps(&rt, &mut draws, clients, setters, 0);
+                flag_steps(&rt, &mut random, clients, setters, 0);
             }
             // The serials run out.
-            flag_steps(&rt, &mut draws, clients, setters, u64::MAX - 2);
-            flag_steps(&rt, &mut draws, clients, setters, u64::MAX);
+            flag_steps(&rt, &mut random, clients, setters, u64::MAX - 2);
+            flag_steps(&rt, &mut random, clients, setters, u64::MAX);
         }
     }
 }

@@ -1,12 +1,9 @@
 //! The tables of the worlds as plain programs over a plain line, written from their description and not from the code.
 use crate::plain_line::PlainLine;
+use crate::support::{FIRST, WOKEN};
 use event_worlds::{Act, FlagPlace, Place, SemAct, SetterPlace};
 use std::alloc::AllocGlobal;
 use std::process::Abort;
-
-const FIRST: Place = Place::First { woken: false };
-
-const WOKEN: Place = Place::First { woken: true };
 
 /// A lock with its clients.
 #[derive(Drop)]
@@ -29,7 +26,7 @@ impl PlainMutex {
         let Some(place) = self.places.get(client).copied() else {
             return false;
         };
-        let Some(to) = self.leads(rt, place, client, act) else {
+        let Some(to) = self.perform(rt, place, client, act) else {
             return false;
         };
         if let Some(place) = self.places.get_mut(client) {
@@ -38,7 +35,13 @@ impl PlainMutex {
         true
     }
 
-    fn leads<R: Abort>(&mut self, rt: &R, place: Place, client: usize, act: Act) -> Option<Place> {
+    fn perform<R: Abort>(
+        &mut self,
+        rt: &R,
+        place: Place,
+        client: usize,
+        act: Act,
+    ) -> Option<Place> {
         match (place, act) {
             (Place::First { .. }, Act::Go) => Some(self.tries(
                 client,
@@ -56,7 +59,7 @@ impl PlainMutex {
             }
             (Place::Parked, Act::Poll) => Some(wakes(&mut self.line, client)),
             (_, Act::Go) => goes(rt, &mut self.line, place, client),
-            (Place::Parked, Act::TimeOut) => Some(is_late(&mut self.line, client)),
+            (Place::Parked, Act::TimeOut) => Some(times_out(&mut self.line, client)),
             (_, Act::Cancel) => cancels(rt, &mut self.line, place, client),
             _ => None,
         }
@@ -102,7 +105,7 @@ fn wakes(line: &mut PlainLine, client: usize) -> Place {
     Place::ToRegister
 }
 
-fn is_late(line: &mut PlainLine, client: usize) -> Place {
+fn times_out(line: &mut PlainLine, client: usize) -> Place {
     let was_told = line.is_told(client);
     line.leave(client);
     if was_told { WOKEN } else { Place::Idle }
@@ -119,7 +122,7 @@ fn cancels<R: Abort>(rt: &R, line: &mut PlainLine, place: Place, client: usize) 
 }
 
 /// A client of a semaphore.
-#[derive(Clone, Copy, Debug, PartialEq, Eq)]
+#[derive(Clone, Copy)]
 pub struct PlainClient {
     pub place: Place,
     pub held: usize,
@@ -152,7 +155,7 @@ impl PlainSemaphore {
         let Some(own) = self.clients.get(client).copied() else {
             return false;
         };
-        let Some(to) = self.leads(rt, own, client, act) else {
+        let Some(to) = self.perform(rt, own, client, act) else {
             return false;
         };
         if let Some(own) = self.clients.get_mut(client) {
@@ -161,7 +164,7 @@ impl PlainSemaphore {
         true
     }
 
-    fn leads<R: Abort>(
+    fn perform<R: Abort>(
         &mut self,
         rt: &R,
         own: PlainClient,
@@ -204,7 +207,7 @@ impl PlainSemaphore {
                 Some(PlainClient { place, ..own })
             }
             (Place::Parked, SemAct::TimeOut) => {
-                let place = is_late(&mut self.line, client);
+                let place = times_out(&mut self.line, client);
                 Some(PlainClient { place, ..own })
             }
             (_, SemAct::Cancel) => {
@@ -263,7 +266,7 @@ impl PlainFlag {
         let Some(place) = self.places.get(actor).copied() else {
             return false;
         };
-        let Some(to) = self.leads(rt, place, actor) else {
+        let Some(to) = self.perform(rt, place, actor) else {
             return false;
         };
         if let Some(place) = self.places.get_mut(actor) {
@@ -272,7 +275,7 @@ impl PlainFlag {
         true
     }
 
-    fn leads<R: Abort>(&mut self, rt: &R, place: FlagPlace, client: usize) -> Option<FlagPlace> {
+    fn perform<R: Abort>(&mut self, rt: &R, place: FlagPlace, client: usize) -> Option<FlagPlace> {
         let set = self.flag;
         match place {
             FlagPlace::Check1 => Some(if set {

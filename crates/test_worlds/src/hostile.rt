@@ -1,12 +1,8 @@
 //! Worlds of too many, and acts of those that are not there.
-use crate::checks::check;
+use crate::support::{ACTS, SEM_ACTS, check};
 use event_worlds::{Act, FlagWorld, MutexWorld, Place, SemAct, SemStep, SemaphoreWorld, Step};
 use std::alloc::AllocGlobal;
 use std::process::Abort;
-
-const ACTS: [Act; 4] = [Act::Go, Act::Poll, Act::TimeOut, Act::Cancel];
-
-const SEM_ACTS: [SemAct; 4] = [SemAct::Go, SemAct::More, SemAct::TimeOut, SemAct::Cancel];
 
 fn no_mutex_world<R: Abort + AllocGlobal>(rt: &R, clients: usize, first: u64) {
     let world = MutexWorld::starting_at(rt.alloc(), clients, first);

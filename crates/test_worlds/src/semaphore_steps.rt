@@ -1,75 +1,62 @@
 //! All places of a client of a semaphore by all acts, and whom releases and clients that leave tell.
-use crate::checks::check;
+use crate::support::{FIRST, Own, SEM_ACTS, WOKEN, check, semaphore_state};
 use event_worlds::{Place, SemAct, SemStep, SemaphoreWorld};
 use std::alloc::AllocGlobal;
 use std::process::Abort;
 
-const FIRST: Place = Place::First { woken: false };
-
-const WOKEN: Place = Place::First { woken: true };
-
-const ACTS: [SemAct; 4] = [SemAct::Go, SemAct::More, SemAct::TimeOut, SemAct::Cancel];
-
-// Where a client is, how many permits it holds and how many notifications it owes.
-type Own = (Place, usize, usize);
-
-// That, whether it is told, whether it has its wake-up, and how many permits are free.
-type Spot = (Own, bool, bool, usize);
+// Where a client is, what it holds and owes, whether it is told, whether it has its wake-up, and how many permits are free.
+type State = (Own, bool, bool, usize);
 
 const CLIENTS: usize = 4;
 
 // Client 1 of a world of four is looked at.
-fn spot(world: &SemaphoreWorld) -> Option<Spot> {
-    spot_of(world, 1)
+fn state(world: &SemaphoreWorld) -> Option<State> {
+    state_of(world, 1)
 }
 
-fn spot_of(world: &SemaphoreWorld, client: usize) -> Option<Spot> {
-    if client >= world.clients() {
-        return None;
-    }
-    let own = (world.place(client), world.held(client), world.owed(client));
-    let is_told = world.is_told(client);
-    Some((own, is_told, world.has_wake(client), world.free()))
+fn state_of(world: &SemaphoreWorld, client: usize) -> Option<State> {
+    let (own, is_told, has_wake) = semaphore_state(world, client)?;
+    Some((own, is_told, has_wake, world.free()))
 }
 
 // So many permits, and what each of these clients does, so many times, in order. Each time is a step.
 #[derive(Clone, Copy, Debug)]
-struct Way<'a> {
+struct Setup<'a> {
     permits: usize,
     steps: &'a [(usize, SemAct, usize)],
 }
 
-fn with(permits: usize, steps: &[(usize, SemAct, usize)]) -> Way<'_> {
-    Way { permits, steps }
+fn with(permits: usize, steps: &[(usize, SemAct, usize)]) -> Setup<'_> {
+    Setup { permits, steps }
 }
 
-fn world_after<R: Abort + AllocGlobal>(rt: &R, way: Way<'_>) -> SemaphoreWorld {
-    let mut world = SemaphoreWorld::new(rt.alloc(), CLIENTS, way.permits).expect(rt, "a world");
-    for (client, act, times) in way.steps {
+fn world_after<R: Abort + AllocGlobal>(rt: &R, setup: Setup<'_>) -> SemaphoreWorld {
+    let mut world = SemaphoreWorld::new(rt.alloc(), CLIENTS, setup.permits).expect(rt, "a world");
+    for (client, act, times) in setup.steps {
         for _ in 0..*times {
-            check(rt, (way, *client), world.step(*client, *act), true);
+            check(rt, (setup, *client), world.step(*client, *act), true);
         }
     }
     world
 }
 
-// Where the act takes client 1 after this way, or `None` where it is no step. That leaves everything as it was.
-fn after<R: Abort + AllocGlobal>(rt: &R, way: Way<'_>, act: SemAct) -> Option<Spot> {
-    let mut world = world_after(rt, way);
-    let before = spot(&world);
+// Where the act takes client 1 after this setup, or `None` where it is no step. That leaves everything as it was.
+fn after<R: Abort + AllocGlobal>(rt: &R, setup: Setup<'_>, act: SemAct) -> Option<State> {
+    let mut world = world_after(rt, setup);
+    let before = state(&world);
     if world.step(1, act) {
-        return spot(&world);
+        return state(&world);
     }
-    check(rt, (way, act), spot(&world), before);
+    check(rt, (setup, act), state(&world), before);
     None
 }
 
-// After this way these acts take client 1 there, and any other act is no step.
-fn only<R: Abort + AllocGlobal>(rt: &R, way: Way<'_>, steps: &[(SemAct, Spot)]) {
-    for act in ACTS {
+// After this setup these acts take client 1 there, and any other act is no step.
+fn takes_only<R: Abort + AllocGlobal>(rt: &R, setup: Setup<'_>, steps: &[(SemAct, State)]) {
+    for act in SEM_ACTS {
         let line = steps.iter().find(|(by, _)| *by == act);
         let expected = line.map(|(_, to)| *to);
-        check(rt, (way, act), after(rt, way, act), expected);
+        check(rt, (setup, act), after(rt, setup, act), expected);
     }
 }
 
@@ -86,23 +73,23 @@ fn at(place: Place) -> Own {
 #[test]
 fn a_client_without_a_listener(rt: HostRuntime) {
     let first = (at(FIRST), false, false, 1);
-    only(&rt, with(1, &[]), &[(SemAct::Go, first)]);
+    takes_only(&rt, with(1, &[]), &[(SemAct::Go, first)]);
     // A first try, with a permit free and none.
     let holding = ((Place::Holding, 1, 0), false, false, 0);
     let to_listen = (at(Place::ToListen), false, false, 0);
-    only(&rt, with(1, &[go(1, 1)]), &[(SemAct::Go, holding)]);
-    only(&rt, with(0, &[go(1, 1)]), &[(SemAct::Go, to_listen)]);
+    takes_only(&rt, with(1, &[go(1, 1)]), &[(SemAct::Go, holding)]);
+    takes_only(&rt, with(0, &[go(1, 1)]), &[(SemAct::Go, to_listen)]);
     let steps = [go(0, 2), go(1, 1)];
-    only(&rt, with(1, &steps), &[(SemAct::Go, to_listen)]);
+    takes_only(&rt, with(1, &steps), &[(SemAct::Go, to_listen)]);
     // The same of a client that was woken.
     let steps = [go(0, 2), go(1, 5), go(0, 2), go(1, 2)];
-    only(&rt, with(1, &steps), &[(SemAct::Go, holding)]);
+    takes_only(&rt, with(1, &steps), &[(SemAct::Go, holding)]);
     let steps = [go(0, 2), go(1, 5), go(0, 2), go(1, 2), go(0, 2)];
-    only(&rt, with(1, &steps), &[(SemAct::Go, to_listen)]);
+    takes_only(&rt, with(1, &steps), &[(SemAct::Go, to_listen)]);
     // It listens.
     let second = (at(Place::Second), false, false, 0);
     let steps = [go(0, 2), go(1, 2)];
-    only(&rt, with(1, &steps), &[(SemAct::Go, second)]);
+    takes_only(&rt, with(1, &steps), &[(SemAct::Go, second)]);
 }
 
 #[test]
@@ -110,23 +97,23 @@ fn the_second_try(rt: HostRuntime) {
     // Waiting, with no permit free and one.
     let to_register = (at(Place::ToRegister), false, false, 0);
     let steps = [go(0, 2), go(1, 3)];
-    only(&rt, with(1, &steps), &[(SemAct::Go, to_register)]);
+    takes_only(&rt, with(1, &steps), &[(SemAct::Go, to_register)]);
     let ending = ((Place::Ending, 1, 0), false, false, 0);
     let steps = [go(0, 2), go(1, 3), go(0, 1)];
-    only(&rt, with(1, &steps), &[(SemAct::Go, ending)]);
+    takes_only(&rt, with(1, &steps), &[(SemAct::Go, ending)]);
     // Told, with one permit free and none.
     let ending = ((Place::Ending, 1, 0), true, false, 0);
     let steps = [go(0, 2), go(1, 3), go(0, 2)];
-    only(&rt, with(1, &steps), &[(SemAct::Go, ending)]);
+    takes_only(&rt, with(1, &steps), &[(SemAct::Go, ending)]);
     let to_register = (at(Place::ToRegister), true, false, 0);
     let steps = [go(0, 2), go(1, 3), go(0, 4)];
-    only(&rt, with(1, &steps), &[(SemAct::Go, to_register)]);
+    takes_only(&rt, with(1, &steps), &[(SemAct::Go, to_register)]);
     // Its listener is dropped, waiting and told.
     let holding = ((Place::Holding, 1, 0), false, false, 0);
     let steps = [go(0, 2), go(1, 3), go(0, 1), go(1, 1)];
-    only(&rt, with(1, &steps), &[(SemAct::Go, holding)]);
+    takes_only(&rt, with(1, &steps), &[(SemAct::Go, holding)]);
     let steps = [go(0, 2), go(1, 3), go(0, 2), go(1, 1)];
-    only(&rt, with(1, &steps), &[(SemAct::Go, holding)]);
+    takes_only(&rt, with(1, &steps), &[(SemAct::Go, holding)]);
 }
 
 #[test]
@@ -136,17 +123,17 @@ fn a_client_about_to_register(rt: HostRuntime) {
     let idle = (at(Place::Idle), false, false, 0);
     let steps = [go(0, 2), go(1, 4)];
     let acts = [(SemAct::Go, parked), (SemAct::Cancel, idle)];
-    only(&rt, with(1, &steps), &acts);
+    takes_only(&rt, with(1, &steps), &acts);
     // Told, with no permit free and one.
     let woken = (at(WOKEN), false, false, 0);
     let steps = [go(0, 2), go(1, 3), go(0, 4), go(1, 1)];
     let acts = [(SemAct::Go, woken), (SemAct::Cancel, idle)];
-    only(&rt, with(1, &steps), &acts);
+    takes_only(&rt, with(1, &steps), &acts);
     let woken = (at(WOKEN), false, false, 1);
     let idle = (at(Place::Idle), false, false, 1);
     let steps = [go(0, 2), go(1, 4), go(0, 2)];
     let acts = [(SemAct::Go, woken), (SemAct::Cancel, idle)];
-    only(&rt, with(1, &steps), &acts);
+    takes_only(&rt, with(1, &steps), &acts);
 }
 
 #[test]
@@ -155,7 +142,7 @@ fn a_parked_client(rt: HostRuntime) {
     let idle = (at(Place::Idle), false, false, 0);
     let steps = [go(0, 2), go(1, 5)];
     let acts = [(SemAct::TimeOut, idle), (SemAct::Cancel, idle)];
-    only(&rt, with(1, &steps), &acts);
+    takes_only(&rt, with(1, &steps), &acts);
     // Told, with its wake-up, which it loses by going on alone.
     let to_register = (at(Place::ToRegister), true, false, 1);
     let woken = (at(WOKEN), false, true, 1);
@@ -166,7 +153,7 @@ fn a_parked_client(rt: HostRuntime) {
         (SemAct::TimeOut, woken),
         (SemAct::Cancel, idle),
     ];
-    only(&rt, with(1, &steps), &acts);
+    takes_only(&rt, with(1, &steps), &acts);
 }
 
 #[test]
@@ -174,35 +161,35 @@ fn a_client_with_permits(rt: HostRuntime) {
     // It has the only one.
     let releasing = ((Place::Releasing, 0, 1), false, false, 1);
     let steps = [go(1, 2)];
-    only(&rt, with(1, &steps), &[(SemAct::Go, releasing)]);
+    takes_only(&rt, with(1, &steps), &[(SemAct::Go, releasing)]);
     // It has one of two, and the other is free, or somebody else has it.
     let releasing = ((Place::Releasing, 0, 1), false, false, 2);
     let more = ((Place::Holding, 2, 0), false, false, 0);
     let acts = [(SemAct::Go, releasing), (SemAct::More, more)];
-    only(&rt, with(2, &steps), &acts);
+    takes_only(&rt, with(2, &steps), &acts);
     let releasing = ((Place::Releasing, 0, 1), false, false, 1);
     let steps = [go(1, 2), go(0, 2)];
-    only(&rt, with(2, &steps), &[(SemAct::Go, releasing)]);
+    takes_only(&rt, with(2, &steps), &[(SemAct::Go, releasing)]);
     // It has two of three.
     let releasing = ((Place::Releasing, 0, 2), false, false, 3);
     let more = ((Place::Holding, 3, 0), false, false, 0);
     let steps = [go(1, 2), (1, SemAct::More, 1)];
     let acts = [(SemAct::Go, releasing), (SemAct::More, more)];
-    only(&rt, with(3, &steps), &acts);
+    takes_only(&rt, with(3, &steps), &acts);
     // It has freed them.
     let idle = (at(Place::Idle), false, false, 3);
     let steps = [go(1, 2), (1, SemAct::More, 1), go(1, 1)];
-    only(&rt, with(3, &steps), &[(SemAct::Go, idle)]);
+    takes_only(&rt, with(3, &steps), &[(SemAct::Go, idle)]);
 }
 
-// After this way client 2 stands there.
-fn second_at<R: Abort + AllocGlobal>(rt: &R, way: Way<'_>, spot: Spot) {
-    check(rt, way, spot_of(&world_after(rt, way), 2), Some(spot));
+// After this setup client 2 stands there.
+fn second_at<R: Abort + AllocGlobal>(rt: &R, setup: Setup<'_>, state: State) {
+    check(rt, setup, state_of(&world_after(rt, setup), 2), Some(state));
 }
 
-// After this way client 3 stands there.
-fn third_at<R: Abort + AllocGlobal>(rt: &R, way: Way<'_>, spot: Spot) {
-    check(rt, way, spot_of(&world_after(rt, way), 3), Some(spot));
+// After this setup client 3 stands there.
+fn third_at<R: Abort + AllocGlobal>(rt: &R, setup: Setup<'_>, state: State) {
+    check(rt, setup, state_of(&world_after(rt, setup), 3), Some(state));
 }
 
 #[test]
@@ -301,7 +288,7 @@ fn a_wake_up_stays_until_its_client_listens_again(rt: HostRuntime) {
         go(0, 2),
     ];
     let to_listen = (at(Place::ToListen), false, true, 0);
-    only(&rt, with(1, &steps), &[(SemAct::Go, to_listen)]);
+    takes_only(&rt, with(1, &steps), &[(SemAct::Go, to_listen)]);
     let steps = [
         go(0, 2),
         go(1, 5),
@@ -311,18 +298,18 @@ fn a_wake_up_stays_until_its_client_listens_again(rt: HostRuntime) {
         go(1, 1),
     ];
     let second = (at(Place::Second), false, false, 0);
-    only(&rt, with(1, &steps), &[(SemAct::Go, second)]);
+    takes_only(&rt, with(1, &steps), &[(SemAct::Go, second)]);
 }
 
 #[test]
 fn clients_that_are_not_there(rt: HostRuntime) {
     let mut world = world_after(&rt, with(2, &[go(0, 2), go(1, 2)]));
-    for act in ACTS {
+    for act in SEM_ACTS {
         check(&rt, act, world.step(CLIENTS, act), false);
         check(&rt, act, world.step(usize::MAX, act), false);
     }
     let holding = ((Place::Holding, 1, 0), false, false, 0);
-    check(&rt, "nothing changed", spot(&world), Some(holding));
+    check(&rt, "nothing changed", state(&world), Some(holding));
     check(&rt, "clients", world.clients(), CLIENTS);
     check(&rt, "permits", world.permits(), 2);
 }
@@ -340,5 +327,5 @@ fn a_run_counts_the_steps_that_are_taken(rt: HostRuntime) {
     ];
     check(&rt, "nobody takes more at a try", world.run(&steps), 2);
     let holding = ((Place::Holding, 1, 0), false, false, 0);
-    check(&rt, "client 1", spot(&world), Some(holding));
+    check(&rt, "client 1", state(&world), Some(holding));
 }
