@@ -15,7 +15,7 @@
 # api       writes the API page of each library, every public item with its clauses, from the sources: a second
 # explore   shows a run of a world: `make explore RUN='mutex 2: 0 Go 2, 1 Go 5'`, or lines on its input; it proves the
 #           program first, which takes minutes
-# fuzz      compares queue, events and records on drawn lists of calls: `make fuzz SECONDS=600 SEED=7`, from another seed
+# fuzz      compares queue, events and records on random lists of calls: `make fuzz SECONDS=600 SEED=7`, from another seed
 #           each time where none is given; it proves the program first, which takes minutes
 # soak      has 8 threads call an event and a recorded event, and counts: `make soak SECONDS=600 SEED=7`, the same
 # starved   runs the programs with fewer addresses than they need, and looks at what they print; it proves them first,
@@ -58,7 +58,7 @@ explore:
 	@scripts/explore "$(RUN)"
 
 fuzz soak:
-	@scripts/drawn $@ "$(SECONDS)" "$(SEED)"
+	@scripts/random $@ "$(SECONDS)" "$(SEED)"
 
 starved:
 	@scripts/starved

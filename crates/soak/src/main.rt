@@ -1,10 +1,16 @@
 //! Many threads on one event and one recorded event, round after round.
 #![tactic(auto)]
 
+mod counts;
+mod event_listeners;
+mod fault;
 mod record;
+mod recorded_listeners;
 mod round;
 mod rounds;
+mod step;
 mod watch;
+mod worker;
 
 use anyhow::Result;
 use random_calls::Request;
@@ -15,7 +21,7 @@ fn main(rt: HostRuntime) -> Result<ExitCode> {
     let request = Request::read(&rt)?;
     println!(rt; "seed {}", request.seed)?;
     match watch(rt, rt.alloc(), request)? {
-        Ended::Played(tally) => {
+        Ended::Done(tally) => {
             eprintln!(rt; "{}", tally.counts)?;
             println!(rt; "{} rounds, {} differ", tally.rounds, tally.differing)?;
             Ok(if tally.differing == 0 {

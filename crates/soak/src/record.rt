@@ -1,6 +1,7 @@
 //! What a record says of its notifications.
+use crate::counts::Counts;
+use crate::fault::Fault;
 use event_listener::{Entry, IntoNotification, IntoTagged, Key, List, RecordedCall, Woken};
-use soak_players::{Counts, Fault};
 use std::alloc::Global;
 
 /// A queue that makes the calls of a record again.
@@ -22,13 +23,13 @@ pub fn count_entries(alloc: Global, entries: &[Entry<u32>]) -> Result<Counts, Fa
         counts: Counts::NONE,
     };
     for entry in entries {
-        again.make(entry.call)?;
+        again.perform(entry.call)?;
     }
     Ok(again.counts)
 }
 
 impl Again {
-    fn make(&mut self, call: RecordedCall<u32>) -> Result<(), Fault> {
+    fn perform(&mut self, call: RecordedCall<u32>) -> Result<(), Fault> {
         match call {
             RecordedCall::Listen => {
                 let key = self.list.insert_uncounted()?;

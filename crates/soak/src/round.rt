@@ -1,11 +1,14 @@
 //! One round: threads on one event and one recorded event, and what has to hold when all have ended.
+use crate::counts::Counts;
+use crate::fault::Fault;
 use crate::record::count_entries;
+use crate::step::Runtime;
+use crate::worker::{WorkerOutcome, run_worker};
 use event_listener::{Event, EventIds, Hand, Record, RecordedEvent};
-use test_support::recorded::{On, close};
-use soak_players::{Counts, Fault, Played, Runtime, play};
 use std::alloc::Global;
 use std::sync::atomic::{AtomicU64, Ordering};
 use std::thread::{self, Threads};
+use test_support::recorded::{On, close};
 use test_support::{Borrowing, Sharing};
 
 /// What a round asks of a runtime value.
@@ -15,15 +18,15 @@ impl<R: Runtime + Threads + Send + Sync> SharedRuntime for R {}
 
 const THREADS: usize = 8;
 
-/// Plays one round of this seed, and gives what was counted on both events together.
-pub fn play_round<R: SharedRuntime>(rt: &R, seed: u64) -> Result<Counts, Fault> {
+/// Runs one round of this seed, and gives what was counted on both events together.
+pub fn run_round<R: SharedRuntime>(rt: &R, seed: u64) -> Result<Counts, Fault> {
     let alloc = rt.alloc();
     let mut ids = EventIds::new();
     let (recorded, hands) = RecordedEvent::new(alloc, ids.next()?, THREADS)?;
     let made = AtomicU64::new(0);
     let event = Event::with_tag(ids.next()?);
-    let players = play_all(rt, &event, &made, &recorded, seed, hands)?;
-    let ended = gather(alloc, players)?;
+    let outcomes = run_workers(rt, &event, &made, &recorded, seed, hands)?;
+    let ended = gather(alloc, outcomes)?;
     if event.total_listeners(rt) != 0 {
         return Err(Fault::SomebodyLeft);
     }
@@ -41,15 +44,15 @@ pub fn play_round<R: SharedRuntime>(rt: &R, seed: u64) -> Result<Counts, Fault> 
     Ok(on_event.plus(on_recorded))
 }
 
-fn play_all<'ev, R: SharedRuntime>(
+fn run_workers<'ev, R: SharedRuntime>(
     rt: &'ev R,
     event: &'ev Event<u64>,
     made: &'ev AtomicU64,
     recorded: &'ev RecordedEvent<u32>,
     seed: u64,
     hands: Vec<Hand<u32>>,
-) -> Result<Vec<Result<Played, Fault>>, Fault> {
-    let players = thread::map_vec(
+) -> Result<Vec<Result<WorkerOutcome, Fault>>, Fault> {
+    let outcomes = thread::map_vec(
         rt,
         hands,
         &|hand| {
@@ -57,10 +60,10 @@ fn play_all<'ev, R: SharedRuntime>(
                 rt,
                 event: recorded,
             };
-            play::<Sharing, Borrowing, _, _>(rt, event, made, on, seed, hand)
+            run_worker::<Sharing, Borrowing, _, _>(rt, event, made, on, seed, hand)
         },
     )?;
-    Ok(players)
+    Ok(outcomes)
 }
 
 // What all threads gave back.
@@ -72,20 +75,20 @@ struct Gathered {
     on_recorded: Counts,
 }
 
-fn gather(alloc: Global, players: Vec<Result<Played, Fault>>) -> Result<Gathered, Fault> {
+fn gather(alloc: Global, outcomes: Vec<Result<WorkerOutcome, Fault>>) -> Result<Gathered, Fault> {
     let mut all = Gathered {
         hands: Vec::new(alloc),
         tags: Vec::new(alloc),
         on_event: Counts::NONE,
         on_recorded: Counts::NONE,
     };
-    for played in players {
-        let Played {
+    for outcome in outcomes {
+        let WorkerOutcome {
             hand,
             tags,
             on_event,
             on_recorded,
-        } = played?;
+        } = outcome?;
         all.hands.push(hand)?;
         for tag in tags {
             all.tags.push(tag)?;

@@ -1,11 +1,12 @@
 //! Rounds, one after another.
-use crate::round::{SharedRuntime, play_round};
+use crate::counts::Counts;
+use crate::fault::Fault;
+use crate::round::{SharedRuntime, run_round};
 use random_calls::{Request, Started};
-use soak_players::{Counts, Fault};
 use std::io::Print;
 use std::sync::atomic::{AtomicU64, Ordering};
 
-/// How many rounds were played, how many of them were not as they have to be, and what was counted in the others.
+/// How many rounds were run, how many of them were not as they have to be, and what was counted in the others.
 #[derive(Clone, Copy)]
 pub struct Tally {
     pub rounds: u64,
@@ -13,9 +14,9 @@ pub struct Tally {
     pub counts: Counts,
 }
 
-/// Plays a round of each seed from the first one on, until the limit comes, and prints what is wrong in one. `ended` has
+/// Runs a round of each seed from the first one on, until the limit comes, and prints what is wrong in one. `ended` has
 /// how many have ended.
-pub fn play_rounds<R: SharedRuntime + Print>(
+pub fn run_rounds<R: SharedRuntime + Print>(
     rt: &R,
     request: Request,
     ended: &AtomicU64,
@@ -30,7 +31,7 @@ pub fn play_rounds<R: SharedRuntime + Print>(
         if !started.goes_on(rt, round)? {
             break;
         }
-        match play_round(rt, request.seed.wrapping_add(round)) {
+        match run_round(rt, request.seed.wrapping_add(round)) {
             Ok(counts) => tally.counts = tally.counts.plus(counts),
             Err(fault) => {
                 println!(rt; "round {round}: {fault}")?;

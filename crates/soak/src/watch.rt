@@ -1,6 +1,6 @@
-//! The thread that plays, and the one that watches whether it goes on.
+//! The thread that runs the rounds, and the one that watches whether it goes on.
 use crate::round::SharedRuntime;
-use crate::rounds::{Tally, play_rounds};
+use crate::rounds::{Tally, run_rounds};
 use anyhow::{Result, bail};
 use random_calls::Request;
 use std::alloc::Global;
@@ -19,7 +19,7 @@ const NAP: u64 = 5;
 /// How the rounds ended.
 #[derive(Clone, Copy)]
 pub enum Ended {
-    Played(Tally),
+    Done(Tally),
     /// This round, counted from 0, did not end in time. Its threads are still there.
     Hangs { round: u64 },
 }
@@ -33,7 +33,7 @@ struct Progress {
     is_over: AtomicBool,
 }
 
-/// Has rounds played by another thread, and watches that each ends.
+/// Has rounds run by another thread, and watches that each ends.
 pub fn watch<R>(rt: R, alloc: Global, request: Request) -> Result<Ended>
 where
     R: SharedRuntime + Print + Copy + 'static,
@@ -46,16 +46,16 @@ where
         },
     )?;
     let shared = Arc::try_clone(&progress)?;
-    let player = thread::spawn(&rt, move || {
-        let tally = play_rounds(&rt, request, &shared.rounds);
+    let runner = thread::spawn(&rt, move || {
+        let tally = run_rounds(&rt, request, &shared.rounds);
         shared.is_over.store(true, Ordering::SeqCst);
         tally
     })?;
     if let Some(round) = hanging_round(&rt, &progress)? {
         return Ok(Ended::Hangs { round });
     }
-    match player.join(&rt) {
-        Ok(tally) => Ok(Ended::Played(tally)),
+    match runner.join(&rt) {
+        Ok(tally) => Ok(Ended::Done(tally)),
         Err(fault) => bail!("{fault}"),
     }
 }

@@ -1,22 +1,21 @@
-//! What one thread does in a round.
+//! What one worker, a thread, does in a round.
 use crate::counts::Counts;
-use crate::event_crowd::EventCrowd;
+use crate::event_listeners::EventListeners;
 use crate::fault::Fault;
-use crate::recorded_crowd::RecordedCrowd;
-use crate::runtime::Runtime;
-use crate::step::{Crowd, draw_step};
+use crate::recorded_listeners::RecordedListeners;
+use crate::step::{Listeners, Runtime, random_step};
 use event_listener::{Event, Hand};
-use random_calls::Draws;
+use random_calls::RandomNumbers;
 use std::sync::atomic::AtomicU64;
 use test_support::ListenerKind;
 use test_support::recorded::Calls;
 
-// How many steps a thread makes in a round.
+// How many steps a worker makes in a round.
 const STEPS: u32 = 300;
 
-/// What a thread gives back.
+/// What a worker gives back.
 #[derive(Drop)]
-pub struct Played {
+pub struct WorkerOutcome {
     /// Its hand.
     pub hand: Hand<u32>,
     /// The tags of the event that polls and waits gave it.
@@ -27,26 +26,26 @@ pub struct Played {
     pub on_recorded: Counts,
 }
 
-/// Makes drawn steps with listeners of both kinds and with recorded ones, and drops the listeners that are left.
-pub fn play<'ev, A, B, C, R>(
+/// Makes random steps with listeners of both kinds and with recorded ones, and drops the listeners that are left.
+pub fn run_worker<'ev, A, B, C, R>(
     rt: &'ev R,
     event: &'ev Event<u64>,
     made: &'ev AtomicU64,
     on: C,
     seed: u64,
     hand: Hand<u32>,
-) -> Result<Played, Fault>
+) -> Result<WorkerOutcome, Fault>
 where
     A: ListenerKind<'ev, u64, R>,
     B: ListenerKind<'ev, u64, R>,
     C: Calls + Drop,
     R: Runtime,
 {
-    let mut draws = Draws::new(seed, hand.number() as u64);
-    let mut sharing = EventCrowd::<A, A::Listener, R>::new(rt, event, made);
-    let mut borrowing = EventCrowd::<B, B::Listener, R>::new(rt, event, made);
-    let mut recorded = RecordedCrowd::<C, C::Listener, R>::new(rt, on, hand);
-    step_on(&mut draws, &mut sharing, &mut borrowing, &mut recorded)?;
+    let mut random = RandomNumbers::new(seed, hand.number() as u64);
+    let mut sharing = EventListeners::<A, A::Listener, R>::new(rt, event, made);
+    let mut borrowing = EventListeners::<B, B::Listener, R>::new(rt, event, made);
+    let mut recorded = RecordedListeners::<C, C::Listener, R>::new(rt, on, hand);
+    perform_steps(&mut random, &mut sharing, &mut borrowing, &mut recorded)?;
     sharing.leave();
     borrowing.leave();
     recorded.leave();
@@ -56,7 +55,7 @@ where
     for tag in borrowing.into_tags() {
         tags.push(tag)?;
     }
-    Ok(Played {
+    Ok(WorkerOutcome {
         hand: recorded.into_hand(),
         tags,
         on_event,
@@ -64,18 +63,18 @@ where
     })
 }
 
-fn step_on<A: Crowd, B: Crowd, C: Crowd>(
-    draws: &mut Draws,
+fn perform_steps<A: Listeners, B: Listeners, C: Listeners>(
+    random: &mut RandomNumbers,
     sharing: &mut A,
     borrowing: &mut B,
     recorded: &mut C,
 ) -> Result<(), Fault> {
     for _ in 0..STEPS {
-        let step = draw_step(draws);
-        match draws.below(3) {
-            0 => sharing.make(step)?,
-            1 => borrowing.make(step)?,
-            _ => recorded.make(step)?,
+        let step = random_step(random);
+        match random.below(3) {
+            0 => sharing.perform(step)?,
+            1 => borrowing.perform(step)?,
+            _ => recorded.perform(step)?,
         }
     }
     Ok(())

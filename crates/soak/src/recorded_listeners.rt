@@ -1,17 +1,17 @@
 //! Listeners of a recorded event, and the hand that calls them.
 use crate::counts::Counts;
 use crate::fault::Fault;
-use crate::runtime::Runtime;
-use crate::step::{Crowd, Step, has_room, listener_at, take};
+use crate::step::{Listeners, Runtime, Step, has_room};
 use event_listener::Hand;
 use futures::task::Poll;
+use random_calls::{listener_at, take_listener};
 use std::time::Duration;
 use test_support::any_waker;
 use test_support::recorded::{Calls, Refusal};
 
 /// Listeners of a recorded event, and the hand that calls them.
 #[derive(Drop)]
-pub struct RecordedCrowd<'ev, C, L, R> {
+pub struct RecordedListeners<'ev, C, L, R> {
     rt: &'ev R,
     on: C,
     hand: Hand<u32>,
@@ -19,9 +19,9 @@ pub struct RecordedCrowd<'ev, C, L, R> {
     counts: Counts,
 }
 
-impl<'ev, C, L, R: Runtime> RecordedCrowd<'ev, C, L, R> {
+impl<'ev, C, L, R: Runtime> RecordedListeners<'ev, C, L, R> {
     pub fn new(rt: &'ev R, on: C, hand: Hand<u32>) -> Self {
-        RecordedCrowd {
+        RecordedListeners {
             rt,
             on,
             hand,
@@ -31,10 +31,10 @@ impl<'ev, C, L, R: Runtime> RecordedCrowd<'ev, C, L, R> {
     }
 }
 
-impl<'ev, C: Drop, L: Drop, R> RecordedCrowd<'ev, C, L, R> {
+impl<'ev, C: Drop, L: Drop, R> RecordedListeners<'ev, C, L, R> {
     /// Drops what is left but for the hand.
     pub fn into_hand(self) -> Hand<u32> {
-        let RecordedCrowd {
+        let RecordedListeners {
             rt: _,
             on: _,
             hand,
@@ -45,7 +45,7 @@ impl<'ev, C: Drop, L: Drop, R> RecordedCrowd<'ev, C, L, R> {
     }
 }
 
-impl<'ev, C, L, R> RecordedCrowd<'ev, C, L, R>
+impl<'ev, C, L, R> RecordedListeners<'ev, C, L, R>
 where
     C: Calls<Listener = L>,
     L: Drop,
@@ -80,7 +80,7 @@ where
     }
 
     fn wait(&mut self, place: usize, limit: Duration) -> Result<(), Fault> {
-        let Some(listener) = take(&mut self.listeners, place) else {
+        let Some(listener) = take_listener(&mut self.listeners, place) else {
             return Ok(());
         };
         let (answer, _) = self.on.wait_timeout(&mut self.hand, listener, limit);
@@ -101,7 +101,7 @@ where
     }
 
     fn discard(&mut self, place: usize) -> Result<(), Fault> {
-        let Some(listener) = take(&mut self.listeners, place) else {
+        let Some(listener) = take_listener(&mut self.listeners, place) else {
             return Ok(());
         };
         let (answer, _) = self.on.discard(&mut self.hand, listener);
@@ -110,20 +110,20 @@ where
     }
 
     fn drop_listener(&mut self, place: usize) {
-        if let Some(listener) = take(&mut self.listeners, place) {
+        if let Some(listener) = take_listener(&mut self.listeners, place) {
             drop(listener);
             self.counts.dropped = self.counts.dropped.saturating_add(1);
         }
     }
 }
 
-impl<'ev, C, L, R> Crowd for RecordedCrowd<'ev, C, L, R>
+impl<'ev, C, L, R> Listeners for RecordedListeners<'ev, C, L, R>
 where
     C: Calls<Listener = L>,
     L: Drop,
     R: Runtime,
 {
-    fn make(&mut self, step: Step) -> Result<(), Fault> {
+    fn perform(&mut self, step: Step) -> Result<(), Fault> {
         match step {
             Step::Listen => self.listen(),
             Step::Poll { place } => self.poll(place),

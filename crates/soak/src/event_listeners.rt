@@ -1,10 +1,10 @@
 //! Listeners of an event.
 use crate::counts::Counts;
 use crate::fault::Fault;
-use crate::runtime::Runtime;
-use crate::step::{Crowd, Step, has_room, listener_at, take};
+use crate::step::{Listeners, Runtime, Step, has_room};
 use event_listener::{Event, IntoNotification, IntoTagged, Listener, NeverInserted, WaitError};
 use futures::task::Poll;
+use random_calls::{listener_at, take_listener};
 use std::marker::PhantomData;
 use std::sync::Wait;
 use std::sync::atomic::{AtomicU64, Ordering};
@@ -13,7 +13,7 @@ use test_support::{ListenerKind, any_waker};
 
 /// Listeners of the kind `K`.
 #[derive(Drop)]
-pub struct EventCrowd<'ev, K, L, R> {
+pub struct EventListeners<'ev, K, L, R> {
     rt: &'ev R,
     event: &'ev Event<u64>,
     // How many tags were made for the event. The next tag is this number.
@@ -25,9 +25,9 @@ pub struct EventCrowd<'ev, K, L, R> {
     kind: PhantomData<K>,
 }
 
-impl<'ev, K, L, R: Runtime> EventCrowd<'ev, K, L, R> {
+impl<'ev, K, L, R: Runtime> EventListeners<'ev, K, L, R> {
     pub fn new(rt: &'ev R, event: &'ev Event<u64>, made: &'ev AtomicU64) -> Self {
-        EventCrowd {
+        EventListeners {
             rt,
             event,
             made,
@@ -53,7 +53,7 @@ where
     Ok(event.notify(rt, n.tag_with(|| made.fetch_add(1, Ordering::SeqCst)))?)
 }
 
-impl<'ev, K, L, R> EventCrowd<'ev, K, L, R>
+impl<'ev, K, L, R> EventListeners<'ev, K, L, R>
 where
     K: ListenerKind<'ev, u64, R, Listener = L>,
     L: Listener<u64> + Drop,
@@ -84,7 +84,7 @@ where
     }
 
     fn wait(&mut self, place: usize, limit: Duration) -> Result<(), Fault> {
-        let Some(listener) = take(&mut self.listeners, place) else {
+        let Some(listener) = take_listener(&mut self.listeners, place) else {
             return Ok(());
         };
         match listener.wait_timeout(limit) {
@@ -111,13 +111,13 @@ where
     }
 
     fn discard(&mut self, place: usize) {
-        if let Some(listener) = take(&mut self.listeners, place) {
+        if let Some(listener) = take_listener(&mut self.listeners, place) {
             self.counts.take(listener.discard());
         }
     }
 
     fn drop_listener(&mut self, place: usize) {
-        if let Some(listener) = take(&mut self.listeners, place) {
+        if let Some(listener) = take_listener(&mut self.listeners, place) {
             drop(listener);
             self.counts.dropped = self.counts.dropped.saturating_add(1);
         }
@@ -125,7 +125,7 @@ where
 
     /// The tags that polls and waits gave. The listeners that are left are dropped.
     pub fn into_tags(self) -> Vec<u64> {
-        let EventCrowd {
+        let EventListeners {
             rt: _,
             event: _,
             made: _,
@@ -138,13 +138,13 @@ where
     }
 }
 
-impl<'ev, K, L, R> Crowd for EventCrowd<'ev, K, L, R>
+impl<'ev, K, L, R> Listeners for EventListeners<'ev, K, L, R>
 where
     K: ListenerKind<'ev, u64, R, Listener = L>,
     L: Listener<u64> + Drop,
     R: Runtime,
 {
-    fn make(&mut self, step: Step) -> Result<(), Fault> {
+    fn perform(&mut self, step: Step) -> Result<(), Fault> {
         match step {
             Step::Listen => self.listen(),
             Step::Poll { place } => self.poll(place),

@@ -5,7 +5,7 @@ use std::io;
 use test_support::recorded::Refusal;
 use thiserror::Error;
 
-/// Why a round is not as it has to be, or was not played to its end.
+/// Why a round is not as it has to be, or was not run to its end.
 #[derive(Clone, Copy, Debug, PartialEq, Eq, Error)]
 pub enum Fault {
     /// A call was refused.
