@@ -1,11 +1,16 @@
-//! What the tests share: the calls that have to succeed. Each ends the test where it does not.
+//! What the tests share: a future that counts, and the calls that have to succeed. Each ends the test where it does not.
+ghost use Rattle.std.specs.Prelude.{◌≡◌};
+
 use event_listener::{Event, EventIds, IntoNotification, IntoTagged};
+use futures::Future;
+use futures::task::{Context, Poll};
 use futures::test::MockTask;
 use std::alloc::AllocGlobal;
 use std::fmt::Debug;
 use std::process::Abort;
 use std::random::RandomSource;
 use std::sync::Wait;
+use std::sync::atomic::{AtomicU32, Ordering};
 use std::time::Clock;
 use test_support::{Awaited, ListenerKind};
 
@@ -14,6 +19,36 @@ pub trait Runtime: Abort + AllocGlobal + RandomSource + Wait + Clock + Clone {}
 
 impl<R: Abort + AllocGlobal + RandomSource + Wait + Clock + Clone> Runtime for R {}
 
+/// A future that counts its polls.
+#[derive(Drop)]
+pub struct Counted<'a, F> {
+    future: F,
+    polls: &'a AtomicU32,
+}
+
+impl<'a, F: Future> Counted<'a, F> {
+    pub fn new(future: F, polls: &'a AtomicU32) -> Self
+        ensures { result.future ≡ future }
+    {
+        Counted { future, polls }
+    }
+}
+
+impl<F: Future> Future for Counted<'_, F> {
+    type Output = F::Output;
+
+    ghost can_poll = { λ counted. F.can_poll counted.future };
+
+    ghost needs = { λ counted. F.needs counted.future };
+
+    ghost gives = { λ counted. F.gives counted.future };
+
+    fn poll(&mut self, cx: &mut Context<'_>) -> Poll<F::Output> {
+        self.polls.fetch_add(1, Ordering::SeqCst);
+        self.future.poll(cx)
+    }
+}
+
 /// The answer is the expected one. Where it is not, the message has both, and what was asked.
 pub fn check<V, R>(rt: &R, asked: &str, answer: V, expected: V)
 where
@@ -21,6 +56,12 @@ where
     R: Abort,
 {
     assert_eq!(rt; answer, expected, "{asked}");
+}
+
+/// There were no more polls than that.
+pub fn at_most<R: Abort>(rt: &R, polls: &AtomicU32, most: u32) {
+    let polls = polls.load(Ordering::SeqCst);
+    check(rt, "at most so many polls", polls.max(most), most);
 }
 
 /// A new event, the only one of its source.
