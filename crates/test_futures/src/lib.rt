@@ -5,7 +5,6 @@
 //! |---|---|
 //! | `by_hand` | polls by hand: a waiting listener that is polled again wakes nobody; one that is polled by another task wakes that one alone; one that is dropped while told passes on; a listener that gave its tag; one of two that are selected again and again |
 //! | `recorded` | a recorded listener that is polled again by hand wakes nobody; each poll is noted |
-//! | `places` | what `listener!` takes for its event |
 //! | `threads` | how often a task is polled that awaits one listener, two or three that are joined, and one of two in a loop, where another thread tells them |
 //! | `pool` | tasks of a pool of two threads, each of which may take those of the other, are all woken |
 //!
@@ -15,8 +14,6 @@
 
 #[cfg(test)]
 mod by_hand;
-#[cfg(test)]
-mod places;
 #[cfg(test)]
 mod pool;
 #[cfg(test)]
