@@ -65,7 +65,7 @@ fn has_no_room<R: Abort>(rt: &R, queue: &mut List<(), u32>, n: usize) {
     check(rt, ("spare", n), queue.spare() >= spare, true);
 }
 
-// The queue of worked row 52. Its world is in `hostile_queue_tests`, its hands are in `test_records`.
+// The queue of worked row 52. Its world is in `hostile_queue_tests`, its hands are in `test_recorded_events`.
 #[test]
 fn more_than_memory_holds_is_refused(rt: HostRuntime) {
     let mut queue = List::new(rt.alloc());

@@ -10,7 +10,7 @@
 //! - `recorded_waits`: waits of recorded listeners, each of whose requests is refused in its turn: what the thread parks
 //!   on, and room for the note and the entry of each step. A refused wait answers so, with the notes of the steps that it
 //!   made until then: none, or a registration. The record agrees with the notes, and both kinds of refusal are met. That
-//!   a refused call of one step leaves record, queue and notes as they were is tested in `test_records`.
+//!   a refused call of one step leaves record, queue and notes as they were is tested in `test_recorded_events`.
 //!
 //! A test takes all memory of the process by a `Hog` of `test_support`, or all but so much by its `Budget`; they say what
 //! that rests on, and leave what the C library keeps for another thread. Under `rt try --test`, which brings an allocator

@@ -1,5 +1,5 @@
 //! What stands in the record of polls, discards and drops.
-use super::script::{Script, Steps, record_of};
+use crate::script::{Script, Steps, record_of};
 use crate::support::{Runtime, check};
 use event_listener::{Entry, Former, Key, Note, RecordedReply, RegisterResult};
 use futures::task::Poll;

@@ -2,7 +2,7 @@
 //!
 //! A call is refused in three ways: its note has no room, its entry has none, or the queue has none for a listener. In
 //! each a later call shows that the others had room, and the record that nothing was done.
-use super::script::{Script, Steps, made, record_of};
+use crate::script::{Script, Steps, made, record_of};
 use crate::support::{Runtime, all_memory, check, close, new_event};
 use event_listener::{EventIds, Hand, RecordError, RecordedEvent};
 use futures::task::Poll;

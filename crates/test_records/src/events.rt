@@ -1,7 +1,0 @@
-//! Recorded events.
-mod closing;
-mod counts;
-mod hands;
-mod refused;
-mod script;
-mod steps;
