@@ -2,7 +2,7 @@
 use anyhow::Result;
 use std::io::Print;
 
-/// More kinds than any comparison has.
+// No comparison has more kinds.
 const ROOM: usize = 16;
 
 /// Kinds of answers, and which of them came up. A kind that no list brings about is compared nowhere.
