@@ -1,10 +1,10 @@
 //! The rows over one event without tags.
 use event_listener::IntoNotification;
-use std::sync::Wait;
-use std::time::Clock;
 use rows_harness::EventAnswer::{Count, Dropped, Finished, Pending, Tag, Told};
 use rows_harness::EventCall::{Discard, IsNotified, Poll, Release, TotalListeners};
 use rows_harness::{EventCalls, Form, Harness, Hook, OnUntaggedEvent, Row, UntaggedCalls};
+use std::sync::Wait;
+use std::time::Clock;
 
 /// A row over one event without tags.
 #[derive(Clone, Copy)]

@@ -1,10 +1,10 @@
 //! The rows over identities.
 use event_listener::{Event, IdsUsedUp};
-use std::sync::Wait;
-use std::time::Clock;
 use rows_harness::EventAnswer::Same;
 use rows_harness::EventCall::SameEvent;
 use rows_harness::{EventCalls, Harness, Hook, OnEvent, Refusal, Row};
+use std::sync::Wait;
+use std::time::Clock;
 
 /// A row over identities.
 #[derive(Clone, Copy)]

@@ -1,10 +1,10 @@
 //! The rows over an event with tags.
 use event_listener::{IntoNotification, IntoTagged};
-use std::sync::Wait;
-use std::time::Clock;
 use rows_harness::EventAnswer::{Dropped, Tag};
 use rows_harness::EventCall::{Poll, Release};
 use rows_harness::{EventCalls, Harness, Hook, OnEvent, Row};
+use std::sync::Wait;
+use std::time::Clock;
 
 /// A row over an event with tags.
 #[derive(Clone, Copy)]

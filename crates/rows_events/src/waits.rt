@@ -1,10 +1,10 @@
 //! The rows whose listeners wait. Each listener was told before, or its limit has passed, so no thread parks.
 use event_listener::{IntoNotification, IntoTagged};
-use std::sync::Wait;
-use std::time::{Clock, Duration, Instant};
 use rows_harness::EventAnswer::{Count, NoTag, Tag};
 use rows_harness::EventCall::TotalListeners;
 use rows_harness::{EventCall, EventCalls, Harness, Hook, Limit, OnEvent, Row};
+use std::sync::Wait;
+use std::time::{Clock, Duration, Instant};
 
 /// A row whose listeners wait.
 #[derive(Clone, Copy)]

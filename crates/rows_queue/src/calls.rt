@@ -2,8 +2,8 @@
 use event_queue::{
     IntoNotification, IntoTagged, Key, List, ListenError, NotifyError, Reply, Woken,
 };
-use std::sync::Wait;
 use rows_harness::{Difference, Harness, Hook, Refusal, Request, Subject, Wakers};
+use std::sync::Wait;
 
 /// What a row notifies its queue with, which says what the queue's tags are.
 pub trait Given: Copy {

@@ -1,7 +1,7 @@
 //! The row over integers as notifications.
 use event_queue::IntoNotification;
-use std::sync::Wait;
 use rows_harness::{Harness, Hook};
+use std::sync::Wait;
 
 pub fn integers_that_fit<R: Wait, H: Hook>(harness: &mut Harness<'_, R, H>) {
     fits(harness, -1i32, false);

@@ -12,10 +12,10 @@ mod sink;
 mod two_queues;
 
 use calls::{QueueCalls, QueueHarness, Tagged};
+use rows_harness::{Harness, Hook, Row};
 use sink::woken_with_room;
 use std::sync::Wait;
 use std::time::Clock;
-use rows_harness::{Harness, Hook, Row};
 
 /// A row over a queue, or over the numbers that notify it.
 #[derive(Clone, Copy)]

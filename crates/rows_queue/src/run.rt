@@ -2,9 +2,9 @@
 use crate::programs::Program;
 use crate::sink::woken_with_room;
 use event_queue::{Call, Key, List, ListenError, Reply, State, Woken};
+use rows_harness::{Difference, Harness, Hook, Refusal, Request};
 use std::alloc::AllocError;
 use std::sync::Wait;
-use rows_harness::{Difference, Harness, Hook, Refusal, Request};
 
 /// A queue, what runs on it answered, and their sink.
 #[derive(Drop)]

@@ -3,8 +3,8 @@ use crate::integers::fits;
 use crate::programs::Program;
 use crate::run::{Run, run_on_new};
 use event_queue::{Key, NotifyError, Reply, State};
-use std::sync::Wait;
 use rows_harness::{Difference, Harness, Hook};
+use std::sync::Wait;
 
 type Notified = Result<usize, NotifyError>;
 

@@ -1,7 +1,7 @@
 use event_queue::Woken;
+use rows_harness::{Harness, Hook, Refusal, Request};
 use std::alloc::AllocError;
 use std::sync::Wait;
-use rows_harness::{Harness, Hook, Refusal, Request};
 
 /// A sink with room for so many tasks, made again where memory was refused and is back. None is made once the row has
 /// ended.

@@ -5,8 +5,8 @@ use crate::queue::CREATED;
 use crate::sink::woken_with_room;
 use event_queue::RegisterResult::NeverInserted;
 use event_queue::{Key, Reply};
-use std::sync::Wait;
 use rows_harness::{Harness, Hook};
+use std::sync::Wait;
 
 pub fn foreign_key<R: Wait, H: Hook>(harness: &mut Harness<'_, R, H>) {
     let Some(woken) = woken_with_room(harness, 0) else {

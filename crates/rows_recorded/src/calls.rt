@@ -4,9 +4,9 @@ ghost use Rattle.event_listener.specs.Noting.{Owns};
 
 use crate::subject::{Answer, Entries, HandCall, RecordedSubject, Replay, RowCall};
 use event_listener::{CloseError, EventIds, Hand, Record, RecordedEvent};
+use rows_harness::{Difference, Harness, Hook, Refusal, Request, Subject};
 use std::sync::Wait;
 use std::time::Clock;
-use rows_harness::{Difference, Harness, Hook, Refusal, Request, Subject};
 
 /// The calls of a row on one recorded event. Each takes the answer that it must give. The row ends at the first that
 /// gives another or is refused: from then on no call is made.

@@ -2,9 +2,9 @@
 use crate::calls::{OnRecordedEvent, RecordedCalls, close, new_event, record_of, replay};
 use crate::subject::{Answer, Entries, HandCall};
 use event_listener::{CloseError, Entry, Former, RecordedCall, RecordedReply};
+use rows_harness::{Difference, Harness, Hook};
 use std::sync::Wait;
 use std::time::Clock;
-use rows_harness::{Difference, Harness, Hook};
 
 #[derive(Clone, Copy)]
 struct ReadByAnotherHand;

@@ -6,9 +6,9 @@ mod events;
 mod subject;
 mod written;
 
+use rows_harness::{Harness, Hook, Row};
 use std::sync::Wait;
 use std::time::Clock;
-use rows_harness::{Harness, Hook, Row};
 
 /// A row over a recorded event, or over a record.
 #[derive(Clone, Copy)]

@@ -7,10 +7,10 @@ use event_listener::{
     WaitError, replays,
 };
 use futures::task::Poll;
+use rows_harness::{Refusal, Request, Subject, Wakers};
 use std::alloc::Global;
 use std::sync::Wait;
 use std::time::Clock;
-use rows_harness::{Refusal, Request, Subject, Wakers};
 
 /// A call that a hand makes. A row has one listener.
 #[derive(Clone, Copy, PartialEq, Eq)]

@@ -2,8 +2,8 @@
 use crate::calls::replay;
 use crate::subject::Entries;
 use event_listener::{Entry, Key, ListenError, RecordedCall, RecordedReply};
-use std::sync::Wait;
 use rows_harness::{Harness, Hook};
+use std::sync::Wait;
 
 pub fn written_records<R: Wait, H: Hook>(harness: &mut Harness<'_, R, H>) {
     let listened = entry(RecordedCall::Listen, RecordedReply::Listened(Ok(FIRST)));

@@ -2,9 +2,9 @@
 use crate::flag_calls::{FlagCalls, FlagHarness, FlagSize};
 use crate::worlds::world_of;
 use event_worlds::{Act, FlagPlace, SetterPlace, Step};
+use rows_harness::{Harness, Hook, Row};
 use std::sync::Wait;
 use std::time::Clock;
-use rows_harness::{Harness, Hook, Row};
 
 /// A row over the world of a flag.
 #[derive(Clone, Copy)]

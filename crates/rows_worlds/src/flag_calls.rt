@@ -1,9 +1,9 @@
 //! The calls of a row on the world of a flag.
 use crate::worlds::Size;
 use event_worlds::{FlagPlace, FlagWorld, SetterPlace, Step};
+use rows_harness::{Difference, Harness, Hook};
 use std::alloc::{AllocError, Global};
 use std::sync::Wait;
-use rows_harness::{Difference, Harness, Hook};
 
 /// The calls of a row on its world. Each takes the answer that it must give.
 pub trait FlagCalls {

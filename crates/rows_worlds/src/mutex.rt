@@ -3,9 +3,9 @@ use crate::mutex_calls::{MutexCalls, MutexHarness, MutexSize};
 use crate::worlds::world_of;
 use event_worlds::Act::{Cancel, Go, Poll, TimeOut};
 use event_worlds::{Act, Place, Step};
+use rows_harness::{Harness, Hook, Row};
 use std::sync::Wait;
 use std::time::Clock;
-use rows_harness::{Harness, Hook, Row};
 
 /// A row over the world of a lock.
 #[derive(Clone, Copy)]

@@ -3,9 +3,9 @@ use crate::semaphore_calls::{SemaphoreCalls, SemaphoreHarness, SemaphoreSize};
 use crate::worlds::world_of;
 use event_worlds::SemAct::{Cancel, Go, More};
 use event_worlds::{Place, SemAct, SemStep};
+use rows_harness::{Harness, Hook, Row};
 use std::sync::Wait;
 use std::time::Clock;
-use rows_harness::{Harness, Hook, Row};
 
 /// A row over the world of a semaphore.
 #[derive(Clone, Copy)]

@@ -1,7 +1,7 @@
 //! How a row makes its world.
+use rows_harness::{Harness, Hook, Refusal, Request};
 use std::alloc::{AllocError, Global};
 use std::sync::Wait;
-use rows_harness::{Harness, Hook, Refusal, Request};
 
 /// How large a world is, and the serial of its first listener.
 pub trait Size: Copy {

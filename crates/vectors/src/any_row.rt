@@ -1,10 +1,10 @@
 use rows_events::{EventRow, IdentityRow, TagRow, WaitRow};
+use rows_harness::{Harness, Hook, Row};
 use rows_queue::QueueRow;
 use rows_recorded::RecordedRow;
 use rows_worlds::{FlagRow, MutexRow, SemaphoreRow};
 use std::sync::Wait;
 use std::time::Clock;
-use rows_harness::{Harness, Hook, Row};
 
 /// A row of any family.
 #[derive(Clone, Copy)]

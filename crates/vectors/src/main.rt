@@ -7,9 +7,9 @@ ghost use Rattle.std.specs.Process.{exit_status};
 mod any_row;
 
 use any_row::AnyRow;
+use rows_harness::{Undisturbed, print_rows};
 use std::io;
 use std::process::ExitCode;
-use rows_harness::{Undisturbed, print_rows};
 
 // The status of the program, by whether no row differs. Where a line could not be printed, that goes to the standard
 // error.
