@@ -10,7 +10,7 @@ use super::reply::RecordedReply;
 use replayed_queue::ReplayedQueue;
 use std::alloc::{AllocError, Global};
 
-/// Whether these entries are a run of a queue that was empty, with next serial 0: whether each call answers its reply,
+/// Whether these entries are a run of a queue that was empty, with next serial 0: whether each call returns its reply,
 /// one after another. Tags are compared by the equality of `T`. The slot of a new listener is read from the reply, and
 /// whose call it was is not looked at.
 ///
