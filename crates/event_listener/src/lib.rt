@@ -66,11 +66,11 @@
 //!                 return Ok(());
 //!             }
 //!             let listener = self.set.listen(rt, alloc)?;
-//!             // A notification that came before the listener was in the queue does not tell it, so look again.
+//!             // A notification that came before the listener was in the queue does not reach it, so look again.
 //!             if self.is_set() {
 //!                 return Ok(());
 //!             }
-//!             // A listener that comes back is dropped here, which passes its notification on.
+//!             // A listener that comes back is dropped here, which propagates its notification.
 //!             if let Err(WaitError::Memory(_)) = listener.wait() {
 //!                 return Err(FlagError::Memory);
 //!             }
@@ -128,16 +128,16 @@
 //!     }
 //! }
 //!
-//! /// Tells the first listener that waits, with this tag, unless one is told already. Returns how many it told.
+//! /// Notifies the first listener that waits, with this tag, unless one is notified. Returns how many it notified.
 //! ///
-//! /// A clone of a number is never refused, so no tag is.
+//! /// A clone of a number never fails, so no tag is refused.
 //! pub fn tell_one<R: Wait>(rt: &R, event: &Event<u32>, tag: u32) -> usize
 //!     ensures { result ≤ 1 }
 //! {
 //!     event.notify(rt, 1.tag(tag)).unwrap()
 //! }
 //!
-//! /// Tells the first listener that waits, with this tag, even if others are told already. Returns how many it told.
+//! /// Notifies the first listener that waits, with this tag, even if others are. Returns how many it notified.
 //! pub fn tell_one_more<R: Wait>(rt: &R, event: &Event<u32>, tag: u32) -> usize
 //!     ensures { result ≤ 1 }
 //! {
@@ -153,7 +153,7 @@
 //!     let first = event.listen(rt, alloc)?;
 //!     let second = event.listen(rt, alloc)?;
 //!     tell_one(rt, &event, 7);
-//!     // One is told already, so nobody gets this tag.
+//!     // One is notified already, so none gets this tag.
 //!     tell_one(rt, &event, 8);
 //!     tell_one_more(rt, &event, 9);
 //!     Ok((first.wait()?, second.wait()?))
@@ -172,10 +172,10 @@
 //! use event_listener::{Listener, WaitError};
 //! use std::time::{Clock, Duration, Instant};
 //!
-//! /// The tag, if the listener is told before the deadline, and else `None`.
+//! /// The tag, if the listener is notified before the deadline, and else `None`.
 //! ///
-//! /// A wait that is refused memory is tried once more, with the listener that it returns and against the same deadline.
-//! /// If the second wait is refused too, the caller gets the listener.
+//! /// A wait that fails for memory is retried once, with the listener that it returns and against the same deadline.
+//! /// If the second wait fails too, the caller gets the listener.
 //! pub fn tag_by<T, L: Listener<T>>(listener: L, deadline: Instant) -> Result<Option<T>, WaitError<L>>
 //!     ensures finished { L.is_finished listener ≡ true → IsErr result }
 //!     ensures memory { IfErr result (HandsBack listener) }
