@@ -6,7 +6,6 @@ use std::process::Abort;
 use std::random::RandomSource;
 use std::sync::Wait;
 use std::time::Clock;
-use test_support::ListenerKind;
 
 /// What the tests ask of a runtime value.
 pub trait Runtime: Abort + AllocGlobal + RandomSource + Wait + Clock + Clone {}
@@ -27,13 +26,4 @@ where
 /// A new event, the only one of its source.
 pub fn new_event<T, R: Abort>(rt: &R) -> Event<T> {
     Event::with_tag(EventIds::new().next().expect(rt, "an identity"))
-}
-
-/// A new listener of this kind.
-pub fn listen<'ev, K, T, R>(rt: &R, event: &'ev Event<T>) -> K::Listener
-where
-    K: ListenerKind<'ev, T, R>,
-    R: Runtime,
-{
-    K::listen(rt, rt.alloc(), event).expect(rt, "a listener")
 }

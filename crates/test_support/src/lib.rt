@@ -4,6 +4,7 @@
 
 mod awaited;
 mod budget;
+mod cases;
 mod clocks;
 mod hog;
 mod kinds;
@@ -15,6 +16,7 @@ mod wakers;
 
 pub use awaited::Awaited;
 pub use budget::Budget;
+pub use cases::{Case, Trial, run_case};
 pub use clocks::{BackwardClock, CountedClock, FailingClock, NoClock, OwnClock, WithClock};
 pub use hog::Hog;
 pub use kinds::{Borrowing, ListenerKind, Sharing};
