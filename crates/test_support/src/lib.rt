@@ -20,6 +20,6 @@ pub use cases::{Case, Trial, run_case};
 pub use clocks::{BackwardClock, CountedClock, FailingClock, NoClock, OwnClock, WithClock};
 pub use hog::Hog;
 pub use kinds::{Borrowing, ListenerKind, Sharing};
-pub use runtimes::Unshared;
+pub use runtimes::{Runtime, Unshared};
 pub use waits::{TIMED_WAITS, WaitCall, answered, deadline_after};
 pub use wakers::{WakeOrder, any_waker, waker_of};
