@@ -1,141 +1,79 @@
-//! Cases, which run with each kind of listener, and the calls that they make.
-use crate::support::{Runtime, check, listen, new_event};
-use event_listener::{Event, IntoNotification, Listener, NeverInserted, NotifyError};
+//! The calls that cases make, and how they run with each kind of listener.
+use crate::support::{Runtime, check, new_event};
+use event_listener::{IntoNotification, Listener, NeverInserted, NotifyError};
 use futures::task::{Poll, Waker};
 use futures::test::MockTask;
-use std::alloc::Global;
+use std::alloc::AllocGlobal;
 use std::fmt::Debug;
-use std::marker::PhantomData;
 use std::process::Abort;
 use std::sync::Wait;
-use test_support::{Borrowing, ListenerKind, Sharing, WakeOrder, waker_of};
-
-/// A test that is written once, and runs with each kind of listener.
-pub trait Case {
-    /// The tags of its event.
-    type Tag: Drop;
-
-    /// Makes its calls on a new event.
-    fn run<S: Trial<Tag = Self::Tag>>(trial: &S);
-}
+use test_support::{Borrowing, Case, Sharing, Trial, WakeOrder, run_case, waker_of};
 
 /// Runs a case with each kind of listener. Only here are the kinds named, since each place that names them is slow to
 /// prove.
-pub fn with_each_kind<C: Case, R: Runtime>(rt: &R) {
-    let event = new_event(rt);
-    with_kind::<Sharing, C, R>(rt, &event);
-    let event = new_event(rt);
-    with_kind::<Borrowing, C, R>(rt, &event);
+pub fn with_each_kind<C: Case<R>, R: Runtime>(rt: &R) {
+    run_case::<Sharing, C, R>(rt, &new_event(rt));
+    run_case::<Borrowing, C, R>(rt, &new_event(rt));
 }
 
-fn with_kind<'ev, K, C, R>(rt: &'ev R, event: &'ev Event<C::Tag>)
+/// A new listener.
+pub fn listen<S: Trial>(trial: &S) -> S::Listener
 where
-    K: ListenerKind<'ev, C::Tag, R>,
-    C: Case,
-    R: Runtime,
+    S::Runtime: Abort,
 {
-    let kind: PhantomData<K> = PhantomData;
-    let trial = KindTrial { rt, event, kind };
-    C::run(&trial);
+    trial.try_listen().expect(trial.rt(), "a listener")
 }
 
-/// What a case makes its calls on: an event, a kind of listeners, and what the runtime value gives to tests. A case
-/// asks for no more than this, since each bound of a case makes it slower to prove.
-pub trait Trial {
-    /// The tags of the event.
-    type Tag: Drop;
-
-    /// The listeners.
-    type Listener: Listener<Self::Tag> + Drop;
-
-    /// The runtime value.
-    type Runtime: Abort + Wait;
-
-    /// The runtime value.
-    fn rt(&self) -> &Self::Runtime;
-
-    /// Its allocator.
-    fn alloc(&self) -> Global;
-
-    /// The event.
-    fn event(&self) -> &Event<Self::Tag>;
-
-    /// A new listener of the event.
-    fn listen(&self) -> Self::Listener;
-
-    /// A new task, which is not woken.
-    fn task(&self) -> MockTask;
-
-    /// An order of wakes, with no task.
-    fn order(&self) -> WakeOrder;
-}
-
-// An event, with one kind of listeners.
-#[derive(Drop)]
-struct KindTrial<'ev, K, T, R> {
-    rt: &'ev R,
-    event: &'ev Event<T>,
-    kind: PhantomData<K>,
-}
-
-impl<'ev, K, T, R> Trial for KindTrial<'ev, K, T, R>
+/// A new task, which is not woken.
+pub fn new_task<S: Trial>(trial: &S) -> MockTask
 where
-    K: ListenerKind<'ev, T, R>,
-    T: Drop,
-    R: Runtime,
+    S::Runtime: Runtime,
 {
-    type Tag = T;
+    MockTask::new(trial.rt()).expect(trial.rt(), "a task")
+}
 
-    type Listener = K::Listener;
-
-    type Runtime = R;
-
-    fn rt(&self) -> &R {
-        self.rt
-    }
-
-    fn alloc(&self) -> Global {
-        self.rt.alloc()
-    }
-
-    fn event(&self) -> &Event<T> {
-        self.event
-    }
-
-    fn listen(&self) -> K::Listener {
-        listen::<K, T, R>(self.rt, self.event)
-    }
-
-    fn task(&self) -> MockTask {
-        MockTask::new(self.rt).expect(self.rt, "a task")
-    }
-
-    fn order(&self) -> WakeOrder {
-        WakeOrder::new(self.rt).expect(self.rt, "an order")
-    }
+/// An order of wakes, with no task.
+pub fn new_order<S: Trial>(trial: &S) -> WakeOrder
+where
+    S::Runtime: Runtime,
+{
+    WakeOrder::new(trial.rt()).expect(trial.rt(), "an order")
 }
 
 /// A text of its own.
-pub fn own_text<S: Trial>(trial: &S, text: &str) -> String {
-    text.to_string(trial.alloc()).expect(trial.rt(), "a text")
+pub fn own_text<S: Trial>(trial: &S, text: &str) -> String
+where
+    S::Runtime: Abort + AllocGlobal,
+{
+    text.to_string(trial.rt().alloc())
+        .expect(trial.rt(), "a text")
 }
 
 /// A waker of this task.
-pub fn waker<S: Trial>(trial: &S, task: &MockTask) -> Waker {
+pub fn waker<S: Trial>(trial: &S, task: &MockTask) -> Waker
+where
+    S::Runtime: Abort,
+{
     waker_of(task).expect(trial.rt(), "a waker")
 }
 
 /// A new task of this order, and a waker of it.
-pub fn task_of<S: Trial>(trial: &S, order: &WakeOrder) -> (usize, Waker) {
+pub fn task_of<S: Trial>(trial: &S, order: &WakeOrder) -> (usize, Waker)
+where
+    S::Runtime: Abort + Wait,
+{
     order.task(trial.rt()).expect(trial.rt(), "a task")
 }
 
 /// So many new listeners.
-pub fn listen_all<S: Trial>(trial: &S, count: usize) -> Vec<S::Listener> {
-    let mut listeners = Vec::new(trial.alloc());
+pub fn listen_all<S: Trial>(trial: &S, count: usize) -> Vec<S::Listener>
+where
+    S::Runtime: Abort + AllocGlobal,
+{
+    let mut listeners = Vec::new(trial.rt().alloc());
     for _ in 0..count {
         listeners
-            .push(trial.listen())
+            .push(listen(trial))
             .expect(trial.rt(), "room for a listener");
     }
     listeners
@@ -145,6 +83,7 @@ pub fn listen_all<S: Trial>(trial: &S, count: usize) -> Vec<S::Listener> {
 pub fn notify<S, N>(trial: &S, notification: N, answer: Result<usize, NotifyError>)
 where
     S: Trial,
+    S::Runtime: Abort + Wait,
     N: IntoNotification<Tag = S::Tag>,
     N::Notify: Drop,
     requires fits { N.fits notification }
@@ -155,7 +94,10 @@ where
 }
 
 /// Polls a listener that waits.
-pub fn poll_waiting<S: Trial>(trial: &S, listener: &mut S::Listener, waker: Waker) {
+pub fn poll_waiting<S: Trial>(trial: &S, listener: &mut S::Listener, waker: Waker)
+where
+    S::Runtime: Abort,
+{
     let polled = listener
         .poll(waker)
         .expect(trial.rt(), "it is in the queue");
@@ -166,19 +108,26 @@ pub fn poll_waiting<S: Trial>(trial: &S, listener: &mut S::Listener, waker: Wake
 pub fn poll_told<S: Trial>(trial: &S, listener: &mut S::Listener, tag: S::Tag)
 where
     S::Tag: PartialEq + Debug,
+    S::Runtime: Runtime,
 {
-    let polled = listener.poll(waker(trial, &trial.task()));
+    let polled = listener.poll(waker(trial, &new_task(trial)));
     check(trial.rt(), "its tag", polled, Ok(Poll::Ready(tag)));
 }
 
 /// Polls a listener that is finished.
-pub fn poll_finished<S: Trial>(trial: &S, listener: &mut S::Listener, waker: Waker) {
+pub fn poll_finished<S: Trial>(trial: &S, listener: &mut S::Listener, waker: Waker)
+where
+    S::Runtime: Abort,
+{
     let refusal = listener.poll(waker).err();
     check(trial.rt(), "its refusal", refusal, Some(NeverInserted));
 }
 
 /// Discards a listener. Whether it is told.
-pub fn discard<S: Trial>(trial: &S, listener: S::Listener, is_told: bool) {
+pub fn discard<S: Trial>(trial: &S, listener: S::Listener, is_told: bool)
+where
+    S::Runtime: Abort,
+{
     check(
         trial.rt(),
         "whether it is told",
@@ -188,7 +137,10 @@ pub fn discard<S: Trial>(trial: &S, listener: S::Listener, is_told: bool) {
 }
 
 /// So many listeners are in the queue, and whether some of them are told.
-pub fn assert_counts<S: Trial>(trial: &S, total: usize, is_notified: bool) {
+pub fn assert_counts<S: Trial>(trial: &S, total: usize, is_notified: bool)
+where
+    S::Runtime: Abort + Wait,
+{
     let event = trial.event();
     let counts = (
         event.total_listeners(trial.rt()),
@@ -203,12 +155,18 @@ pub fn assert_counts<S: Trial>(trial: &S, total: usize, is_notified: bool) {
 }
 
 /// Whether this task is woken.
-pub fn assert_woken<S: Trial>(trial: &S, task: &MockTask, expected: bool) {
+pub fn assert_woken<S: Trial>(trial: &S, task: &MockTask, expected: bool)
+where
+    S::Runtime: Abort,
+{
     check(trial.rt(), "whether it is woken", task.is_woken(), expected);
 }
 
 /// The task of this order that is woken next.
-pub fn assert_next<S: Trial>(trial: &S, order: &WakeOrder, task: usize) {
+pub fn assert_next<S: Trial>(trial: &S, order: &WakeOrder, task: usize)
+where
+    S::Runtime: Abort + Wait,
+{
     let next = order.next(trial.rt());
     check(trial.rt(), "who is woken next", next, Some(task));
 }

@@ -1,7 +1,8 @@
 //! Counts at their ends.
-use crate::cases::{Case, Trial, listen_all, with_each_kind};
-use crate::support::check;
+use crate::cases::{listen_all, with_each_kind};
+use crate::support::{Runtime, check};
 use event_listener::{IntoNotification, IntoTagged, Listener};
+use test_support::{Case, Trial};
 
 const COUNTS: [usize; 4] = [0, 1, usize::MAX - 1, usize::MAX];
 
@@ -27,7 +28,10 @@ fn discard_all<L: Listener<u32> + Drop>(listeners: Vec<L>) -> usize {
     told
 }
 
-fn tells<S: Trial<Tag = u32>>(trial: &S, asked: Asked) {
+fn tells<S: Trial<Tag = u32>>(trial: &S, asked: Asked)
+where
+    S::Runtime: Runtime,
+{
     let (told, waiting, count, additional) = asked;
     let (rt, event) = (trial.rt(), trial.event());
     let first = listen_all(trial, told);
@@ -47,10 +51,10 @@ fn tells<S: Trial<Tag = u32>>(trial: &S, asked: Asked) {
 
 struct Counts;
 
-impl Case for Counts {
+impl<R: Runtime> Case<R> for Counts {
     type Tag = u32;
 
-    fn run<S: Trial<Tag = u32>>(trial: &S) {
+    fn run<S: Trial<Tag = u32, Runtime = R>>(trial: &S) {
         for told in 0..3 {
             for waiting in 0..3 {
                 for count in COUNTS {

@@ -1,14 +1,18 @@
 //! Listeners that gave their tag, and listeners that a refused wait hands back.
 use crate::cases::{
-    Case, Trial, assert_counts, assert_woken, discard, notify, poll_finished, poll_told, waker,
-    with_each_kind,
+    assert_counts, assert_woken, discard, listen, new_task, notify, poll_finished, poll_told,
+    waker, with_each_kind,
 };
-use crate::support::check;
+use crate::support::{Runtime, check};
 use event_listener::{IntoNotification, IntoTagged, WaitError, WaitReason};
+use test_support::{Case, Trial};
 
 // A listener that gave its tag to a poll.
-fn finished<S: Trial<Tag = u32>>(trial: &S) -> S::Listener {
-    let mut listener = trial.listen();
+fn finished<S: Trial<Tag = u32>>(trial: &S) -> S::Listener
+where
+    S::Runtime: Runtime,
+{
+    let mut listener = listen(trial);
     notify(trial, 1.tag(7), Ok(1));
     poll_told(trial, &mut listener, 7);
     listener
@@ -17,18 +21,18 @@ fn finished<S: Trial<Tag = u32>>(trial: &S) -> S::Listener {
 struct NotInQueue;
 
 // Each of the finished listeners had the slot that the told one has now.
-impl Case for NotInQueue {
+impl<R: Runtime> Case<R> for NotInQueue {
     type Tag = u32;
 
-    fn run<S: Trial<Tag = u32>>(trial: &S) {
+    fn run<S: Trial<Tag = u32, Runtime = R>>(trial: &S) {
         let mut polled = finished(trial);
         let discarded = finished(trial);
         let dropped = finished(trial);
-        let told = trial.listen();
-        let waiting = trial.listen();
+        let told = listen(trial);
+        let waiting = listen(trial);
         notify(trial, 1.tag(8), Ok(1));
 
-        let task = trial.task();
+        let task = new_task(trial);
         poll_finished(trial, &mut polled, waker(trial, &task));
         assert_woken(trial, &task, true);
         discard(trial, discarded, false);
@@ -48,12 +52,12 @@ struct RefusedWait;
 
 // Where the error of a refused wait becomes a reason, the listener that came back is dropped: it leaves the queue, and the
 // next one gets its notification.
-impl Case for RefusedWait {
+impl<R: Runtime> Case<R> for RefusedWait {
     type Tag = u32;
 
-    fn run<S: Trial<Tag = u32>>(trial: &S) {
-        let refused = trial.listen();
-        let mut next = trial.listen();
+    fn run<S: Trial<Tag = u32, Runtime = R>>(trial: &S) {
+        let refused = listen(trial);
+        let mut next = listen(trial);
         notify(trial, 1.tag(7), Ok(1));
         let reason = WaitReason::from(WaitError::Memory(refused));
         check(trial.rt(), "the reason", reason, WaitReason::Memory);

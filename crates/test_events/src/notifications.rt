@@ -1,10 +1,10 @@
 //! How many listeners a notification tells, and which.
-use crate::cases::{Case, Trial, assert_counts, poll_waiting, waker, with_each_kind};
-use crate::support::{Runtime, check, listen, new_event};
+use crate::cases::{assert_counts, listen, new_task, poll_waiting, waker, with_each_kind};
+use crate::support::{Runtime, check, new_event};
 use event_listener::{Event, Listener};
 use std::process::Abort;
 use std::sync::Wait;
-use test_support::{Borrowing, ListenerKind, Sharing};
+use test_support::{Borrowing, Case, ListenerKind, Sharing, Trial};
 
 // The calls that notify without tags.
 #[derive(Clone, Copy)]
@@ -46,20 +46,21 @@ impl Call {
 fn told_of_three<S>(trial: &S, call: Call, n: usize) -> (usize, [bool; 3])
 where
     S: Trial<Tag = ()>,
+    S::Runtime: Runtime,
 {
-    let first = trial.listen();
-    let second = trial.listen();
-    let third = trial.listen();
+    let first = listen(trial);
+    let second = listen(trial);
+    let third = listen(trial);
     let told = call.on(trial.rt(), trial.event(), n);
     (told, [first.discard(), second.discard(), third.discard()])
 }
 
 struct TellsAsMany;
 
-impl Case for TellsAsMany {
+impl<R: Runtime> Case<R> for TellsAsMany {
     type Tag = ();
 
-    fn run<S: Trial<Tag = ()>>(trial: &S) {
+    fn run<S: Trial<Tag = (), Runtime = R>>(trial: &S) {
         for call in ALL {
             let told = told_of_three(trial, call, 2);
             check(trial.rt(), call.name(), told, (2, [true, true, false]));
@@ -76,17 +77,17 @@ fn a_notification_tells_as_many_as_it_counts_and_wait(rt: HostRuntime) {
 
 struct KeepsNothing;
 
-impl Case for KeepsNothing {
+impl<R: Runtime> Case<R> for KeepsNothing {
     type Tag = ();
 
-    fn run<S: Trial<Tag = ()>>(trial: &S) {
+    fn run<S: Trial<Tag = (), Runtime = R>>(trial: &S) {
         for call in ALL {
             let told = call.on(trial.rt(), trial.event(), 2);
             check(trial.rt(), call.name(), told, 0);
         }
         assert_counts(trial, 0, false);
-        let task = trial.task();
-        let mut listener = trial.listen();
+        let task = new_task(trial);
+        let mut listener = listen(trial);
         poll_waiting(trial, &mut listener, waker(trial, &task));
     }
 }
@@ -96,6 +97,15 @@ fn a_notification_before_the_first_listener_is_not_kept(rt: HostRuntime) {
     with_each_kind::<KeepsNothing, _>(&rt);
 }
 
+// A new listener of this kind.
+fn new_listener<'ev, K, R>(rt: &R, event: &'ev Event<()>) -> K::Listener
+where
+    K: ListenerKind<'ev, (), R>,
+    R: Runtime,
+{
+    K::listen(rt, rt.alloc(), event).expect(rt, "a listener")
+}
+
 // Listeners of one kind, with one of another between them.
 fn one_queue<'ev, K, Between, R>(rt: &R, event: &'ev Event<()>)
 where
@@ -103,9 +113,9 @@ where
     Between: ListenerKind<'ev, (), R>,
     R: Runtime,
 {
-    let first = listen::<K, (), R>(rt, event);
-    let second = listen::<Between, (), R>(rt, event);
-    let third = listen::<K, (), R>(rt, event);
+    let first = new_listener::<K, R>(rt, event);
+    let second = new_listener::<Between, R>(rt, event);
+    let third = new_listener::<K, R>(rt, event);
     check(rt, "how many are told", event.notify_additional(rt, 2), 2);
     let told = [first.discard(), second.discard(), third.discard()];
     check(rt, "which are told", told, [true, true, false]);

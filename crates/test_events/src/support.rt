@@ -1,17 +1,8 @@
 //! What ends a test, and the calls that have to succeed.
 use event_listener::{Event, EventIds};
-use std::alloc::AllocGlobal;
 use std::fmt::Debug;
 use std::process::Abort;
-use std::random::RandomSource;
-use std::sync::Wait;
-use std::time::Clock;
-use test_support::ListenerKind;
-
-/// What the tests ask of a runtime value.
-pub trait Runtime: Abort + AllocGlobal + RandomSource + Wait + Clock + Clone {}
-
-impl<R: Abort + AllocGlobal + RandomSource + Wait + Clock + Clone> Runtime for R {}
+pub use test_support::Runtime;
 
 /// The answer is the expected one. Where it is not, the message has both, and what was asked. The assertion stands here
 /// once, in a generic function, and is proved once.
@@ -27,13 +18,4 @@ where
 /// A new event, the only one of its source.
 pub fn new_event<T, R: Abort>(rt: &R) -> Event<T> {
     Event::with_tag(EventIds::new().next().expect(rt, "an identity"))
-}
-
-/// A new listener of this kind.
-pub fn listen<'ev, K, T, R>(rt: &R, event: &'ev Event<T>) -> K::Listener
-where
-    K: ListenerKind<'ev, T, R>,
-    R: Runtime,
-{
-    K::listen(rt, rt.alloc(), event).expect(rt, "a listener")
 }

@@ -1,11 +1,10 @@
 //! Tags that are refused, and tags that own memory.
-use crate::cases::{
-    Case, Trial, assert_counts, discard, notify, own_text, poll_told, with_each_kind,
-};
-use crate::support::check;
+use crate::cases::{assert_counts, discard, listen, notify, own_text, poll_told, with_each_kind};
+use crate::support::{Runtime, check};
 use event_listener::{IntoNotification, IntoTagged, NotifyError};
 use std::alloc::AllocError;
 use std::cell::Cell;
+use test_support::{Case, Trial};
 
 // A tag that can be cloned so many times. Its clones can't be cloned.
 #[derive(Debug, Drop)]
@@ -29,13 +28,13 @@ impl Clone for Refusing {
 
 struct RefusedTag;
 
-impl Case for RefusedTag {
+impl<R: Runtime> Case<R> for RefusedTag {
     type Tag = Refusing;
 
-    fn run<S: Trial<Tag = Refusing>>(trial: &S) {
-        let first = trial.listen();
-        let second = trial.listen();
-        let third = trial.listen();
+    fn run<S: Trial<Tag = Refusing, Runtime = R>>(trial: &S) {
+        let first = listen(trial);
+        let second = listen(trial);
+        let third = listen(trial);
         let notification = 3.tag(with_clones(2));
         notify(trial, notification, Err(NotifyError { told: 2 }));
         assert_counts(trial, 3, true);
@@ -51,16 +50,22 @@ fn a_refused_tag_skips_nobody(rt: HostRuntime) {
 }
 
 // Notifies of three with a tag that can be cloned so many times.
-fn notifies<S: Trial<Tag = Refusing>>(trial: &S, clones: u8, expected: Result<usize, NotifyError>) {
+fn notifies<S: Trial<Tag = Refusing>>(trial: &S, clones: u8, expected: Result<usize, NotifyError>)
+where
+    S::Runtime: Runtime,
+{
     let answer = trial.event().notify(trial.rt(), 3.tag(with_clones(clones)));
     check(trial.rt(), ("clones", clones), answer, expected);
 }
 
 // Three wait. Of the first notification so many are told, of the second the others.
-fn tells_then<S: Trial<Tag = Refusing>>(trial: &S, told: u8) {
-    let first = trial.listen();
-    let second = trial.listen();
-    let third = trial.listen();
+fn tells_then<S: Trial<Tag = Refusing>>(trial: &S, told: u8)
+where
+    S::Runtime: Runtime,
+{
+    let first = listen(trial);
+    let second = listen(trial);
+    let third = listen(trial);
     let refused = Err(NotifyError {
         told: usize::from(told),
     });
@@ -73,14 +78,14 @@ fn tells_then<S: Trial<Tag = Refusing>>(trial: &S, told: u8) {
 
 struct RefusedClones;
 
-impl Case for RefusedClones {
+impl<R: Runtime> Case<R> for RefusedClones {
     type Tag = Refusing;
 
-    fn run<S: Trial<Tag = Refusing>>(trial: &S) {
+    fn run<S: Trial<Tag = Refusing, Runtime = R>>(trial: &S) {
         for told in 0..3 {
             tells_then(trial, told);
         }
-        let listener = trial.listen();
+        let listener = listen(trial);
         for _ in 0..3 {
             notifies(trial, 0, Err(NotifyError { told: 0 }));
         }
@@ -96,14 +101,14 @@ fn a_refused_clone_skips_nobody(rt: HostRuntime) {
 // What was told gives its tag on without a clone of it.
 struct PassedOn;
 
-impl Case for PassedOn {
+impl<R: Runtime> Case<R> for PassedOn {
     type Tag = Refusing;
 
-    fn run<S: Trial<Tag = Refusing>>(trial: &S) {
-        let first = trial.listen();
+    fn run<S: Trial<Tag = Refusing, Runtime = R>>(trial: &S) {
+        let first = listen(trial);
         notifies(trial, 1, Ok(1));
-        let second = trial.listen();
-        let third = trial.listen();
+        let second = listen(trial);
+        let third = listen(trial);
         drop(first);
         drop(second);
         check(
@@ -123,12 +128,12 @@ fn a_tag_is_passed_on_without_a_clone(rt: HostRuntime) {
 
 struct OwningTag;
 
-impl Case for OwningTag {
+impl<R: Runtime> Case<R> for OwningTag {
     type Tag = String;
 
-    fn run<S: Trial<Tag = String>>(trial: &S) {
-        let mut first = trial.listen();
-        let mut second = trial.listen();
+    fn run<S: Trial<Tag = String, Runtime = R>>(trial: &S) {
+        let mut first = listen(trial);
+        let mut second = listen(trial);
         let notification = 2.tag(own_text(trial, "go"));
         notify(trial, notification, Ok(2));
         poll_told(trial, &mut first, own_text(trial, "go"));

@@ -3,25 +3,25 @@
 //! A waker wakes its task when it is dropped, too. So these tests show that a call gives each task up before it returns,
 //! and in which order, but not that it wakes one: those of `test_waits`, in which threads wait, show that.
 use crate::cases::{
-    Case, Trial, assert_counts, assert_next, assert_woken, discard, listen_all, notify, poll_told,
-    poll_waiting, task_of, waker, with_each_kind,
+    assert_counts, assert_next, assert_woken, discard, listen, listen_all, new_order, new_task,
+    notify, poll_told, poll_waiting, task_of, waker, with_each_kind,
 };
-use crate::support::check;
+use crate::support::{Runtime, check};
 use event_listener::{IntoNotification, IntoTagged};
-use test_support::WakeOrder;
+use test_support::{Case, Trial, WakeOrder};
 
 struct WakesInOrder;
 
-impl Case for WakesInOrder {
+impl<R: Runtime> Case<R> for WakesInOrder {
     type Tag = ();
 
-    fn run<S: Trial<Tag = ()>>(trial: &S) {
-        let order = trial.order();
+    fn run<S: Trial<Tag = (), Runtime = R>>(trial: &S) {
+        let order = new_order(trial);
         let (one, first_waker) = task_of(trial, &order);
         let (two, second_waker) = task_of(trial, &order);
         let (after, last_waker) = task_of(trial, &order);
-        let mut first = trial.listen();
-        let mut second = trial.listen();
+        let mut first = listen(trial);
+        let mut second = listen(trial);
         poll_waiting(trial, &mut first, first_waker);
         poll_waiting(trial, &mut second, second_waker);
 
@@ -41,13 +41,13 @@ fn tasks_wake_in_order_of_listening(rt: HostRuntime) {
 
 struct DropPassesOn;
 
-impl Case for DropPassesOn {
+impl<R: Runtime> Case<R> for DropPassesOn {
     type Tag = u32;
 
-    fn run<S: Trial<Tag = u32>>(trial: &S) {
-        let task = trial.task();
-        let told = trial.listen();
-        let mut waiting = trial.listen();
+    fn run<S: Trial<Tag = u32, Runtime = R>>(trial: &S) {
+        let task = new_task(trial);
+        let told = listen(trial);
+        let mut waiting = listen(trial);
         poll_waiting(trial, &mut waiting, waker(trial, &task));
         notify(trial, 1.tag(7), Ok(1));
         assert_woken(trial, &task, false);
@@ -65,13 +65,13 @@ fn the_drop_of_a_told_listener_passes_on(rt: HostRuntime) {
 
 struct DiscardPassesNothingOn;
 
-impl Case for DiscardPassesNothingOn {
+impl<R: Runtime> Case<R> for DiscardPassesNothingOn {
     type Tag = u32;
 
-    fn run<S: Trial<Tag = u32>>(trial: &S) {
-        let task = trial.task();
-        let told = trial.listen();
-        let mut waiting = trial.listen();
+    fn run<S: Trial<Tag = u32, Runtime = R>>(trial: &S) {
+        let task = new_task(trial);
+        let told = listen(trial);
+        let mut waiting = listen(trial);
         poll_waiting(trial, &mut waiting, waker(trial, &task));
         notify(trial, 1.tag(7), Ok(1));
         discard(trial, told, true);
@@ -89,13 +89,13 @@ fn a_told_listener_that_is_discarded_passes_nothing_on(rt: HostRuntime) {
 
 struct ReplacedWakerWakes;
 
-impl Case for ReplacedWakerWakes {
+impl<R: Runtime> Case<R> for ReplacedWakerWakes {
     type Tag = ();
 
-    fn run<S: Trial<Tag = ()>>(trial: &S) {
-        let one = trial.task();
-        let other = trial.task();
-        let mut listener = trial.listen();
+    fn run<S: Trial<Tag = (), Runtime = R>>(trial: &S) {
+        let one = new_task(trial);
+        let other = new_task(trial);
+        let mut listener = listen(trial);
         poll_waiting(trial, &mut listener, waker(trial, &one));
         assert_woken(trial, &one, false);
         poll_waiting(trial, &mut listener, waker(trial, &other));
@@ -123,8 +123,11 @@ fn poll_all<S: Trial<Tag = ()>>(
     trial: &S,
     order: &WakeOrder,
     listeners: &mut Vec<S::Listener>,
-) -> Vec<usize> {
-    let mut tasks = Vec::new(trial.alloc());
+) -> Vec<usize>
+where
+    S::Runtime: Runtime,
+{
+    let mut tasks = Vec::new(trial.rt().alloc());
     for listener in listeners.iter_mut() {
         let (task, waker) = task_of(trial, order);
         poll_waiting(trial, listener, waker);
@@ -133,11 +136,11 @@ fn poll_all<S: Trial<Tag = ()>>(
     tasks
 }
 
-impl Case for ManyWakes {
+impl<R: Runtime> Case<R> for ManyWakes {
     type Tag = ();
 
-    fn run<S: Trial<Tag = ()>>(trial: &S) {
-        let order = trial.order();
+    fn run<S: Trial<Tag = (), Runtime = R>>(trial: &S) {
+        let order = new_order(trial);
         let mut listeners = listen_all(trial, LISTENERS);
         let tasks = poll_all(trial, &order, &mut listeners);
         notify(trial, usize::MAX, Ok(LISTENERS));

@@ -22,21 +22,14 @@ fn all_end<C: WaitClock, R: Runtime>(rt: &R, clock: &C, set: &Cell<u32>, value: 
 #[test]
 fn a_clock_that_goes_back_ends_a_wait(rt: HostRuntime) {
     let reads = Cell::new(0);
-    let clock = BackwardClock {
-        rt: &rt,
-        reads: &reads,
-    };
-    all_end(&rt, &clock, &reads, 0);
+    all_end(&rt, &BackwardClock::new(&rt, &reads), &reads, 0);
 }
 
 // The first reading fails, or one of those that come as the thread parks.
 #[test]
 fn a_clock_that_fails_in_the_middle_ends_a_wait(rt: HostRuntime) {
     let reads_left = Cell::new(0);
-    let clock = FailingClock {
-        rt: &rt,
-        reads_left: &reads_left,
-    };
+    let clock = FailingClock::new(&rt, &reads_left);
     for reads in 0..8 {
         all_end(&rt, &clock, &reads_left, reads);
     }

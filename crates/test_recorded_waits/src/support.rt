@@ -1,20 +1,13 @@
 //! What ends a test, and the calls that have to succeed.
 use event_listener::{EventIds, Hand, Key, Note, Record, RecordedEvent};
-use std::alloc::AllocGlobal;
 use std::fmt::Debug;
 use std::process::Abort;
-use std::random::RandomSource;
-use std::sync::Wait;
 use std::thread::Threads;
-use std::time::{Clock, CpuClock, Duration};
+use std::time::{CpuClock, Duration};
+pub use test_support::Runtime;
 use test_support::WaitCall;
 use test_support::recorded::Refusal;
 use test_support::waiters::{self, WaitClock, Waiter, notify_one};
-
-/// What the tests ask of the runtime value of the test.
-pub trait Runtime: Abort + AllocGlobal + RandomSource + Wait + Clock + Clone {}
-
-impl<R: Abort + AllocGlobal + RandomSource + Wait + Clock + Clone> Runtime for R {}
 
 /// What the tests ask of a runtime value that several threads use.
 pub trait SharedRuntime: Runtime + CpuClock + Threads + Send + Sync {}

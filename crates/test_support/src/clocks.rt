@@ -51,8 +51,15 @@ const TIMES_BACK: u32 = 5;
 /// A runtime whose clock goes back at each of its first readings.
 #[derive(Clone, Copy)]
 pub struct BackwardClock<'a, R> {
-    pub rt: &'a R,
-    pub reads: &'a Cell<u32>,
+    rt: &'a R,
+    reads: &'a Cell<u32>,
+}
+
+impl<'a, R> BackwardClock<'a, R> {
+    /// The clock of this runtime, which was read so often.
+    pub fn new(rt: &'a R, reads: &'a Cell<u32>) -> Self {
+        BackwardClock { rt, reads }
+    }
 }
 
 impl<'a, R: Wait> Wait for BackwardClock<'a, R> {}
@@ -78,8 +85,15 @@ impl<'a, R: Clock> Clock for BackwardClock<'a, R> {
 /// A runtime whose clock can be read so many times, and then not any more.
 #[derive(Clone, Copy)]
 pub struct FailingClock<'a, R> {
-    pub rt: &'a R,
-    pub reads_left: &'a Cell<u32>,
+    rt: &'a R,
+    reads_left: &'a Cell<u32>,
+}
+
+impl<'a, R> FailingClock<'a, R> {
+    /// The clock of this runtime, which can be read so often.
+    pub fn new(rt: &'a R, reads_left: &'a Cell<u32>) -> Self {
+        FailingClock { rt, reads_left }
+    }
 }
 
 impl<'a, R: Wait> Wait for FailingClock<'a, R> {}

@@ -4,6 +4,7 @@
 
 mod awaited;
 mod budget;
+mod cases;
 mod clocks;
 mod hog;
 mod kinds;
@@ -15,9 +16,10 @@ mod wakers;
 
 pub use awaited::Awaited;
 pub use budget::Budget;
+pub use cases::{Case, Trial, run_case};
 pub use clocks::{BackwardClock, CountedClock, FailingClock, NoClock, OwnClock, WithClock};
 pub use hog::Hog;
 pub use kinds::{Borrowing, ListenerKind, Sharing};
-pub use runtimes::Unshared;
+pub use runtimes::{Runtime, Unshared};
 pub use waits::{TIMED_WAITS, WaitCall, answered, deadline_after};
 pub use wakers::{WakeOrder, any_waker, waker_of};

@@ -1,8 +1,15 @@
-//! Runtimes that refuse something.
-use std::alloc::AllocError;
+//! Runtime values: what tests ask of theirs, and one that can't be cloned.
+use std::alloc::{AllocError, AllocGlobal};
 use std::io;
+use std::process::Abort;
+use std::random::RandomSource;
 use std::sync::Wait;
 use std::time::{Clock, Duration};
+
+/// What a test asks of its runtime value. `Abort` is for assertions: one that fails ends the test.
+pub trait Runtime: Abort + AllocGlobal + RandomSource + Wait + Clock + Clone {}
+
+impl<R: Abort + AllocGlobal + RandomSource + Wait + Clock + Clone> Runtime for R {}
 
 /// A runtime value that cannot be cloned.
 #[derive(Drop)]

@@ -1,17 +1,11 @@
 //! What ends a test, and the calls that have to succeed.
 use event_listener::{Event, EventIds, Listener};
-use std::alloc::AllocGlobal;
 use std::fmt::Debug;
 use std::process::Abort;
-use std::random::RandomSource;
 use std::sync::Wait;
 use std::time::{Clock, Duration, Instant};
+pub use test_support::Runtime;
 use test_support::{ListenerKind, WaitCall};
-
-/// What the tests ask of the runtime value of the test, so that they can be written over every kind of listener.
-pub trait Runtime: Abort + AllocGlobal + RandomSource + Wait + Clock + Clone {}
-
-impl<R: Abort + AllocGlobal + RandomSource + Wait + Clock + Clone> Runtime for R {}
 
 /// What the tests ask of the runtime value of a listener, whose clock may be the test's own.
 pub trait WaitClock: Wait + Clock + Clone {}

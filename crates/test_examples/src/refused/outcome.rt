@@ -7,15 +7,10 @@ use std::alloc::AllocGlobal;
 use std::cell::Cell;
 use std::io;
 use std::process::Abort;
-use std::random::RandomSource;
 use std::sync::{self, Wait};
-use std::time::{Clock, Duration};
+use std::time::Duration;
+pub use test_support::Runtime;
 use test_support::{Budget, OwnClock, WithClock};
-
-/// What the tests ask of a runtime value.
-pub trait Runtime: Abort + AllocGlobal + RandomSource + Wait + Clock + Clone {}
-
-impl<R: Abort + AllocGlobal + RandomSource + Wait + Clock + Clone> Runtime for R {}
 
 /// All memory but a reserve.
 pub fn new_budget<R: Abort + AllocGlobal>(rt: &R) -> Budget {

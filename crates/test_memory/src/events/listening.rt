@@ -1,8 +1,8 @@
 //! Listening that is refused what it needs.
-use super::{Case, Trial, listen, new_event, with_each_kind};
+use super::{listen, new_event, with_each_kind};
 use crate::support::{Runtime, all_memory, check};
 use event_listener::{Event, ListenError, Listener, StackSlot};
-use test_support::{Borrowing, ListenerKind, Sharing, Unshared};
+use test_support::{Borrowing, Case, ListenerKind, Sharing, Trial, Unshared};
 
 fn uncloned<'ev, K, R>(rt: &'ev R, event: &'ev Event<()>)
 where
@@ -30,10 +30,10 @@ fn has_no_queue<R: Runtime>(rt: &R, event: &Event<()>) {
 
 struct NoQueue;
 
-impl Case for NoQueue {
+impl<R: Runtime> Case<R> for NoQueue {
     type Tag = ();
 
-    fn run<S: Trial<Tag = ()>>(trial: &S) {
+    fn run<S: Trial<Tag = (), Runtime = R>>(trial: &S) {
         let (rt, event) = (trial.rt(), trial.event());
         let hog = all_memory(rt);
         let refusal = trial.try_listen().err();
@@ -71,7 +71,10 @@ const MANY: usize = 64;
 fn listen_until_refused<S: Trial>(
     trial: &S,
     listeners: &mut Vec<S::Listener>,
-) -> Option<ListenError> {
+) -> Option<ListenError>
+where
+    S::Runtime: Runtime,
+{
     for _ in 1..MANY {
         match trial.try_listen() {
             Ok(listener) => listeners.push(listener).expect(trial.rt(), "room"),
@@ -83,10 +86,10 @@ fn listen_until_refused<S: Trial>(
 
 struct FullQueue;
 
-impl Case for FullQueue {
+impl<R: Runtime> Case<R> for FullQueue {
     type Tag = ();
 
-    fn run<S: Trial<Tag = ()>>(trial: &S) {
+    fn run<S: Trial<Tag = (), Runtime = R>>(trial: &S) {
         let (rt, event) = (trial.rt(), trial.event());
         let mut listeners = Vec::with_capacity(rt.alloc(), MANY).expect(rt, "room for listeners");
         let first = listen(trial);

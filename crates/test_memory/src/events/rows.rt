@@ -1,13 +1,16 @@
 //! The worked rows over an event in which memory is refused. The other requests of these rows are refused in their
 //! turn, too.
-use super::{Case, Trial, poll, with_each_kind};
-use crate::support::{check, new_budget};
+use super::{poll, with_each_kind};
+use crate::support::{Runtime, check, new_budget};
 use event_listener::{ListenError, Listener, WaitError};
 use std::time::Duration;
-use test_support::{Budget, any_waker};
+use test_support::{Budget, Case, Trial, any_waker};
 
 // Listens with so many bytes of memory, if there is a refusal; then there is no listener.
-fn listen_with<S: Trial>(trial: &S, budget: &mut Budget, bytes: usize) -> Option<S::Listener> {
+fn listen_with<S: Trial>(trial: &S, budget: &mut Budget, bytes: usize) -> Option<S::Listener>
+where
+    S::Runtime: Runtime,
+{
     let rt = trial.rt();
     budget.leave(bytes).expect(rt, "so much of the reserve");
     let reply = trial.try_listen();
@@ -23,7 +26,10 @@ fn listen_with<S: Trial>(trial: &S, budget: &mut Budget, bytes: usize) -> Option
 }
 
 // Listens to a new event with larger and larger budgets, until that is granted. The first is refused.
-fn listen_at_last<S: Trial>(trial: &S, budget: &mut Budget) -> S::Listener {
+fn listen_at_last<S: Trial>(trial: &S, budget: &mut Budget) -> S::Listener
+where
+    S::Runtime: Runtime,
+{
     let refused = listen_with(trial, budget, 0);
     check(trial.rt(), "the first", refused.is_some(), false);
     for bytes in (Budget::STEP..Budget::MOST).step_by(Budget::STEP) {
@@ -36,10 +42,10 @@ fn listen_at_last<S: Trial>(trial: &S, budget: &mut Budget) -> S::Listener {
 
 struct RefusedParker;
 
-impl Case for RefusedParker {
+impl<R: Runtime> Case<R> for RefusedParker {
     type Tag = ();
 
-    fn run<S: Trial<Tag = ()>>(trial: &S) {
+    fn run<S: Trial<Tag = (), Runtime = R>>(trial: &S) {
         let (rt, event) = (trial.rt(), trial.event());
         let waker = any_waker(rt).expect(rt, "a waker");
         let mut budget = new_budget(rt);
@@ -64,10 +70,10 @@ fn a_listener_comes_back_where_its_parker_is_refused(rt: HostRuntime) {
 
 struct RefusedState;
 
-impl Case for RefusedState {
+impl<R: Runtime> Case<R> for RefusedState {
     type Tag = ();
 
-    fn run<S: Trial<Tag = ()>>(trial: &S) {
+    fn run<S: Trial<Tag = (), Runtime = R>>(trial: &S) {
         let (rt, event) = (trial.rt(), trial.event());
         let mut budget = new_budget(rt);
         let refused = listen_with(trial, &mut budget, 0);

@@ -1,9 +1,9 @@
 //! Waits that are refused memory for what the thread parks on.
-use super::{Case, Trial, listen, poll, with_each_kind};
+use super::{listen, poll, with_each_kind};
 use crate::support::{Runtime, all_memory, check};
 use event_listener::{IntoNotification, IntoTagged, Listener, WaitError};
 use std::time::{Duration, Instant};
-use test_support::{answered, any_waker};
+use test_support::{Case, Trial, answered, any_waker};
 
 // The calls that wait.
 #[derive(Clone, Copy, Debug)]
@@ -44,7 +44,10 @@ where
 
 // The listener that comes back still stands in the queue, so that a notification reaches it and the same call gives the
 // tag.
-fn handed_back<S: Trial<Tag = u32>>(trial: &S, call: Call) {
+fn handed_back<S: Trial<Tag = u32>>(trial: &S, call: Call)
+where
+    S::Runtime: Runtime,
+{
     let (rt, event) = (trial.rt(), trial.event());
     let listener = refused(rt, call, listen(trial));
     check(rt, call, event.total_listeners(rt), 1);
@@ -54,10 +57,10 @@ fn handed_back<S: Trial<Tag = u32>>(trial: &S, call: Call) {
 
 struct HandedBack;
 
-impl Case for HandedBack {
+impl<R: Runtime> Case<R> for HandedBack {
     type Tag = u32;
 
-    fn run<S: Trial<Tag = u32>>(trial: &S) {
+    fn run<S: Trial<Tag = u32, Runtime = R>>(trial: &S) {
         let past = Instant::now(trial.rt()).expect(trial.rt(), "the time");
         handed_back(trial, Call::Wait);
         handed_back(trial, Call::Timeout(Duration::MAX));
@@ -73,10 +76,10 @@ fn a_refused_wait_hands_the_listener_back(rt: HostRuntime) {
 
 struct StaysTold;
 
-impl Case for StaysTold {
+impl<R: Runtime> Case<R> for StaysTold {
     type Tag = u32;
 
-    fn run<S: Trial<Tag = u32>>(trial: &S) {
+    fn run<S: Trial<Tag = u32, Runtime = R>>(trial: &S) {
         let (rt, event) = (trial.rt(), trial.event());
         let waker = any_waker(rt).expect(rt, "a waker");
         let told = listen(trial);
@@ -99,10 +102,10 @@ fn a_told_listener_stays_told_when_its_wait_is_refused(rt: HostRuntime) {
 
 struct FinishedListener;
 
-impl Case for FinishedListener {
+impl<R: Runtime> Case<R> for FinishedListener {
     type Tag = u32;
 
-    fn run<S: Trial<Tag = u32>>(trial: &S) {
+    fn run<S: Trial<Tag = u32, Runtime = R>>(trial: &S) {
         let (rt, event) = (trial.rt(), trial.event());
         let waker = any_waker(rt).expect(rt, "a waker");
         let mut listener = listen(trial);

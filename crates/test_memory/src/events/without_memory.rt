@@ -1,18 +1,18 @@
 //! The calls that allocate nothing, made while every request for memory is refused.
-use super::{Case, Trial, listen, poll, with_each_kind};
-use crate::support::{all_memory, check};
+use super::{listen, poll, with_each_kind};
+use crate::support::{Runtime, all_memory, check};
 use event_listener::Listener;
 use futures::test::MockTask;
-use test_support::{any_waker, waker_of};
+use test_support::{Case, Trial, any_waker, waker_of};
 
 // The queue is there and has a spare slot, and the runtime value is cloned for nothing. A share of the queue only counts
 // one owner more.
 struct SpareSlot;
 
-impl Case for SpareSlot {
+impl<R: Runtime> Case<R> for SpareSlot {
     type Tag = ();
 
-    fn run<S: Trial<Tag = ()>>(trial: &S) {
+    fn run<S: Trial<Tag = (), Runtime = R>>(trial: &S) {
         let (rt, event) = (trial.rt(), trial.event());
         drop(listen(trial));
         let hog = all_memory(rt);
@@ -31,10 +31,10 @@ fn listening_by_a_spare_slot_allocates_nothing(rt: HostRuntime) {
 
 struct OtherCalls;
 
-impl Case for OtherCalls {
+impl<R: Runtime> Case<R> for OtherCalls {
     type Tag = ();
 
-    fn run<S: Trial<Tag = ()>>(trial: &S) {
+    fn run<S: Trial<Tag = (), Runtime = R>>(trial: &S) {
         let (rt, event) = (trial.rt(), trial.event());
         let task = MockTask::new(rt).expect(rt, "a task");
         let waker = waker_of(&task).expect(rt, "a waker");
