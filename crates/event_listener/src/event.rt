@@ -57,7 +57,7 @@ impl<T> Event<T> {
     /// For tests of the greatest serial numbers: an event whose queue is made already, and gives its first listener this
     /// serial number.
     ///
-    /// The call allocates the queue; the error is a refusal of that. It does not wait.
+    /// The call allocates the queue, and returns an error if that fails. It does not wait.
     #[doc(hidden)]
     pub fn starting_at(alloc: Global, id: EventId, first_serial: u64) -> Result<Self, AllocError>
     where
@@ -69,13 +69,13 @@ impl<T> Event<T> {
         Ok(Event { id, shared })
     }
 
-    /// A new listener, which waits at the end of the queue. It starts untold, whoever is told already. It keeps a share
-    /// of the queue and a clone of the runtime value, for its own calls.
+    /// A new listener, which waits at the end of the queue. It starts waiting, whichever are notified already. It keeps
+    /// a share of the queue and a clone of the runtime value, for its own calls.
     ///
-    /// Returns [`ListenError::Memory`] where memory, the share or the clone is refused, and
-    /// [`ListenError::SerialsUsedUp`] where the queue has given out all serial numbers. Neither inserts anybody.
+    /// Returns [`ListenError::Memory`] if memory runs out or the share or the clone fails, and
+    /// [`ListenError::SerialsUsedUp`] if the queue has given out all serial numbers. Neither inserts a listener.
     ///
-    /// The call allocates where there is no queue yet or the queue has no spare slot. It may wait for the lock of the
+    /// The call allocates if there is no queue yet or the queue has no spare slot. It may wait for the lock of the
     /// event, and for a thread that is making the queue.
     #[inline(always)]
     pub fn listen<R>(&self, rt: &R, alloc: Global) -> Result<EventListener<T, R>, ListenError>
@@ -110,7 +110,7 @@ impl<T> Event<T> {
         Arc::try_clone(self.make_queue(rt, alloc)?)
     }
 
-    /// The queue, which is made where there is none.
+    /// The queue, which is made if there is none.
     pub(crate) fn queue<R: Wait>(
         &self,
         rt: &R,
@@ -147,15 +147,15 @@ impl<T> Event<T> {
         self.id.number()
     }
 
-    /// Tells the first of the waiting listeners, in order, each with the notification's next tag, and wakes their
-    /// tasks. Returns how many it told.
+    /// Notifies the first of the waiting listeners, in order, each with the notification's next tag, and wakes their
+    /// tasks. Returns how many it notified.
     ///
-    /// It tells as many as the notification counts, less those that are told already where it is a default one, and
-    /// no more than wait. A notification that finds nobody to tell is not kept. Before anybody has listened the call
-    /// returns 0, and makes no queue.
+    /// It notifies as many as the notification counts, less those that are notified already if it is a default one, and
+    /// no more than wait. A notification that finds no listener waiting is not kept. Before a listener was made the
+    /// call returns 0, and makes no queue.
     ///
-    /// Returns [`NotifyError`] only where the notification refused a tag: the listeners told until then stay told, and
-    /// nobody is skipped.
+    /// Returns [`NotifyError`] only if the notification refused a tag: the listeners notified until then stay notified,
+    /// and none is skipped.
     ///
     /// The call allocates only what the notification allocates for its tags. It may wait for the lock of the event.
     #[inline(always)]
@@ -185,7 +185,7 @@ impl<T> Event<T> {
         }
     }
 
-    /// Whether some listener is told.
+    /// Whether some listener is notified.
     ///
     /// The call does not allocate. It may wait for the lock of the event.
     pub fn is_notified<R: Wait>(&self, rt: &R) -> bool {
@@ -195,7 +195,7 @@ impl<T> Event<T> {
         }
     }
 
-    /// How many listeners there are, told or waiting.
+    /// How many listeners there are, notified or waiting.
     ///
     /// The call does not allocate. It may wait for the lock of the event.
     pub fn total_listeners<R: Wait>(&self, rt: &R) -> usize {
@@ -225,8 +225,8 @@ impl Event<()> {
         self.notify_unrefused(rt, n.relaxed())
     }
 
-    /// [`notify`](Event::notify) with `n.additional()`: it tells `n` listeners more, whoever is told already. It returns
-    /// no error.
+    /// [`notify`](Event::notify) with `n.additional()`: it notifies `n` listeners more, however many are notified
+    /// already. It returns no error.
     ///
     /// The call does not allocate. It may wait for the lock of the event.
     pub fn notify_additional<R: Wait>(&self, rt: &R, n: usize) -> usize

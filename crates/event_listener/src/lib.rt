@@ -1,8 +1,8 @@
-//! Events that others listen to. A notification tells some of the listeners, and wakes the task of each.
+//! Events that others listen to. A notification picks some of the listeners, and wakes the task of each.
 //!
 //! An [`Event`] has one queue of listeners, under a lock of its own. [`Event::listen`] returns an [`EventListener`],
 //! which shares that queue. [`StackSlot`], or the macro [`listener!`], returns a [`StackListener`], which borrows the
-//! event. Both are polled or waited on until they are told, that is, notified: see [`Listener`].
+//! event. Both are polled or waited on until they are notified: see [`Listener`].
 //!
 //! A call that may wait for the lock takes the runtime value, and a call that may allocate takes the allocator. A
 //! listener keeps a clone of the runtime value for its own calls.
@@ -13,7 +13,7 @@
 //!
 //! # A flag that threads wait for
 //!
-//! The waiting thread looks at the flag, listens, looks again, and only then waits: a notification tells only the
+//! The waiting thread looks at the flag, listens, looks again, and only then waits: a notification reaches only the
 //! listeners that are in the queue by then. The other thread sets the flag first and notifies afterwards.
 //!
 //! ```rust
@@ -66,11 +66,11 @@
 //!                 return Ok(());
 //!             }
 //!             let listener = self.set.listen(rt, alloc)?;
-//!             // A notification that came before the listener was in the queue does not tell it, so look again.
+//!             // A notification that came before the listener was in the queue does not reach it, so look again.
 //!             if self.is_set() {
 //!                 return Ok(());
 //!             }
-//!             // A listener that comes back is dropped here, which passes its notification on.
+//!             // A listener that comes back is dropped here, which propagates its notification.
 //!             if let Err(WaitError::Memory(_)) = listener.wait() {
 //!                 return Err(FlagError::Memory);
 //!             }
@@ -99,8 +99,8 @@
 //!
 //! # An event with tags
 //!
-//! Each listener that is told gets a tag. A default notification of one does nothing if a listener is told already; an
-//! additional one tells one more.
+//! Each listener that is notified gets a tag. A default notification of one does nothing if a listener is notified
+//! already; an additional one notifies one more.
 //!
 //! ```rust
 //! ghost use Rattle.std.specs.Prelude.{◌≤◌};
@@ -128,16 +128,16 @@
 //!     }
 //! }
 //!
-//! /// Tells the first listener that waits, with this tag, unless one is told already. Returns how many it told.
+//! /// Notifies the first listener that waits, with this tag, unless one is notified. Returns how many it notified.
 //! ///
-//! /// A clone of a number is never refused, so no tag is.
+//! /// A clone of a number never fails, so no tag is refused.
 //! pub fn tell_one<R: Wait>(rt: &R, event: &Event<u32>, tag: u32) -> usize
 //!     ensures { result ≤ 1 }
 //! {
 //!     event.notify(rt, 1.tag(tag)).unwrap()
 //! }
 //!
-//! /// Tells the first listener that waits, with this tag, even if others are told already. Returns how many it told.
+//! /// Notifies the first listener that waits, with this tag, even if others are. Returns how many it notified.
 //! pub fn tell_one_more<R: Wait>(rt: &R, event: &Event<u32>, tag: u32) -> usize
 //!     ensures { result ≤ 1 }
 //! {
@@ -153,7 +153,7 @@
 //!     let first = event.listen(rt, alloc)?;
 //!     let second = event.listen(rt, alloc)?;
 //!     tell_one(rt, &event, 7);
-//!     // One is told already, so nobody gets this tag.
+//!     // One is notified already, so none gets this tag.
 //!     tell_one(rt, &event, 8);
 //!     tell_one_more(rt, &event, 9);
 //!     Ok((first.wait()?, second.wait()?))
@@ -172,10 +172,10 @@
 //! use event_listener::{Listener, WaitError};
 //! use std::time::{Clock, Duration, Instant};
 //!
-//! /// The tag, if the listener is told before the deadline, and else `None`.
+//! /// The tag, if the listener is notified before the deadline, and else `None`.
 //! ///
-//! /// A wait that is refused memory is tried once more, with the listener that it returns and against the same deadline.
-//! /// If the second wait is refused too, the caller gets the listener.
+//! /// A wait that fails for memory is retried once, with the listener that it returns and against the same deadline.
+//! /// If the second wait fails too, the caller gets the listener.
 //! pub fn tag_by<T, L: Listener<T>>(listener: L, deadline: Instant) -> Result<Option<T>, WaitError<L>>
 //!     ensures finished { L.is_finished listener ≡ true → IsErr result }
 //!     ensures memory { IfErr result (HandsBack listener) }
@@ -190,7 +190,7 @@
 //! # An event that keeps a record
 //!
 //! A [`RecordedEvent`] records every step of its queue. Whoever calls it has a [`Hand`], which notes its calls and the
-//! replies that it got. Once its listeners are gone, [`RecordedEvent::close`] gives its [`Record`] where the notes are
+//! replies that it got. Once its listeners are gone, [`RecordedEvent::close`] gives its [`Record`] if the notes are
 //! its entries: one history of the queue, in which the calls of each hand stand, each once and in order. [`replays`]
 //! says of any entries whether they are such a history. The crate `example_events` has a flag that keeps a record.
 //!
@@ -201,15 +201,15 @@
 //!
 //! - [`EventIds::next`] and [`given_numbers_are_distinct`]: events of one source differ.
 //! - [`Event::listen`]: which event a listener listens to.
-//! - [`Event::notify`]: no more listeners are told than were asked for.
-//! - [`Listener`]: when a listener is finished, that a finished one is refused, and that a wait which is refused memory
+//! - [`Event::notify`]: no more listeners are notified than were asked for.
+//! - [`Listener`]: when a listener is finished, that a finished one fails, and that a wait which fails for memory
 //!   returns the same listener.
 //! - [`RecordedEvent::close`]: a record is a history of its queue, and has the notes of each hand.
 //! - [`RecordedState::apply`]: one step of a queue, and one entry more.
 //!
-//! No clause says which listeners are in a queue or which are told, since other threads may change that at any time. A
-//! call that takes the lock, as every wait does, promises its clauses if it returns. No clause says that it returns, or
-//! that a thread which is notified wakes.
+//! No clause says which listeners are in a queue or which are notified, since other threads may change that at any
+//! time. A call that takes the lock, as every wait does, promises its clauses if it returns. No clause says that it
+//! returns, or that a thread which is notified wakes.
 #![tactic(auto)]
 
 mod event;

@@ -32,11 +32,12 @@ pub use wait_error::{WaitError, WaitReason};
 #[error("listener is not in the queue")]
 pub struct NeverInserted;
 
-/// What waits in the queue of an event until it is told.
+/// What waits in the queue of an event until it is notified.
 ///
-/// Dropping a listener removes it from the queue. If it was told, that passes its notification on: the event is notified
-/// of one, of the same kind and with the same tag. So a default notification is lost while another listener stays told,
-/// and an additional one only where nobody waits. The drop does not allocate, and may wait for the lock of the event.
+/// Dropping a listener removes it from the queue. If it was notified, that propagates its notification: the event is
+/// notified of one, of the same kind and with the same tag. So a default notification is lost while another listener
+/// stays notified, and an additional one only if none waits. The drop does not allocate, and may wait for the lock of
+/// the event.
 ///
 /// The trait is open. Generic callers know an implementation by its ghost members: `event_number`, the number of the
 /// event that it listens to, and `is_finished`, whether it has given its tag.
@@ -48,16 +49,16 @@ pub struct NeverInserted;
 ///
 /// 1. `wait_timeout` reads the clock, which fixes its deadline.
 /// 2. The wait allocates what the thread parks on, and takes a share of that.
-/// 3. If the listener was told, the wait takes the tag and returns it. Else it stores the share in the queue.
-/// 4. It reads the clock, if it has a deadline. If that has passed, it removes the listener and passes nothing on; a tag
-///    that came since the last step is returned.
+/// 3. If the listener was notified, the wait takes the tag and returns it. Else it stores the share in the queue.
+/// 4. It reads the clock, if it has a deadline. If that has passed, it removes the listener and propagates nothing; a
+///    tag that came since the last step is returned.
 /// 5. The thread parks until it is woken or the deadline comes. Then the wait takes a new share, and goes on at 3.
 ///
-/// So a listener that was told already gives its tag, however late it is. Steps 3 and 4 may wait for the lock of the
-/// event. The clock is that of the runtime value which the listener keeps, and no lock is held while it is read. No
+/// So a listener that was notified already gives its tag, however late it is. Steps 3 and 4 may wait for the lock of
+/// the event. The clock is that of the runtime value which the listener keeps, and no lock is held while it is read. No
 /// contract says that a thread is woken, or that a wait returns.
 ///
-/// Where step 2 or a new share is refused, the wait returns [`WaitError::Memory`] with the same listener. It is where it
+/// If step 2 or a new share fails, the wait returns [`WaitError::Memory`] with the same listener. It is where it
 /// was: no wait removes a listener, or takes its tag, before it returns that error. A task that the wait stored in the
 /// queue stays there. Else a wait on a finished listener returns [`WaitError::NeverInserted`].
 pub trait Listener<T>: Sized {
@@ -67,7 +68,8 @@ pub trait Listener<T>: Sized {
 
     ghost source: { Self → ℕ };
 
-    /// Takes the tag if the listener was told, which finishes it; else stores the waker, in place of any earlier one.
+    /// Takes the tag if the listener was notified, which finishes it; else stores the waker, in place of any earlier
+    /// one.
     ///
     /// A finished listener returns [`NeverInserted`] and stays finished. The call does not allocate. It may wait for
     /// the lock of the event.
@@ -85,10 +87,10 @@ pub trait Listener<T>: Sized {
         ensures same { IfOk result (λ polled. OnPending polled (self.new ≡ self.old)) }
         ensures err { OnErr result (is_finished self.new ≡ true) };
 
-    /// As [`poll`](Listener::poll), with the waker of the task that polls. Where the listener has stored one of that task
-    /// already, it stays, and nobody is woken.
+    /// As [`poll`](Listener::poll), with the waker of the task that polls. If the listener has stored one of that task
+    /// already, it stays, and no task is woken.
     ///
-    /// Where it stored another task's waker, that task is woken. Where no waker can be made, the task asks for another
+    /// If it stored another task's waker, that task is woken. If no waker can be made, the task asks for another
     /// poll.
     fn poll_in(&mut self, cx: &mut Context<'_>) -> Result<Poll<T>, NeverInserted>
         ensures finished { is_finished self.old ≡ true → IsErr result }
@@ -102,26 +104,27 @@ pub trait Listener<T>: Sized {
         ensures registered { IfOk result (λ polled. OnPending polled (Covers cx.new (λ s. s ≡ source self.new))) }
         ensures kept { Keeps cx.old cx.new };
 
-    /// Waits until the listener is told, and returns the tag.
+    /// Waits until the listener is notified, and returns the tag.
     ///
     /// See [Waiting](Listener#waiting) for what it allocates, what it waits for, and what its errors leave.
     fn wait(self) -> Result<T, WaitError<Self>>
         ensures finished { is_finished self ≡ true → IsErr result }
         ensures memory { IfErr result (HandsBack self) };
 
-    /// Waits until the listener is told or so much time has passed, and returns the tag or `None`. The listener is out
-    /// of the queue then. A tag that comes after that time and before the removal is returned too, and not passed on.
+    /// Waits until the listener is notified or the timeout has passed, and returns the tag or `None`. The listener is
+    /// out of the queue then. A tag that comes after that time and before the removal is returned too, and not
+    /// propagated.
     ///
-    /// Where the present moment and the timeout add up to one that can't be represented, it waits without a limit. A
+    /// If the present moment and the timeout add up to one that can't be represented, it waits without a limit. A
     /// clock that can't be read counts as one that shows the deadline. See [Waiting](Listener#waiting) for what it
     /// allocates, what it waits for, and what its errors leave.
     fn wait_timeout(self, timeout: Duration) -> Result<Option<T>, WaitError<Self>>
         ensures finished { is_finished self ≡ true → IsErr result }
         ensures memory { IfErr result (HandsBack self) };
 
-    /// Waits until the listener is told or that moment of its own clock has come, and returns the tag or `None`. The
-    /// listener is out of the queue then. A tag that comes after that moment and before the removal is returned too, and
-    /// not passed on.
+    /// Waits until the listener is notified or that moment of its own clock has come, and returns the tag or `None`.
+    /// The listener is out of the queue then. A tag that comes after that moment and before the removal is returned
+    /// too, and not propagated.
     ///
     /// A clock that can't be read counts as one that shows the deadline. See [Waiting](Listener#waiting) for what it
     /// allocates, what it waits for, and what its errors leave.
@@ -129,7 +132,7 @@ pub trait Listener<T>: Sized {
         ensures finished { is_finished self ≡ true → IsErr result }
         ensures memory { IfErr result (HandsBack self) };
 
-    /// Removes the listener from the queue without passing a notification on, and returns whether it was told. A
+    /// Removes the listener from the queue without propagating a notification, and returns whether it was notified. A
     /// finished one returns `false`.
     ///
     /// The call does not allocate. It may wait for the lock of the event.

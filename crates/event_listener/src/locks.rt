@@ -1,7 +1,7 @@
 //! Taking a lock that is mostly free.
 use std::sync::{Mutex, MutexGuard, Wait};
 
-/// Takes the lock, and waits for it where another thread has it.
+/// Takes the lock, and waits for it if another thread has it.
 #[inline(always)]
 pub(crate) fn take_lock<'a, T, R: Wait>(mutex: &'a Mutex<T>, rt: &R) -> MutexGuard<'a, T> {
     match mutex.try_lock() {

@@ -11,10 +11,10 @@ use std::alloc::AllocError;
 use std::sync::Wait;
 pub(crate) use waker_exchange::EventSource;
 
-/// What is woken when a listener is told: the waker that a poll was handed, or a thread that waits.
+/// What is woken when a listener is notified: the waker that a poll was given, or a thread that waits.
 ///
 /// A waker wakes its task also when it is dropped. So a waker that another one replaces wakes its task too, and so does
-/// one that a listener stored and that is dropped with it. A thread is woken only where its listener is told.
+/// one that a listener stored and that is dropped with it. A thread is woken only if its listener is notified.
 #[derive(Drop)]
 pub struct Task(TaskKind);
 
@@ -32,7 +32,8 @@ impl Task {
         Task(TaskKind::Polled(waker))
     }
 
-    /// The thread that parks on this parker, by a share of the parker's token. The error is a refusal of that share.
+    /// The thread that parks on this parker, by a share of the parker's token. It returns an error if no share can be
+    /// made.
     pub(crate) fn from_parker(parker: &Parker) -> Result<Task, AllocError> {
         Ok(Task(TaskKind::Parked(parker.unparker()?)))
     }

@@ -17,7 +17,7 @@ pub enum Call<T, W> {
     Remove {
         /// The listener.
         key: Key,
-        /// Whether the notification of a told listener is propagated.
+        /// Whether the notification of a notified listener is propagated.
         propagate: bool,
     },
     /// A call of [`List::notify`](crate::List::notify).
@@ -48,6 +48,6 @@ pub enum Reply<T, W> {
     Notified(Result<usize, NotifyError>),
     /// How many listeners there were.
     TotalListeners(usize),
-    /// Whether some listener was told.
+    /// Whether some listener was notified.
     IsNotified(bool),
 }

@@ -1,4 +1,4 @@
-//! The queue of an event as a value: listeners in order of listening, a front of them told, the others waiting.
+//! The queue of an event as a value: listeners in order of listening, a front of them notified, the others waiting.
 //!
 //! [`List`] is the queue, and a [`Notification`] what it is notified with. The other names are what their calls take
 //! and return, and laws of them.

@@ -1,4 +1,4 @@
-//! The queue: listeners in order of listening, a front of them told.
+//! The queue: listeners in order of listening, a front of them notified.
 ghost use Rattle.std.specs.Prelude.{◌≡◌, ◌≢◌, ◌+◌, ◌-◌, ◌<◌, ◌≤◌, ◌^◌, ◌↔◌, min, max, true, false, [], ◌∷◌, ◌++◌, length, take, IsTrue, IsFalse, IsOk, IsSome, OnOk, OnErr, IfOk, IfErr, IfSome, OnSome};
 ghost use Rattle.std.specs.List.{FoldsTo};
 ghost use Rattle.std.specs.Map.{keys_of, lookup};
@@ -25,7 +25,7 @@ use std::sync::ledger::{Blank, Ledger};
 
 /// A queue of listeners.
 ///
-/// A front of the queue is told, each listener of it with a tag; the others wait, each with a task if it stored one.
+/// A front of the queue is notified, each listener with a tag; the others wait, each with a task if it stored one.
 /// No call takes a lock, waits or panics.
 ///
 /// Five calls count in [`Steps`] how many nodes of other listeners they visit, and how often they look up a key. Each
@@ -86,11 +86,11 @@ impl<T, W> List<T, W> {
         }
     }
 
-    /// Makes room for `n` more listeners, so that as many insertions allocate nothing. It works also where the serials
+    /// Makes room for `n` more listeners, so that as many insertions allocate nothing. It works also if the serials
     /// are used up.
     ///
-    /// It allocates only where fewer than `n` slots are spare. A refusal leaves the listeners and the next serial as
-    /// they were, and no fewer slots spare; a number that no memory has room for is refused too.
+    /// It allocates only if fewer than `n` slots are spare. An error leaves the listeners and the next serial as
+    /// they were, and no fewer slots spare; a number that no memory has room for fails too.
     pub fn reserve(&mut self, n: usize) -> Result<(), AllocError>
         ensures room { OnOk result (n ≤ self.new.spare) }
         ensures listeners { self.new ≡ record self.old { spare = self.new.spare } }
@@ -103,8 +103,8 @@ impl<T, W> List<T, W> {
 
     /// Inserts a listener, which waits at the end of the queue with no task stored, and returns its key.
     ///
-    /// It allocates only where [`spare`](List::spare) is 0, and returns [`ListenError::Memory`] where that is refused.
-    /// Where the serials are used up it returns [`ListenError::SerialsUsedUp`] and allocates nothing. Both leave the
+    /// It allocates only if [`spare`](List::spare) is 0, and returns [`ListenError::Memory`] if that fails.
+    /// If the serials are used up it returns [`ListenError::SerialsUsedUp`] and allocates nothing. Both leave the
     /// queue as it was. It adds its visits to `steps`, three at most, and looks up no key.
     #[inline(always)]
     pub fn insert<L: Ledger>(&mut self, steps: &mut Steps<L>) -> Result<Key, ListenError>
@@ -134,7 +134,7 @@ impl<T, W> List<T, W> {
         }
     }
 
-    /// Registers the task of a listener: one that was told takes its tag and leaves the queue, one that waits stores
+    /// Registers the task of a listener: a notified one takes its tag and leaves the queue, one that waits stores
     /// the task, in place of any that it stored before.
     ///
     /// The call drops a task that it doesn't store, and one that it replaces. It allocates nothing. It adds its visits
@@ -189,11 +189,11 @@ impl<T, W> List<T, W> {
         }
     }
 
-    /// Registers a listener with a task that is made of the one that it stored: one that was told takes its tag and
+    /// Registers a listener with a task that is made of the one that it stored: one that was notified takes its tag and
     /// leaves the queue; of one that waits, the stored task, if it has one, is exchanged, and what comes back is stored.
     ///
-    /// Nothing is exchanged where the listener was told, or where no listener has that key. The call drops no task, and
-    /// allocates and waits only where the exchange does. It adds its visits to `steps`, three at most, and its looks by
+    /// Nothing is exchanged if the listener was notified, or if no listener has that key. The call drops no task, and
+    /// allocates and waits only if the exchange does. It adds its visits to `steps`, three at most, and its looks by
     /// key, three at most.
     pub fn register_with<C, X: TaskExchange<W, C>, L: Ledger>(
         &mut self,
@@ -265,12 +265,12 @@ impl<T, W> List<T, W> {
         }
     }
 
-    /// Removes a listener from the queue, and returns what it was, or `None` where no listener has that key.
+    /// Removes a listener from the queue, and returns what it was, or `None` if no listener has that key.
     ///
-    /// With `propagate`, the notification of a told listener is propagated: the queue is notified of one, of the same
-    /// kind and with the same tag. The answer says where it went: [`State::Passed`] names the listener that was told by
-    /// it, and [`State::Lost`] hands the tag back where nobody was. So a default notification is lost while another
-    /// listener stays told, and an additional one only where nobody waits. The call allocates nothing, and neither
+    /// With `propagate`, a notified listener's notification is propagated: the queue is notified of one, of the same
+    /// kind and with the same tag. The answer says where it went: [`State::Passed`] names the listener notified by
+    /// it, and [`State::Lost`] returns the tag if none was. So a default notification is lost while another
+    /// listener stays notified, and an additional one only if none waits. The call allocates nothing, and neither
     /// clones nor drops a tag. It adds its visits to `steps`, three at most, and its looks by key, two at most.
     #[inline(always)]
     pub fn remove<S: WakeSink<W>, L: Ledger>(
@@ -390,14 +390,14 @@ impl<T, W> List<T, W> {
         self.tell_next(notice, sink, steps)
     }
 
-    /// Tells the first of the waiting listeners, as many as the notification is for, in order, each with the next tag
-    /// of the notification, and wakes the task of each that stored one. Returns how many it told.
+    /// Notifies the first waiting listeners, as many as the notification is for, in order, each with the next tag
+    /// of the notification, and wakes the task of each that stored one. Returns how many it notified.
     ///
-    /// A default notification counts the listeners that are told already; an additional one does not. The
-    /// notification is asked for a tag once for each listener told. Where it refuses one, the call returns a
-    /// [`NotifyError`]: the listeners told until then stay told, and nobody is skipped. A notification that finds no
-    /// listener to tell is not kept. The call allocates nothing, but the notification may where it makes a tag. It adds
-    /// one visit to `steps` for each listener told, and no other, and looks up no key.
+    /// A default notification counts the listeners that are notified already; an additional one does not. The
+    /// notification is asked for a tag once for each listener notified. If it refuses one, the call returns a
+    /// [`NotifyError`]: those notified until then stay notified, and none is skipped. A notification that finds no
+    /// listener to notify is not kept. The call allocates nothing, but the notification may if it makes a tag. It adds
+    /// one visit to `steps` for each listener notified, and no other, and looks up no key.
     #[inline(always)]
     pub fn notify<N: Notification<Tag = T>, S: WakeSink<W>, L: Ledger>(
         &mut self,
@@ -502,7 +502,7 @@ impl<T, W> List<T, W> {
         self.chain.spare()
     }
 
-    /// How many listeners there are, told or waiting. The call allocates nothing.
+    /// How many listeners there are, notified or waiting. The call allocates nothing.
     pub fn total_listeners(&self) -> usize
         ensures value { result ≡ length self.now.told + length self.now.waiting }
         ensures queue { IsQueue self.now }
@@ -510,7 +510,7 @@ impl<T, W> List<T, W> {
         self.chain.len()
     }
 
-    /// Whether some listener is told. The call allocates nothing.
+    /// Whether some listener is notified. The call allocates nothing.
     pub fn is_notified(&self) -> bool
         ensures value { IsTrue result ↔ (0 < length self.now.told) }
         ensures queue { IsQueue self.now }
@@ -518,7 +518,7 @@ impl<T, W> List<T, W> {
         self.chain.before_len() > 0
     }
 
-    /// How many listeners are told. The call allocates nothing.
+    /// How many listeners are notified. The call allocates nothing.
     pub fn listeners_notified(&self) -> usize
         ensures value { result ≡ length self.now.told }
         ensures queue { IsQueue self.now }
@@ -526,7 +526,7 @@ impl<T, W> List<T, W> {
         self.chain.before_len()
     }
 
-    /// Whether the listener of that key is told. The call allocates nothing.
+    /// Whether the listener of that key is notified. The call allocates nothing.
     pub fn is_told(&self, key: Key) -> bool
         ensures value { IsTrue result ↔ IsSome (lookup (is_key key) self.now.told) }
         ensures queue { IsQueue self.now }

@@ -87,7 +87,7 @@ impl<A, B> Chain<A, B> {
         self.table.spare()
     }
 
-    /// Makes room for `n` more entries, which allocates where fewer are spare. After a refusal no room is lost.
+    /// Makes room for `n` more entries, which allocates if fewer are spare. If that fails no room is lost.
     pub fn reserve(&mut self, n: usize) -> Result<(), AllocError>
         ensures room { OnOk result (n ≤ self.new.spare) }
         ensures entries { self.new ≡ record self.old { spare = self.new.spare } }
@@ -150,7 +150,7 @@ impl<A, B> Chain<A, B> {
         entries.is_before(&own)
     }
 
-    /// Appends an entry. It allocates only where no slot is spare; where that is refused, the value comes back.
+    /// Appends an entry. It allocates only if no slot is spare; if that fails, the value is returned.
     #[inline(always)]
     pub fn push_back<L: Ledger>(
         &mut self,

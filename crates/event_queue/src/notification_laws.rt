@@ -1,6 +1,6 @@
 //! Laws of notifications: what the combinators and the clones of this crate leave as it was.
 //!
-//! Each is the contract of a function without a `requires`. A notification means a count, a kind, where it may be asked
+//! Each is the contract of a function without a `requires`. A notification means a count, a kind, when it may be asked
 //! for a tag, and what its next tag is.
 ghost use Rattle.std.specs.Prelude.{◌≡◌, ◌↔◌};
 
@@ -34,25 +34,25 @@ pub fn notification_is_its_own_conversion<N: Notification>(n: &N)
     ensures meaning { ⟦<N as IntoNotification>⟧.meaning n.now ≡ n.now }
 {}
 
-/// A clone of a [`Notify`] is never refused, and means the same.
+/// A clone of a [`Notify`] never fails, and means the same.
 pub fn notify_clone_means_the_same(n: &Notify)
     ensures never_refused { ⟦<Notify as Clone>⟧.is_infallible n.now }
     ensures same { (copy : _) → ⟦<Notify as Clone>⟧.is_clone n.now copy → copy ≡ n.now }
 {}
 
-/// A clone of an [`Additional`] over [`Notify`] is never refused, and means the same.
+/// A clone of an [`Additional`] over [`Notify`] never fails, and means the same.
 pub fn additional_clone_means_the_same(n: &Additional<Notify>)
     ensures never_refused { ⟦<Additional<Notify> as Clone>⟧.is_infallible n.now }
     ensures same { (copy : _) → ⟦<Additional<Notify> as Clone>⟧.is_clone n.now copy → copy ≡ n.now }
 {}
 
-/// A clone of a [`Relaxed`] over [`Notify`] is never refused, and means the same.
+/// A clone of a [`Relaxed`] over [`Notify`] never fails, and means the same.
 pub fn relaxed_clone_means_the_same(n: &Relaxed<Notify>)
     ensures never_refused { ⟦<Relaxed<Notify> as Clone>⟧.is_infallible n.now }
     ensures same { (copy : _) → ⟦<Relaxed<Notify> as Clone>⟧.is_clone n.now copy → copy ≡ n.now }
 {}
 
-/// A clone of a [`Tag`] has a clone of its tag and a clone of the notification in it, and is refused only where one of
+/// A clone of a [`Tag`] has a clone of its tag and a clone of the notification in it, and fails only if one of
 /// those two may be.
 pub fn tag_clone_has_both_clones<N: Notification + Clone, T: Clone>(n: &Tag<N, T>)
     ensures tag { (copy : _) → ⟦<Tag<N, T> as Clone>⟧.is_clone n.now copy

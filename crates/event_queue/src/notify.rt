@@ -19,9 +19,9 @@ pub use tag_with::TagWith;
 /// A notification: how many listeners it is for, of which kind it is, and which tags come with it.
 ///
 /// The trait is open. Generic callers know an implementation by its ghost members: `count`, `is_additional`,
-/// `can_tag` (where a tag may be asked for) and `tag_gives` (the state before, the answer, the state after).
+/// `can_tag` (when a tag may be asked for) and `tag_gives` (the state before, the answer, the state after).
 pub trait Notification {
-    /// What each told listener is handed.
+    /// What each notified listener gets.
     type Tag;
 
     ghost count: { Self → ℕ };
@@ -36,15 +36,15 @@ pub trait Notification {
     fn count(&self) -> usize
         ensures { result ≡ count self.now };
 
-    /// Whether it is an additional notification: its count is of listeners told anew, whoever was told before.
+    /// Whether it is an additional notification: its count is of listeners notified anew, however many were before.
     fn is_additional(&self) -> bool
         ensures { result ≡ is_additional self.now };
 
-    /// The tag of the next listener to be told, or a refusal. It may allocate, where making a tag does. The
+    /// The tag of the next listener to be notified, or an error. It may allocate, if making a tag does. The
     /// notification may be asked for another tag after each answer.
     ///
-    /// [`Notify`] and [`Tag`] may always be asked, [`TagWith`] where its function may always be called, and
-    /// [`Additional`] and [`Relaxed`] where the notification in them may be.
+    /// [`Notify`] and [`Tag`] may always be asked, [`TagWith`] if its function may always be called, and
+    /// [`Additional`] and [`Relaxed`] if the notification in them may be.
     fn next_tag(&mut self) -> Result<Self::Tag, AllocError>
         requires { can_tag self.old }
         ensures gives { tag_gives self.old result self.new }
@@ -53,11 +53,11 @@ pub trait Notification {
 
 /// A value that converts to a notification if it fits.
 ///
-/// Implemented for every notification, which always fits and is its own conversion, and for every integer type, where
-/// a value fits that lies in 0 to `usize::MAX`. Each conversion asks for [`fits`](IntoNotification::fits) as a
+/// Implemented for every notification, which always fits and is its own conversion, and for every integer type, of
+/// which a value fits that lies in 0 to `usize::MAX`. Each conversion asks for [`fits`](IntoNotification::fits) as a
 /// condition. None allocates.
 pub trait IntoNotification: Sized {
-    /// What each told listener is handed.
+    /// What each notified listener gets.
     type Tag;
 
     /// The notification that it converts to.
@@ -76,7 +76,8 @@ pub trait IntoNotification: Sized {
         requires { fits self }
         ensures { result ≡ meaning self };
 
-    /// The notification as an additional one: it tells as many listeners as its count anew, whoever was told before.
+    /// The notification as an additional one: it notifies as many listeners as its count anew, however many were
+    /// before.
     fn additional(self) -> Additional<Self::Notify>
         requires { fits self }
         ensures { result ≡ meaning self }
@@ -115,7 +116,7 @@ impl<N: Notification> IntoNotification for N {
 ///
 /// Every [`IntoNotification`] whose tag is `()` has it. So a notification that has tags takes no others.
 pub trait IntoTagged: IntoNotification<Tag = ()> {
-    /// The notification with a tag, of which each told listener is handed a clone. A refused clone is a refused tag.
+    /// The notification with a tag, of which each notified listener gets a clone. A clone that fails is a refused tag.
     /// The call allocates nothing; the clones may.
     fn tag<T: Clone>(self, tag: T) -> Tag<Self::Notify, T>
         requires { Self.fits self }
@@ -124,9 +125,9 @@ pub trait IntoTagged: IntoNotification<Tag = ()> {
         Tag::new(tag, self.into_notification())
     }
 
-    /// The notification with a function that makes the tags: it is called once for each told listener, in order, and
-    /// no tag is refused. The function must be one that may always be called. The call allocates nothing; the function
-    /// may.
+    /// The notification with a function that makes the tags: it is called once for each notified listener, in order,
+    /// and no tag is refused. The function must be one that may always be called. The call allocates nothing; the
+    /// function may.
     fn tag_with<T, F: FnMut() -> T>(self, tag: F) -> TagWith<Self::Notify, F>
         requires fits { Self.fits self }
         requires callable { F.IsAlwaysCallable tag }

@@ -6,7 +6,7 @@ use thiserror::Error;
 pub enum State<T, W> {
     /// Waiting, and no task was stored.
     Created,
-    /// Told, and its notification is the answer.
+    /// Notified, and its notification is the answer.
     Notified {
         /// Whether the notification was an additional one.
         additional: bool,
@@ -15,12 +15,12 @@ pub enum State<T, W> {
     },
     /// Waiting, with the task that was stored last.
     Task(W),
-    /// Told, and its notification was propagated: another listener was told by it.
+    /// Notified, and its notification was propagated: another listener was notified by it.
     Passed {
-        /// The listener that was told.
+        /// The listener that was notified.
         to: Key,
     },
-    /// Told, and its notification was lost: nobody was told by it, so it comes back.
+    /// Notified, and its notification was lost: no listener was notified by it, so it is returned.
     Lost {
         /// Whether the notification was an additional one.
         additional: bool,
@@ -32,7 +32,7 @@ pub enum State<T, W> {
 /// What [`List::register`](crate::List::register) found.
 #[derive(Clone, Copy, Debug, PartialEq, Eq, Drop)]
 pub enum RegisterResult<T> {
-    /// The listener was told: it has left the queue, and this is its tag.
+    /// The listener was notified: it has left the queue, and this is its tag.
     Notified(T),
     /// The listener waits, and the task is stored.
     Registered,
@@ -43,7 +43,7 @@ pub enum RegisterResult<T> {
 /// Why a listener was not inserted.
 #[derive(Clone, Copy, Debug, PartialEq, Eq, Error)]
 pub enum ListenError {
-    /// Memory for the listener was refused. The queue is unchanged.
+    /// There was no memory for the listener. The queue is unchanged.
     #[error("no memory for a listener")]
     Memory,
     /// The queue has given out all serial numbers. The queue is unchanged.
@@ -51,10 +51,10 @@ pub enum ListenError {
     SerialsUsedUp,
 }
 
-/// A notification refused a tag before all its listeners were told.
+/// A notification refused a tag before all its listeners were notified.
 #[derive(Clone, Copy, Debug, PartialEq, Eq, Error)]
 #[error("a tag was refused after {told} listeners")]
 pub struct NotifyError {
-    /// How many listeners were told in full. No other listener is changed.
+    /// How many listeners were notified in full. No other listener is changed.
     pub told: usize,
 }

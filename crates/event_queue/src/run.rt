@@ -12,12 +12,12 @@ use crate::wake::WakeSink;
 use std::alloc::AllocError;
 
 impl<T: Drop, W: Drop> List<T, W> {
-    /// Makes the calls one after another, and appends the reply of each. Where a call is refused, the refusal is its
+    /// Makes the calls one after another, and appends the reply of each. If a call fails, the error is its
     /// reply, and the run goes on.
     ///
-    /// It makes room for all replies first, which allocates where `replies` has too little. Where that is refused, it
+    /// It makes room for all replies first, which allocates if `replies` has too little. If that fails, it
     /// makes no call, drops the calls, and leaves the queue, the replies and the sink as they were. From then on it
-    /// allocates where an insertion does. A notification of the run has its tags in a list, and the tag after the last
+    /// allocates if an insertion does. A notification of the run has its tags in a list, and the tag after the last
     /// is refused.
     pub fn run<S: WakeSink<W>>(
         &mut self,

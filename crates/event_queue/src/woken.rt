@@ -27,7 +27,7 @@ impl<W> Model for Woken<W> {
 }
 
 impl<W> Woken<W> {
-    /// A sink that keeps the first `n` tasks. It allocates room for them, and returns an error where that is refused.
+    /// A sink that keeps the first `n` tasks. It allocates room for them, and returns an error if that fails.
     pub fn with_room(alloc: Global, n: usize) -> Result<Self, AllocError>
         ensures { IfOk result (λ woken. woken ≡ record { tasks = []; room = n; missed = 0 }) }
     {

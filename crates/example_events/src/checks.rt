@@ -8,7 +8,7 @@ use std::sync::Wait;
 use std::time::{Clock, Duration};
 use std::{io, thread};
 
-/// The answer is the expected one. Where it is not, the message has both, and what was asked.
+/// The answer is the expected one. If it is not, the message has both, and what was asked.
 pub fn check<A, R>(rt: &R, asked: &str, answer: A, expected: A)
 where
     A: PartialEq + Debug + Drop,
@@ -36,13 +36,13 @@ where
     event.listen(rt, rt.alloc()).expect(rt, "a listener")
 }
 
-/// Tells one listener more, with the tag 7.
+/// Notifies one listener more, with the tag 7.
 pub fn tell<R: Abort + Wait>(rt: &R, event: &Event<u32>) {
     let told = event.notify(rt, 1.additional().tag(7u32));
     check(rt, "listeners told", told, Ok(1));
 }
 
-/// Tells a listener with the tag 7 as soon as there is one.
+/// Notifies a listener with the tag 7 as soon as there is one.
 pub fn tell_the_first<R: Abort + Wait>(rt: &R, event: &Event<u32>) {
     for _ in rt.forever() {
         if event.total_listeners(rt) > 0 {

@@ -58,7 +58,7 @@ pub struct Seat<'a, R: Wait> {
 impl<R: Wait> Drop for Seat<'_, R> {
     fn drop(self) {
         let Seat { desk, rt } = self;
-        // Whoever the notification tells is to find the desk free.
+        // A notified listener is to find the desk free.
         desk.is_taken.store(false, Ordering::SeqCst);
         desk.left.notify_relaxed(rt, 1);
     }
@@ -66,7 +66,7 @@ impl<R: Wait> Drop for Seat<'_, R> {
 
 /// The seat at a desk, as a future. Once it has given the seat, or an error, it may be polled for another.
 ///
-/// Dropping it gives up. Its listener is dropped with it, and passes its notification on if it was told.
+/// Dropping it gives up. Its listener is dropped with it, and propagates its notification if it has one.
 #[derive(Drop)]
 pub struct Sitting<'a, R: Wait + Clock + Clone> {
     desk: &'a Desk,
@@ -86,7 +86,7 @@ impl<'a, R: Wait + Clock + Clone> Future for Sitting<'a, R> {
                 return Poll::Ready(Ok(seat));
             }
             match self.listener.take() {
-                // A seat that was left before the listener was in the queue did not tell it, so try again.
+                // A seat that was left before the listener was in the queue did not reach it, so try again.
                 None => match self.desk.left.listen(rt, self.alloc) {
                     Ok(listener) => self.listener = Some(listener),
                     Err(refused) => return Poll::Ready(Err(SitError::Listen(refused))),

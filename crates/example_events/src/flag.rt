@@ -51,11 +51,11 @@ impl Flag {
                 return Ok(());
             }
             let listener = self.set.listen(rt, alloc)?;
-            // A notification that came before the listener was in the queue does not tell it, so look again.
+            // A notification that came before the listener was in the queue does not reach it, so look again.
             if self.is_set() {
                 return Ok(());
             }
-            // A listener that comes back is dropped here, which passes its notification on.
+            // A listener that comes back is dropped here, which propagates its notification.
             if let Err(WaitError::Memory(_)) = listener.wait() {
                 return Err(FlagError::Memory);
             }

@@ -13,10 +13,10 @@ use thiserror::Error;
 /// Why the wait ended before the flag was set.
 #[derive(Clone, Copy, Debug, PartialEq, Eq, Error)]
 pub enum MeetingError {
-    /// The wait was refused.
+    /// The wait failed.
     #[error("{0}")]
     Flag(#[from] FlagError),
-    /// Memory for the flag or for a share of it was refused, or the thread did not start.
+    /// There was no memory for the flag or for a share of it, or the thread did not start.
     #[error("no memory for the program")]
     Memory(#[from] AllocError),
 }

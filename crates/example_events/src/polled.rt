@@ -1,4 +1,4 @@
-//! Listeners in tasks: one that is awaited, and a future of one's own over two events.
+//! Listeners in tasks: one that is awaited, and a future over two events.
 ghost use Rattle.std.specs.Prelude.{◌≡◌, ◌⊎◌};
 
 #[cfg(test)]
@@ -35,7 +35,7 @@ pub enum AwaitError {
     NeverInserted(#[from] NeverInserted),
 }
 
-/// What a worker is told next.
+/// What a worker is to do next.
 #[derive(Clone, Copy, Debug, PartialEq, Eq)]
 pub enum Order {
     Work(u32),
@@ -44,8 +44,8 @@ pub enum Order {
 
 /// The next order, as a future: a stop, or else the work that came.
 ///
-/// Once it gives its order it is done. The listener that is left is dropped with it, and passes its notification on if it
-/// was told too.
+/// Once it gives its order it is done. The listener that is left is dropped with it, and propagates its notification
+/// if it has one.
 #[derive(Drop)]
 pub struct NextOrder<R: Wait + Clock + Clone> {
     stop: EventListener<(), R>,

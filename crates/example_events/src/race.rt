@@ -25,7 +25,7 @@ pub enum RaceError {
     Close(#[from] CloseError),
 }
 
-/// Starts a thread for each of so many hands. The first sets a flag, and all others wait for it. Returns the record of
+/// Starts a thread for each of that many hands. The first sets a flag, and all others wait for it. Returns the record of
 /// the flag's event.
 pub fn race<R>(rt: &R, alloc: Global, id: EventId, hands: usize) -> Result<Record<()>, RaceError>
 where
@@ -33,12 +33,12 @@ where
     ensures { IfOk result (λ entries. IsTrue (are_hands_below hands entries)) }
 {
     let (flag, hands) = RecordedFlag::new(alloc, id, hands)?;
-    // Where no thread can be made, the first hand is the first that runs, so nobody waits for it in vain.
+    // If no thread can be made, the first hand is the first that runs, so none waits for it in vain.
     let hands = thread::map_vec(rt, hands, &|hand| take_part(rt, &flag, hand))?;
     Ok(flag.close(hands)?)
 }
 
-// What the thread of a hand does. It gives the hand back. One that is refused memory does not wait.
+// What the thread of a hand does. It gives the hand back. One that fails for memory does not wait.
 fn take_part<R>(rt: &R, flag: &RecordedFlag, hand: Hand<()>) -> Hand<()>
 where
     R: Wait + Clock + Clone,
@@ -47,7 +47,7 @@ where
 {
     let mut hand = hand;
     if hand.number() == 0 {
-        // Nobody is told where memory is refused, so try until it is not.
+        // No listener is notified if memory runs out, so try until it does not.
         for _ in rt.forever() {
             if flag.set(rt, &mut hand).is_ok() {
                 break;

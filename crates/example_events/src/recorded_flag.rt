@@ -21,7 +21,7 @@ pub struct RecordedFlag {
 }
 
 impl RecordedFlag {
-    /// A flag that is not set, and so many hands.
+    /// A flag that is not set, and that many hands.
     pub fn new(
         alloc: Global,
         id: EventId,
@@ -46,7 +46,7 @@ impl RecordedFlag {
 
     /// Sets the flag, and then notifies every listener.
     ///
-    /// Where that is refused memory the flag is set, but nobody is told: call it again.
+    /// If that fails for memory the flag is set, but no listener is notified: call it again.
     pub fn set<R: Wait>(&self, rt: &R, hand: &mut Hand<()>) -> Result<(), RecordError>
         requires { Owns self.now hand.old }
         ensures { Owns self.now hand.new }
@@ -68,8 +68,8 @@ impl RecordedFlag {
                 return Ok(());
             }
             let listener = self.set.listen(rt, hand)?;
-            // A notification that came before the listener was in the queue does not tell it, so look again. The drop of
-            // a listener is recorded as nobody's call.
+            // A notification that came before the listener was in the queue does not reach it, so look again. The drop of
+            // a listener is recorded without a hand.
             if self.is_set() {
                 return Ok(());
             }

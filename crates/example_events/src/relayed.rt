@@ -1,4 +1,4 @@
-//! Errors of waits that are passed on.
+//! Errors of waits that are propagated.
 
 #[cfg(test)]
 mod tests;
@@ -11,7 +11,7 @@ use thiserror::Error;
 
 /// Listens, and waits for the tag.
 ///
-/// A wait that is refused memory hands its listener back. It is dropped here, which passes its notification on.
+/// A wait that fails for memory returns its listener. It is dropped here, which propagates its notification.
 pub fn wait_for_tag<R>(rt: &R, alloc: Global, event: &Event<u32>) -> Result<u32, TagError>
 where
     R: Wait + Clock + Clone,
@@ -29,7 +29,7 @@ pub enum TagError {
     Wait(#[from] WaitReason),
 }
 
-// What a `?` makes of a refused wait, whatever its listener.
+// What a `?` makes of a failed wait, whatever its listener.
 impl<L: Drop> From<WaitError<L>> for TagError {
     fn from(error: WaitError<L>) -> TagError {
         TagError::Wait(error.reason())

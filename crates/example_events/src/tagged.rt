@@ -27,16 +27,16 @@ impl<L: Drop> From<WaitError<L>> for TagsError {
     }
 }
 
-/// Tells the first listener that waits, with this tag, unless one is told already. Returns how many it told.
+/// Notifies the first listener that waits, with this tag, unless one is notified. Returns how many it notified.
 ///
-/// A clone of a number is never refused, so no tag is.
+/// A clone of a number never fails, so no tag is refused.
 pub fn tell_one<R: Wait>(rt: &R, event: &Event<u32>, tag: u32) -> usize
     ensures { result ≤ 1 }
 {
     event.notify(rt, 1.tag(tag)).unwrap()
 }
 
-/// Tells the first listener that waits, with this tag, even if others are told already. Returns how many it told.
+/// Notifies the first listener that waits, with this tag, even if others are. Returns how many it notified.
 pub fn tell_one_more<R: Wait>(rt: &R, event: &Event<u32>, tag: u32) -> usize
     ensures { result ≤ 1 }
 {
@@ -52,7 +52,7 @@ where
     let first = event.listen(rt, alloc)?;
     let second = event.listen(rt, alloc)?;
     tell_one(rt, &event, 7);
-    // One is told already, so nobody gets this tag.
+    // One is notified already, so none gets this tag.
     tell_one(rt, &event, 8);
     tell_one_more(rt, &event, 9);
     Ok((first.wait()?, second.wait()?))

@@ -5,10 +5,10 @@ ghost use Rattle.event_listener.specs.Waiting.{HandsBack};
 use event_listener::{Listener, WaitError};
 use std::time::{Clock, Duration, Instant};
 
-/// The tag, if the listener is told before the deadline, and else `None`.
+/// The tag, if the listener is notified before the deadline, and else `None`.
 ///
-/// A wait that is refused memory is tried once more, with the listener that it returns and against the same deadline.
-/// If the second wait is refused too, the caller gets the listener.
+/// A wait that fails for memory is retried once, with the listener that it returns and against the same deadline.
+/// If the second wait fails too, the caller gets the listener.
 pub fn tag_by<T, L: Listener<T>>(listener: L, deadline: Instant) -> Result<Option<T>, WaitError<L>>
     ensures finished { L.is_finished listener ≡ true → IsErr result }
     ensures memory { IfErr result (HandsBack listener) }
@@ -19,10 +19,10 @@ pub fn tag_by<T, L: Listener<T>>(listener: L, deadline: Instant) -> Result<Optio
     }
 }
 
-/// The tag, if the listener is told within the limit, and else `None`.
+/// The tag, if the listener is notified within the limit, and else `None`.
 ///
 /// The limit becomes a deadline once, so a second wait adds nothing to it: see [`tag_by`]. A limit that ends too late
-/// to be represented is none. Where the clock can't be read the time counts as up: the listener gives the tag that it
+/// to be represented is none. If the clock can't be read the time counts as up: the listener gives the tag that it
 /// has. In these two cases the wait is not tried again.
 pub fn tag_within<R: Clock, T, L: Listener<T>>(
     rt: &R,

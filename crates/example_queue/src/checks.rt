@@ -2,7 +2,7 @@
 use std::fmt::Debug;
 use std::process::Abort;
 
-/// The answer is the expected one. Where it is not, the message has both, and what was asked.
+/// The answer is the expected one. If it is not, the message has both, and what was asked.
 pub fn check<A, R>(rt: &R, asked: &str, answer: A, expected: A)
 where
     A: PartialEq + Debug + Drop,

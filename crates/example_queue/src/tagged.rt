@@ -7,9 +7,9 @@ mod tests;
 
 use event_queue::{IntoNotification, IntoTagged, List, NotifyError, Woken};
 
-/// Calls the first who waits to this desk. Returns how many it told: 1, or 0 where nobody waits.
+/// Calls the first who waits to this desk. Returns how many it called: 1, or 0 if none waits.
 ///
-/// A clone of a number is never refused, so no tag is.
+/// A clone of a number never fails, so no tag is refused.
 pub fn call_to_desk(line: &mut List<u32, u64>, desk: u32, called: &mut Woken<u64>) -> usize
     ensures { result ≡ min 1 (length line.old.waiting) }
 {
@@ -17,9 +17,9 @@ pub fn call_to_desk(line: &mut List<u32, u64>, desk: u32, called: &mut Woken<u64
         .unwrap()
 }
 
-/// Calls the first `n` who wait, and hands each a copy of the text. Returns how many it told.
+/// Calls the first `n` who wait, and gives each a copy of the text. Returns how many it called.
 ///
-/// Where memory for a copy is refused, those told before keep theirs, and the error says how many they are.
+/// If there is no memory for a copy, those called before keep theirs, and the error says how many they are.
 pub fn announce(
     line: &mut List<String, u64>,
     n: usize,

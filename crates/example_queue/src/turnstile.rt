@@ -1,4 +1,4 @@
-//! A line of visitors that are admitted in order, so many at a time.
+//! A line of visitors that are admitted in order, n at a time.
 ghost use Rattle.std.specs.Prelude.{◌≡◌, ◌+◌, ◌≤◌, ◌↔◌, min, true, ◌∷◌, ◌++◌, [], Some, length, slice_get, IsTrue, IsFalse, IsSome, IfOk, OnOk, OnErr};
 ghost use Rattle.std.specs.Map.{lookup};
 ghost use Rattle.event_queue.specs.Key.{is_key, without};
@@ -14,7 +14,7 @@ use std::marker::Model;
 
 /// A line of visitors. Each has a ticket, which is its key, and a number of the caller's own, which is its task.
 ///
-/// The told are the visitors that are admitted and have not entered; the others wait. A contract sees the queue.
+/// The notified are the visitors that are admitted and have not entered; the others wait. A contract sees the queue.
 #[derive(Drop)]
 pub struct Turnstile {
     line: List<(), u64>,
@@ -53,7 +53,7 @@ impl Turnstile {
 
     /// Admits the first `n` who wait, or all if they are fewer, and gives their numbers in order.
     ///
-    /// Room for the numbers is made first, so a refusal admits nobody.
+    /// Room for the numbers is made first, so an error admits none.
     pub fn admit(&mut self, alloc: Global, n: usize) -> Result<Woken<u64>, AllocError>
         ensures numbers { IfOk result (λ admitted. admitted.tasks ≡ tasks_of n self.old) }
         ensures told { OnOk result (length self.new.told ≡ length self.old.told + min n (length self.old.waiting)) }

@@ -2,7 +2,7 @@
 use super::Event;
 use std::fmt;
 
-/// How many listeners are told and how many there are, or why that is not known: nobody has listened yet, or the lock
+/// How many listeners are notified and how many there are, or why that is not known: there is no queue yet, or the lock
 /// can't be taken at once. It neither allocates nor waits, and holds no lock while it writes.
 impl<T> fmt::Debug for Event<T> {
     fn fmt<W: fmt::Write>(&self, f: &mut fmt::Formatter<W>) -> fmt::Result {

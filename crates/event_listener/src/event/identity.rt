@@ -56,7 +56,7 @@ impl EventIds {
 
     /// The next identity; the one after it has the next number.
     ///
-    /// Returns [`IdsUsedUp`] exactly where the next number is `u64::MAX`, which leaves the source as it was. The call
+    /// Returns [`IdsUsedUp`] exactly if the next number is `u64::MAX`, which leaves the source as it was. The call
     /// neither allocates nor waits.
     pub fn next(&mut self) -> Result<EventId, IdsUsedUp>
         ensures given { IfOk result (λ id. GivesNumber self.old id self.new) }

@@ -22,7 +22,7 @@ fn output_of<T>(polled: Result<Poll<T>, NeverInserted>) -> Poll<Result<T, NeverI
     }
 }
 
-/// Gives the tag once the listener is told. A listener that has given its tag gives [`NeverInserted`].
+/// Gives the tag once the listener is notified. A listener that has given its tag gives [`NeverInserted`].
 impl<T: Drop, R: Wait + Clock + Clone> Future for EventListener<T, R> {
     type Output = Result<T, NeverInserted>;
 
@@ -35,7 +35,7 @@ impl<T: Drop, R: Wait + Clock + Clone> Future for EventListener<T, R> {
     }
 }
 
-/// Gives the tag once the listener is told. A listener that has given its tag gives [`NeverInserted`].
+/// Gives the tag once the listener is notified. A listener that has given its tag gives [`NeverInserted`].
 impl<T: Drop, R: Wait + Clock + Clone> Future for StackListener<'_, T, R> {
     type Output = Result<T, NeverInserted>;
 

@@ -76,8 +76,8 @@ impl<R: Wait + Clock + Clone> InnerListener<R> {
         poll_of(found, NeverInserted)
     }
 
-    /// Takes the listener out of the queue, if it is there, and answers whether it was told. With `propagate` its
-    /// notification is passed on.
+    /// Takes the listener out of the queue, if it is there, and returns whether it was notified. With `propagate` its
+    /// notification is propagated.
     #[inline(always)]
     pub(super) fn remove<T: Drop>(self, shared: &Shared<T>, propagate: bool) -> bool
         ensures finished { self.membership.is_finished ≡ true → result ≡ false }

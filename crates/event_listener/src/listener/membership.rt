@@ -32,7 +32,7 @@ impl Membership {
         }
     }
 
-    /// Takes the tag if the listener was told, which takes it out of the queue; else stores the task.
+    /// Takes the tag if the listener was notified, which takes it out of the queue; else stores the task.
     #[inline(always)]
     pub(super) fn register<T, R: Wait>(
         &mut self,
@@ -52,8 +52,8 @@ impl Membership {
         found
     }
 
-    /// Takes the tag if the listener was told, which takes it out of the queue; else registers the task that polls, whose
-    /// waker stays where it is stored already.
+    /// Takes the tag of a notified listener, which takes it out of the queue; else registers the task that polls, whose
+    /// waker stays if it is stored already.
     pub(super) fn register_in<T, R: Wait>(
         &mut self,
         rt: &R,
@@ -82,8 +82,8 @@ impl Membership {
         }
     }
 
-    /// Takes the listener out of the queue, if it is there, and answers what it was. With `propagate` its notification
-    /// is passed on.
+    /// Takes the listener out of the queue, if it is there, and returns what it was. With `propagate` its notification
+    /// is propagated.
     #[inline(always)]
     pub(super) fn remove<T, R: Wait>(
         &mut self,

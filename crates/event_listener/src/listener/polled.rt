@@ -1,11 +1,11 @@
-//! What a poll answers.
+//! What a poll returns.
 ghost use Rattle.std.specs.Prelude.{◌≡◌};
 ghost use Rattle.event_listener.specs.Polling.{poll_of};
 
 use event_queue::RegisterResult;
 use futures::task::Poll;
 
-/// What a poll answers whose registration found this. An absent listener has an error, which the kinds of listeners
+/// What a poll returns whose registration found this. An absent listener has an error, which the kinds of listeners
 /// name differently.
 #[inline(always)]
 pub(crate) fn poll_of<T, E: Copy>(found: RegisterResult<T>, absent: E) -> Result<Poll<T>, E>

@@ -14,8 +14,8 @@ use std::time::Clock;
 
 /// What a [`StackListener`] is made of: the queue of an event that lives as long as the borrow.
 ///
-/// [`listen`](StackSlot::listen) consumes the slot, which cannot be cloned. So a slot listens once. Nobody stands in the
-/// queue for a slot that is dropped.
+/// [`listen`](StackSlot::listen) consumes the slot, which cannot be cloned. So a slot listens once. No listener stands
+/// in the queue for a slot that is dropped.
 ///
 /// A contract sees a slot as the number of its event.
 #[derive(Drop)]
@@ -35,12 +35,12 @@ impl<'ev, T> Model for StackSlot<'ev, T> {
 }
 
 impl<'ev, T> StackSlot<'ev, T> {
-    /// A slot of this event. Nobody listens by it yet.
+    /// A slot of this event. No listener was made by it yet.
     ///
-    /// Returns [`ListenError::Memory`] where there is no queue yet and no memory for one, which leaves the event as it
+    /// Returns [`ListenError::Memory`] if there is no queue yet and no memory for one, which leaves the event as it
     /// was. It returns no other error.
     ///
-    /// The call allocates the queue, where there is none yet. It may wait for a thread that is making the queue.
+    /// The call allocates the queue, if there is none yet. It may wait for a thread that is making the queue.
     pub fn new<R: Wait>(rt: &R, alloc: Global, event: &'ev Event<T>) -> Result<Self, ListenError>
     where
         T: Drop,
@@ -56,13 +56,13 @@ impl<'ev, T> StackSlot<'ev, T> {
         })
     }
 
-    /// A new listener, which waits at the end of the queue. It starts untold, whoever is told already. It keeps a clone
-    /// of the runtime value, for its own calls.
+    /// A new listener, which waits at the end of the queue. It starts waiting, whichever are notified already. It keeps
+    /// a clone of the runtime value, for its own calls.
     ///
-    /// Returns [`ListenError::Memory`] where memory or the clone is refused, and [`ListenError::SerialsUsedUp`] where
-    /// the queue has given out all serial numbers. Neither inserts anybody, and either drops the slot.
+    /// Returns [`ListenError::Memory`] if memory runs out or the clone fails, and [`ListenError::SerialsUsedUp`] if
+    /// the queue has given out all serial numbers. Neither inserts a listener, and either drops the slot.
     ///
-    /// The call allocates where the queue has no spare slot. It may wait for the lock of the event.
+    /// The call allocates if the queue has no spare slot. It may wait for the lock of the event.
     #[inline(always)]
     pub fn listen<R>(self, rt: &R) -> Result<StackListener<'ev, T, R>, ListenError>
     where

@@ -1,4 +1,4 @@
-//! How a listener of any kind waits: from the public call to what it answers.
+//! How a listener of any kind waits: from the public call to what it returns.
 //!
 //! The public calls of the listeners of an [`Event`](crate::Event) are calls of [`wait_until_told`] and
 //! [`wait_within`]. For either kind of listener, these make [`InnerListener::wait`] with the queue of its event.
@@ -27,7 +27,7 @@ use std::sync::Wait;
 use std::time::Clock;
 pub(crate) use steps::{WaitSteps, wait_in};
 
-/// Waits until the listener is told.
+/// Waits until the listener is notified.
 pub(super) fn wait_until_told<T, L: WaitInPlace<T>>(listener: L) -> Result<T, WaitError<L>>
     ensures finished { L.finished listener ≡ true → IsErr result }
     ensures memory { IfErr result (HandsBack listener) }
@@ -38,7 +38,7 @@ pub(super) fn wait_until_told<T, L: WaitInPlace<T>>(listener: L) -> Result<T, Wa
     }
 }
 
-/// Waits until the listener is told or the limit has passed.
+/// Waits until the listener is notified or the limit has passed.
 pub(super) fn wait_within<T, L: WaitInPlace<T>>(
     listener: L,
     limit: Limit,
@@ -56,8 +56,8 @@ pub(super) fn wait_within<T, L: WaitInPlace<T>>(
 pub(super) trait WaitInPlace<T>: Drop + Sized {
     ghost finished: { Self → Bool };
 
-    /// Waits until the listener is told or the limit has passed. The listener is out of the queue then, unless memory
-    /// was refused.
+    /// Waits until the listener is notified or the limit has passed. The listener is out of the queue then, unless
+    /// memory ran out.
     fn wait_in_place(&mut self, limit: Limit) -> WaitOutcome<T>
         ensures finished { finished self.old ≡ true → IsFault result }
         ensures refused { result ≡ Refused → self.new ≡ self.old }

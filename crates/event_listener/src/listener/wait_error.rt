@@ -9,8 +9,8 @@ use thiserror::Error;
 
 /// Why a wait gave no answer.
 ///
-/// It holds the listener where that may wait again. [`reason`](WaitError::reason) says the same without the listener, for
-/// an error that is passed on.
+/// It holds the listener if that may wait again. [`reason`](WaitError::reason) says the same without the listener, for
+/// an error that is propagated.
 #[derive(Debug, Drop)]
 pub enum WaitError<L> {
     /// The listener is not in the queue: it has given its tag.
@@ -44,7 +44,7 @@ impl<L> WaitError<L> {
     }
 }
 
-/// Drops the listener, which passes its notification on if it was told.
+/// Drops the listener, which propagates its notification if it was notified.
 impl<L: Drop> From<WaitError<L>> for WaitReason {
     ghost from_gives = { λ error reason. reason ≡ reason_of error };
 

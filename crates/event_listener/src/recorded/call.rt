@@ -21,7 +21,7 @@ pub enum StepCall<T> {
     Remove {
         /// The listener.
         key: Key,
-        /// Whether the notification of a told listener is propagated.
+        /// Whether the notification of a notified listener is propagated.
         propagate: bool,
     },
     /// Notifies listeners.
@@ -30,12 +30,12 @@ pub enum StepCall<T> {
         count: usize,
         /// Whether it is an additional one.
         additional: bool,
-        /// The tag that each listener told is handed.
+        /// The tag that each listener notified gets.
         tag: T,
     },
     /// Asks how many listeners there are.
     TotalListeners,
-    /// Asks whether some listener is told.
+    /// Asks whether some listener is notified.
     IsNotified,
 }
 
@@ -53,7 +53,7 @@ pub enum RecordedCall<T> {
     Remove {
         /// The listener.
         key: Key,
-        /// Whether the notification of a told listener was propagated.
+        /// Whether the notification of a notified listener was propagated.
         propagate: bool,
     },
     /// Listeners were notified.
@@ -62,12 +62,12 @@ pub enum RecordedCall<T> {
         count: usize,
         /// Whether it was an additional one.
         additional: bool,
-        /// The tag that each listener told was handed.
+        /// The tag that each listener notified got.
         tag: T,
     },
     /// It was asked how many listeners there are.
     TotalListeners,
-    /// It was asked whether some listener is told.
+    /// It was asked whether some listener is notified.
     IsNotified,
 }
 

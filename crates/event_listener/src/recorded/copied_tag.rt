@@ -1,7 +1,7 @@
 use event_queue::Notification;
 use std::alloc::AllocError;
 
-/// A notification that hands each listener told a copy of one tag, and never refuses.
+/// A notification that gives each listener notified a copy of one tag, and never fails.
 #[derive(Drop)]
 pub(super) struct CopiedTag<T> {
     pub(super) count: usize,

@@ -8,7 +8,7 @@ use super::reply::RecordedReply;
 /// for [`replays`](crate::replays).
 #[derive(Clone, Copy, Debug, PartialEq, Eq, Drop)]
 pub struct Entry<T> {
-    /// The number of the hand that called, or `None` where a listener was dropped.
+    /// The number of the hand that called, or `None` if a listener was dropped.
     pub hand: Option<usize>,
     /// The call.
     pub call: RecordedCall<T>,

@@ -1,14 +1,14 @@
 use std::alloc::AllocError;
 use thiserror::Error;
 
-/// Why a recorded call was refused.
+/// Why a recorded call failed.
 #[derive(Clone, Copy, Debug, PartialEq, Eq, Error)]
 pub enum RecordError {
-    /// Memory for the record, for the queue or for the hand's note was refused, or a clone of the runtime value.
+    /// There was no memory for the record, the queue or the hand's note, or a clone of the runtime value failed.
     /// Nothing is changed, recorded or noted.
     #[error("no memory for the record")]
     Memory,
-    /// The queue has given out all serial numbers. Nobody was inserted, and the call is recorded and noted.
+    /// The queue has given out all serial numbers. No listener was inserted, and the call is recorded and noted.
     #[error("serial numbers are used up")]
     SerialsUsedUp,
 }

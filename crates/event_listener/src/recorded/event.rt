@@ -24,10 +24,10 @@ use std::time::Clock;
 /// An event that keeps a record of every step that its queue makes, and whose callers each note their own calls.
 ///
 /// It is made with its hands. Each call is a call of one hand, which notes the call and its reply; the drop of a
-/// listener is nobody's call. Each step of the queue is made under the lock of the event, and recorded before the lock
-/// is given back. So whatever threads call it, its record is one history of its queue, in the order in which the steps
-/// were made, and it replays. [`close`](RecordedEvent::close) says whether the record has the notes of each hand, each
-/// once and in order.
+/// listener is recorded without a hand. Each step of the queue is made under the lock of the event, and recorded before
+/// the lock is given back. So whatever threads call it, its record is one history of its queue, in the order in which
+/// the steps were made, and it replays. [`close`](RecordedEvent::close) says whether the record has the notes of each
+/// hand, each once and in order.
 ///
 /// A contract sees a recorded event as the number of its identity and its count of hands. A call with a hand has the
 /// condition that the event [`owns`](RecordedEvent::owns) it; the clauses of each call let the caller carry that over
@@ -53,10 +53,10 @@ impl<T: Copy + Eq> Model for RecordedEvent<T> {
 }
 
 impl<T: Copy + Eq> RecordedEvent<T> {
-    /// An event with so many hands, which have the numbers from 0 on, in order, and no notes. It owns each of them, and
-    /// keeps the allocator for the calls to come.
+    /// An event with that many hands, which have the numbers from 0 on, in order, and no notes. It owns each of them,
+    /// and keeps the allocator for the calls to come.
     ///
-    /// Returns [`RecordError::Memory`] where memory for the hands is refused; the identity is used up then. It returns
+    /// Returns [`RecordError::Memory`] if there is no memory for the hands; the identity is used up then. It returns
     /// no other error. The call allocates the hands, and does not wait.
     pub fn new(
         alloc: Global,
@@ -99,12 +99,12 @@ impl<T: Copy + Eq> RecordedEvent<T> {
         hand.event_number() == self.id.number() && hand.number() < self.hands
     }
 
-    /// A new listener, which waits at the end of the queue. It starts untold, whoever is told already. It keeps a clone
-    /// of the runtime value for its own calls.
+    /// A new listener, which waits at the end of the queue. It starts waiting, whichever are notified already. It keeps
+    /// a clone of the runtime value for its own calls.
     ///
-    /// Returns [`RecordError::Memory`] where memory or the clone is refused: nobody is inserted, and nothing is
-    /// recorded or noted. Returns [`RecordError::SerialsUsedUp`] where the queue has given out all serial numbers:
-    /// nobody is inserted, and the call is recorded and noted with that reply.
+    /// Returns [`RecordError::Memory`] if memory runs out or the clone fails: no listener is inserted, and nothing is
+    /// recorded or noted. Returns [`RecordError::SerialsUsedUp`] if the queue has given out all serial numbers:
+    /// no listener is inserted, and the call is recorded and noted with that reply.
     ///
     /// The call allocates, also what the drop of the listener needs to be recorded. It may wait for the lock of the
     /// event.
@@ -132,12 +132,12 @@ impl<T: Copy + Eq> RecordedEvent<T> {
         }
     }
 
-    /// Tells the first of the waiting listeners, in order, each with this tag, and wakes their tasks. Returns how many
-    /// it told: `count`, less those that are told already where it is not additional, and no more than wait. A
-    /// notification that finds nobody to tell is recorded, and not kept.
+    /// Notifies the first of the waiting listeners, in order, each with this tag, and wakes their tasks. Returns how
+    /// many it notified: `count`, less those that are notified already if it is not additional, and no more than wait.
+    /// A notification that finds no listener waiting is recorded, and not kept.
     ///
-    /// Returns [`RecordError::Memory`] where memory for the record or the note is refused: nobody is told, and nothing
-    /// is recorded or noted. So who relies on it being told has to call again. It returns no other error.
+    /// Returns [`RecordError::Memory`] if there is no memory for the record or the note: no listener is notified, and
+    /// nothing is recorded or noted. So a caller that relies on it has to retry. It returns no other error.
     ///
     /// The call allocates. It may wait for the lock of the event.
     pub fn notify<R: Wait>(
@@ -162,9 +162,9 @@ impl<T: Copy + Eq> RecordedEvent<T> {
         }
     }
 
-    /// Whether some listener is told. The question is recorded and noted.
+    /// Whether some listener is notified. The question is recorded and noted.
     ///
-    /// Returns [`RecordError::Memory`] where memory for the record or the note is refused; nothing is recorded or noted
+    /// Returns [`RecordError::Memory`] if there is no memory for the record or the note; nothing is recorded or noted
     /// then. It returns no other error. The call allocates. It may wait for the lock of the event.
     pub fn is_notified<R: Wait>(&self, rt: &R, hand: &mut Hand<T>) -> Result<bool, RecordError>
         requires { Owns self.now hand.old }
@@ -176,9 +176,9 @@ impl<T: Copy + Eq> RecordedEvent<T> {
         }
     }
 
-    /// How many listeners there are, told or waiting. The question is recorded and noted.
+    /// How many listeners there are, notified or waiting. The question is recorded and noted.
     ///
-    /// Returns [`RecordError::Memory`] where memory for the record or the note is refused; nothing is recorded or noted
+    /// Returns [`RecordError::Memory`] if there is no memory for the record or the note; nothing is recorded or noted
     /// then. It returns no other error. The call allocates. It may wait for the lock of the event.
     pub fn total_listeners<R: Wait>(&self, rt: &R, hand: &mut Hand<T>) -> Result<usize, RecordError>
         requires { Owns self.now hand.old }
@@ -194,9 +194,9 @@ impl<T: Copy + Eq> RecordedEvent<T> {
     /// order, with the replies that the hand was given. Each other entry is of no hand, and the end of a listener that
     /// was dropped.
     ///
-    /// Returns [`CloseError::HandsMissing`] exactly where the numbers of the hands are not all those below the event's
-    /// count of hands, each once. Returns [`CloseError::Differs`] where the notes of some hand are not its entries.
-    /// That takes a hand of an event of another source with the same number, handed to this call or to one before.
+    /// Returns [`CloseError::HandsMissing`] exactly if the numbers of the hands are not all those below the event's
+    /// count of hands, each once. Returns [`CloseError::Differs`] if the notes of some hand are not its entries.
+    /// That takes a hand of an event of another source with the same number, given to this call or to one before.
     /// Event and hands are given up in any case.
     ///
     /// Listeners borrow the event, so none can be alive. The call allocates nothing and does not wait. It looks at each

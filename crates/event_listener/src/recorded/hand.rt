@@ -40,7 +40,7 @@ impl<T: Copy> Note<T> {
 }
 
 /// One of those that call a [`RecordedEvent`](crate::RecordedEvent). It notes each of its calls with the reply that it
-/// got, in the order in which it makes them. A call that is refused memory is not noted; of a wait, the steps before
+/// got, in the order in which it makes them. A call that fails for memory is not noted; of a wait, the steps before
 /// that are.
 ///
 /// A call takes its hand by a `&mut`, so the calls of one hand are made one after another, whatever thread makes them.

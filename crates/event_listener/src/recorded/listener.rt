@@ -26,19 +26,19 @@ pub enum RecordedPollError {
     /// The listener is not in the queue: it has given its tag. The poll is recorded and noted.
     #[error("listener is not in the queue")]
     NeverInserted,
-    /// Memory for the record or the note was refused. Nothing is changed, recorded or noted.
+    /// There was no memory for the record or the note. Nothing is changed, recorded or noted.
     #[error("no memory for the record")]
     Memory,
 }
 
-/// What waits in the queue of a recorded event until it is told.
+/// What waits in the queue of a recorded event until it is notified.
 ///
 /// It borrows its event, and so can't outlive it. Each of its calls is made by a hand of that event, any of them, which
-/// notes it. A call on a listener that has given its tag is recorded and noted too, with the reply that nobody is
+/// notes it. A call on a listener that has given its tag is recorded and noted too, with the reply that no listener is
 /// there.
 ///
-/// Dropping it removes it from the queue. If it was told, that passes its notification on: the event is notified of
-/// one, of the same kind and with the same tag. The drop is recorded as nobody's call, in room that was made when it
+/// Dropping it removes it from the queue. If it was notified, that propagates its notification: the event is notified
+/// of one, of the same kind and with the same tag. The drop is recorded without a hand, in room that was made when it
 /// listened. The drop of a listener that has left the queue records nothing. It does not allocate, and may wait for the
 /// lock of the event.
 ///
@@ -69,11 +69,11 @@ impl<'ev, T: Copy + Eq, R: Wait + Clock + Clone> RecordedListener<'ev, T, R> {
         }
     }
 
-    /// Takes the tag if the listener was told; else stores the waker, in place of any earlier one. The hand notes one
-    /// registration.
+    /// Takes the tag if the listener was notified; else stores the waker, in place of any earlier one. The hand notes
+    /// one registration.
     ///
-    /// Returns [`RecordedPollError::NeverInserted`] where the listener has given its tag, which is recorded and noted.
-    /// Returns [`RecordedPollError::Memory`] where memory for the record or the note is refused; the listener is as it
+    /// Returns [`RecordedPollError::NeverInserted`] if the listener has given its tag, which is recorded and noted.
+    /// Returns [`RecordedPollError::Memory`] if there is no memory for the record or the note; the listener is as it
     /// was then, and nothing is recorded or noted.
     ///
     /// The call allocates. It may wait for the lock of the event. A waker that is not stored is dropped, and so is one
@@ -96,10 +96,10 @@ impl<'ev, T: Copy + Eq, R: Wait + Clock + Clone> RecordedListener<'ev, T, R> {
         }
     }
 
-    /// Removes the listener from the queue without passing a notification on, and returns whether it was told. One that
-    /// has given its tag was not. The hand notes one removal.
+    /// Removes the listener from the queue without propagating a notification, and returns whether it was notified. One
+    /// that has given its tag was not. The hand notes one removal.
     ///
-    /// Returns [`WaitError::Memory`] with the same listener where memory for the record or the note is refused; nothing
+    /// Returns [`WaitError::Memory`] with the same listener if there is no memory for the record or the note; nothing
     /// is changed, recorded or noted then. It returns no other error.
     ///
     /// The call allocates. It may wait for the lock of the event.
@@ -121,11 +121,11 @@ impl<'ev, T: Copy + Eq, R: Wait + Clock + Clone> RecordedListener<'ev, T, R> {
         }
     }
 
-    /// Waits until the listener is told, and returns the tag. Each time that it looks for the listener in the queue is
-    /// one registration, which is recorded and noted: one at least, unless memory is refused before.
+    /// Waits until the listener is notified, and returns the tag. Each time that it looks for the listener in the queue
+    /// is one registration, which is recorded and noted: one at least, unless memory runs out before.
     ///
-    /// Returns [`WaitError::NeverInserted`] where the listener has given its tag. Returns [`WaitError::Memory`] with
-    /// the same listener where memory is refused: for what the thread parks on, for the record or for a note. The
+    /// Returns [`WaitError::NeverInserted`] if the listener has given its tag. Returns [`WaitError::Memory`] with
+    /// the same listener if memory runs out: for what the thread parks on, for the record or for a note. The
     /// listener is not removed then, and the steps that were made before stay recorded and noted.
     ///
     /// The call waits and allocates as that of [any listener](crate::Listener#waiting) does, and allocates room for an
@@ -140,13 +140,13 @@ impl<'ev, T: Copy + Eq, R: Wait + Clock + Clone> RecordedListener<'ev, T, R> {
         }
     }
 
-    /// Waits until the listener is told or so much time has passed, and returns the tag or `None`. The listener is out
-    /// of the queue then. At the deadline it is removed, which is recorded and noted too; a tag that comes before that
-    /// is returned, and not passed on.
+    /// Waits until the listener is notified or the timeout has passed, and returns the tag or `None`. The listener is
+    /// out of the queue then. At the deadline it is removed, which is recorded and noted too; a tag that comes before
+    /// that is returned, and not propagated.
     ///
     /// A deadline that can't be represented never comes, and a clock that can't be read shows the deadline. What it
     /// records, allocates and waits for, and its errors, are those of [`wait`](RecordedListener::wait); the removal may
-    /// be refused memory, too.
+    /// fail for memory, too.
     pub fn wait_timeout(
         self,
         hand: &mut Hand<T>,
@@ -158,12 +158,12 @@ impl<'ev, T: Copy + Eq, R: Wait + Clock + Clone> RecordedListener<'ev, T, R> {
         wait_within(self, hand, Limit::After(timeout))
     }
 
-    /// Waits until the listener is told or that moment of its own clock has come, and returns the tag or `None`. The
-    /// listener is out of the queue then. At the deadline it is removed, which is recorded and noted too; a tag that
-    /// comes before that is returned, and not passed on.
+    /// Waits until the listener is notified or that moment of its own clock has come, and returns the tag or `None`.
+    /// The listener is out of the queue then. At the deadline it is removed, which is recorded and noted too; a tag
+    /// that comes before that is returned, and not propagated.
     ///
     /// A clock that can't be read shows the deadline. What it records, allocates and waits for, and its errors, are
-    /// those of [`wait`](RecordedListener::wait); the removal may be refused memory, too.
+    /// those of [`wait`](RecordedListener::wait); the removal may fail for memory, too.
     pub fn wait_deadline(
         self,
         hand: &mut Hand<T>,

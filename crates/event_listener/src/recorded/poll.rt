@@ -15,11 +15,11 @@ use std::sync::Wait;
 use std::time::Clock;
 
 impl<T: Copy + Eq, R: Wait + Clock + Clone> RecordedListener<'_, T, R> {
-    /// As [`poll`](RecordedListener::poll), with the waker of the task that polls. Where the listener has stored one of
-    /// that task already, it stays, and nobody is woken.
+    /// As [`poll`](RecordedListener::poll), with the waker of the task that polls. If the listener has stored one of
+    /// that task already, it stays, and no task is woken.
     ///
-    /// Where it stored another task's waker, that task is woken. Where no waker can be made, the task asks for another
-    /// poll. A poll that is refused memory leaves no waker, so a future gives that error, or polls again by itself.
+    /// If it stored another task's waker, that task is woken. If no waker can be made, the task asks for another
+    /// poll. A poll that fails for memory leaves no waker, so a future gives that error, or polls again by itself.
     pub fn poll_in(
         &mut self,
         hand: &mut Hand<T>,

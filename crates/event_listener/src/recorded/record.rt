@@ -49,7 +49,7 @@ impl<T: Copy + Eq> Record<T> {
 
     /// Whether the entries replay, as [`replays`](crate::replays) finds it: the answer is always `true`, since the type
     /// keeps that they do. No clause says that the call looks at them once more, which is all that it is for. It
-    /// allocates; a refusal of that is its error. It does not wait.
+    /// allocates, and returns an error if that fails. It does not wait.
     pub fn replays(&self, alloc: Global) -> Result<bool, AllocError>
         ensures { IfOk result (λ answer. IsTrue answer) }
     {

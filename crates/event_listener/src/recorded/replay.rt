@@ -10,15 +10,16 @@ use super::reply::RecordedReply;
 use replayed_queue::ReplayedQueue;
 use std::alloc::{AllocError, Global};
 
-/// Whether these entries are a run of a queue that was empty, with next serial 0: whether each call answers its reply,
+/// Whether these entries are a run of a queue that was empty, with next serial 0: whether each call returns its reply,
 /// one after another. Tags are compared by the equality of `T`. The slot of a new listener is read from the reply, and
 /// whose call it was is not looked at.
 ///
-/// Any entries may be given. In no run does a listening answer that memory was refused, and only one at the serial
-/// `u64::MAX` answers that the serials are used up.
+/// Any entries may be given. In no run does a listening fail for memory, and only one at the serial `u64::MAX` finds
+/// the serials used up.
 ///
-/// The call allocates two vectors of the listeners; a refusal of that is its error. It does not wait. Each entry takes
-/// one pass at most over the listeners that stand in the queue by then, to find a key or to move those told.
+/// The call allocates two vectors of the listeners, and returns an error if that fails. It does not wait. Each
+/// entry takes one pass at most over the listeners that stand in the queue by then, to find a key or to move those
+/// notified.
 pub fn replays<T: Copy + Eq>(alloc: Global, entries: &[Entry<T>]) -> Result<bool, AllocError>
     ensures { IfOk result (λ answer. answer ≡ replays T.eq entries.now) }
 {

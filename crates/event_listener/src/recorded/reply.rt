@@ -13,11 +13,11 @@ pub enum RecordedReply<T> {
     Registered(RegisterResult<T>),
     /// The answer of a removal.
     Removed(Option<Former<T>>),
-    /// How many listeners a notification told.
+    /// How many listeners a notification notified.
     Notified(usize),
     /// How many listeners there were.
     TotalListeners(usize),
-    /// Whether some listener was told.
+    /// Whether some listener was notified.
     IsNotified(bool),
 }
 
@@ -26,7 +26,7 @@ pub enum RecordedReply<T> {
 pub enum Former<T> {
     /// Waiting, and no task was stored.
     Created,
-    /// Told, and its notification is the answer.
+    /// Notified, and its notification is the answer.
     Notified {
         /// Whether the notification was an additional one.
         additional: bool,
@@ -35,12 +35,12 @@ pub enum Former<T> {
     },
     /// Waiting, with a task.
     Task,
-    /// Told, and its notification was propagated: another listener was told by it.
+    /// Notified, and its notification was propagated: another listener was notified by it.
     Passed {
-        /// The listener that was told.
+        /// The listener that was notified.
         to: Key,
     },
-    /// Told, and its notification was lost: nobody was told by it.
+    /// Notified, and its notification was lost: no listener was notified by it.
     Lost {
         /// Whether the notification was an additional one.
         additional: bool,

@@ -74,9 +74,9 @@ impl<T: Copy + Eq> RecordedState<T> {
 
     /// Makes one call on the queue, and records it as a call of that hand.
     ///
-    /// It makes all room first: for the entry, and for a new listener and the entry of its end. Where that is refused
+    /// It makes all room first: for the entry, and for a new listener and the entry of its end. If that fails
     /// it returns [`RecordError::Memory`], makes no call, drops the task of the call, and leaves the queue, the record
-    /// and the sink as they were. It returns no other error: where the serials are used up, that is the reply, and it
+    /// and the sink as they were. It returns no other error: if the serials are used up, that is the reply, and it
     /// is recorded.
     #[inline(always)]
     pub fn apply<S: WakeSink<Task>>(
@@ -154,8 +154,8 @@ impl<T: Copy + Eq> RecordedState<T> {
         Ok(entry)
     }
 
-    /// Removes a listener that is dropped: its notification, if it was told, is passed on, and the removal is recorded
-    /// as nobody's call. Where no listener has that key, nothing changes. The call allocates nothing.
+    /// Removes a listener that is dropped: its notification, if it was notified, is propagated, and the removal is
+    /// recorded without a hand. If no listener has that key, nothing changes. The call allocates nothing.
     pub fn apply_end<S: WakeSink<Task>>(&mut self, key: Key, sink: &mut S)
         ensures ends { ¬ IsAbsent key self.old.queue → Ends self.old key self.new }
         ensures wakes { FoldsTo S.woke sink.old (woken_by_removal key true self.old.queue) sink.new }
@@ -186,7 +186,7 @@ impl<T: Copy + Eq> RecordedState<T> {
         self.entries.as_slice()
     }
 
-    /// How many listeners there are, told or waiting. The call allocates nothing and is not recorded.
+    /// How many listeners there are, notified or waiting. The call allocates nothing and is not recorded.
     pub fn total_listeners(&self) -> usize
         ensures value { result ≡ length self.now.queue.told + length self.now.queue.waiting }
         ensures queue { IsQueue self.now.queue }

@@ -13,7 +13,7 @@ use super::reply::{Former, RecordedReply};
 use crate::task::Task;
 use event_queue::{Key, List, TaskExchange, WakeSink};
 
-/// Performs the call, and returns what the queue answered. It allocates where an insertion does, and never waits.
+/// Performs the call, and returns what the queue returned. It allocates if an insertion does, and never waits.
 #[inline(always)]
 pub(super) fn perform_step<T: Copy, S: WakeSink<Task>>(
     list: &mut List<T, Task>,
@@ -49,7 +49,7 @@ pub(super) fn perform_step<T: Copy, S: WakeSink<Task>>(
     }
 }
 
-/// Registers a listener, with a task that is made of the one that it stored. It allocates and waits where the exchange
+/// Registers a listener, with a task that is made of the one that it stored. It allocates and waits if the exchange
 /// does.
 pub(super) fn perform_exchange<T: Copy, C, X: TaskExchange<Task, C>>(
     list: &mut List<T, Task>,

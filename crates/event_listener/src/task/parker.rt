@@ -17,7 +17,7 @@ pub(crate) struct Parker {
 }
 
 impl Parker {
-    /// A parker whose token is not set. The call allocates the token; the error is a refusal of that.
+    /// A parker whose token is not set. The call allocates the token, and returns an error if that fails.
     pub(crate) fn new(alloc: Global) -> Result<Self, AllocError> {
         let token = Token {
             is_set: Mutex::new(false),
@@ -27,7 +27,7 @@ impl Parker {
         Ok(Parker { token })
     }
 
-    /// What sets the token from elsewhere, by a share of it. The error is a refusal of that share.
+    /// What sets the token from elsewhere, by a share of it. It returns an error if no share can be made.
     pub(crate) fn unparker(&self) -> Result<Unparker, AllocError> {
         let token = Arc::try_clone(&self.token)?;
         Ok(Unparker { token })

@@ -71,7 +71,7 @@ impl<A, B> Entry<A, B> {
     }
 }
 
-/// Nodes in order, and the first of them after the cursor, or the root where none is.
+/// Nodes in order, and the first of them after the cursor, or the root if none is.
 #[derive(Drop)]
 pub(super) struct Entries<A, B> {
     ring: Ring<Entry<A, B>>,
@@ -119,7 +119,7 @@ impl<A, B> Entries<A, B> {
 
     /// Links a spare node in at the end, with an entry after the cursor. Its slot and the node are the answer.
     ///
-    /// Where no other entry is after the cursor, the cursor moves to it.
+    /// If no other entry is after the cursor, the cursor moves to it.
     #[inline(always)]
     pub(super) fn append<L: Ledger>(
         &mut self,

@@ -22,7 +22,7 @@ pub(super) struct NodeRef<E> {
 }
 
 impl<E> NodeRef<E> {
-    /// The node that stands where a look by key led: the call's own one. The look is counted also where it led nowhere.
+    /// The node that stands where a look by key led: the call's own one. The look is counted even if it led nowhere.
     #[inline(always)]
     pub(super) fn looked_up<L: Ledger>(
         place: Option<NodePtr<E>>,

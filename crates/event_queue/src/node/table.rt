@@ -15,7 +15,7 @@ pub(super) type Slot<A, B> = Option<(u64, NodePtr<Entry<A, B>>)>;
 /// A slot for each node but the root, and the nodes that no entry uses.
 ///
 /// A node keeps its slot for ever: its place stands there while an entry uses it, and nothing while it is spare. The
-/// entry's serial stands there too, so that a key of nobody is told without a look at any node.
+/// entry's serial stands there too, so that a key of no listener is recognized without a look at any node.
 #[derive(Drop)]
 pub(super) struct Table<A, B> {
     slots: Vec<Slot<A, B>>,
@@ -50,8 +50,8 @@ impl<A, B> Table<A, B> {
         self.spares.len()
     }
 
-    /// The node of the key's entry, if there is one: that of the call's own listener. It is one look by key, also where
-    /// nobody has the key: then no node is reached, since the table has the serial too.
+    /// The node of the key's entry, if there is one: that of the call's own listener. It is one look by key, even if
+    /// no entry has the key: then no node is reached, since the table has the serial too.
     #[inline(always)]
     pub(super) fn find<L: Ledger>(
         &self,
@@ -107,7 +107,7 @@ impl<A, B> Table<A, B> {
         self.slots[slot] = None;
     }
 
-    /// Makes `n` more spare nodes. After a refusal it keeps those that it made.
+    /// Makes `n` more spare nodes. If it fails it keeps those that it made.
     pub(super) fn grow(&mut self, n: usize) -> Result<(), AllocError>
         ensures grows { GrowsTo self.old.slots.items self.old.spares.items self.new.slots.items self.new.spares.items }
         ensures kept { length self.old.spares.items ≤ length self.new.spares.items }

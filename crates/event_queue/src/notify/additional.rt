@@ -5,7 +5,7 @@ use super::Notification;
 use std::alloc::AllocError;
 use std::marker::Model;
 
-/// A notification made additional: it tells as many listeners as its count anew, whoever was told before.
+/// A notification made additional: it notifies as many listeners as its count anew, however many were before.
 #[derive(Clone, Debug, Drop)]
 pub struct Additional<N>(N);
 

@@ -1,4 +1,4 @@
-//! The integers as notifications: a number fits if it lies in 0 to `usize::MAX`, and then means so many listeners.
+//! The integers as notifications: a number fits if it lies in 0 to `usize::MAX`, and then means that many listeners.
 //!
 //! Every value of an unsigned type of at most 64 bits fits. There `fits` reads its argument all the same, since only a
 //! value that is read is known to be within the limits of its type.

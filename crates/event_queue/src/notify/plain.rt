@@ -5,7 +5,7 @@ use super::Notification;
 use std::alloc::AllocError;
 use std::marker::Model;
 
-/// A default notification of so many listeners, those told before among them.
+/// A default notification of n listeners, those notified before among them.
 #[derive(Clone, Debug, Drop)]
 pub struct Notify(usize);
 

@@ -6,10 +6,10 @@ use std::alloc::AllocError;
 use std::fmt::{self, Debug, Formatter, Write};
 use std::marker::Model;
 
-/// A notification with a function that makes its tags: it is called once for each told listener, in order, and no tag
-/// is refused.
+/// A notification with a function that makes its tags: it is called once for each notified listener, in order, and no
+/// tag is refused.
 ///
-/// It allocates only where the function does. A tag may be asked for where the function may always be called.
+/// It allocates only if the function does. A tag may be asked for if the function may always be called.
 #[derive(Drop)]
 pub struct TagWith<N, F> {
     tag: F,

@@ -69,7 +69,7 @@ pub(super) fn times_out(client: usize, line: &mut ClientLine) -> Place
     }
 }
 
-/// The listener is dropped, which passes its notification on.
+/// The listener is dropped, which propagates its notification.
 pub(super) fn drops_out(place: Place, client: usize, line: &mut ClientLine) -> Place
     requires client { client < length line.old.awake }
     requires may_drop { IsSome (place_after place Dropped) }

@@ -26,7 +26,7 @@ pub enum FlagPlace {
     ToRegister,
     /// It has registered, and waits for its wake-up.
     Parked,
-    /// It waits no longer: the flag was set, or listening was refused.
+    /// It waits no longer: the flag was set, or listening failed.
     Done,
 }
 
@@ -43,8 +43,8 @@ pub enum SetterPlace {
 
 /// A flag with its clients, the line in which they wait for it, and those who set it.
 ///
-/// A client looks at the flag, listens, looks again, and waits until it is told; whoever sets the flag then notifies
-/// all. Each step is one call of [`step`](FlagWorld::step). Whatever the schedule, no wake-up is lost.
+/// A client looks at the flag, listens, looks again, and waits until it is notified; whoever sets the flag then
+/// notifies all. Each step is one call of [`step`](FlagWorld::step). Whatever the schedule, no wake-up is lost.
 #[derive(Drop)]
 pub struct FlagWorld {
     flag: bool,
@@ -72,10 +72,10 @@ struct SetterMove {
 }
 
 impl FlagWorld {
-    /// A flag that is not set, so many clients, none of whom has looked at it, and so many setters. The first client
+    /// A flag that is not set, its clients, none of whom has looked at it, and its setters. The first client
     /// that listens gets the serial 0.
     ///
-    /// The call allocates room for all clients, and returns an error where that is refused. No later call allocates.
+    /// The call allocates room for all clients, and returns an error if that fails. No later call allocates.
     pub fn new(alloc: Global, clients: usize, setters: usize) -> Result<Self, AllocError>
         ensures start { IfOk result (λ world. world ≡ start clients setters 0) }
         ensures safe { IfOk result IsSafe }
@@ -118,7 +118,7 @@ impl FlagWorld {
 
     /// Makes a step of one actor, and returns whether it was one: an act that the tables of steps have at the place of
     /// that actor. The numbers below [`clients`](FlagWorld::clients) are the clients', and the next ones the setters'.
-    /// Any other act, and any number that nobody has, changes nothing.
+    /// Any other act, and any number that no client has, changes nothing.
     pub fn step(&mut self, actor: usize, act: Act) -> bool
         ensures step { self.new ≡ after actor act self.old }
         ensures answer { result ≡ is_some (next actor act self.old) }
@@ -246,7 +246,7 @@ impl FlagWorld {
         self.setters[setter]
     }
 
-    /// Whether a client is told: it was notified, and has not left the line.
+    /// Whether a client is notified, and has not left the line.
     pub fn is_told(&self, client: usize) -> bool
         requires client { client < length self.now.places }
         ensures value { result ≡ is_told client self.now.line }

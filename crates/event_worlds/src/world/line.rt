@@ -29,7 +29,7 @@ impl Model for ClientLine {
 }
 
 impl ClientLine {
-    /// A line of so many clients, in which nobody stands; the first that joins gets the serial `first`. Its
+    /// A line of that many clients, in which none stands; the first that joins gets the serial `first`. Its
     /// notifications are additional or default. It has room for all clients.
     pub(super) fn new(
         alloc: Global,
@@ -49,7 +49,7 @@ impl ClientLine {
         })
     }
 
-    /// Whether the client is told.
+    /// Whether the client is notified.
     pub(super) fn is_told(&self, client: usize) -> bool
         requires client { client < length self.now.awake }
         ensures value { result ≡ is_told client self.now }
@@ -68,7 +68,7 @@ impl ClientLine {
         self.wakes.has(client)
     }
 
-    /// The client joins the end of the line, and loses its wake-up. Where the serials are used up it does neither,
+    /// The client joins the end of the line, and loses its wake-up. If the serials are used up it does neither,
     /// and the answer is `false`.
     pub(super) fn join(&mut self, client: usize) -> bool
         requires client { client < length self.old.awake }
@@ -85,7 +85,7 @@ impl ClientLine {
         true
     }
 
-    /// A client that is told leaves the line, and one that waits is registered. Returns whether it was told.
+    /// A client that is notified leaves the line, and one that waits is registered. Returns whether it was notified.
     pub(super) fn register(&mut self, client: usize) -> bool
         requires client { client < length self.old.awake }
         ensures answer { result ≡ is_told client self.old }
@@ -105,7 +105,7 @@ impl ClientLine {
         }
     }
 
-    /// The client leaves the line, and passes nothing on. Returns whether it was told.
+    /// The client leaves the line, and propagates nothing. Returns whether it was notified.
     pub(super) fn leave(&mut self, client: usize) -> bool
         requires client { client < length self.old.awake }
         ensures answer { result ≡ is_told client self.old }
@@ -121,7 +121,7 @@ impl ClientLine {
         told
     }
 
-    /// The client leaves the line. If it was told, its notification is passed on.
+    /// The client leaves the line. If it was notified, its notification is propagated.
     pub(super) fn drop_out(&mut self, client: usize)
         requires client { client < length self.old.awake }
         ensures changed { self.new ≡ dropped client self.old }
@@ -143,7 +143,7 @@ impl ClientLine {
         self.wakes.clear(client);
     }
 
-    /// Notifies the line of so many clients. Those told already are among them where its notifications are default.
+    /// Notifies that many clients of the line. Those notified already are among them if its notifications are default.
     pub(super) fn notify(&mut self, count: usize)
         ensures changed { self.new ≡ notified count self.old }
         ensures line { IsLine self.new }

@@ -19,7 +19,7 @@ use std::marker::Model;
 
 /// A lock with its clients, and the line in which they wait for it.
 ///
-/// A client tries the lock, listens, tries again, and waits until it is told; whoever frees the lock notifies one.
+/// A client tries the lock, listens, tries again, and waits until it is notified; whoever frees the lock notifies one.
 /// Each step of a client is one call of [`step`](MutexWorld::step). Whatever the schedule, no wake-up is lost.
 #[derive(Drop)]
 pub struct MutexWorld {
@@ -55,9 +55,9 @@ impl Move {
 }
 
 impl MutexWorld {
-    /// A free lock and so many clients, none of whom wants it. The first that listens gets the serial 0.
+    /// A free lock and that many clients, none of whom wants it. The first that listens gets the serial 0.
     ///
-    /// The call allocates room for all clients, and returns an error where that is refused. No later call allocates.
+    /// The call allocates room for all clients, and returns an error if that fails. No later call allocates.
     pub fn new(alloc: Global, clients: usize) -> Result<Self, AllocError>
         ensures start { IfOk result (λ world. world ≡ start clients 0) }
         ensures safe { IfOk result IsSafe }
@@ -176,7 +176,7 @@ impl MutexWorld {
         self.places[client]
     }
 
-    /// Whether a client is told: it was notified, and has not left the line.
+    /// Whether a client is notified, and has not left the line.
     pub fn is_told(&self, client: usize) -> bool
         requires client { client < length self.now.places }
         ensures value { result ≡ is_told client self.now.line }

@@ -4,7 +4,7 @@ ghost use Rattle.event_worlds.specs.ClientTable.{place_after};
 /// Where a client of a lock is, or of a semaphore. [`Place::after`] says how it goes on.
 ///
 /// A client tries to take the lock, or a permit, listens, tries again, and only then waits: whoever freed one before the
-/// client listened would not have told it.
+/// client listened would not have notified it.
 #[derive(Clone, Copy, Debug, PartialEq, Eq)]
 pub enum Place {
     /// It doesn't want the lock, or a permit.
@@ -41,7 +41,7 @@ pub enum News {
     Busy,
     /// It listens.
     Listening,
-    /// Listening was refused.
+    /// Listening failed.
     Refused,
     /// Registering, or the removal at a deadline, gave the tag of a notification.
     Told,
@@ -51,7 +51,7 @@ pub enum News {
     Woke,
     /// The removal at a deadline gave no tag.
     TimedOut,
-    /// Its listener was dropped, which passes a notification on.
+    /// Its listener was dropped, which propagates a notification.
     Dropped,
     /// It freed the lock, or all its permits.
     Freed,
@@ -60,7 +60,7 @@ pub enum News {
 }
 
 impl Place {
-    /// The place of a client after this news, or `None` where the news can't come at this place.
+    /// The place of a client after this news, or `None` if the news can't come at this place.
     pub fn after(self, news: News) -> Option<Place>
         ensures { result ≡ place_after self news }
     {

@@ -34,9 +34,10 @@ impl SemaphoreClient {
 
 /// A semaphore with its clients, and the line in which they wait for its permits.
 ///
-/// A client tries to take a permit, listens, tries again, and waits until it is told. While it holds one it may take
-/// more. It frees all of them at once, and then notifies of as many, additional to those told already. Each step of a
-/// client is one call of [`step`](SemaphoreWorld::step). Whatever the schedule, no wake-up and no permit is lost.
+/// A client tries to take a permit, listens, tries again, and waits until it is notified. While it holds one it may
+/// take more. It frees all of them at once, and then notifies of as many, additional to those notified already. Each
+/// step of a client is one call of [`step`](SemaphoreWorld::step). Whatever the schedule, no wake-up and no permit is
+/// lost.
 #[derive(Drop)]
 pub struct SemaphoreWorld {
     permits: usize,
@@ -64,9 +65,9 @@ struct SemaphoreMove {
 }
 
 impl SemaphoreWorld {
-    /// A semaphore of so many permits, all of them free, and so many clients, none of whom wants one.
+    /// A semaphore of that many permits, all free, and that many clients, none of whom wants one.
     ///
-    /// The call allocates room for all clients, and returns an error where that is refused. No later call allocates.
+    /// The call allocates room for all clients, and returns an error if that fails. No later call allocates.
     pub fn new(alloc: Global, clients: usize, permits: usize) -> Result<Self, AllocError>
         ensures start { IfOk result (λ world. world ≡ start clients permits) }
         ensures safe { IfOk result IsSafe }
@@ -198,7 +199,7 @@ impl SemaphoreWorld {
         self.clients[client].owed
     }
 
-    /// Whether a client is told: it was notified, and has not left the line.
+    /// Whether a client is notified, and has not left the line.
     pub fn is_told(&self, client: usize) -> bool
         requires client { client < length self.now.clients }
         ensures value { result ≡ is_told client self.now.line }

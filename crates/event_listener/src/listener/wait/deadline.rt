@@ -5,7 +5,7 @@ ghost use Rattle.event_listener.specs.declared.listener.wait.deadline.Deadline.T
 
 use std::time::{Clock, Duration, Instant};
 
-/// How long a wait goes on if nobody tells the listener.
+/// How long a wait goes on if the listener is not notified.
 #[derive(Clone, Copy)]
 pub(crate) enum Limit {
     Never,
@@ -13,7 +13,7 @@ pub(crate) enum Limit {
     At(Instant),
 }
 
-/// The moment at which a wait ends if nobody tells the listener.
+/// The moment at which a wait ends if the listener is not notified.
 #[derive(Clone, Copy)]
 pub(super) enum Deadline {
     Never,

@@ -8,13 +8,13 @@ use event_queue::{RegisterResult, State};
 /// How a wait ended.
 #[derive(Drop)]
 pub(crate) enum WaitOutcome<T> {
-    /// The listener was told: this is its tag.
+    /// The listener was notified: this is its tag.
     Told(T),
-    /// The deadline passed, and nobody had told it.
+    /// The deadline passed, and it was not notified.
     TimedOut,
     /// It was not in the queue.
     Absent,
-    /// Memory was refused, and it is where it was.
+    /// Memory ran out, and it is where it was.
     Refused,
 }
 

@@ -31,7 +31,7 @@ pub(crate) trait WaitSteps<T>: Sized {
     // The removal at the deadline ended the wait so.
     ghost leaves: { Self × Self.Notes → WaitOutcome T → Self × Self.Notes → Type 0 };
 
-    /// Takes the tag if the listener was told; else stores the task. Answers how the wait ends, if that ends it.
+    /// Takes the tag if the listener was notified; else stores the task. Returns how the wait ends, if that ends it.
     fn attempt<R: Wait>(
         &mut self,
         rt: &R,
@@ -42,8 +42,8 @@ pub(crate) trait WaitSteps<T>: Sized {
         ensures goes_on { IfNone result (goes_on (self.old, notes.old) (self.new, notes.new)) }
         ensures ends { IfSome result (λ outcome. ends (self.old, notes.old) outcome (self.new, notes.new)) };
 
-    /// Removes the listener at its deadline, without passing a notification on. A tag that came since it last looked
-    /// stays its own. Answers how that ends the wait.
+    /// Removes the listener at its deadline, without propagating a notification. A tag that came since it last looked
+    /// stays its own. Returns how that ends the wait.
     fn time_out<R: Wait>(
         &mut self,
         rt: &R,

@@ -13,7 +13,7 @@ use event_queue::{Key, ListenError, Notice, RegisterResult};
 use std::alloc::{AllocError, Global};
 use std::marker::Model;
 
-/// The listeners told, the listeners waiting, each with whether it has a task, and the next serial.
+/// The listeners notified, the listeners waiting, each with whether it has a task, and the next serial.
 #[derive(Drop)]
 pub(super) struct ReplayedQueue<T> {
     told: Vec<(Key, Notice<T>)>,
@@ -45,7 +45,7 @@ impl<T: Copy> ReplayedQueue<T> {
         }
     }
 
-    /// Performs the call, and returns what it answers where a newcomer gets this slot. A refusal of memory is the error,
+    /// Performs the call, and returns what it answers if a newcomer gets this slot. The error is that memory ran out,
     /// after which the queue is of no use.
     pub(super) fn perform_call(
         &mut self,

@@ -137,7 +137,7 @@ impl<E> Ring<E> {
         }
     }
 
-    /// A node of its own, or the value again where memory is refused.
+    /// A node of its own, or the value again if memory runs out.
     pub fn alone(alloc: Global, entry: E) -> Result<Ring<E>, AllocFailed<E>>
         ensures made { IfOk result (λ ring. (ring.entry ≡ entry) × (ring.nodes ≡ [])) }
         ensures value_returned { IfErr result (λ failed. failed.value ≡ entry) }
