@@ -1,4 +1,5 @@
--- Steps of a queue that no crate above proves of its own: exchanges, runs, and how many visits and looks there are at most.
+-- Steps of a queue that no crate above proves of its own: exchanges, entries taken out or changed, runs, and how many visits there are at most.
 pub mod Exchanges
 pub mod Runs
 pub mod Bounds
+pub mod Taken

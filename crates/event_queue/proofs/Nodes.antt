@@ -2,3 +2,4 @@
 pub mod Slots
 pub mod Lookups
 pub mod ChainSteps
+pub mod Takes

@@ -1,5 +1,7 @@
 -- What a contract sees of a `Chain`, and how that keeps its entries on nodes. No public clause cites this module.
+use Rattle.std.specs.Map.{lookup, remove_entry, set_value}
 use Rattle.std.specs.Prelude.{◌≡◌, ℕ, ◌+◌, cond, eqb, ltb, List, [], ◌∷◌, ◌++◌, map, length, Option, Some, None, IsSome, slice_get, option_map, option_and_then}
+use denote.RawPtr.{Ptr}
 use Rattle.event_queue.specs.declared.key.Key.{Key}
 use Rattle.event_queue.specs.declared.node.ring.pointers.NodePtr.{NodePtr}
 use Rattle.event_queue.specs.declared.node.ring.pointers.Ring.{Ring}
@@ -7,7 +9,10 @@ use Rattle.event_queue.specs.declared.node.entries.Held.{Held}
 use Rattle.event_queue.specs.declared.node.entries.Held.TheVariants.{Before, After, Nothing}
 use Rattle.event_queue.specs.declared.node.entries.Entry.{Entry}
 use Rattle.event_queue.specs.declared.node.entries.Entries.{Entries}
-use Rattle.event_queue.specs.Ring.{Placed, first_place}
+use Rattle.event_queue.specs.declared.node.Side.{Side}
+use Rattle.event_queue.specs.declared.node.Side.TheVariants as side
+use Rattle.event_queue.specs.Key.{is_key}
+use Rattle.event_queue.specs.Ring.{Placed, placed, first_place, AtNode}
 
 -- a sequence in order with a cursor: the entries before it, those after it, and how many more fit with no
 -- allocation
@@ -15,6 +20,50 @@ pub record Sequence (A B : Type 0) : Type 0 where
   pub before : List (Key × A)
   pub after : List (Key × B)
   pub spare : ℕ
+
+module _ {A B : Type 0} where
+  -- the sequence once the entry of that key was taken out, which was before the cursor, and which was after it
+  abbrev pub before_leaves : Key → Sequence A B → Sequence A B
+  before_leaves key s = record s { before = remove_entry (is_key key) s.before; spare = s.spare + 1 }
+
+  abbrev pub after_leaves : Key → Sequence A B → Sequence A B
+  after_leaves key s = record s { after = remove_entry (is_key key) s.after; spare = s.spare + 1 }
+
+  -- no entry has that key
+  abbrev pub HasNone : Key → Sequence A B → Type 0
+  HasNone key s = (lookup (is_key key) s.before ≡ None) × (lookup (is_key key) s.after ≡ None)
+
+  -- the entry of that key that is taken out, if there is one, and the sequence that is left
+  abbrev pub Takes : Sequence A B → Key → Option (Side A B) → Sequence A B → Type 0
+  Takes old key None new = HasNone key old × (new ≡ old)
+  Takes old key (Some (side.Before value)) new = (lookup (is_key key) old.before ≡ Some value) × (new ≡ before_leaves key old)
+  Takes old key (Some (side.After value)) new = (lookup (is_key key) old.after ≡ Some value) × (new ≡ after_leaves key old)
+
+  module _ {C : Type 0} (changes : C → B → B → C → Type 0) where
+    -- the entry of that key, which is after the cursor, carries a value that is made of the one that it had
+    pub record IsChanged (old : Sequence A B) (key : Key) (on : C) (new : Sequence A B) (on' : C) : Type 0 where
+      pub former : B
+      pub value : B
+      pub found : lookup (is_key key) old.after ≡ Some former
+      pub made : changes on former value on'
+      pub stored : new ≡ record old { after = set_value (is_key key) old.after value }
+
+    -- the same, where only an entry before the cursor is taken out, and one after it gets another value
+    abbrev pub TakesOrChanges : Sequence A B → Key → C → Option (Side A Unit) → Sequence A B → C → Type 0
+    TakesOrChanges old key on None new on' = HasNone key old × (new ≡ old) × (on' ≡ on)
+    TakesOrChanges old key on (Some (side.Before value)) new on' = (lookup (is_key key) old.before ≡ Some value) × (new ≡ before_leaves key old) × (on' ≡ on)
+    TakesOrChanges old key on (Some (side.After _)) new on' = IsChanged old key on new on'
+
+-- how many nodes that visits: those on both sides; where it was after the cursor, the one at the cursor too
+abbrev pub visits_of_taking : {A B : Type 0} → Option (Side A B) → ℕ
+visits_of_taking None = 0
+visits_of_taking (Some (side.Before value)) = 2
+visits_of_taking (Some (side.After value)) = 3
+
+abbrev pub visits_of_change : {A : Type 0} → Option (Side A Unit) → ℕ
+visits_of_change None = 0
+visits_of_change (Some (side.Before value)) = 2
+visits_of_change (Some (side.After _)) = 0
 
 -- how often a slot is among these
 abbrev pub times : ℕ → List ℕ → ℕ
@@ -59,6 +108,31 @@ module _ {A B : Type 0} where
   -- what a spare node of that slot carries
   abbrev pub spare_entry : ℕ → Entry A B
   spare_entry slot = record { slot = slot; serial = 0; held = Nothing }
+
+  -- a node is at p that carries nothing
+  abbrev pub IsSpareAt : List (Node A B) → Ptr → Type 0
+  IsSpareAt nodes p = (xs : List (Node A B)) × (n : Node A B) × (ys : List (Node A B)) × (nodes ≡ xs ++ n ∷ ys) × (n.at ≡ p) × (n.entry.held ≡ Nothing)
+
+  -- the value was taken off the node at p, which is left with what a spare one carries
+  pub record HandsOut (old : Entries A B) (p : Ptr) (value : Held A B) (new : Entries A B) : Type 0 where
+    pub root : new.ring.at ≡ old.ring.at
+    pub cursor : new.cursor ≡ old.cursor
+    pub held : AtNode old.ring.nodes p (λ _ n _. value ≡ n.entry.held)
+    pub nodes : AtNode old.ring.nodes p (λ xs n ys. new.ring.nodes ≡ xs ++ placed n.at (spare_entry n.entry.slot) ∷ ys)
+
+  -- the node at p got the entry of that key, which is after the cursor
+  pub record HandsIn (old : Entries A B) (p : Ptr) (key : Key) (value : B) (new : Entries A B) : Type 0 where
+    pub root : new.ring.at ≡ old.ring.at
+    pub cursor : new.cursor ≡ old.cursor
+    pub nodes : AtNode old.ring.nodes p (λ xs n ys. new.ring.nodes ≡ xs ++ placed n.at (record { slot = key.slot; serial = key.serial; held = After value }) ∷ ys)
+
+  -- the node at p was taken out
+  pub record TakesOut (old : Entries A B) (p : Ptr) (node : Spare A B) (new : Entries A B) : Type 0 where
+    pub root : new.ring.at ≡ old.ring.at
+    pub place : node.at ≡ p
+    pub alone : node.nodes ≡ []
+    pub nodes : AtNode old.ring.nodes p (λ xs _ ys. new.ring.nodes ≡ xs ++ ys)
+    pub entry : AtNode old.ring.nodes p (λ _ n _. node.entry ≡ n.entry)
 
   -- the entry on a node, if it is before the cursor, and if it is after it
   abbrev pub entry_before : Node A B → Option (Key × A)

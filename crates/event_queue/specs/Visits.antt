@@ -1,4 +1,4 @@
--- How many nodes of other listeners a call visits, and how often it looks up its key, by its answer.
+-- How many nodes of other listeners a call visits, by its answer.
 use Rattle.std.specs.Prelude.{ℕ, ◌+◌, Result, Ok, Err, Option, Some, None}
 use Rattle.std.specs.Map.{lookup}
 use Rattle.event_queue.specs.declared.key.Key.{Key}
@@ -22,18 +22,6 @@ visits_of_registration (registration.Notified tag) = 2
 visits_of_registration registration.Registered = 0
 visits_of_registration registration.NeverInserted = 0
 
--- among the told, and where it is not told among the waiting
-abbrev pub looks_of_registration : {T : Type 0} → RegisterResult T → ℕ
-looks_of_registration (registration.Notified tag) = 1
-looks_of_registration registration.Registered = 2
-looks_of_registration registration.NeverInserted = 2
-
--- the same, and once more to store what a stored task was exchanged for
-abbrev pub looks_of_exchange : {T : Type 0} → RegisterResult T → ℕ
-looks_of_exchange (registration.Notified tag) = 1
-looks_of_exchange registration.Registered = 3
-looks_of_exchange registration.NeverInserted = 2
-
 module _ {T W : Type 0} where
   -- whom the notification of a told listener is passed on to, if there is somebody
   abbrev pub visits_of_passing : Option (Notice T) → Key → Queue T W → ℕ
@@ -48,12 +36,3 @@ module _ {T W : Type 0} where
   visits_of_removal (Some (state.Notified additional tag)) key q = 2
   visits_of_removal (Some (state.Passed to)) key q = 2 + visits_of_passing (lookup (is_key key) q.told) key q
   visits_of_removal (Some (state.Lost additional tag)) key q = 2 + visits_of_passing (lookup (is_key key) q.told) key q
-
-  -- among the waiting, and where it does not wait among the told
-  abbrev pub looks_of_removal : Option (State T W) → ℕ
-  looks_of_removal None = 2
-  looks_of_removal (Some state.Created) = 1
-  looks_of_removal (Some (state.Task task)) = 1
-  looks_of_removal (Some (state.Notified additional tag)) = 2
-  looks_of_removal (Some (state.Passed to)) = 2
-  looks_of_removal (Some (state.Lost additional tag)) = 2

@@ -15,6 +15,7 @@ mod notification_laws;
 mod notify;
 mod reply;
 mod run;
+mod stored_task;
 mod tag_list;
 mod uncounted;
 mod wake;

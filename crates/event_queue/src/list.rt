@@ -5,19 +5,20 @@ ghost use Rattle.std.specs.Map.{keys_of, lookup};
 ghost use Rattle.event_queue.specs.Key.{is_key, without};
 ghost use Rattle.event_queue.specs.Queue.{IsQueue, IsGone, IsToldAs, order_of, listeners_of, how_many, after_telling, tasks_of};
 ghost use Rattle.event_queue.specs.Insert.{Inserts};
-ghost use Rattle.event_queue.specs.Register.{Registers, OnNotified, UnlessNotified, after_storing};
-ghost use Rattle.event_queue.specs.Exchange.{RegistersWith};
+ghost use Rattle.event_queue.specs.Register.{Registers, OnNotified, UnlessNotified};
+ghost use Rattle.event_queue.specs.Exchange.{RegistersWith, RegistersBy};
 ghost use Rattle.event_queue.specs.Remove.{Removes, PassedAs, woken_by_removal, woken_by_passing, after_passing};
 ghost use Rattle.event_queue.specs.Notify.{Notifies, NeverRefuses, told_by};
 ghost use Rattle.event_queue.specs.Counts.{Opens, counted_on};
-ghost use Rattle.event_queue.specs.Visits.{visits_of_insertion, visits_of_registration, visits_of_removal, looks_of_registration, looks_of_exchange, looks_of_removal};
+ghost use Rattle.event_queue.specs.Visits.{visits_of_insertion, visits_of_registration, visits_of_removal};
 
 use crate::exchange::TaskExchange;
 use crate::key::Key;
-use crate::node::{Chain, Steps};
+use crate::node::{Chain, Change, Side, Steps};
 use crate::notice::Notice;
 use crate::notify::Notification;
 use crate::reply::{ListenError, NotifyError, RegisterResult, State};
+use crate::stored_task::{Exchanging, Storing};
 use crate::wake::WakeSink;
 use std::alloc::{AllocError, AllocFailed, Global};
 use std::marker::{Brand, Model};
@@ -54,14 +55,6 @@ impl<T, W> Model for List<T, W> {
       next_serial = list.next_serial;
       spare = list.chain.spare;
     }) };
-}
-
-// What a waiting listener stores in place of this task.
-#[inline(always)]
-fn exchange_stored<W, C, X: TaskExchange<W, C>>(exchange: &X, on: &mut C, stored: Option<W>) -> W
-    ensures { X.exchanged exchange.now on.old stored result on.new }
-{
-    exchange.exchange(on, stored)
 }
 
 impl<T, W> List<T, W> {
@@ -138,7 +131,7 @@ impl<T, W> List<T, W> {
     /// the task, in place of any that it stored before.
     ///
     /// The call drops a task that it doesn't store, and one that it replaces. It allocates nothing. It adds its visits
-    /// to `steps`, three at most, and its looks by key, two at most.
+    /// to `steps`, three at most, and one look by key.
     #[inline(always)]
     pub fn register<L: Ledger>(
         &mut self,
@@ -158,8 +151,8 @@ impl<T, W> List<T, W> {
         ensures serial { self.new.next_serial ≡ self.old.next_serial }
         ensures visits { steps.new.visits ≤ steps.old.visits + 3 }
         ensures counted { steps.new.visits ≡ steps.old.visits + visits_of_registration result }
-        ensures looks { steps.new.looks ≤ steps.old.looks + 2 }
-        ensures looked { steps.new.looks ≡ counted_on steps.old.looks (looks_of_registration result) }
+        ensures looks { steps.new.looks ≤ steps.old.looks + 1 }
+        ensures looked { steps.new.looks ≡ counted_on steps.old.looks 1 }
     {
         self.register_step(key, task, steps)
     }
@@ -177,15 +170,36 @@ impl<T, W> List<T, W> {
         ensures was_queue { IsQueue self.old }
         ensures queue { IsQueue self.new }
         ensures counted { steps.new.visits ≡ steps.old.visits + visits_of_registration result }
-        ensures looked { steps.new.looks ≡ counted_on steps.old.looks (looks_of_registration result) }
+        ensures looked { steps.new.looks ≡ counted_on steps.old.looks 1 }
     {
-        if let Some(notice) = self.chain.take_before(key, steps) {
-            let Notice { additional: _, tag } = notice;
-            return RegisterResult::Notified(tag);
-        }
-        match self.chain.replace_after(key, Some(task), steps) {
-            Ok(_) => RegisterResult::Registered,
-            Err(_) => RegisterResult::NeverInserted,
+        self.register_by(key, Storing { task }, &mut None, steps)
+    }
+
+    // Registers a listener: one that was told takes its tag and leaves the queue, and `change` makes what one that waits
+    // stores next of what it stored.
+    #[inline(always)]
+    fn register_by<C, M: Change<Option<W>, C>, L: Ledger>(
+        &mut self,
+        key: Key,
+        change: M,
+        on: &mut C,
+        steps: &mut Steps<L>,
+    ) -> RegisterResult<T>
+    where
+        M: Drop,
+        ensures step { RegistersBy (M.changes change) self.old key on.old result self.new on.new }
+        ensures was_queue { IsQueue self.old }
+        ensures queue { IsQueue self.new }
+        ensures counted { steps.new.visits ≡ steps.old.visits + visits_of_registration result }
+        ensures looked { steps.new.looks ≡ counted_on steps.old.looks 1 }
+    {
+        match self.chain.take_or_change(key, change, on, steps) {
+            Some(Side::Before(notice)) => {
+                let Notice { additional: _, tag } = notice;
+                RegisterResult::Notified(tag)
+            }
+            Some(Side::After(())) => RegisterResult::Registered,
+            None => RegisterResult::NeverInserted,
         }
     }
 
@@ -193,8 +207,8 @@ impl<T, W> List<T, W> {
     /// leaves the queue; of one that waits, the stored task, if it has one, is exchanged, and what comes back is stored.
     ///
     /// Nothing is exchanged if the listener was notified, or if no listener has that key. The call drops no task, and
-    /// allocates and waits only if the exchange does. It adds its visits to `steps`, three at most, and its looks by
-    /// key, three at most.
+    /// allocates and waits only if the exchange does. It adds its visits to `steps`, three at most, and one look by
+    /// key.
     pub fn register_with<C, X: TaskExchange<W, C>, L: Ledger>(
         &mut self,
         key: Key,
@@ -212,8 +226,8 @@ impl<T, W> List<T, W> {
         ensures serial { self.new.next_serial ≡ self.old.next_serial }
         ensures visits { steps.new.visits ≤ steps.old.visits + 3 }
         ensures counted { steps.new.visits ≡ steps.old.visits + visits_of_registration result }
-        ensures looks { steps.new.looks ≤ steps.old.looks + 3 }
-        ensures looked { steps.new.looks ≡ counted_on steps.old.looks (looks_of_exchange result) }
+        ensures looks { steps.new.looks ≤ steps.old.looks + 1 }
+        ensures looked { steps.new.looks ≡ counted_on steps.old.looks 1 }
     {
         self.register_with_step(key, exchange, on, steps)
     }
@@ -229,40 +243,9 @@ impl<T, W> List<T, W> {
         ensures was_queue { IsQueue self.old }
         ensures queue { IsQueue self.new }
         ensures counted { steps.new.visits ≡ steps.old.visits + visits_of_registration result }
-        ensures looked { steps.new.looks ≡ counted_on steps.old.looks (looks_of_exchange result) }
+        ensures looked { steps.new.looks ≡ counted_on steps.old.looks 1 }
     {
-        if let Some(notice) = self.chain.take_before(key, steps) {
-            let Notice { additional: _, tag } = notice;
-            return RegisterResult::Notified(tag);
-        }
-        match self.chain.replace_after(key, None, steps) {
-            Ok(stored) => {
-                let task = exchange_stored(exchange, on, stored);
-                self.store(key, task, steps);
-                RegisterResult::Registered
-            }
-            Err(nothing) => match nothing {
-                None => RegisterResult::NeverInserted,
-                _ => unreachable!(),
-            },
-        }
-    }
-
-    // Stores the task of a waiting listener that has none.
-    fn store<L: Ledger>(&mut self, key: Key, task: W, steps: &mut Steps<L>)
-        requires { lookup (is_key key) self.old.waiting ≡ Some None }
-        ensures stored { self.new ≡ after_storing key task self.old }
-        ensures queue { IsQueue self.new }
-        ensures visits { steps.new.visits ≡ steps.old.visits }
-        ensures looks { steps.new.looks ≡ counted_on steps.old.looks 1 }
-    {
-        match self.chain.replace_after(key, Some(task), steps) {
-            Ok(former) => match former {
-                None => {}
-                _ => unreachable!(),
-            },
-            Err(_) => unreachable!(),
-        }
+        self.register_by(key, Exchanging { exchange }, on, steps)
     }
 
     /// Removes a listener from the queue, and returns what it was, or `None` if no listener has that key.
@@ -271,7 +254,7 @@ impl<T, W> List<T, W> {
     /// kind and with the same tag. The answer says where it went: [`State::Passed`] names the listener notified by
     /// it, and [`State::Lost`] returns the tag if none was. So a default notification is lost while another
     /// listener stays notified, and an additional one only if none waits. The call allocates nothing, and neither
-    /// clones nor drops a tag. It adds its visits to `steps`, three at most, and its looks by key, two at most.
+    /// clones nor drops a tag. It adds its visits to `steps`, three at most, and one look by key.
     #[inline(always)]
     pub fn remove<S: WakeSink<W>, L: Ledger>(
         &mut self,
@@ -295,8 +278,8 @@ impl<T, W> List<T, W> {
 
         ensures visits { steps.new.visits ≤ steps.old.visits + 3 }
         ensures counted { steps.new.visits ≡ steps.old.visits + visits_of_removal result key self.old }
-        ensures looks { steps.new.looks ≤ steps.old.looks + 2 }
-        ensures looked { steps.new.looks ≡ counted_on steps.old.looks (looks_of_removal result) }
+        ensures looks { steps.new.looks ≤ steps.old.looks + 1 }
+        ensures looked { steps.new.looks ≡ counted_on steps.old.looks 1 }
     {
         self.remove_step(key, propagate, sink, steps)
     }
@@ -314,20 +297,21 @@ impl<T, W> List<T, W> {
         ensures was_queue { IsQueue self.old }
         ensures queue { IsQueue self.new }
         ensures counted { steps.new.visits ≡ steps.old.visits + visits_of_removal result key self.old }
-        ensures looked { steps.new.looks ≡ counted_on steps.old.looks (looks_of_removal result) }
+        ensures looked { steps.new.looks ≡ counted_on steps.old.looks 1 }
     {
-        if let Some(task) = self.chain.take_after(key, steps) {
-            return Some(match task {
+        match self.chain.take(key, steps)? {
+            Side::After(stored) => Some(match stored {
                 Some(task) => State::Task(task),
                 None => State::Created,
-            });
+            }),
+            Side::Before(notice) => {
+                if propagate {
+                    return Some(self.pass_on(notice, sink, steps));
+                }
+                let Notice { additional, tag } = notice;
+                Some(State::Notified { additional, tag })
+            }
         }
-        let notice = self.chain.take_before(key, steps)?;
-        if propagate {
-            return Some(self.pass_on(notice, sink, steps));
-        }
-        let Notice { additional, tag } = notice;
-        Some(State::Notified { additional, tag })
     }
 
     // Propagates a notification: notifies one, of that notice's kind and with its tag. The answer says who was told;

@@ -1,9 +1,9 @@
 //! A sequence with a cursor: nodes on the heap with raw links, and a table that leads from a key to its node.
 ghost use Rattle.std.specs.Prelude.{◌≡◌, ◌≢◌, ◌+◌, ◌<◌, ◌≤◌, ◌^◌, ◌↔◌, [], ◌∷◌, ◌++◌, length, All, IsTrue, IsOk, IsSome, OnOk, OnErr, IfOk, IfErr, OnSome, IfNone};
-ghost use Rattle.std.specs.Map.{lookup, remove_entry, set_value};
+ghost use Rattle.std.specs.Map.{lookup};
 ghost use Rattle.event_queue.specs.Key.{is_key};
 ghost use Rattle.event_queue.specs.Counts.{counted_on};
-ghost use Rattle.event_queue.specs.Nodes.{nodes_of, IsStarted};
+ghost use Rattle.event_queue.specs.Nodes.{nodes_of, IsStarted, Takes, TakesOrChanges, visits_of_taking, visits_of_change};
 
 use crate::key::Key;
 use crate::node::entries::{Entries, Held};
@@ -13,11 +13,20 @@ use std::marker::Model;
 use std::mem;
 use std::sync::ledger::Ledger;
 
+mod change;
 mod entries;
 mod ring;
 mod table;
 
+pub use change::Change;
 pub use ring::Steps;
+
+/// What is known of an entry, by the side of the cursor that it is on.
+#[derive(Drop)]
+pub enum Side<A, B> {
+    Before(A),
+    After(B),
+}
 
 /// Entries in the order in which they were pushed, each under a key that the chain gives it, and a cursor between
 /// two of them: those before it carry an `A`, those after it a `B`.
@@ -211,91 +220,67 @@ impl<A, B> Chain<A, B> {
         key
     }
 
-    /// Takes the entry of that key out, if it is before the cursor.
+    /// Takes the entry of that key out.
     #[inline(always)]
-    pub fn take_before<L: Ledger>(&mut self, key: Key, steps: &mut Steps<L>) -> Option<A>
-        ensures value { result ≡ lookup (is_key key) self.old.before }
-        ensures taken { OnSome result (self.new ≡ record self.old { before = remove_entry (is_key key) self.old.before; spare = self.old.spare + 1 }) }
-        ensures absent { IfNone result (self.new ≡ self.old) }
-        ensures visits { OnSome result (steps.new.visits ≡ steps.old.visits + 2) }
-        ensures no_visit { IfNone result (steps.new.visits ≡ steps.old.visits) }
+    pub fn take<L: Ledger>(&mut self, key: Key, steps: &mut Steps<L>) -> Option<Side<A, B>>
+        ensures step { Takes self.old key result self.new }
+        ensures visits { steps.new.visits ≡ steps.old.visits + visits_of_taking result }
         ensures looks { steps.new.looks ≡ counted_on steps.old.looks 1 }
     {
         let own = self.table.find(key, steps)?;
         let Some(entries) = &mut self.entries else {
             unreachable!()
         };
-        if !entries.is_before(&own) {
-            return None;
-        }
-        let (node, held) = entries.take(own, steps);
-        self.table.recycle(key.slot, node);
-        match held {
+        match entries.hand_out(&own) {
             Held::Before(value) => {
+                let node = entries.take(own, steps);
+                self.table.recycle(key.slot, node);
                 self.before_len -= 1;
-                Some(value)
+                Some(Side::Before(value))
             }
-            _ => unreachable!(),
-        }
-    }
-
-    /// Takes the entry of that key out, if it is after the cursor.
-    #[inline(always)]
-    pub fn take_after<L: Ledger>(&mut self, key: Key, steps: &mut Steps<L>) -> Option<B>
-        ensures value { result ≡ lookup (is_key key) self.old.after }
-        ensures taken { OnSome result (self.new ≡ record self.old { after = remove_entry (is_key key) self.old.after; spare = self.old.spare + 1 }) }
-        ensures absent { IfNone result (self.new ≡ self.old) }
-        ensures visits { OnSome result (steps.new.visits ≡ steps.old.visits + 3) }
-        ensures no_visit { IfNone result (steps.new.visits ≡ steps.old.visits) }
-        ensures looks { steps.new.looks ≡ counted_on steps.old.looks 1 }
-    {
-        let own = self.table.find(key, steps)?;
-        let Some(entries) = &mut self.entries else {
-            unreachable!()
-        };
-        if !entries.is_after(&own) {
-            return None;
-        }
-        let (node, held) = entries.take_after(own, steps);
-        self.table.recycle(key.slot, node);
-        match held {
             Held::After(value) => {
+                let node = entries.take_after(own, steps);
+                self.table.recycle(key.slot, node);
                 self.after_len -= 1;
-                Some(value)
+                Some(Side::After(value))
             }
-            _ => unreachable!(),
+            Held::Nothing => unreachable!(),
         }
     }
 
-    /// Gives the entry of that key another value, if it is after the cursor, and returns the one that it had. Else
-    /// the value comes back.
+    /// Takes the entry of that key out, if it is before the cursor. If it is after the cursor, gives it the value that
+    /// `change` makes of the one that it has.
     #[inline(always)]
-    pub fn replace_after<L: Ledger>(
+    pub fn take_or_change<C, M: Change<B, C>, L: Ledger>(
         &mut self,
         key: Key,
-        value: B,
+        change: M,
+        on: &mut C,
         steps: &mut Steps<L>,
-    ) -> Result<B, B>
-        ensures former { IfOk result (λ former. lookup (is_key key) self.old.after ≡ Some former) }
-        ensures replaced { OnOk result (self.new ≡ record self.old { after = set_value (is_key key) self.old.after value }) }
-        ensures absent { OnErr result (lookup (is_key key) self.old.after ≡ None) }
-        ensures unchanged { OnErr result (self.new ≡ self.old) }
-        ensures value_returned { IfErr result (λ refused. refused ≡ value) }
-        ensures visits { steps.new.visits ≡ steps.old.visits }
+    ) -> Option<Side<A, ()>>
+    where
+        M: Drop,
+        ensures step { TakesOrChanges (M.changes change) self.old key on.old result self.new on.new }
+        ensures visits { steps.new.visits ≡ steps.old.visits + visits_of_change result }
         ensures looks { steps.new.looks ≡ counted_on steps.old.looks 1 }
     {
-        let Some(own) = self.table.find(key, steps) else {
-            return Err(value);
-        };
+        let own = self.table.find(key, steps)?;
         let Some(entries) = &mut self.entries else {
             unreachable!()
         };
-        if !entries.is_after(&own) {
-            return Err(value);
-        }
-        match entries.replace(&own, value) {
-            Held::After(former) => Ok(former),
-            _ => unreachable!(),
+        match entries.hand_out(&own) {
+            Held::Before(value) => {
+                let node = entries.take(own, steps);
+                self.table.recycle(key.slot, node);
+                self.before_len -= 1;
+                Some(Side::Before(value))
+            }
+            Held::After(former) => {
+                let value = change.change(on, former);
+                entries.hand_in(&own, key, value);
+                Some(Side::After(()))
+            }
+            Held::Nothing => unreachable!(),
         }
     }
 

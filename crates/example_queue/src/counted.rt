@@ -17,7 +17,7 @@ use std::sync::ledger::{Blank, Ledger};
 /// visitors that looked, at three at most however long the line is, and how often it looked up the ticket.
 pub fn leave_counted(line: &mut List<(), u64>, ticket: Key, called: &mut Woken<u64>) -> (u64, u64)
     ensures few { result.0 ≤ 3 }
-    ensures twice { result.1 ≤ 2 }
+    ensures once { result.1 ≤ 1 }
     ensures others { order_of line.new ≡ without ticket (order_of line.old) }
 {
     leave_from::<Brand>(line, ticket, called, Blank::new(1))
@@ -33,7 +33,7 @@ fn leave_from<L: Ledger>(
     requires parts { blank.parts ≡ L.parts }
     requires has_a_part { 0 < blank.parts }
     ensures few { result.0 ≤ 3 }
-    ensures twice { result.1 ≤ 2 }
+    ensures once { result.1 ≤ 1 }
     ensures others { order_of line.new ≡ without ticket (order_of line.old) }
 {
     let mut steps = Steps::<L>::new(blank);

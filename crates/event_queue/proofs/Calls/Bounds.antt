@@ -1,4 +1,4 @@
--- How many visits and looks a call makes at most, whatever it answers.
+-- How many visits a call makes at most, whatever it answers.
 use Rattle.std.proofs.Common.{◌≤◌, arith, Option, Some, None}
 use Rattle.std.specs.Map.{lookup}
 use Rattle.event_queue.specs.declared.key.Key.{Key}
@@ -9,7 +9,7 @@ use Rattle.event_queue.specs.declared.reply.State.{State}
 use Rattle.event_queue.specs.declared.reply.State.TheVariants.{Created, Notified as WasNotified, Task, Passed, Lost}
 use Rattle.event_queue.specs.Key.{is_key}
 use Rattle.event_queue.specs.Queue.{Queue, told_leaves}
-use Rattle.event_queue.specs.Visits.{visits_of_registration, visits_of_passing, visits_of_removal, looks_of_registration, looks_of_exchange, looks_of_removal}
+use Rattle.event_queue.specs.Visits.{visits_of_registration, visits_of_passing, visits_of_removal}
 use Rattle.event_queue.proofs.LawLemmas.{at_most_one}
 
 module _ {T : Type 0} where
@@ -17,16 +17,6 @@ module _ {T : Type 0} where
   visits_of_registration-most (Notified tag) = omega arith
   visits_of_registration-most Registered = omega arith
   visits_of_registration-most NeverInserted = omega arith
-
-  pub looks_of_registration-most : (answer : RegisterResult T) → looks_of_registration answer ≤ 2
-  looks_of_registration-most (Notified tag) = omega arith
-  looks_of_registration-most Registered = omega arith
-  looks_of_registration-most NeverInserted = omega arith
-
-  pub looks_of_exchange-most : (answer : RegisterResult T) → looks_of_exchange answer ≤ 3
-  looks_of_exchange-most (Notified tag) = omega arith
-  looks_of_exchange-most Registered = omega arith
-  looks_of_exchange-most NeverInserted = omega arith
 
 module _ {T W : Type 0} where
   visits_of_passing-most : (notice : Option (Notice T)) (key : Key) (q : Queue T W) → visits_of_passing notice key q ≤ 1
@@ -40,11 +30,3 @@ module _ {T W : Type 0} where
   visits_of_removal-most (Some (WasNotified additional tag)) key q = omega arith
   visits_of_removal-most (Some (Passed to)) key q = omega (arith, visits_of_passing-most (lookup (is_key key) q.told) key q)
   visits_of_removal-most (Some (Lost additional tag)) key q = omega (arith, visits_of_passing-most (lookup (is_key key) q.told) key q)
-
-  pub looks_of_removal-most : (answer : Option (State T W)) → looks_of_removal answer ≤ 2
-  looks_of_removal-most None = omega arith
-  looks_of_removal-most (Some Created) = omega arith
-  looks_of_removal-most (Some (Task task)) = omega arith
-  looks_of_removal-most (Some (WasNotified additional tag)) = omega arith
-  looks_of_removal-most (Some (Passed to)) = omega arith
-  looks_of_removal-most (Some (Lost additional tag)) = omega arith

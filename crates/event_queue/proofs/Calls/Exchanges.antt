@@ -1,35 +1,16 @@
 -- A task that is handed out, and the one that is stored in its place.
-use Rattle.std.proofs.Common.{◌≡◌, Bool, List, [], ◌∷◌, ◌++◌, refl, sym, ap, subst, ◌∙◌, inl, inr, Option, Some, arith}
-use Rattle.std.proofs.lemmas.Bool.{cases_Bool}
-use Rattle.std.specs.Map.{keys_of, lookup, set_value}
+use Rattle.std.proofs.Common.{◌≡◌, ◌++◌, sym, ap, subst, ◌∙◌, Option, arith}
+use Rattle.std.specs.Map.{keys_of, set_value}
 use Rattle.std.proofs.lemmas.Map.{keys-set_value, length-set_value}
 use Rattle.event_queue.specs.declared.key.Key.{Key}
 use Rattle.event_queue.specs.declared.reply.RegisterResult.{RegisterResult}
 use Rattle.event_queue.specs.declared.reply.RegisterResult.TheVariants.{Notified, Registered, NeverInserted}
 use Rattle.event_queue.specs.Key.{is_key, without}
 use Rattle.event_queue.specs.Queue.{Queue, IsQueue, IsGone, order_of}
-use Rattle.event_queue.specs.Register.{OnNotified, UnlessNotified, after_storing}
+use Rattle.event_queue.specs.Register.{OnNotified, UnlessNotified}
 use Rattle.event_queue.specs.Exchange.{RegistersWith}
 use Rattle.event_queue.proofs.QueueLemmas.{rises_along, IsQueue-from_Rises, order_of-after_storing}
 use Rattle.event_queue.proofs.LawLemmas.{took_tag-gone, took_tag-order}
-
-module _ {K X : Type 0} (test : K → Bool) where
-  -- what was stored last is what stands there
-  pub set_value-twice : (entries : List (K × X)) (first second : X) → set_value test (set_value test entries first) second ≡ set_value test entries second
-  set_value-twice [] first second = refl
-  set_value-twice (e ∷ es) first second =
-      elim (cases_Bool (test e.0)) [
-        | inl passes ↦ rw passes (rw passes refl)
-        | inr fails ↦ rw fails (rw fails (ap (λ entries. e ∷ entries) (set_value-twice es first second)))
-      ]
-
-  pub lookup-stored : (entries : List (K × X)) (former value : X) → lookup test entries ≡ Some former → lookup test (set_value test entries value) ≡ Some value
-  lookup-stored [] former value found = absurd (cc)
-  lookup-stored (e ∷ es) former value found =
-      elim (cases_Bool (test e.0)) [
-        | inl passes ↦ rw passes (rw passes refl)
-        | inr fails ↦ rw fails (rw fails (lookup-stored es former value (rw fails at found)))
-      ]
 
 module _ {T W : Type 0} where
   -- the queue once the waiting listener of that key stores this, be it no task
@@ -40,10 +21,6 @@ module _ {T W : Type 0} where
   IsQueue-after_setting key stored q queue =
       let order : order_of (after_setting key stored q) ≡ order_of q = ap (λ keys. keys_of q.told ++ keys) (keys-set_value (is_key key) q.waiting stored) in
       IsQueue-from_Rises _ (rw order (rises_along q queue)) queue.serial_fits (omega (arith, queue.slots_fit, length-set_value (is_key key) q.waiting stored))
-
-  pub after_storing-again : (key : Key) (stored : Option W) (task : W) (q : Queue T W) → after_storing key task (after_setting key stored q) ≡ after_storing key task q
-  after_storing-again key stored task q =
-      ap (λ waiting. record q { waiting = waiting }) (set_value-twice (is_key key) q.waiting stored (Some task))
 
   -- the listener that took its tag is gone, and the others keep their order
 

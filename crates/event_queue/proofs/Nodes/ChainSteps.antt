@@ -16,7 +16,7 @@ use Rattle.event_queue.specs.Nodes.{Node, Spare, Slots, times, slots_of, nodes_o
 use Rattle.event_queue.specs.Nodes.{HasCursor, IsStarted, IsTable, IsSound}
 use Rattle.event_queue.proofs.Nodes.Slots.{times_same, apart_from_times, times-slots_of-append, cut_at, once, within, linked_slot, leads_to, not_linked, spare_within}
 use Rattle.event_queue.proofs.Nodes.Slots.{last_is_spare, IsTable-linked, IsTable-returned, IsTable-changed}
-use Rattle.event_queue.proofs.Nodes.Lookups.{some_value, entries_by, entries_by-append, entries_some, entries_none, entries_skip, all_other, lookup_absent, lookup_cut, remove_cut}
+use Rattle.event_queue.proofs.Nodes.Lookups.{entries_by, entries_by-append, entries_some, entries_none, entries_skip, all_other, lookup_absent, lookup_cut, remove_cut}
 use Rattle.event_queue.proofs.Nodes.Lookups.{set_cut, is_before, is_after, none_before, none_after, AreBefore-append, AreBefore-cut, AreAfter-append, AreAfter-cut, length-before}
 use Rattle.event_queue.proofs.Nodes.Lookups.{length-after}
 
@@ -156,14 +156,6 @@ module _ {A B : Type 0} where
         tests_lookup result tests =
             rw looked (tests lies.front lies.node lies.rest lies.is lies.place)
 
-        pub misses : (result : Bool) → Tests result → result ≡ false → lookup (is_key key) (entries_by value entries.ring.nodes) ≡ None
-        misses result tests fails =
-            none_value (lookup (is_key key) (entries_by value entries.ring.nodes)) result (tests_lookup result tests).1 fails
-          where
-            none_value : (o : Option X) (test : Bool) → (IsSome o → IsTrue test) → test ≡ false → o ≡ None
-            none_value None test passes fails = refl
-            none_value (Some x) test passes fails = absurd (true≢false (sym (passes refl) ∙ fails))
-
   -- the node of a key with its value
   pub record Finds {X : Type 0} (value : Held A B → Option X) (nodes : List (Node A B)) (key : Key) (at : Ptr) : Type 0 where
     pub lies : Lies nodes key at
@@ -171,21 +163,6 @@ module _ {A B : Type 0} where
     pub x : X
     pub held : value lies.node.entry.held ≡ Some x
     pub looked : lookup (is_key key) (entries_by value nodes) ≡ Some x
-
-  pub finds : (entries : Entries A B) (slots : Slots A B) (spares : List (Spare A B)) (before_len after_len : ℕ) (sound : IsSound (Some entries) slots spares before_len after_len)
-      (key : Key) (at : NodePtr (Entry A B)) (leads : node_at slots key ≡ Some at) {X : Type 0} (value : Held A B → Option X) (result : Bool)
-      → Tests entries slots spares before_len after_len sound key at leads value result → result ≡ true → Finds value entries.ring.nodes key at.ptr
-  finds entries slots spares before_len after_len sound key at leads {X} value result tests passes =
-      let lies = lies entries slots spares before_len after_len sound key at leads in
-      let some = (tests lies.front lies.node lies.rest lies.is lies.place).0 passes in
-      let held = some_value (value lies.node.entry.held) some in
-      record {
-        lies = lies;
-        key_is = ap₂ {C = Key} (λ a b. record { slot = a; serial = b }) lies.slot_is lies.serial_is;
-        x = held.0;
-        held = held.1;
-        looked = looked entries slots spares before_len after_len sound key at leads value ∙ held.1;
-      }
 
   -- a key that leads nowhere
   pub leads_nowhere : (entries : Option (Entries A B)) (slots : Slots A B) (spares : List (Spare A B)) (before_len after_len : ℕ)

@@ -1,7 +1,7 @@
 //! The entries of a chain in order, each on a node of one ring, and the cursor.
 ghost use Rattle.std.specs.Prelude.{◌≡◌, ◌+◌, [], ◌∷◌, ◌++◌, cond, ◌↔◌, eqb, IsTrue, IsSome, IfOk};
 ghost use Rattle.event_queue.specs.Ring.{placed, first_place, IsAt, AtNode};
-ghost use Rattle.event_queue.specs.Nodes.{key_of, value_before, value_after, spare_entry};
+ghost use Rattle.event_queue.specs.Nodes.{key_of, value_before, spare_entry, IsSpareAt, HandsOut, HandsIn, TakesOut};
 
 use super::ring::{NodePtr, NodeRef, Ring, Steps};
 use crate::key::Key;
@@ -107,16 +107,6 @@ impl<A, B> Entries<A, B> {
         matches!(entry.held, Held::Before(_))
     }
 
-    /// Whether the node's entry is after the cursor.
-    #[inline(always)]
-    pub(super) fn is_after(&self, own: &NodeRef<Entry<A, B>>) -> bool
-        requires { IsAt self.now.ring.nodes own.now.ptr }
-        ensures { AtNode self.now.ring.nodes own.now.ptr (λ _ n _. IsTrue result ↔ IsSome (value_after n.entry.held)) }
-    {
-        let (entry, _) = self.ring.look(own);
-        matches!(entry.held, Held::After(_))
-    }
-
     /// Links a spare node in at the end, with an entry after the cursor. Its slot and the node are the answer.
     ///
     /// If no other entry is after the cursor, the cursor moves to it.
@@ -154,48 +144,61 @@ impl<A, B> Entries<A, B> {
         (slot, own)
     }
 
-    /// Takes a node out. It becomes spare, and its value is the answer too.
+    /// Takes the value off a node, which then carries what a spare one does.
+    #[inline(always)]
+    pub(super) fn hand_out(&mut self, own: &NodeRef<Entry<A, B>>) -> Held<A, B>
+        requires { IsAt self.old.ring.nodes own.now.ptr }
+        ensures { HandsOut self.old own.now.ptr result self.new }
+    {
+        let (entry, _) = self.ring.look(own);
+        let slot = entry.slot;
+        let entry = self.ring.replace(own, Entry::spare(slot));
+        entry.into_held()
+    }
+
+    /// Gives a node that carries what a spare one does an entry after the cursor.
+    #[inline(always)]
+    pub(super) fn hand_in(&mut self, own: &NodeRef<Entry<A, B>>, key: Key, value: B)
+        requires { IsSpareAt self.old.ring.nodes own.now.ptr }
+        ensures { HandsIn self.old own.now.ptr key value self.new }
+    {
+        let entry = Entry {
+            slot: key.slot,
+            serial: key.serial,
+            held: Held::After(value),
+        };
+        self.ring.replace(own, entry).drop_spare();
+    }
+
+    /// Takes a node out whose value was handed out. It becomes spare.
     #[inline(always)]
     pub(super) fn take<L: Ledger>(
         &mut self,
         own: NodeRef<Entry<A, B>>,
         steps: &mut Steps<L>,
-    ) -> (Ring<Entry<A, B>>, Held<A, B>)
+    ) -> Ring<Entry<A, B>>
         requires { IsAt self.old.ring.nodes own.ptr }
-        ensures root { self.new.ring.at ≡ self.old.ring.at }
+        ensures taken { TakesOut self.old own.ptr result self.new }
         ensures cursor { self.new.cursor ≡ self.old.cursor }
-        ensures place { result.0.at ≡ own.ptr }
-        ensures alone { result.0.nodes ≡ [] }
-        ensures nodes { AtNode self.old.ring.nodes own.ptr (λ xs n ys. self.new.ring.nodes ≡ xs ++ ys) }
-        ensures spare { AtNode self.old.ring.nodes own.ptr (λ _ n _. result.0.entry ≡ spare_entry n.entry.slot) }
-        ensures held { AtNode self.old.ring.nodes own.ptr (λ _ n _. result.1 ≡ n.entry.held) }
         ensures visits { steps.new.visits ≡ steps.old.visits + 2 }
         ensures looks { steps.new.looks ≡ steps.old.looks }
     {
-        let (entry, _) = self.ring.look(&own);
-        let slot = entry.slot;
-        let entry = self.ring.replace(&own, Entry::spare(slot));
-        (self.ring.take(own, steps), entry.into_held())
+        self.ring.take(own, steps)
     }
 
-    /// Takes a node out that is after the cursor, as [`Entries::take`] does. If it is the first of these, the cursor moves
-    /// behind it.
+    /// Takes a node out as [`Entries::take`] does, whose value was after the cursor. If it is the first of these, the
+    /// cursor moves behind it.
     #[inline(always)]
     pub(super) fn take_after<L: Ledger>(
         &mut self,
         own: NodeRef<Entry<A, B>>,
         steps: &mut Steps<L>,
-    ) -> (Ring<Entry<A, B>>, Held<A, B>)
+    ) -> Ring<Entry<A, B>>
         requires node { IsAt self.old.ring.nodes own.ptr }
         requires cursor { IsAt self.old.ring.nodes self.old.cursor.ptr }
-        ensures root { self.new.ring.at ≡ self.old.ring.at }
+        ensures taken { TakesOut self.old own.ptr result self.new }
         ensures cursor { AtNode self.old.ring.nodes own.ptr (λ _ n ys. AtNode self.old.ring.nodes self.old.cursor.ptr (λ _ first _.
             self.new.cursor.ptr ≡ cond (eqb first.entry.slot n.entry.slot) (first_place ys self.old.ring.at) self.old.cursor.ptr)) }
-        ensures place { result.0.at ≡ own.ptr }
-        ensures alone { result.0.nodes ≡ [] }
-        ensures nodes { AtNode self.old.ring.nodes own.ptr (λ xs n ys. self.new.ring.nodes ≡ xs ++ ys) }
-        ensures spare { AtNode self.old.ring.nodes own.ptr (λ _ n _. result.0.entry ≡ spare_entry n.entry.slot) }
-        ensures held { AtNode self.old.ring.nodes own.ptr (λ _ n _. result.1 ≡ n.entry.held) }
         ensures visits { steps.new.visits ≡ steps.old.visits + 3 }
         ensures looks { steps.new.looks ≡ steps.old.looks }
     {
@@ -208,26 +211,6 @@ impl<A, B> Entries<A, B> {
             self.cursor = next;
         }
         taken
-    }
-
-    /// Gives an entry another value, which is after the cursor, and returns the one that it had.
-    #[inline(always)]
-    pub(super) fn replace(&mut self, own: &NodeRef<Entry<A, B>>, value: B) -> Held<A, B>
-        requires { IsAt self.old.ring.nodes own.now.ptr }
-        ensures root { self.new.ring.at ≡ self.old.ring.at }
-        ensures cursor { self.new.cursor ≡ self.old.cursor }
-        ensures former { AtNode self.old.ring.nodes own.now.ptr (λ _ n _. result ≡ n.entry.held) }
-        ensures nodes { AtNode self.old.ring.nodes own.now.ptr (λ xs n ys. self.new.ring.nodes ≡ xs ++ placed n.at (record n.entry { held = Held.After value }) ∷ ys) }
-    {
-        let (entry, _) = self.ring.look(own);
-        let Key { slot, serial } = entry.key();
-        let entry = Entry {
-            slot,
-            serial,
-            held: Held::After(value),
-        };
-        let former = self.ring.replace(own, entry);
-        former.into_held()
     }
 
     /// Moves the cursor past the first entry after it, which gets this value. Its key and the value that it had are

@@ -48,11 +48,11 @@ fn who_leaves_looks_at_few_others(rt: HostRuntime) {
     // One who waits: the two neighbors, and the first who waits.
     leaves(&rt, &mut line, second, &mut called, (3, 1));
     // One who was admitted: the two neighbors, and the one admitted in its place.
-    leaves(&rt, &mut line, first, &mut called, (3, 2));
+    leaves(&rt, &mut line, first, &mut called, (3, 1));
     check(&rt, "numbers", called.tasks(), &[10, 30]);
     // Nobody is admitted in the place of the last.
-    leaves(&rt, &mut line, third, &mut called, (2, 2));
-    leaves(&rt, &mut line, third, &mut called, (0, 2));
+    leaves(&rt, &mut line, third, &mut called, (2, 1));
+    leaves(&rt, &mut line, third, &mut called, (0, 1));
     check(&rt, "numbers", called.tasks(), &[10, 30]);
 }
 

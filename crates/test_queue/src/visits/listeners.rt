@@ -48,47 +48,40 @@ const INSERTIONS: [(Standing, u64); 4] = [
     (Absent, 1),
 ];
 
-// What a registration answers and visits, and its looks by key: without an exchange and with one.
-const REGISTRATIONS: [(Standing, RegisterResult<u32>, u64, [u64; 2]); 7] = [
-    // The own node alone, told or waiting, and to store what was exchanged.
-    (Waiting, Registered, 0, [2, 3]),
-    (FirstWaiting, Registered, 0, [2, 3]),
+// What a registration answers and visits, without an exchange and with one. It looks up its key once.
+const REGISTRATIONS: [(Standing, RegisterResult<u32>, u64); 7] = [
+    // The own node alone.
+    (Waiting, Registered, 0),
+    (FirstWaiting, Registered, 0),
     // It is told and leaves: the two neighbors.
-    (LastTold { additional: true }, Notified(TAG), 2, [1, 1]),
-    (LastTold { additional: false }, Notified(TAG), 2, [1, 1]),
-    (AllTold { additional: true }, Notified(TAG), 2, [1, 1]),
-    // Nobody has the key, told or waiting.
-    (Absent, NeverInserted, 0, [2, 2]),
-    (Replaced, NeverInserted, 0, [2, 2]),
+    (LastTold { additional: true }, Notified(TAG), 2),
+    (LastTold { additional: false }, Notified(TAG), 2),
+    (AllTold { additional: true }, Notified(TAG), 2),
+    // Nobody has the key.
+    (Absent, NeverInserted, 0),
+    (Replaced, NeverInserted, 0),
 ];
 
-// What a removal with propagation or without answers and visits, and its looks by key: among the waiting, and then among
-// the told.
-const REMOVALS: [(Standing, bool, Answer, u64, u64); 13] = [
+// What a removal with propagation or without answers and visits. It looks up its key once.
+const REMOVALS: [(Standing, bool, Answer, u64); 13] = [
     // The two neighbors, and the node at the cursor.
-    (Waiting, false, WAITED, 3, 1),
-    (Waiting, true, WAITED, 3, 1),
-    (FirstWaiting, false, WAITED, 3, 1),
-    (FirstWaiting, true, WAITED, 3, 1),
+    (Waiting, false, WAITED, 3),
+    (Waiting, true, WAITED, 3),
+    (FirstWaiting, false, WAITED, 3),
+    (FirstWaiting, true, WAITED, 3),
     // The two neighbors.
-    (LastTold { additional: false }, false, TOLD_BY_DEFAULT, 2, 2),
-    (
-        AllTold { additional: true },
-        false,
-        TOLD_BY_ADDITIONAL,
-        2,
-        2,
-    ),
+    (LastTold { additional: false }, false, TOLD_BY_DEFAULT, 2),
+    (AllTold { additional: true }, false, TOLD_BY_ADDITIONAL, 2),
     // The two neighbors, and who is told in its place.
-    (LastTold { additional: true }, true, PASSED, 3, 2),
+    (LastTold { additional: true }, true, PASSED, 3),
     // The two neighbors: nobody waits who could be told.
-    (AllTold { additional: true }, true, LOST_ADDITIONAL, 2, 2),
-    (AllTold { additional: false }, true, LOST_DEFAULT, 2, 2),
+    (AllTold { additional: true }, true, LOST_ADDITIONAL, 2),
+    (AllTold { additional: false }, true, LOST_DEFAULT, 2),
     // Nobody has the key.
-    (Absent, false, NOBODY, 0, 2),
-    (Absent, true, NOBODY, 0, 2),
-    (Replaced, false, NOBODY, 0, 2),
-    (Replaced, true, NOBODY, 0, 2),
+    (Absent, false, NOBODY, 0),
+    (Absent, true, NOBODY, 0),
+    (Replaced, false, NOBODY, 0),
+    (Replaced, true, NOBODY, 0),
 ];
 
 // The call answers so and makes so many visits and looks, at every length and every place.
@@ -121,24 +114,24 @@ fn an_insertion_visits_one(rt: HostRuntime) {
 
 #[test]
 fn a_registration_visits_two_where_its_listener_leaves(rt: HostRuntime) {
-    for (standing, result, visits, [plain, exchanging]) in REGISTRATIONS {
+    for (standing, result, visits) in REGISTRATIONS {
         let answer = Answer::Registered(result);
-        for (call, looks) in [(Call::Register, plain), (Call::RegisterWith, exchanging)] {
-            counts_everywhere(&rt, standing, call, answer, StepCounts { visits, looks });
+        for call in [Call::Register, Call::RegisterWith] {
+            counts_everywhere(&rt, standing, call, answer, StepCounts { visits, looks: 1 });
         }
     }
 }
 
 #[test]
 fn a_removal_visits_three_at_most(rt: HostRuntime) {
-    for (standing, propagate, answer, visits, looks) in REMOVALS {
+    for (standing, propagate, answer, visits) in REMOVALS {
         let call = Call::Remove { propagate };
-        counts_everywhere(&rt, standing, call, answer, StepCounts { visits, looks });
+        counts_everywhere(&rt, standing, call, answer, StepCounts { visits, looks: 1 });
     }
 }
 
 // The removal of a listener told by a default notification, with propagation, answers so and makes so many visits. It
-// looks for its key among the waiting, and then among the told.
+// looks up its key once.
 fn propagates_default<R: Abort + AllocGlobal>(
     rt: &R,
     length: usize,
@@ -152,7 +145,7 @@ fn propagates_default<R: Abort + AllocGlobal>(
         standing: LastTold { additional: false },
     };
     let call = Call::Remove { propagate: true };
-    counts(rt, setting, call, answer, StepCounts { visits, looks: 2 });
+    counts(rt, setting, call, answer, StepCounts { visits, looks: 1 });
 }
 
 #[test]

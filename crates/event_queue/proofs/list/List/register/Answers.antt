@@ -1,6 +1,6 @@
 use Rattle.std.proofs.Common.{arith}
 use Rattle.event_queue.proofs.LawLemmas.{Registers-gone, Registers-order_without, Registers-order_kept}
-use Rattle.event_queue.proofs.Calls.Bounds.{visits_of_registration-most, looks_of_registration-most}
+use Rattle.event_queue.proofs.Calls.Bounds.{visits_of_registration-most}
 use Rattle.event_queue.proofs.list.List.register.Goals as goal
 
 pub returns-clause-gone : goal.returns-clause-gone
@@ -15,6 +15,3 @@ returns-clause-order_kept g c = Registers-order_kept _ _ _ _ _ c.register_step.e
 
 pub returns-clause-visits : goal.returns-clause-visits
 returns-clause-visits g c = omega (arith, c.register_step.ensures.counted, visits_of_registration-most c.register_step.result)
-
-pub returns-clause-looks : goal.returns-clause-looks
-returns-clause-looks g c = omega (arith, c.register_step.ensures.looked, looks_of_registration-most c.register_step.result)

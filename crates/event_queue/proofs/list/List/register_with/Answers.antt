@@ -1,6 +1,6 @@
 use Rattle.std.proofs.Common.{arith}
 use Rattle.event_queue.proofs.Calls.Exchanges.{RegistersWith-gone, RegistersWith-order_without, RegistersWith-order_kept}
-use Rattle.event_queue.proofs.Calls.Bounds.{visits_of_registration-most, looks_of_exchange-most}
+use Rattle.event_queue.proofs.Calls.Bounds.{visits_of_registration-most}
 use Rattle.event_queue.proofs.list.List.register_with.Goals as goal
 
 pub returns-clause-gone : goal.returns-clause-gone
@@ -17,6 +17,3 @@ returns-clause-order_kept g c =
 
 pub returns-clause-visits : goal.returns-clause-visits
 returns-clause-visits g c = omega (arith, c.register_with_step.ensures.counted, visits_of_registration-most c.register_with_step.result)
-
-pub returns-clause-looks : goal.returns-clause-looks
-returns-clause-looks g c = omega (arith, c.register_with_step.ensures.looked, looks_of_exchange-most c.register_with_step.result)

@@ -1,6 +1,6 @@
 use Rattle.std.proofs.Common.{arith}
 use Rattle.event_queue.proofs.LawLemmas.{Removes-order, Removes-gone, Removes-drop_default, Removes-drop_additional}
-use Rattle.event_queue.proofs.Calls.Bounds.{visits_of_removal-most, looks_of_removal-most}
+use Rattle.event_queue.proofs.Calls.Bounds.{visits_of_removal-most}
 use Rattle.event_queue.proofs.list.List.remove.Goals as goal
 
 pub returns-clause-order : goal.returns-clause-order
@@ -19,6 +19,3 @@ returns-clause-drop_additional g c =
 
 pub returns-clause-visits : goal.returns-clause-visits
 returns-clause-visits g c = omega (arith, c.remove_step.ensures.counted, visits_of_removal-most c.remove_step.result c.args.key c.args.self.now)
-
-pub returns-clause-looks : goal.returns-clause-looks
-returns-clause-looks g c = omega (arith, c.remove_step.ensures.looked, looks_of_removal-most c.remove_step.result)

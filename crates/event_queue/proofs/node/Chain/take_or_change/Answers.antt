@@ -1,0 +1,82 @@
+use Rattle.std.proofs.Common.{refl}
+use Rattle.event_queue.proofs.Nodes.Takes.{reached, has_none, stands, within, has_room, still_stands, stands_spare, holds, some_were_before, sound_before, was_before, left_before, was_after, sound_changed, left_changed}
+use Rattle.event_queue.proofs.node.Chain.take_or_change.Goals as goal
+
+pub returns-in_err-own-clause-step : goal.returns-in_err-own-clause-step
+returns-in_err-own-clause-step g c =
+    let none = has_none c.args.key c.self.invariant (rw c.in_err-own.was at c.find.ensures.node) in
+    rw (← c.self.view_is, c.from_residual.ensures) (none, refl, refl)
+
+pub hand_out-requires : goal.hand_out-requires
+hand_out-requires g c =
+    let node = reached c.self.invariant c.in-Some.is (rw c.in_ok-own.was at c.find.ensures.node) in
+    stands node
+
+pub take-node-requires : goal.take-node-requires
+take-node-requires g c =
+    let node = reached c.self.invariant c.in-Some.is (rw c.in_ok-own.was at c.find.ensures.node) in
+    let out = c.hand_out.ensures in
+    still_stands node out
+
+pub recycle-requires-clause-slot : goal.recycle-requires-clause-slot
+recycle-requires-clause-slot g c =
+    let node = reached c.self.invariant c.in-Some.is (rw c.in_ok-own.was at c.find.ensures.node) in
+    within node
+
+pub recycle-requires-clause-room : goal.recycle-requires-clause-room
+recycle-requires-clause-room g c =
+    let node = reached c.self.invariant c.in-Some.is (rw c.in_ok-own.was at c.find.ensures.node) in
+    has_room node
+
+pub overflow_sub-self : goal.overflow_sub-self
+overflow_sub-self g c =
+    let node = reached c.self.invariant c.in-Some.is (rw c.in_ok-own.was at c.find.ensures.node) in
+    let out = c.hand_out.ensures in
+    some_were_before node out c.in-Before.value c.in-Before.is
+
+pub invariant_of-self : goal.invariant_of-self
+invariant_of-self g c =
+    let node = reached c.self.invariant c.in-Some.is (rw c.in_ok-own.was at c.find.ensures.node) in
+    let out = c.hand_out.ensures in
+    let taken = c.take-node.ensures.taken in
+    rw (c.recycle.ensures.slots, c.recycle.ensures.spares)
+    (sound_before node out taken c.in-Before.value c.in-Before.is c.take-node.ensures.cursor)
+
+pub unreachable-requires-in-Nothing : goal.unreachable-requires-in-Nothing
+unreachable-requires-in-Nothing g c =
+    let node = reached c.self.invariant c.in-Some.is (rw c.in_ok-own.was at c.find.ensures.node) in
+    let out = c.hand_out.ensures in
+    holds node out c.in-Nothing.is
+
+pub hand_in-requires : goal.hand_in-requires
+hand_in-requires g c =
+    let node = reached c.self.invariant c.in-Some.is (rw c.in_ok-own.was at c.find.ensures.node) in
+    stands_spare node c.hand_out.ensures
+
+pub invariant_of-self-in-After : goal.invariant_of-self-in-After
+invariant_of-self-in-After g c =
+    let node = reached c.self.invariant c.in-Some.is (rw c.in_ok-own.was at c.find.ensures.node) in
+    sound_changed node c.hand_out.ensures c.hand_in.ensures c.in-After.former c.in-After.is
+
+pub returns-in-Before-clause-step : goal.returns-in-Before-clause-step
+returns-in-Before-clause-step g c =
+    let node = reached c.self.invariant c.in-Some.is (rw c.in_ok-own.was at c.find.ensures.node) in
+    let out = c.hand_out.ensures in
+    let taken = c.take-node.ensures.taken in
+    let found = was_before node out c.in-Before.value c.in-Before.is in
+    let left = left_before node out taken c.in-Before.value c.in-Before.is in
+    rw (← c.self.view_is, c.recycle.ensures.spares) (found, left, refl)
+
+pub returns-in-After-clause-step : goal.returns-in-After-clause-step
+returns-in-After-clause-step g c =
+    let node = reached c.self.invariant c.in-Some.is (rw c.in_ok-own.was at c.find.ensures.node) in
+    let out = c.hand_out.ensures in
+    let found = was_after node out c.in-After.former c.in-After.is in
+    let changed = left_changed node out c.hand_in.ensures c.in-After.former c.in-After.is in
+    record {
+      former = c.in-After.former;
+      value = c.change-value.result;
+      found = rw (← c.self.view_is) found;
+      made = c.change-value.ensures;
+      stored = rw (← c.self.view_is) changed;
+    }
