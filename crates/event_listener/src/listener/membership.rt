@@ -76,7 +76,7 @@ impl Membership {
         if self.is_finished() {
             return RegisterResult::NeverInserted;
         }
-        let found = take_lock(shared.queue(), rt).register_uncounted(self.key, task);
+        let found = take_lock!(shared.queue(), rt).register_uncounted(self.key, task);
         if !matches!(found, RegisterResult::Registered) {
             self.finish();
         }
@@ -100,7 +100,7 @@ impl Membership {
         if self.is_finished() {
             RegisterResult::NeverInserted
         } else {
-            let found = take_lock(shared.queue(), rt).register_with_uncounted(
+            let found = take_lock!(shared.queue(), rt).register_with_uncounted(
                 self.key,
                 &shared.source,
                 cx,
@@ -134,7 +134,7 @@ impl Membership {
         let key = self.key;
         self.finish();
         let mut waking = Waking::new(rt);
-        let former = take_lock(shared.queue(), rt).remove_uncounted(key, propagate, &mut waking);
+        let former = take_lock!(shared.queue(), rt).remove_uncounted(key, propagate, &mut waking);
         waking.finish();
         former
     }
