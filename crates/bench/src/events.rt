@@ -8,16 +8,47 @@ use std::marker::PhantomData;
 use std::sync::Wait;
 use test_support::ListenerKind;
 
-/// An event, and by which kind it is listened to.
+/// How a listener is polled.
+pub trait Polling {
+    /// Polls a listener, and answers whether it was told.
+    fn poll<L: Listener<()>>(listener: &mut L, cx: &mut Context<'_>) -> bool;
+}
+
+/// With the context of the task, as a caller should: a waker is made only if the listener has to store one.
 #[derive(Drop)]
-pub struct OnEvent<'ev, 'r, K, R> {
+pub struct InContext;
+
+impl Polling for InContext {
+    #[inline(always)]
+    fn poll<L: Listener<()>>(listener: &mut L, cx: &mut Context<'_>) -> bool {
+        matches!(listener.poll_in(cx), Ok(Poll::Ready(())))
+    }
+}
+
+/// With a waker that is made for the poll, and is dropped if the listener does not store it.
+#[derive(Drop)]
+pub struct WakerEachPoll;
+
+impl Polling for WakerEachPoll {
+    #[inline(always)]
+    fn poll<L: Listener<()>>(listener: &mut L, cx: &mut Context<'_>) -> bool {
+        match waker_of(cx) {
+            Some(waker) => matches!(listener.poll(waker), Ok(Poll::Ready(()))),
+            None => false,
+        }
+    }
+}
+
+/// An event, by which kind it is listened to, and how its listeners are polled.
+#[derive(Drop)]
+pub struct OnEvent<'ev, 'r, K, P, R> {
     event: &'ev Event<()>,
     rt: &'r R,
     alloc: Global,
-    kind: PhantomData<K>,
+    kind: PhantomData<(K, P)>,
 }
 
-impl<'ev, 'r, K, R> OnEvent<'ev, 'r, K, R> {
+impl<'ev, 'r, K, P, R> OnEvent<'ev, 'r, K, P, R> {
     pub fn new(rt: &'r R, alloc: Global, event: &'ev Event<()>) -> Self {
         OnEvent {
             event,
@@ -39,7 +70,7 @@ pub fn events(alloc: Global, count: usize) -> Result<Vec<Event<()>>, BenchError>
     Ok(events)
 }
 
-impl<'ev, K: ListenerKind<'ev, (), R>, R: Wait> Subject for OnEvent<'ev, '_, K, R> {
+impl<'ev, K: ListenerKind<'ev, (), R>, P: Polling, R: Wait> Subject for OnEvent<'ev, '_, K, P, R> {
     type Listener = K::Listener;
 
     #[inline(always)]
@@ -49,10 +80,7 @@ impl<'ev, K: ListenerKind<'ev, (), R>, R: Wait> Subject for OnEvent<'ev, '_, K, 
 
     #[inline(always)]
     fn poll(&mut self, listener: &mut K::Listener, cx: &mut Context<'_>) -> bool {
-        match waker_of(cx) {
-            Some(waker) => matches!(listener.poll(waker), Ok(Poll::Ready(()))),
-            None => false,
-        }
+        P::poll(listener, cx)
     }
 
     #[inline(always)]
@@ -65,10 +93,9 @@ impl<'ev, K: ListenerKind<'ev, (), R>, R: Wait> Subject for OnEvent<'ev, '_, K, 
         self.event.notify_relaxed(self.rt, count)
     }
 
+    // It is dropped at the end of the scope: a call of `drop` is never inlined.
     #[inline(always)]
-    fn leave(&mut self, listener: K::Listener) {
-        drop(listener);
-    }
+    fn leave(&mut self, _listener: K::Listener) {}
 
     #[inline(always)]
     fn is_notified(&mut self) -> bool {

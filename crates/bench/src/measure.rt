@@ -3,7 +3,7 @@ mod alone;
 mod together;
 
 use crate::error::BenchError;
-use crate::events::{OnEvent, events};
+use crate::events::{InContext, OnEvent, Polling, WakerEachPoll, events};
 use crate::lists::OnList;
 use crate::recorded::{OnRecorded, recorded_events};
 use crate::subject::{Stand, Subject};
@@ -42,7 +42,7 @@ where
     }
 }
 
-// Everything is done in one poll of a task, whose wakers the listeners are polled with.
+// Everything is done in one poll of a task, in which the listeners are polled.
 fn measure_queue<R>(run: &Run<'_, R>, kind: Kind, act: Act) -> Result<Watch, BenchError>
 where
     R: Wait + Clock + Clone + RandomSource + AllocGlobal,
@@ -73,11 +73,15 @@ where
     match kind {
         Kind::Shared => {
             let events = events(run.alloc, queues(run, act))?;
-            on_events::<Sharing, R>(run, act, events.as_slice(), cx, watch)
+            on_events::<Sharing, InContext, R>(run, act, events.as_slice(), cx, watch)
+        }
+        Kind::WakerEachPoll => {
+            let events = events(run.alloc, queues(run, act))?;
+            on_events::<Sharing, WakerEachPoll, R>(run, act, events.as_slice(), cx, watch)
         }
         Kind::Stack => {
             let events = events(run.alloc, queues(run, act))?;
-            on_events::<Borrowing, R>(run, act, events.as_slice(), cx, watch)
+            on_events::<Borrowing, InContext, R>(run, act, events.as_slice(), cx, watch)
         }
         Kind::Recorded => on_recorded(run, act, cx, watch),
         Kind::List => on_lists(run, act, cx, watch),
@@ -102,7 +106,7 @@ fn room<R>(run: &Run<'_, R>, act: Act) -> usize {
     }
 }
 
-fn on_events<'ev, K, R>(
+fn on_events<'ev, K, P, R>(
     run: &Run<'_, R>,
     act: Act,
     events: &'ev [Event<()>],
@@ -111,11 +115,12 @@ fn on_events<'ev, K, R>(
 ) -> Result<(), BenchError>
 where
     K: ListenerKind<'ev, (), R>,
+    P: Polling,
     R: Wait + Clock,
 {
     let mut stands = Vec::new(run.alloc);
     for event in events {
-        let subject = OnEvent::<'_, '_, K, R>::new(run.rt, run.alloc, event);
+        let subject = OnEvent::<'_, '_, K, P, R>::new(run.rt, run.alloc, event);
         stands.push(Stand::new(run.alloc, subject, room(run, act))?)?;
     }
     measure_on(run, act, stands, cx, watch)

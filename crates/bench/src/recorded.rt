@@ -57,10 +57,9 @@ impl<'ev, R: AllocGlobal + Wait + Clock + Clone> Subject for OnRecorded<'ev, R> 
         self.notify(count)
     }
 
+    // It is dropped at the end of the scope: a call of `drop` is never inlined.
     #[inline(always)]
-    fn leave(&mut self, listener: OwnListener<'ev, R>) {
-        drop(listener);
-    }
+    fn leave(&mut self, _listener: OwnListener<'ev, R>) {}
 
     #[inline(always)]
     fn is_notified(&mut self) -> bool {

@@ -136,7 +136,7 @@ where
     R: Threads + Wait + Clock + Clone + Sync + RandomSource + AllocGlobal,
 {
     for kind in KINDS {
-        for act in ACTS {
+        for act in ACTS.iter().copied().filter(|act| kind.has(*act)) {
             let operations = run(rt, Workload::Queue(kind, act), FEW, MOMENT)?;
             let (name, suffix) = (act.name(), kind.suffix());
             writeln!(output, "{name}{suffix}/{FEW}: {operations} operations")?;

@@ -12,7 +12,7 @@ pub trait Subject: Drop {
     /// A new listener.
     fn listen(&mut self) -> Result<Self::Listener, ListenError>;
 
-    /// Polls a listener with a new waker of this task, and answers whether it was told.
+    /// Polls a listener in this task, and answers whether it was told.
     fn poll(&mut self, listener: &mut Self::Listener, cx: &mut Context<'_>) -> bool;
 
     /// Notifies so many, and answers how many were told.

@@ -18,6 +18,8 @@ pub enum Workload {
 pub enum Kind {
     /// By an event and listeners that share its queue.
     Shared,
+    /// By an event and listeners that share its queue, each polled with a waker that is made for the poll.
+    WakerEachPoll,
     /// By an event and listeners that borrow it.
     Stack,
     /// By a recorded event and its listeners.
@@ -58,7 +60,13 @@ pub enum Base {
     Waker,
 }
 
-pub const KINDS: [Kind; 4] = [Kind::Shared, Kind::Stack, Kind::Recorded, Kind::List];
+pub const KINDS: [Kind; 5] = [
+    Kind::Shared,
+    Kind::WakerEachPoll,
+    Kind::Stack,
+    Kind::Recorded,
+    Kind::List,
+];
 
 pub const ACTS: [Act; 16] = [
     Act::ListenDrop,
@@ -92,7 +100,11 @@ impl Workload {
         }
         let (kind, act) = Kind::split(name);
         let act = ACTS.iter().find(|it| it.name() == act)?;
-        Some(Workload::Queue(kind, *act))
+        if kind.has(*act) {
+            Some(Workload::Queue(kind, *act))
+        } else {
+            None
+        }
     }
 }
 
@@ -101,15 +113,21 @@ impl Kind {
     pub fn suffix(self) -> &'static str {
         match self {
             Kind::Shared => "",
+            Kind::WakerEachPoll => "_waker_each_poll",
             Kind::Stack => "_stack",
             Kind::Recorded => "_recorded",
             Kind::List => "_list",
         }
     }
 
+    /// Whether there is a workload of this kind that does this. How it is polled is no matter where nothing polls.
+    pub fn has(self, act: Act) -> bool {
+        self != Kind::WakerEachPoll || act.polls()
+    }
+
     // The kind that a name ends in, and what stands before that.
     fn split(name: &str) -> (Kind, &str) {
-        for kind in [Kind::Stack, Kind::Recorded, Kind::List] {
+        for kind in [Kind::WakerEachPoll, Kind::Stack, Kind::Recorded, Kind::List] {
             if let Some(act) = name.strip_suffix(kind.suffix()) {
                 return (kind, act);
             }
@@ -139,6 +157,14 @@ impl Act {
             Act::IsNotified => "is_notified",
             Act::TotalListeners => "total_listeners",
         }
+    }
+
+    /// Whether a poll is measured.
+    pub fn polls(self) -> bool {
+        matches!(
+            self,
+            Act::Burst | Act::BurstPollPending | Act::BurstPollReady | Act::Churn
+        )
     }
 
     /// Whether each round is measured on new queues.

@@ -9,3 +9,8 @@ pub record Listening : Type 0 where
   pub key : Key
   pub is_finished : Bool
   pub source : ℕ
+
+-- what a contract sees of a listener's membership: by which key it stands in the queue, and whether it has left
+pub record Standing : Type 0 where
+  pub key : Key
+  pub is_finished : Bool

@@ -95,7 +95,7 @@ impl<T> Event<T> {
         let Ok(runtime) = rt.clone() else {
             return Err(ListenError::Memory);
         };
-        let key = take_lock(shared.queue(), rt).insert_uncounted()?;
+        let key = take_lock!(shared.queue(), rt).insert_uncounted()?;
         let inner = InnerListener::new(key, self.id.number(), runtime, alloc);
         Ok(EventListener::new(shared, inner))
     }
@@ -174,7 +174,7 @@ impl<T> Event<T> {
         match self.shared.get() {
             Some(shared) => {
                 let mut waking = Waking::new(rt);
-                let told = take_lock(shared.queue(), rt).notify_uncounted(
+                let told = take_lock!(shared.queue(), rt).notify_uncounted(
                     &mut notification,
                     &mut waking,
                 );
@@ -190,7 +190,7 @@ impl<T> Event<T> {
     /// The call does not allocate. It may wait for the lock of the event.
     pub fn is_notified<R: Wait>(&self, rt: &R) -> bool {
         match self.shared.get() {
-            Some(shared) => take_lock(shared.queue(), rt).is_notified(),
+            Some(shared) => take_lock!(shared.queue(), rt).is_notified(),
             None => false,
         }
     }
@@ -200,7 +200,7 @@ impl<T> Event<T> {
     /// The call does not allocate. It may wait for the lock of the event.
     pub fn total_listeners<R: Wait>(&self, rt: &R) -> usize {
         match self.shared.get() {
-            Some(shared) => take_lock(shared.queue(), rt).total_listeners(),
+            Some(shared) => take_lock!(shared.queue(), rt).total_listeners(),
             None => 0,
         }
     }

@@ -1,5 +1,5 @@
 //! What listeners of any kind have in common.
-ghost use Rattle.std.specs.Prelude.{◌≡◌, true, false, IsErr, IfOk, OnErr};
+ghost use Rattle.std.specs.Prelude.{◌≡◌, ◌+◌, ◌<◌, ◌^◌, true, false, IsErr, IfOk, OnErr};
 ghost use Rattle.futures.specs.Poll.{IfReady, OnPending};
 ghost use Rattle.futures.specs.Task.{Covers, Keeps};
 
@@ -27,6 +27,7 @@ pub(crate) struct InnerListener<R: Wait + Clock + Clone> {
 impl<R: Wait + Clock + Clone> InnerListener<R> {
     #[inline(always)]
     pub(crate) fn new(key: Key, event_number: u64, runtime: R, alloc: Global) -> Self
+        requires given { key.serial + 1 < 2 ^ 64 }
         ensures event { result.event_number ≡ event_number }
         ensures unfinished { result.membership.is_finished ≡ false }
     {

@@ -1,5 +1,5 @@
 //! A listener's membership in the queue of its event.
-ghost use Rattle.std.specs.Prelude.{◌≡◌, ◌≢◌, true, false, None};
+ghost use Rattle.std.specs.Prelude.{◌≡◌, ◌≢◌, ◌+◌, ◌<◌, ◌^◌, true, false, None};
 ghost use Rattle.event_queue.specs.declared.reply.RegisterResult.TheVariants.{Registered, NeverInserted};
 ghost use Rattle.futures.specs.Task.{Covers, Keeps};
 ghost use Rattle.event_listener.specs.Waiting.{IsKept};
@@ -9,27 +9,56 @@ use crate::locks::take_lock;
 use crate::task::{Task, Waking};
 use event_queue::{Key, RegisterResult, State};
 use futures::task::Context;
+use std::marker::Model;
 use std::sync::Wait;
 
 /// By which key a listener stands in the queue of its event, and whether it has left the queue by a call of its own.
 ///
 /// The key is private to this file. So whatever takes the listener out of the queue is one of the three calls below, and
 /// each of them notes that it did: a listener that is not finished after a call was not taken out by that call.
+///
+/// The note is in the key itself: a finished listener has the greatest `u64` for its serial, which no queue gives. A
+/// `bool` beside the key would be seven bytes of padding in each listener, and a listener is moved often.
 #[derive(Drop)]
 pub(super) struct Membership {
     key: Key,
-    is_finished: bool,
+}
+
+impl Model for Membership {
+    ghost use Rattle.std.specs.Bool.{◌==◌};
+    ghost use Rattle.std.specs.Prelude.{◌-◌, ◌^◌};
+    ghost use Rattle.event_listener.specs.Listening.{Standing};
+
+    ghost Value = { Standing };
+
+    ghost view = { λ membership. record {
+      key = membership.key;
+      is_finished = membership.key.serial == 2 ^ 64 - 1;
+    } };
 }
 
 impl Membership {
+    /// The membership of a listener that has just been inserted by this key.
     #[inline(always)]
     pub(super) fn new(key: Key) -> Self
+        requires given { key.serial + 1 < 2 ^ 64 }
         ensures { result.is_finished ≡ false }
     {
-        Membership {
-            key,
-            is_finished: false,
-        }
+        Membership { key }
+    }
+
+    #[inline(always)]
+    fn is_finished(&self) -> bool
+        ensures { result ≡ self.now.is_finished }
+    {
+        self.key.serial == u64::MAX
+    }
+
+    #[inline(always)]
+    fn finish(&mut self)
+        ensures { self.new.is_finished ≡ true }
+    {
+        self.key.serial = u64::MAX;
     }
 
     /// Takes the tag if the listener was notified, which takes it out of the queue; else stores the task.
@@ -44,11 +73,13 @@ impl Membership {
         ensures stays { result ≡ Registered → (self.old.is_finished ≡ false) × (self.new ≡ self.old) }
         ensures leaves { result ≢ Registered → self.new.is_finished ≡ true }
     {
-        if self.is_finished {
+        if self.is_finished() {
             return RegisterResult::NeverInserted;
         }
-        let found = take_lock(shared.queue(), rt).register_uncounted(self.key, task);
-        self.is_finished = !matches!(found, RegisterResult::Registered);
+        let found = take_lock!(shared.queue(), rt).register_uncounted(self.key, task);
+        if !matches!(found, RegisterResult::Registered) {
+            self.finish();
+        }
         found
     }
 
@@ -66,18 +97,20 @@ impl Membership {
         ensures registered { result ≡ Registered → Covers cx.new (λ s. s ≡ shared.now.source.source.id) }
         ensures kept { Keeps cx.old cx.new }
     {
-        if self.is_finished {
+        if self.is_finished() {
             RegisterResult::NeverInserted
         } else {
-            let found = take_lock(shared.queue(), rt).register_with_uncounted(
+            let found = take_lock!(shared.queue(), rt).register_with_uncounted(
                 self.key,
                 &shared.source,
                 cx,
             );
-            self.is_finished = matches!(
+            if matches!(
                 found,
                 RegisterResult::Notified(_) | RegisterResult::NeverInserted
-            );
+            ) {
+                self.finish();
+            }
             found
         }
     }
@@ -95,16 +128,13 @@ impl Membership {
         ensures leaves { self.new.is_finished ≡ true }
         ensures kept { propagate ≡ false → IsKept result }
     {
-        if self.is_finished {
+        if self.is_finished() {
             return None;
         }
-        self.is_finished = true;
+        let key = self.key;
+        self.finish();
         let mut waking = Waking::new(rt);
-        let former = take_lock(shared.queue(), rt).remove_uncounted(
-            self.key,
-            propagate,
-            &mut waking,
-        );
+        let former = take_lock!(shared.queue(), rt).remove_uncounted(key, propagate, &mut waking);
         waking.finish();
         former
     }

@@ -131,7 +131,7 @@ impl<T: Copy + Eq> Hand<T> {
     {
         self.notes.reserve(1)?;
         let mut waking = Waking::new(rt);
-        let recorded = take_lock(state, rt).record_step(self.number, call, &mut waking);
+        let recorded = take_lock!(state, rt).record_step(self.number, call, &mut waking);
         waking.finish();
         let entry = recorded?;
         self.notes.push_reserved(Note::of(&entry));
@@ -156,7 +156,7 @@ impl<T: Copy + Eq> Hand<T> {
         ensures memory { IfErr result (λ error. error ≡ RecordError.Memory) }
     {
         self.notes.reserve(1)?;
-        let entry = take_lock(state, rt).record_exchange(self.number, key, exchange, on)?;
+        let entry = take_lock!(state, rt).record_exchange(self.number, key, exchange, on)?;
         self.notes.push_reserved(Note::of(&entry));
         Ok(entry.reply)
     }

@@ -193,7 +193,7 @@ impl<T: Copy + Eq, R: Wait + Clock + Clone> Drop for RecordedListener<'_, T, R> 
             runtime,
         } = self;
         let mut waking = Waking::new(&runtime);
-        take_lock(event.state(), &runtime).apply_end(key, &mut waking);
+        take_lock!(event.state(), &runtime).apply_end(key, &mut waking);
         waking.finish();
     }
 }
