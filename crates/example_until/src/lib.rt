@@ -3,12 +3,14 @@
 #![tactic(auto)]
 
 mod barrier;
+mod gate;
 mod mutex;
 mod read_write_lock;
 mod semaphore;
 mod set_once;
 
 pub use barrier::{Arriving, Barrier};
+pub use gate::{Gate, Pass};
 pub use mutex::{Lock, Mutex, MutexGuard};
 pub use read_write_lock::{Read, ReadGuard, ReadWriteLock, Write, WriteGuard};
 pub use semaphore::{Acquire, Permit, Semaphore};

@@ -1,10 +1,10 @@
 //! A semaphore.
 use event_listener::{Event, EventId};
-use event_until::{Attempt, Until, UntilError};
+use event_until::{Attempt, Until};
 use std::alloc::Global;
 use std::sync::Wait;
 use std::sync::atomic::{AtomicUsize, Ordering};
-use std::time::{Clock, Duration};
+use std::time::Clock;
 
 /// Some permits, which threads and tasks take and give back.
 #[derive(Drop)]
