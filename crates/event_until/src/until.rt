@@ -119,6 +119,23 @@ impl<'a, A: Attempt, R: Wait + Clock + Clone> Until<'a, A, R> {
         self.wait_within(Limit::At(deadline))
     }
 
+    /// Ends the attempts, and returns their state. A listener that a poll left is dropped.
+    ///
+    /// The call does not allocate. It may wait for the lock of the event.
+    pub fn into_attempt(self) -> A
+        ensures { result ≡ self.entry.attempt }
+    {
+        let Until {
+            rt: _,
+            alloc: _,
+            event: _,
+            attempt,
+            listener,
+        } = self;
+        drop(listener);
+        attempt
+    }
+
     fn wait_within(&mut self, limit: Limit) -> Result<Option<A::Output>, UntilError>
         ensures succeeded { IfOk result (λ answer. IfSome answer (λ output. SucceedsAfter A.fails A.succeeds self.old.attempt output self.new.attempt)) }
         ensures timed_out { IfOk result (λ answer. IfNone answer (FailsAtLeast A.fails 3 self.old.attempt self.new.attempt)) }
