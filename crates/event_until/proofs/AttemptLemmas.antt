@@ -1,0 +1,60 @@
+-- Attempts after other attempts.
+use Rattle.std.proofs.Common.{refl, ℕ, zero, suc, Option, Some, None, IfSome, IfNone, Result, Ok, Err}
+use Rattle.futures.specs.declared.task.Poll.{Poll}
+use Rattle.futures.specs.declared.task.Poll.TheVariants.{Ready, Pending}
+use Rattle.futures.specs.Poll.{OnPending}
+use Rattle.event_until.specs.Attempts.{FailsTimes, SomeFail, FailsAtLeast, SucceedsAfter, SucceedsOrFails}
+
+module _ {S : Type 0} (fails : S → S → Type 0) where
+  pub SomeFail-append : (times : ℕ) (before between after : S) → SomeFail fails before between → FailsTimes fails times between after → SomeFail fails before after
+  SomeFail-append zero before between after some same = rw same some
+  SomeFail-append (suc times) before between after some then =
+      let first = SomeFail-append times before between then.0 some then.1 in
+      (suc first.0, (then.0, first.1, then.2))
+
+  pub SomeFail-join : (before between after : S) → SomeFail fails before between → SomeFail fails between after → SomeFail fails before after
+  SomeFail-join before between after some then =
+      SomeFail-append then.0 before between after some then.1
+
+  pub FailsAtLeast-after : (least : ℕ) (before between after : S) → SomeFail fails before between → FailsAtLeast fails least between after → FailsAtLeast fails least before after
+  FailsAtLeast-after least before between after some then =
+      (then.0, SomeFail-join before between then.0 some then.1, then.2)
+
+  pub FailsAtLeast-some : (least : ℕ) (before after : S) → FailsAtLeast fails least before after → SomeFail fails before after
+  FailsAtLeast-some least before after failed =
+      SomeFail-append least before failed.0 after failed.1 failed.2
+
+  -- two are one at least
+  pub FailsAtLeast-one : (before after : S) → FailsAtLeast fails 2 before after → FailsAtLeast fails 1 before after
+  FailsAtLeast-one before after failed =
+      (failed.2.0, SomeFail-append 1 before failed.0 failed.2.0 failed.1 failed.2.1, (failed.2.0, refl, failed.2.2))
+
+  -- two failed, and then one more, if it did
+  pub FailsAtLeast-last : {T : Type 0} (before between : S) (answer : Option T) (after : S) → FailsAtLeast fails 2 before between → IfNone answer (fails between after) → IfNone answer (FailsAtLeast fails 3 before after)
+  FailsAtLeast-last before between None after failed last =
+      (failed.0, failed.1, (between, failed.2, last))
+  FailsAtLeast-last before between (Some output) after failed last = tt
+
+  module _ {T : Type 0} (succeeds : S → T → S → Type 0) where
+    -- some attempts failed, and then others until one succeeded
+    pub SucceedsAfter-append : (before between : S) (output : T) (after : S) → SomeFail fails before between → SucceedsAfter fails succeeds between output after → SucceedsAfter fails succeeds before output after
+    SucceedsAfter-append before between output after some then =
+        record { between = then.between; failed = SomeFail-join before between then.between some then.failed; succeeded = then.succeeded }
+
+    pub SucceedsOrFails-append : {E : Type 0} (before between : S) (output : Result T E) (after : S) → SomeFail fails before between → SucceedsOrFails fails succeeds between output after → SucceedsOrFails fails succeeds before output after
+    SucceedsOrFails-append before between (Ok output) after some then =
+        SucceedsAfter-append before between output after some then
+    SucceedsOrFails-append before between (Err error) after some then =
+        SomeFail-join before between after some then
+
+    -- some attempts failed, and then a last one was made
+    pub SucceedsAfter-last : (before between : S) (answer : Option T) (after : S) → SomeFail fails before between → IfSome answer (λ output. succeeds between output after) → IfSome answer (λ output. SucceedsAfter fails succeeds before output after)
+    SucceedsAfter-last before between None after failed last = tt
+    SucceedsAfter-last before between (Some output) after failed last =
+        record { between = between; failed = failed; succeeded = last }
+
+    -- what a later poll gives, after one that was pending
+    pub OnPending-gives : {X : Type 0} (E : Type 0) (polled : Poll X) (before between : S) → OnPending polled (SomeFail fails before between) → OnPending polled ((output : Result T E) → ((after : S) × SucceedsOrFails fails succeeds between output after) → (after : S) × SucceedsOrFails fails succeeds before output after)
+    OnPending-gives E (Ready output) before between failed = tt
+    OnPending-gives E Pending before between failed =
+        λ output given. (given.0, SucceedsOrFails-append before between output given.0 failed given.1)

@@ -1,0 +1,34 @@
+//! Why there is no output.
+use event_listener::{ListenError, NeverInserted, WaitError, WaitReason};
+use thiserror::Error;
+
+/// Why [`Until`](crate::Until) gave no output. No listener is left, and it may be waited or polled again.
+#[derive(Clone, Copy, Debug, PartialEq, Eq, Error)]
+pub enum UntilError {
+    /// Nobody could listen: memory was refused, or serial numbers are used up.
+    #[error("{0}")]
+    Listen(#[from] ListenError),
+    /// There was no memory for what the thread parks on.
+    #[error("no memory for a parker")]
+    Parker,
+    /// A listener was not in the queue. `Until` keeps no listener that has given its tag, so it is not known to return
+    /// this.
+    #[error("{0}")]
+    NeverInserted(#[from] NeverInserted),
+}
+
+impl From<WaitReason> for UntilError {
+    fn from(reason: WaitReason) -> UntilError {
+        match reason {
+            WaitReason::Memory => UntilError::Parker,
+            WaitReason::NeverInserted => UntilError::NeverInserted(NeverInserted),
+        }
+    }
+}
+
+/// Drops the listener, which passes its notification on if it was told.
+impl<L: Drop> From<WaitError<L>> for UntilError {
+    fn from(error: WaitError<L>) -> UntilError {
+        UntilError::from(error.reason())
+    }
+}

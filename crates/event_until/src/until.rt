@@ -1,0 +1,150 @@
+//! The loop.
+ghost use Rattle.std.specs.Prelude.{◌≡◌, None, IfOk, IfSome, IfNone, IsSome, OnErr};
+ghost use Rattle.event_until.specs.Attempts.{SucceedsAfter, FailsAtLeast};
+
+mod blocking;
+mod limit;
+mod polling;
+mod turn;
+
+use crate::attempt::Attempt;
+use crate::error::UntilError;
+use blocking::attempt_within;
+use event_listener::{Event, StackListener};
+pub(crate) use limit::Limit;
+use std::alloc::Global;
+use std::marker::Model;
+use std::sync::Wait;
+use std::time::{Clock, Duration, Instant};
+pub(crate) use turn::Turn;
+
+/// Attempts until one succeeds, and between attempts waits until the event is notified: as a call that blocks its thread,
+/// [`wait`](Until::wait), [`wait_timeout`](Until::wait_timeout) or [`wait_deadline`](Until::wait_deadline), or as a future.
+///
+/// It attempts, listens, and attempts again, since what came before its listener was in the queue told nobody. Then it
+/// waits until the listener is told, and begins anew. A listener that is in the queue when the second attempt succeeds is
+/// dropped, and so is one that a pending poll left when the `Until` is dropped: that passes its notification on if it was
+/// told. A listener that has taken its notification is gone, and an attempt follows.
+///
+/// Each round asks for memory where listening does. A blocking wait also asks for what the thread parks on. Each may wait
+/// for the lock of the event, and `Until` holds no lock while it attempts.
+///
+/// It may be used again after an output or an error, by any of its calls. A contract sees it as the state of its attempts,
+/// the number of its event, and the listener that a pending poll left.
+#[derive(Drop)]
+pub struct Until<'a, A, R: Wait + Clock + Clone> {
+    rt: &'a R,
+    alloc: Global,
+    event: &'a Event<()>,
+    attempt: A,
+    // What a poll that was pending left in the queue.
+    listener: Option<StackListener<'a, (), R>>,
+}
+
+impl<'a, A, R: Wait + Clock + Clone> Model for Until<'a, A, R> {
+    ghost use Rattle.std.specs.Prelude.{◌≡◌, IfSome};
+    ghost use Rattle.event_until.specs.Trying.{Trying};
+
+    ghost Value = { Trying A };
+
+    ghost view = { λ until. record {
+      attempt = until.attempt;
+      event_number = until.event.now;
+      listener = until.listener;
+    } };
+
+    ghost invariant = { λ until. IfSome until.listener (λ listener. listener.event_number ≡ until.event.now) };
+}
+
+impl<'a, A: Attempt, R: Wait + Clock + Clone> Until<'a, A, R> {
+    /// Attempts of this kind, with this state, that wait for this event. None has been made yet.
+    ///
+    /// The call neither allocates nor waits.
+    pub fn new(rt: &'a R, alloc: Global, event: &'a Event<()>, attempt: A) -> Self
+        ensures { result ≡ record { attempt = attempt; event_number = event.now; listener = None } }
+    {
+        Until {
+            rt,
+            alloc,
+            event,
+            attempt,
+            listener: None,
+        }
+    }
+
+    /// Blocks the calling thread until an attempt succeeds, and returns its output.
+    ///
+    /// A listener that a poll left is dropped first. [`UntilError`] says which errors there are and what they leave.
+    pub fn wait(&mut self) -> Result<A::Output, UntilError>
+        ensures succeeded { IfOk result (λ output. SucceedsAfter A.fails A.succeeds self.old.attempt output self.new.attempt) }
+        ensures failed { OnErr result (FailsAtLeast A.fails 1 self.old.attempt self.new.attempt) }
+        ensures event { self.new.event_number ≡ self.old.event_number }
+        ensures unlistened { self.new.listener ≡ None }
+    {
+        match self.wait_within(Limit::Never)? {
+            Some(output) => Ok(output),
+            None => unreachable!(),
+        }
+    }
+
+    /// Blocks the calling thread until an attempt succeeds or so much time has passed. Then it attempts once more, and
+    /// returns `None` if that fails: three attempts are made at least.
+    ///
+    /// The time begins with the call. Where the present moment and the timeout add up to one that can't be represented, it
+    /// waits without a limit. A clock that can't be read counts as one that shows a later time. A listener that a poll left
+    /// is dropped first. [`UntilError`] says which errors there are and what they leave.
+    pub fn wait_timeout(&mut self, timeout: Duration) -> Result<Option<A::Output>, UntilError>
+        ensures succeeded { IfOk result (λ answer. IfSome answer (λ output. SucceedsAfter A.fails A.succeeds self.old.attempt output self.new.attempt)) }
+        ensures timed_out { IfOk result (λ answer. IfNone answer (FailsAtLeast A.fails 3 self.old.attempt self.new.attempt)) }
+        ensures failed { OnErr result (FailsAtLeast A.fails 1 self.old.attempt self.new.attempt) }
+        ensures event { self.new.event_number ≡ self.old.event_number }
+        ensures unlistened { self.new.listener ≡ None }
+    {
+        let limit = Limit::after(self.rt, timeout);
+        self.wait_within(limit)
+    }
+
+    /// Blocks the calling thread until an attempt succeeds or that moment of the runtime's clock has come. Then it attempts
+    /// once more, and returns `None` if that fails: three attempts are made at least.
+    ///
+    /// A clock that can't be read counts as one that shows the deadline. A listener that a poll left is dropped first.
+    /// [`UntilError`] says which errors there are and what they leave.
+    pub fn wait_deadline(&mut self, deadline: Instant) -> Result<Option<A::Output>, UntilError>
+        ensures succeeded { IfOk result (λ answer. IfSome answer (λ output. SucceedsAfter A.fails A.succeeds self.old.attempt output self.new.attempt)) }
+        ensures timed_out { IfOk result (λ answer. IfNone answer (FailsAtLeast A.fails 3 self.old.attempt self.new.attempt)) }
+        ensures failed { OnErr result (FailsAtLeast A.fails 1 self.old.attempt self.new.attempt) }
+        ensures event { self.new.event_number ≡ self.old.event_number }
+        ensures unlistened { self.new.listener ≡ None }
+    {
+        self.wait_within(Limit::At(deadline))
+    }
+
+    /// Ends the attempts, and returns their state. A listener that a poll left is dropped.
+    ///
+    /// The call does not allocate. It may wait for the lock of the event.
+    pub fn into_attempt(self) -> A
+        ensures { result ≡ self.entry.attempt }
+    {
+        let Until {
+            rt: _,
+            alloc: _,
+            event: _,
+            attempt,
+            listener,
+        } = self;
+        drop(listener);
+        attempt
+    }
+
+    fn wait_within(&mut self, limit: Limit) -> Result<Option<A::Output>, UntilError>
+        ensures succeeded { IfOk result (λ answer. IfSome answer (λ output. SucceedsAfter A.fails A.succeeds self.old.attempt output self.new.attempt)) }
+        ensures timed_out { IfOk result (λ answer. IfNone answer (FailsAtLeast A.fails 3 self.old.attempt self.new.attempt)) }
+        ensures failed { OnErr result (FailsAtLeast A.fails 1 self.old.attempt self.new.attempt) }
+        ensures unlimited { limit ≡ Limit.Never → IfOk result IsSome }
+        ensures event { self.new.event_number ≡ self.old.event_number }
+        ensures unlistened { self.new.listener ≡ None }
+    {
+        self.listener = None;
+        attempt_within(&mut self.attempt, self.rt, self.alloc, self.event, limit)
+    }
+}

@@ -1,0 +1,83 @@
+//! The loop of a task.
+ghost use Rattle.std.specs.Prelude.{◌≡◌, None, IfOk, IsSomeAnd};
+ghost use Rattle.futures.specs.Poll.{IfReady, OnPending};
+ghost use Rattle.futures.specs.Task.{Covers, Keeps};
+ghost use Rattle.event_until.specs.Attempts.{SomeFail, FailsAtLeast, SucceedsOrFails};
+ghost use Rattle.event_until.specs.Turn.{Turns, SomeTurns, IfListens};
+
+use super::Until;
+use super::turn::{Turn, poll_listener, poll_turns};
+use crate::attempt::Attempt;
+use crate::error::UntilError;
+use event_listener::StackListener;
+use futures::Future;
+use futures::task::{Context, Poll};
+use std::sync::Wait;
+use std::time::Clock;
+
+impl<'a, A: Attempt, R: Wait + Clock + Clone> Until<'a, A, R> {
+    /// Attempts until one succeeds, or until it has to wait: then the task that polls is registered at the event.
+    ///
+    /// A poll that is pending leaves a listener in the queue. The next poll attempts only if that was told, so a task
+    /// that is polled for another reason takes nothing from those before it in the queue.
+    ///
+    /// With the output, or an error, no listener is left. [`UntilError`] says what it allocates and what is left. The
+    /// call may wait for the lock of the event.
+    pub fn poll_in(&mut self, cx: &mut Context<'_>) -> Poll<Result<A::Output, UntilError>>
+        ensures ready { IfReady result (λ output. SucceedsOrFails A.fails A.succeeds self.old.attempt output self.new.attempt) }
+        ensures pending { OnPending result (SomeFail A.fails self.old.attempt self.new.attempt) }
+
+        // Where no listener was left, a pending poll has attempted before it listened, and again after that.
+        ensures attempted { self.old.listener ≡ None → OnPending result (FailsAtLeast A.fails 2 self.old.attempt self.new.attempt) }
+
+        // A poll that is pending has left a listener of the event, and registered at its source.
+        ensures listens { OnPending result (IsSomeAnd self.new.listener (λ listener. listener.event_number ≡ self.new.event_number)) }
+        ensures registered { OnPending result (IsSomeAnd self.new.listener (λ listener. Covers cx.new (λ s. s ≡ listener.source))) }
+        ensures unlistened { IfReady result (λ _. self.new.listener ≡ None) }
+        ensures event { self.new.event_number ≡ self.old.event_number }
+        ensures kept { Keeps cx.old cx.new }
+    {
+        match self.poll_turn(cx) {
+            Ok(Turn::Succeeded(output)) => Poll::Ready(Ok(output)),
+            Ok(Turn::Listens(listener)) => {
+                self.listener = Some(listener);
+                Poll::Pending
+            }
+            Err(error) => Poll::Ready(Err(error)),
+        }
+    }
+
+    // A listener that an earlier poll left is polled first, and keeps its place in the queue.
+    fn poll_turn(
+        &mut self,
+        cx: &mut Context<'_>,
+    ) -> Result<Turn<A::Output, StackListener<'a, (), R>>, UntilError>
+        ensures attempts { SomeTurns A.fails A.succeeds self.old.attempt result self.new.attempt }
+        ensures attempted { self.old.listener ≡ None → Turns A.fails A.succeeds self.old.attempt result self.new.attempt }
+        ensures listens { IfOk result (λ turn. IfListens turn (λ listener. listener.event_number ≡ self.new.event_number)) }
+        ensures registered { IfOk result (λ turn. IfListens turn (λ listener. Covers cx.new (λ s. s ≡ listener.source))) }
+        ensures unlistened { self.new.listener ≡ None }
+        ensures event { self.new.event_number ≡ self.old.event_number }
+        ensures kept { Keeps cx.old cx.new }
+    {
+        if let Some(listener) = self.listener.take() {
+            if let Some(listener) = poll_listener(listener, cx)? {
+                return Ok(Turn::Listens(listener));
+            }
+        }
+        poll_turns(&mut self.attempt, self.rt, self.alloc, self.event, cx)
+    }
+}
+
+/// Gives the output of the first attempt that succeeds. What each poll does is said at [`Until::poll_in`].
+impl<'a, A: Attempt + Drop, R: Wait + Clock + Clone> Future for Until<'a, A, R> {
+    type Output = Result<A::Output, UntilError>;
+
+    ghost needs = { λ until s. IsSomeAnd until.listener (λ listener. s ≡ listener.source) };
+
+    ghost gives = { λ until output. (after : A) × SucceedsOrFails A.fails A.succeeds until.attempt output after };
+
+    fn poll(&mut self, cx: &mut Context<'_>) -> Poll<Result<A::Output, UntilError>> {
+        self.poll_in(cx)
+    }
+}

@@ -1,0 +1,17 @@
+//! Locks and their kin over [`event_until`], one a file: what each waits for is an [`Attempt`](event_until::Attempt), and
+//! nothing else of a wait is written here.
+#![tactic(auto)]
+
+mod barrier;
+mod gate;
+mod mutex;
+mod read_write_lock;
+mod semaphore;
+mod set_once;
+
+pub use barrier::{Arriving, Barrier};
+pub use gate::{Gate, Pass};
+pub use mutex::{Lock, Mutex, MutexGuard};
+pub use read_write_lock::{Read, ReadGuard, ReadWriteLock, Write, WriteGuard};
+pub use semaphore::{Acquire, Permit, Semaphore};
+pub use set_once::{Get, SetOnce};
