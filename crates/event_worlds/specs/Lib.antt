@@ -13,3 +13,6 @@ pub mod SemaphoreInvariant
 pub mod Flag
 pub mod FlagSafety
 pub mod FlagInvariant
+pub mod Channel
+pub mod ChannelSafety
+pub mod ChannelInvariant
