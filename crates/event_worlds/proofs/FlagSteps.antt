@@ -37,7 +37,7 @@ tell-all : (waiting : List (ℕ × Bool)) (told : List ℕ) (awake : List Bool) 
 tell-all [] told awake next kind = refl
 tell-all (first ∷ rest) told awake next kind = tell-all rest _ _ next kind
 
-notified-everybody : (line : Line) → IsLine line → (notified everybody line).waiting ≡ []
+pub notified-everybody : (line : Line) → IsLine line → (notified everybody line).waiting ≡ []
 notified-everybody line fits =
     let all : min (wanted everybody line) (length line.waiting) ≡ length line.waiting =
     cond_both line.additional everybody (everybody - length line.told) (λ (n : ℕ). min n (length line.waiting) ≡ length line.waiting) (λ _. omega (arith, fits.clients_fit)) (λ _. omega (arith, fits.clients_fit)) in

@@ -20,3 +20,9 @@ pub mod MutexMoves
 pub mod FlagSteps
 pub mod FlagMoves
 pub mod FlagSafetyLemmas
+pub mod ChannelClients
+pub mod ChannelSides
+pub mod ChannelSteps
+pub mod ChannelSafetyLemmas
+pub mod ChannelOrder
+pub mod ChannelMoves

@@ -1,6 +1,6 @@
 -- The channel world: the senders and the receivers of a bounded channel, each side in a line of its own, who closes it,
 -- and the tables of their steps.
-use Rattle.std.specs.Prelude.{ℕ, ◌+◌, ◌-◌, Bool, true, false, nat_lt, if◌then◌else◌, List, [], ◌∷◌, ◌++◌, length, drop, replicate, slice_get, slice_set, Option, Some, None, option_to_list, is_some, unwrap_or, option_and_then, option_map}
+use Rattle.std.specs.Prelude.{ℕ, ◌+◌, Bool, true, false, nat_lt, if◌then◌else◌, List, [], ◌∷◌, ◌++◌, length, drop, replicate, slice_get, slice_set, Option, Some, None, option_to_list, is_some, unwrap_or, option_and_then, option_map}
 use Rattle.event_worlds.specs.declared.world.acts.ChannelAct.{ChannelAct}
 use Rattle.event_worlds.specs.declared.world.acts.ChannelAct.TheVariants.{Go, Send, Poll, TimeOut, Cancel}
 use Rattle.event_worlds.specs.declared.world.acts.ChannelActor.{ChannelActor}
@@ -12,7 +12,7 @@ use Rattle.event_worlds.specs.declared.world.channel.CloserPlace.TheVariants.{To
 use Rattle.event_worlds.specs.declared.world.channel.Found.{Found}
 use Rattle.event_worlds.specs.declared.world.channel.Found.TheVariants.{One, Nothing, Over}
 use Rattle.event_worlds.specs.declared.world.place.Place.{Place}
-use Rattle.event_worlds.specs.declared.world.place.Place.TheVariants.{Idle, First, ToListen, Second, Ending, ToRegister, Parked, Holding, Releasing}
+use Rattle.event_worlds.specs.declared.world.place.Place.TheVariants.{Idle, First, ToListen, Second, Ending, ToRegister, Parked, Holding}
 use Rattle.event_worlds.specs.Flag.{everybody}
 use Rattle.event_worlds.specs.Line.{Line, empty_line, is_told, has_wake, has_serial_left, joined, registered, told_left, waiting_left, wake_lost, notified, dropped}
 

@@ -1,6 +1,6 @@
 -- What the channel world keeps in its type: each step of the tables keeps it, and what `ChannelSafety` says follows. No
 -- public clause cites this module.
-use Rattle.std.specs.Prelude.{◌≡◌, ℕ, ◌-◌, ◌≤◌, Bool, true, false, List, map, length, slice_get, Option, Some, None, IfSome}
+use Rattle.std.specs.Prelude.{◌≡◌, ℕ, ◌≤◌, Bool, true, false, List, map, length, slice_get, Option, Some, None, IfSome}
 use Rattle.event_worlds.specs.declared.world.acts.ChannelAct.{ChannelAct}
 use Rattle.event_worlds.specs.declared.world.channel.ChannelClient.{ChannelClient}
 use Rattle.event_worlds.specs.declared.world.channel.CloserPlace.{CloserPlace}

@@ -1,13 +1,12 @@
 -- What holds of the channel world after every schedule.
 use Rattle.std.specs.Prelude.{◌≡◌, ◌↔◌, ◌⊎◌, ℕ, ◌+◌, ◌-◌, ◌≤◌, Bool, true, false, List, ◌++◌, length, slice_get, sum_by, count_by, IsTrue, IsFalse, IsSomeAnd}
-use Rattle.event_worlds.specs.declared.world.acts.ChannelStep.{ChannelStep}
 use Rattle.event_worlds.specs.declared.world.channel.CloserPlace.{CloserPlace}
-use Rattle.event_worlds.specs.declared.world.channel.CloserPlace.TheVariants.{ToClose, ToNotifySenders, ToNotifyReceivers, Done}
+use Rattle.event_worlds.specs.declared.world.channel.CloserPlace.TheVariants.{ToNotifyReceivers, Done}
 use Rattle.event_worlds.specs.declared.world.place.Place.{Place}
 use Rattle.event_worlds.specs.declared.world.place.Place.TheVariants.{ToRegister, Parked}
 use Rattle.event_worlds.specs.ClientTable.{is_listening, is_woken}
 use Rattle.event_worlds.specs.Line.{is_told, is_waiting, has_wake}
-use Rattle.event_worlds.specs.Channel.{Side, ChannelState, is_closed, after_all, sent, received}
+use Rattle.event_worlds.specs.Channel.{Side, ChannelState, is_closed, sent, received}
 
 -- this client of a side is at this place
 abbrev pub IsAt : ℕ → Place → Side → Type 0
