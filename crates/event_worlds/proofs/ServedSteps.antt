@@ -42,7 +42,7 @@ first-counts : (waiting : List (ℕ × Bool)) (line : Line) → line.waiting ≡
 first-counts [] line is some = absurd (omega arith)
 first-counts (first ∷ rest) line is some = (omega (arith, length-append line.told (first.0 ∷ [])), omega arith)
 
-tell-counts : (count : ℕ) (line : Line) → count ≤ length line.waiting → (length (tell count line).told ≡ length line.told + count) × (length (tell count line).waiting + count ≡ length line.waiting)
+pub tell-counts : (count : ℕ) (line : Line) → count ≤ length line.waiting → (length (tell count line).told ≡ length line.told + count) × (length (tell count line).waiting + count ≡ length line.waiting)
 tell-counts zero line few = (omega arith, omega arith)
 tell-counts (suc count) line few =
     let (told, waiting) = first-counts line.waiting line refl (omega arith) in

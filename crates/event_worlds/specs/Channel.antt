@@ -13,6 +13,7 @@ use Rattle.event_worlds.specs.declared.world.channel.Found.{Found}
 use Rattle.event_worlds.specs.declared.world.channel.Found.TheVariants.{One, Nothing, Over}
 use Rattle.event_worlds.specs.declared.world.place.Place.{Place}
 use Rattle.event_worlds.specs.declared.world.place.Place.TheVariants.{Idle, First, ToListen, Second, Ending, ToRegister, Parked, Holding}
+use Rattle.event_worlds.specs.Buffer.{Buffer}
 use Rattle.event_worlds.specs.Flag.{everybody}
 use Rattle.event_worlds.specs.Line.{Line, empty_line, is_told, has_wake, has_serial_left, joined, registered, told_left, waiting_left, wake_lost, notified, dropped}
 
@@ -29,6 +30,16 @@ pub record ChannelState : Type 0 where
   pub closer : CloserPlace
   pub senders : Side
   pub receivers : Side
+
+-- the channel of this buffer, with so far a closing, these clients and these lines
+abbrev pub channel_of : Buffer → CloserPlace → List ChannelClient → Line → List ChannelClient → Line → ChannelState
+channel_of buffer closer senders sender_line receivers receiver_line = record {
+  capacity = buffer.capacity;
+  messages = buffer.messages;
+  closer = closer;
+  senders = record { clients = senders; line = sender_line };
+  receivers = record { clients = receivers; line = receiver_line };
+}
 
 -- a client that wants nothing
 abbrev pub idle : ChannelClient

@@ -8,7 +8,7 @@
 pub mod world;
 
 pub use world::acts::{Act, ChannelAct, ChannelActor, ChannelStep, SemAct, SemStep, Step};
-pub use world::channel::CloserPlace;
+pub use world::channel::{ChannelClient, ChannelWorld, CloserPlace};
 pub use world::flag::{FlagPlace, FlagWorld, SetterPlace};
 pub use world::mutex::MutexWorld;
 pub use world::place::{News, Place};
