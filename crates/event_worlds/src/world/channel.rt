@@ -37,8 +37,8 @@ pub enum CloserPlace {
 pub struct ChannelClient {
     /// Where it is.
     pub place: Place,
-    /// How many notifications it owes the other side: one from its look that took a message, or room for one, until it
-    /// notifies.
+    /// How many notifications it owes the other side: one, from the look by which it sent or received until it has
+    /// notified.
     pub owed: usize,
     /// The message that a sender sends or sent last, or that a receiver received last; 0 before the first.
     pub message: usize,
@@ -79,7 +79,8 @@ enum Found {
 /// and whoever closes it.
 ///
 /// A sender looks for room, listens, looks again, and waits until it is told; a receiver does the same for a message.
-/// Whoever took one then notifies the other side of one, additional to those told already. Closing is three steps: the
+/// The look that finds one sends or receives. The client then notifies one of the other side, additional to those told
+/// already. Closing is three steps: the
 /// channel is closed, all senders are notified, all receivers are notified. Each step of an actor is one call of
 /// [`step`](ChannelWorld::step). Whatever the schedule, no wake-up and no message is lost, and messages stay in order.
 #[derive(Drop)]
@@ -308,13 +309,13 @@ impl ChannelWorld {
     }
 
     /// How many messages were sent and not yet received.
-    pub fn len(&self) -> usize
+    pub fn messages(&self) -> usize
         ensures value { result ≡ length self.now.messages }
     {
         self.buffer.len()
     }
 
-    /// The message that so many others are to be received before, if there is one.
+    /// The message of this place in the channel, which is 0 for the oldest, if there are so many.
     pub fn message(&self, index: usize) -> Option<usize>
         ensures value { result ≡ slice_get self.now.messages index }
     {
@@ -382,7 +383,7 @@ impl ChannelWorld {
     }
 
     /// Whether a sender has a wake-up. One that it has when it leaves the line stays until it listens again.
-    pub fn has_sender_wake(&self, client: usize) -> bool
+    pub fn sender_has_wake(&self, client: usize) -> bool
         requires client { client < length self.now.senders.clients }
         ensures value { result ≡ has_wake client self.now.senders.line }
     {
@@ -390,7 +391,7 @@ impl ChannelWorld {
     }
 
     /// Whether a receiver has a wake-up. One that it has when it leaves the line stays until it listens again.
-    pub fn has_receiver_wake(&self, client: usize) -> bool
+    pub fn receiver_has_wake(&self, client: usize) -> bool
         requires client { client < length self.now.receivers.clients }
         ensures value { result ≡ has_wake client self.now.receivers.line }
     {
