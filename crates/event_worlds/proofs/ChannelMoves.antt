@@ -12,8 +12,8 @@ use Rattle.event_worlds.specs.Line.{Line, IsLine, wanted, notified}
 use Rattle.event_worlds.specs.Served.{is_parked, MayBeAt}
 use Rattle.event_worlds.specs.Channel.{Side, ChannelState, channel_of, room_found, message_found, from, passed, sender_goes, receiver_goes, step_of_sender, step_of_receiver, next_of_sender, next_of_receiver}
 use Rattle.event_worlds.specs.ChannelSafety.{all_owed, room}
-use Rattle.event_worlds.specs.ChannelInvariant.{places_of, SendersMayTake, ReceiversMayTake, IsSideSound, IsSound}
-use Rattle.event_worlds.proofs.ChannelClients.{place-at, places-length}
+use Rattle.event_worlds.specs.ChannelInvariant.{place_of, places_of, SendersMayTake, ReceiversMayTake, IsSideSound, IsSound}
+use Rattle.event_worlds.proofs.PlacedClients.{place-at, places-length}
 use Rattle.event_worlds.proofs.ChannelSafetyLemmas.{senders-none, receivers-none}
 use Rattle.event_worlds.proofs.ChannelSteps.{sound-sender, sound-receiver}
 use Rattle.event_worlds.proofs.InLineLemmas.{out_at}
@@ -53,11 +53,11 @@ module _ (MayTake : ℕ → Type 0) (owed : ℕ) (side : Side) (sound : IsSideSo
   -- who is about to listen is not in line
   pub side_may_be_at : (client : ℕ) (own : ChannelClient) → slice_get side.clients client ≡ Some own → MayBeAt own.place client side.line
   side_may_be_at client own at listens =
-      out_at is_listening is_parked (places_of side.clients) side.line (sound.served 0 may).fit client own.place (place-at side.clients client own at) (ap is_listening listens)
+      out_at is_listening is_parked (places_of side.clients) side.line (sound.served 0 may).fit client own.place (place-at place_of side.clients client own at) (ap is_listening listens)
 
   -- each client has a flag for its wake-up
   pub side_flags : length side.line.awake ≡ length side.clients
-  side_flags = (sound.served 0 may).flags ∙ places-length side.clients
+  side_flags = (sound.served 0 may).flags ∙ places-length place_of side.clients
 
 -- from the code's move of one client to the step of the world that it is
 

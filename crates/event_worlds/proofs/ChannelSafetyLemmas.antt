@@ -10,8 +10,8 @@ use Rattle.event_worlds.specs.Line.{has_wake}
 use Rattle.event_worlds.specs.Served.{is_parked}
 use Rattle.event_worlds.specs.Channel.{Side, ChannelState, is_closed}
 use Rattle.event_worlds.specs.ChannelSafety.{IsAt, SomeUntoldWaits, clients_woken, all_owed, room, ToldRun, EnoughAreOnTheirWay, senders_notified, receivers_notified, IsSafe, MessagesFit, NotifiesAdditional, SideIsListening, InLineAreListening}
-use Rattle.event_worlds.specs.ChannelInvariant.{places_of, SendersMayTake, ReceiversMayTake, IsSideSound, IsSound}
-use Rattle.event_worlds.proofs.ChannelClients.{place-some, some-place, number-places}
+use Rattle.event_worlds.specs.ChannelInvariant.{place_of, places_of, SendersMayTake, ReceiversMayTake, IsSideSound, IsSound}
+use Rattle.event_worlds.proofs.PlacedClients.{place-some, some-place, number-places}
 use Rattle.event_worlds.proofs.InLineLemmas.{awake_at, in_line_are}
 
 -- one side
@@ -23,13 +23,13 @@ module _ (MayTake : ℕ → Type 0) (owed : ℕ) (side : Side) (sound : IsSideSo
 
   there : (client : ℕ) (place : Place) → IsAt client place side → slice_get (places_of side.clients) client ≡ Some place
   there client place at =
-      place_is (slice_get (places_of side.clients) client) place (some-place (λ p. p ≡ place) side.clients client at)
+      place_is (slice_get (places_of side.clients) client) place (some-place place_of (λ p. p ≡ place) side.clients client at)
 
   enough : (free : ℕ) → MayTake free → EnoughAreOnTheirWay free owed side
   enough free may (client, (inl at), untold) =
-      omega (arith, (sound.served free may).enough client ToRegister (there client ToRegister at) refl untold, number-places is_woken side.clients)
+      omega (arith, (sound.served free may).enough client ToRegister (there client ToRegister at) refl untold, number-places place_of is_woken side.clients)
   enough free may (client, (inr at), untold) =
-      omega (arith, (sound.served free may).enough client Parked (there client Parked at) refl untold, number-places is_woken side.clients)
+      omega (arith, (sound.served free may).enough client Parked (there client Parked at) refl untold, number-places place_of is_woken side.clients)
 
   -- where any number may be taken, nobody untold waits
   nobody_waits : ((free : ℕ) → MayTake free) → SomeUntoldWaits side → ⊥
@@ -50,8 +50,8 @@ module _ (MayTake : ℕ → Type 0) (owed : ℕ) (side : Side) (sound : IsSideSo
   side_is_listening : MayTake 0 → SideIsListening side
   side_is_listening may client =
       let are = in_line_are is_listening is_parked (places_of side.clients) side.line (sound.served 0 may).fit client in (
-        λ in_line. place-some (λ p. IsTrue (is_listening p)) side.clients client (are.0 in_line),
-        λ listens. are.1 (some-place (λ p. IsTrue (is_listening p)) side.clients client listens),
+        λ in_line. place-some place_of (λ p. IsTrue (is_listening p)) side.clients client (are.0 in_line),
+        λ listens. are.1 (some-place place_of (λ p. IsTrue (is_listening p)) side.clients client listens),
       )
 
 -- how many may be taken, by how far the closing is

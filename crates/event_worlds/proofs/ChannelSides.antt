@@ -13,8 +13,8 @@ use Rattle.event_worlds.specs.Line.{Line, is_told, has_wake, has_serial_left, jo
 use Rattle.event_worlds.specs.Served.{is_inside, is_parked, is_past_second, IsServed}
 use Rattle.event_worlds.specs.Channel.{Side, from, passed, looked, moved, paid}
 use Rattle.event_worlds.specs.ChannelSafety.{all_owed}
-use Rattle.event_worlds.specs.ChannelInvariant.{places_of, OwnFits, IsSideSound}
-use Rattle.event_worlds.proofs.ChannelClients.{place-at, places-set, sum-set, all-set, all-at}
+use Rattle.event_worlds.specs.ChannelInvariant.{place_of, places_of, OwnFits, IsSideSound}
+use Rattle.event_worlds.proofs.PlacedClients.{place-at, places-set, sum-set, all-set, all-at}
 use Rattle.event_worlds.proofs.ServedSteps.{served-owes, served-begins, served-gets, served-finds_none, served-listens, served-refused, served-gets_second, served-finds_none_second, served-told, served-registers, served-wakes, served-leaves, served-drops, served-lingers, served-ends, served-notified}
 use Rattle.event_worlds.proofs.StandingLemmas.{notified-kind, dropped-kind}
 
@@ -55,14 +55,14 @@ module _ (Own Far : Option ℕ → ℕ → Type 0) (side far : Side) (client : �
     record {
       served =
           λ free may.
-          subst (λ (ps : List Place). IsServed free (all_owed far) ps line) (sym (places-set side.clients client new)) (served free may);
+          subst (λ (ps : List Place). IsServed free (all_owed far) ps line) (sym (places-set place_of side.clients client new)) (served free may);
       owns = all-set OwnFits side.clients client own new at sound.owns fits_new;
       kind = kind;
     },
     record {
       served =
           λ free may.
-          far_served free (all_owed (after (new, line, other))) may (sum-set (λ c. c.owed) side.clients client own new at);
+          far_served free (all_owed (after (new, line, other))) may (sum-set {C = ChannelClient} (λ c. c.owed) side.clients client own new at);
       owns = far_sound.owns;
       kind = far_kind;
     },
@@ -70,7 +70,7 @@ module _ (Own Far : Option ℕ → ℕ → Type 0) (side far : Side) (client : �
 
   module _ (p : Place) (is : own.place ≡ p) where
     there : slice_get places client ≡ Some p
-    there = place-at side.clients client own at ∙ ap (λ (q : Place). Some q) is
+    there = place-at place_of side.clients client own at ∙ ap (λ (q : Place). Some q) is
 
     owes_none : is_inside p ≡ false → own.owed ≡ 0
     owes_none outside = fits.owed (ap is_inside is ∙ outside)

@@ -13,17 +13,15 @@ use Rattle.event_worlds.specs.declared.world.channel.Found.{Found}
 use Rattle.event_worlds.specs.declared.world.channel.Found.TheVariants.{One, Nothing, Over}
 use Rattle.event_worlds.specs.declared.world.place.Place.{Place}
 use Rattle.event_worlds.specs.declared.world.place.Place.TheVariants.{First, Second}
-use Rattle.event_worlds.specs.Line.{Line, IsLine, notified}
-use Rattle.event_worlds.specs.Flag.{everybody}
+use Rattle.event_worlds.specs.Line.{Line, IsLine, everybody, notified}
 use Rattle.event_worlds.specs.Served.{IsServed}
-use Rattle.event_worlds.specs.Channel.{Side, ChannelState, start, idle_side, is_closed, room_found, first_found, message_found, from, passed, sender_goes, receiver_goes}
+use Rattle.event_worlds.specs.Channel.{Side, ChannelState, start, idle, idle_side, is_closed, room_found, first_found, message_found, from, passed, sender_goes, receiver_goes}
 use Rattle.event_worlds.specs.ChannelSafety.{all_owed, room}
-use Rattle.event_worlds.specs.ChannelInvariant.{places_of, OwnFits, SendersMayTake, ReceiversMayTake, IsSideSound, IsSound}
-use Rattle.event_worlds.proofs.ChannelClients.{places-idle, all-idle}
+use Rattle.event_worlds.specs.ChannelInvariant.{place_of, places_of, OwnFits, SendersMayTake, ReceiversMayTake, IsSideSound, IsSound}
+use Rattle.event_worlds.proofs.PlacedClients.{places-same, all-same}
 use Rattle.event_worlds.proofs.ChannelSides.{Says, sides-keep}
-use Rattle.event_worlds.proofs.FlagSteps.{notified-everybody}
 use Rattle.event_worlds.proofs.ServedSteps.{served-all, served-start}
-use Rattle.event_worlds.proofs.StandingLemmas.{notified-kind}
+use Rattle.event_worlds.proofs.StandingLemmas.{notified-kind, notified-everybody}
 
 -- what may be taken once a sender has sent that, if anything, and once a receiver has received that
 
@@ -172,8 +170,8 @@ side-start : (MayTake : ℕ → Type 0) (owed clients : ℕ) → IsSideSound May
 side-start MayTake owed clients = record {
   served =
       λ free _.
-      subst (λ (ps : List Place). IsServed free owed ps (idle_side clients).line) (sym (places-idle clients)) (served-start free owed true clients 0);
-  owns = all-idle OwnFits (record { owed = λ _. refl }) clients;
+      subst (λ (ps : List Place). IsServed free owed ps (idle_side clients).line) (sym (places-same place_of idle clients)) (served-start free owed true clients 0);
+  owns = all-same OwnFits idle (record { owed = λ _. refl }) clients;
   kind = refl;
 }
 

@@ -14,8 +14,7 @@ use Rattle.event_worlds.specs.declared.world.channel.Found.TheVariants.{One, Not
 use Rattle.event_worlds.specs.declared.world.place.Place.{Place}
 use Rattle.event_worlds.specs.declared.world.place.Place.TheVariants.{Idle, First, ToListen, Second, Ending, ToRegister, Parked, Holding}
 use Rattle.event_worlds.specs.Buffer.{Buffer}
-use Rattle.event_worlds.specs.Flag.{everybody}
-use Rattle.event_worlds.specs.Line.{Line, empty_line, is_told, has_wake, has_serial_left, joined, registered, told_left, waiting_left, wake_lost, notified, dropped}
+use Rattle.event_worlds.specs.Line.{Line, empty_line, everybody, is_told, has_wake, has_serial_left, joined, registered, told_left, waiting_left, wake_lost, notified, dropped}
 
 -- the senders, or the receivers: of each, by its number, its place, how many notifications of the other side it owes,
 -- and its message; who is told, who waits and who has its wake-up

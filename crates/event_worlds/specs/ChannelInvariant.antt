@@ -12,8 +12,11 @@ use Rattle.event_worlds.specs.Channel.{Side, ChannelState, from}
 use Rattle.event_worlds.specs.ChannelSafety.{all_owed, room, MessagesFit}
 use Rattle.event_worlds.specs.Served.{is_inside, IsServed}
 
+abbrev pub place_of : ChannelClient → Place
+place_of own = own.place
+
 abbrev pub places_of : List ChannelClient → List Place
-places_of clients = map (λ own. own.place) clients
+places_of clients = map place_of clients
 
 -- a client owes a notification while it is inside alone
 pub record OwnFits (own : ChannelClient) : Type 0 where

@@ -79,10 +79,13 @@ enum Found {
 /// and whoever closes it.
 ///
 /// A sender looks for room, listens, looks again, and waits until it is told; a receiver does the same for a message.
-/// The look that finds one sends or receives. The client then notifies one of the other side, additional to those told
-/// already. Closing is three steps: the
-/// channel is closed, all senders are notified, all receivers are notified. Each step of an actor is one call of
-/// [`step`](ChannelWorld::step). Whatever the schedule, no wake-up and no message is lost, and messages stay in order.
+/// The look that finds one sends or receives, and the client then notifies one of the other side, additional to those
+/// told already. Clients go by [`Place::after`]: at `Holding`, and at `Ending` with its listener still to be dropped, a
+/// client has sent or received, or has found the channel closed.
+///
+/// Closing is three steps: the channel is closed, all senders are notified, all receivers are notified. What is left in
+/// the channel is still received. Each step of an actor is one call of [`step`](ChannelWorld::step). Whatever the
+/// schedule, no wake-up and no message is lost, and messages are received in the order in which they were sent.
 #[derive(Drop)]
 pub struct ChannelWorld {
     buffer: Buffer,

@@ -1,7 +1,6 @@
 use Rattle.std.proofs.Common.{sym, subst}
 use Rattle.event_worlds.specs.declared.world.channel.CloserPlace.TheVariants.{ToNotifyReceivers, Done}
-use Rattle.event_worlds.specs.Flag.{everybody}
-use Rattle.event_worlds.specs.Line.{Line, IsLine}
+use Rattle.event_worlds.specs.Line.{Line, IsLine, everybody}
 use Rattle.event_worlds.specs.Channel.{ChannelState, channel_of}
 use Rattle.event_worlds.specs.ChannelInvariant.{IsSound}
 use Rattle.event_worlds.proofs.ChannelMoves.{line-before}
