@@ -1,5 +1,5 @@
 -- Each step of the flag world's tables keeps the world's invariant.
-use Rattle.std.proofs.Common.{◌≡◌, ◌≢◌, ℕ, zero, suc, ◌-◌, ◌≤◌, min, Bool, true, false, List, [], ◌∷◌, length, set, slice_get, Option, Some, None, IfSome, refl, sym, ap, ◌∙◌, subst, inl, inr, arith, length-set}
+use Rattle.std.proofs.Common.{◌≡◌, ◌≢◌, ℕ, zero, suc, ◌≤◌, min, Bool, true, false, List, [], ◌∷◌, length, set, slice_get, Option, Some, None, IfSome, refl, sym, ap, ◌∙◌, subst, inl, inr, arith, length-set}
 use Rattle.std.specs.Map.{keys_of}
 use Rattle.std.proofs.lemmas.Bool.{cond_both, cases_eq}
 use Rattle.std.proofs.lemmas.List.{length-replicate}
@@ -9,13 +9,13 @@ use Rattle.event_worlds.specs.declared.world.flag.FlagPlace.{FlagPlace}
 use Rattle.event_worlds.specs.declared.world.flag.FlagPlace.TheVariants.{Check1, ToListen, Check2, Dropping, ToRegister, Parked, Done}
 use Rattle.event_worlds.specs.declared.world.flag.SetterPlace.{SetterPlace}
 use Rattle.event_worlds.specs.declared.world.flag.SetterPlace.TheVariants.{ToSet, ToNotify, Done as IsDone}
-use Rattle.event_worlds.specs.Line.{Line, IsLine, is_told, has_wake, has_serial_left, joined, registered, told_left, waiting_left, wake_lost, first_told_of, first_told, tell, wanted, notified, dropped}
+use Rattle.event_worlds.specs.Line.{Line, IsLine, everybody, is_told, has_wake, has_serial_left, joined, registered, told_left, waiting_left, wake_lost, first_told_of, first_told, tell, wanted, notified, dropped}
 use Rattle.event_worlds.specs.Standing.{times, standing, Fits, FitsAt, number}
-use Rattle.event_worlds.specs.Flag.{FlagState, start, from, from_setter, goes, setter_goes, everybody}
+use Rattle.event_worlds.specs.Flag.{FlagState, start, from, from_setter, goes, setter_goes}
 use Rattle.event_worlds.specs.FlagSafety.{is_listening}
 use Rattle.event_worlds.specs.FlagInvariant.{is_parked, is_past_second, is_to_notify, IsSettled, IsSound}
 use Rattle.event_worlds.proofs.PlaceLemmas.{slice_get-set, slice_get-set_other, number-at}
-use Rattle.event_worlds.proofs.StandingLemmas.{IsSame, same-joined, same-registered, same-told_left, same-waiting_left, same-wake_lost, fits-joined, fits-registered, fits-told_left, fits-waiting_left, fits-wake_lost, fit-changed, fit-notified, fit-start, same-itself, notified-flags, notified-kind}
+use Rattle.event_worlds.proofs.StandingLemmas.{IsSame, same-joined, same-registered, same-told_left, same-waiting_left, same-wake_lost, fits-joined, fits-registered, fits-told_left, fits-waiting_left, fits-wake_lost, fit-changed, fit-notified, fit-start, same-itself, notified-flags, notified-kind, notified-everybody}
 
 -- telling makes nobody wait
 
@@ -30,19 +30,6 @@ fewer-tell client (suc count) line =
 
 fewer-notified : (client count : ℕ) (line : Line) → times client (keys_of (notified count line).waiting) ≤ times client (keys_of line.waiting)
 fewer-notified client count line = fewer-tell client (min (wanted count line) (length line.waiting)) line
-
--- notifying everybody leaves nobody waiting
-
-tell-all : (waiting : List (ℕ × Bool)) (told : List ℕ) (awake : List Bool) (next : ℕ) (kind : Bool) → (tell (length waiting) (record { told = told; waiting = waiting; awake = awake; next = next; additional = kind })).waiting ≡ []
-tell-all [] told awake next kind = refl
-tell-all (first ∷ rest) told awake next kind = tell-all rest _ _ next kind
-
-notified-everybody : (line : Line) → IsLine line → (notified everybody line).waiting ≡ []
-notified-everybody line fits =
-    let all : min (wanted everybody line) (length line.waiting) ≡ length line.waiting =
-    cond_both line.additional everybody (everybody - length line.told) (λ (n : ℕ). min n (length line.waiting) ≡ length line.waiting) (λ _. omega (arith, fits.clients_fit)) (λ _. omega (arith, fits.clients_fit)) in
-    ap (λ (n : ℕ). (tell n line).waiting) all
-    ∙ tell-all line.waiting line.told line.awake line.next line.additional
 
 module _ (state : FlagState) (client : ℕ) (sound : IsSound state) where
   module _ (p : FlagPlace) (at : slice_get state.places client ≡ Some p) where

@@ -9,7 +9,7 @@ pub mod StandingLemmas
 pub mod InLineLemmas
 pub mod MadeLemmas
 pub mod ServedSteps
-pub mod SemaphoreClients
+pub mod PlacedClients
 pub mod SemaphoreSteps
 pub mod SemaphoreMoves
 pub mod SemaphoreSafetyLemmas
@@ -20,3 +20,8 @@ pub mod MutexMoves
 pub mod FlagSteps
 pub mod FlagMoves
 pub mod FlagSafetyLemmas
+pub mod ChannelSides
+pub mod ChannelSteps
+pub mod ChannelSafetyLemmas
+pub mod ChannelOrder
+pub mod ChannelMoves

@@ -92,13 +92,13 @@ module _ (state : MutexState) (client : ℕ) (sound : IsSound state) where
   from-first : (woken : Bool) → slice_get state.places client ≡ Some (First woken) → IfSome (from (First woken) Go client state) IsSound
   from-first woken at =
       cond_both (is_free state) (takes client Holding state) (goes client ToListen state.line state) IsSound (λ now.
-      sound-takes (First woken) at Holding now refl refl (λ owed' more. served-gets free owed state.places state.line client sound.served 0 owed' woken at (one_free state now) more)) (λ taken.
+      sound-takes (First woken) at Holding now refl refl (λ owed' more. served-gets free owed state.places state.line client sound.served 0 owed' woken at (omega (arith, one_free state now)) more)) (λ taken.
       sound-goes (First woken) at ToListen state.line refl refl (λ owed' more. served-finds_none free owed state.places state.line client sound.served free owed' woken at (none_free state taken)) sound.one_told sound.kind)
 
   from-second : slice_get state.places client ≡ Some Second → IfSome (from Second Go client state) IsSound
   from-second at =
       cond_both (is_free state) (takes client Ending state) (goes client ToRegister state.line state) IsSound (λ now.
-      sound-takes Second at Ending now refl refl (λ owed' more. served-gets_second free owed state.places state.line client sound.served 0 owed' at (one_free state now) more)) (λ taken.
+      sound-takes Second at Ending now refl refl (λ owed' more. served-gets_second free owed state.places state.line client sound.served 0 owed' at (omega (arith, one_free state now)) more)) (λ taken.
       sound-goes Second at ToRegister state.line refl refl (λ owed' more. served-finds_none_second free owed state.places state.line client sound.served free owed' at (none_free state taken)) sound.one_told sound.kind)
 
   from-listen : slice_get state.places client ≡ Some ToListen → IfSome (from ToListen Go client state) IsSound

@@ -7,8 +7,8 @@ use Rattle.event_worlds.specs.ClientTable.{is_listening}
 use Rattle.event_worlds.specs.Line.{Line}
 use Rattle.event_worlds.specs.Served.{is_parked, MayBeAt}
 use Rattle.event_worlds.specs.Semaphore.{SemaphoreState, from, goes, next}
-use Rattle.event_worlds.specs.SemaphoreInvariant.{places_of, IsSound}
-use Rattle.event_worlds.proofs.SemaphoreClients.{place-at, part-le-sum}
+use Rattle.event_worlds.specs.SemaphoreInvariant.{place_of, places_of, IsSound}
+use Rattle.event_worlds.proofs.PlacedClients.{place-at, part-le-sum}
 use Rattle.event_worlds.proofs.InLineLemmas.{out_at}
 
 module _ (state : SemaphoreState) (client : ℕ) where
@@ -29,11 +29,11 @@ module _ (state : SemaphoreState) (client : ℕ) where
     -- who is about to listen is not in line
     pub may_be_at : IsSound state → MayBeAt own.place client state.line
     may_be_at sound listens =
-        out_at is_listening is_parked (places_of state.clients) state.line sound.served.fit client own.place (place-at state.clients client own at) (ap is_listening listens)
+        out_at is_listening is_parked (places_of state.clients) state.line sound.served.fit client own.place (place-at place_of state.clients client own at) (ap is_listening listens)
 
     -- what it holds and what is free are permits
     pub permits_fit : IsSound state → state.permits < 2 ^ 64 → state.free + own.held < 2 ^ 64
-    permits_fit sound fits = omega (arith, part-le-sum (λ c. c.held) state.clients client own at, sound.added)
+    permits_fit sound fits = omega (arith, part-le-sum {C = SemaphoreClient} (λ c. c.held) state.clients client own at, sound.added)
 
   pub next-past : (act : SemAct) → length state.clients ≤ client → next client act state ≡ None
   next-past act past =

@@ -10,10 +10,10 @@ use Rattle.event_worlds.specs.declared.world.semaphore.SemaphoreClient.{Semaphor
 use Rattle.event_worlds.specs.ClientTable.{is_listening, is_woken}
 use Rattle.event_worlds.specs.Line.{Line, is_told, has_wake, has_serial_left, joined, registered, told_left, waiting_left, wake_lost, notified, dropped}
 use Rattle.event_worlds.specs.Served.{is_inside, is_releasing, is_parked, is_past_second, IsServed}
-use Rattle.event_worlds.specs.Semaphore.{SemaphoreState, start, from, goes, moved, got}
+use Rattle.event_worlds.specs.Semaphore.{SemaphoreState, start, idle, from, goes, moved, got}
 use Rattle.event_worlds.specs.SemaphoreSafety.{all_owed}
-use Rattle.event_worlds.specs.SemaphoreInvariant.{places_of, OwnFits, IsSound}
-use Rattle.event_worlds.proofs.SemaphoreClients.{place-at, places-set, places-idle, sum-set, sum-idle, all-set, all-at, all-idle}
+use Rattle.event_worlds.specs.SemaphoreInvariant.{place_of, places_of, OwnFits, IsSound}
+use Rattle.event_worlds.proofs.PlacedClients.{place-at, places-set, places-same, sum-set, sum-same, all-set, all-at, all-same}
 use Rattle.event_worlds.proofs.ServedSteps.{served-begins, served-gets, served-finds_none, served-listens, served-refused, served-gets_second, served-finds_none_second, served-told, served-registers, served-wakes, served-leaves, served-drops, served-takes_more, served-frees, served-notifies, served-start}
 use Rattle.event_worlds.proofs.StandingLemmas.{notified-kind, dropped-kind}
 
@@ -30,11 +30,11 @@ module _ (state : SemaphoreState) (client : ℕ) (own : SemaphoreClient) (at : s
   -- the client, the free permits and the line have changed
   sound-goes : (new : SemaphoreClient) (free : ℕ) (line : Line) → ((owed : ℕ) → owed + own.owed ≡ all_owed state + new.owed → IsServed free owed (set places client new.place) line) → free + new.held ≡ state.free + own.held → OwnFits new → line.additional ≡ true → Leads (new, free, line)
   sound-goes new free line served kept fits_new kind =
-      let owes = sum-set (λ c. c.owed) state.clients client own new at in
-      let holds = sum-set (λ c. c.held) state.clients client own new at in
+      let owes = sum-set {C = SemaphoreClient} (λ c. c.owed) state.clients client own new at in
+      let holds = sum-set {C = SemaphoreClient} (λ c. c.held) state.clients client own new at in
       record {
         served =
-            subst (λ (ps : List Place). IsServed free (all_owed (goes client state (new, free, line))) ps line) (sym (places-set state.clients client new)) (served (all_owed (goes client state (new, free, line))) owes);
+            subst (λ (ps : List Place). IsServed free (all_owed (goes client state (new, free, line))) ps line) (sym (places-set place_of state.clients client new)) (served (all_owed (goes client state (new, free, line))) owes);
         added = omega (arith, sound.added);
         owns = all-set OwnFits state.clients client own new at sound.owns fits_new;
         kind = kind;
@@ -42,7 +42,7 @@ module _ (state : SemaphoreState) (client : ℕ) (own : SemaphoreClient) (at : s
 
   module _ (p : Place) (is : own.place ≡ p) where
     there : slice_get places client ≡ Some p
-    there = place-at state.clients client own at ∙ ap (λ (q : Place). Some q) is
+    there = place-at place_of state.clients client own at ∙ ap (λ (q : Place). Some q) is
 
     holds_none : is_inside p ≡ false → own.held ≡ 0
     holds_none outside = fits.held (ap is_inside is ∙ outside)
@@ -174,8 +174,8 @@ module _ (state : SemaphoreState) (client : ℕ) (own : SemaphoreClient) (at : s
 pub start-sound : (clients permits : ℕ) → IsSound (start clients permits)
 start-sound clients permits = record {
   served =
-      subst (λ (ps : List Place). IsServed permits (all_owed (start clients permits)) ps (start clients permits).line) (sym (places-idle clients)) (served-start permits (all_owed (start clients permits)) true clients 0);
-  added = omega (arith, sum-idle (λ c. c.held) clients refl);
-  owns = all-idle OwnFits (record { held = λ _. refl; owed = λ _. refl }) clients;
+      subst (λ (ps : List Place). IsServed permits (all_owed (start clients permits)) ps (start clients permits).line) (sym (places-same place_of idle clients)) (served-start permits (all_owed (start clients permits)) true clients 0);
+  added = omega (arith, sum-same {C = SemaphoreClient} (λ c. c.held) idle clients refl);
+  owns = all-same OwnFits idle (record { held = λ _. refl; owed = λ _. refl }) clients;
   kind = refl;
 }

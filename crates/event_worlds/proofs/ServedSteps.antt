@@ -42,7 +42,7 @@ first-counts : (waiting : List (ℕ × Bool)) (line : Line) → line.waiting ≡
 first-counts [] line is some = absurd (omega arith)
 first-counts (first ∷ rest) line is some = (omega (arith, length-append line.told (first.0 ∷ [])), omega arith)
 
-tell-counts : (count : ℕ) (line : Line) → count ≤ length line.waiting → (length (tell count line).told ≡ length line.told + count) × (length (tell count line).waiting + count ≡ length line.waiting)
+pub tell-counts : (count : ℕ) (line : Line) → count ≤ length line.waiting → (length (tell count line).told ≡ length line.told + count) × (length (tell count line).waiting + count ≡ length line.waiting)
 tell-counts zero line few = (omega arith, omega arith)
 tell-counts (suc count) line few =
     let (told, waiting) = first-counts line.waiting line refl (omega arith) in
@@ -95,6 +95,34 @@ served-notified free owed n places line kind served = record {
     fit : (client : ℕ) → FitsAt is_listening is_parked (slice_get places client) (standing client (notified n line))
     fit = fit-notified is_listening is_parked n places line served.flags served.fit
 
+-- as many more can be taken as notifications are to come
+pub served-owes : (free owed free' owed' : ℕ) (places : List Place) (line : Line) → free' + owed ≤ free + owed' → IsServed free owed places line → IsServed free' owed' places line
+served-owes free owed free' owed' places line more served = record {
+  fit = served.fit;
+  enough = λ client place at past untold. let had = served.enough client place at past untold in omega arith;
+  flags = served.flags;
+}
+
+-- a notification that leaves nobody waiting serves any number
+pub served-all : (free owed free' owed' n : ℕ) (places : List Place) (line : Line) → (notified n line).waiting ≡ [] → IsServed free owed places line → IsServed free' owed' places (notified n line)
+served-all free owed free' owed' n places line nobody served = record {
+  fit = fit;
+  enough =
+      λ client place at past untold.
+      let fits : FitsAt is_listening is_parked (Some place) (standing client (notified n line)) =
+      subst (λ (o : Option Place). FitsAt is_listening is_parked o (standing client (notified n line))) at (fit client) in
+      let once : times client (notified n line).told + times client (keys_of (notified n line).waiting) ≡ 1 =
+      subst (λ (b : Bool). times client (notified n line).told + times client (keys_of (notified n line).waiting) ≡ cond b 1 0) (past_listens place past) fits.once in
+      let none = times-none client (notified n line).told untold in
+      let gone : times client (keys_of (notified n line).waiting) ≡ 0 =
+      ap (λ (ws : List (ℕ × Bool)). times client (keys_of ws)) nobody in
+      absurd (omega arith);
+  flags = notified-flags n line ∙ served.flags;
+}
+  where
+    fit : (client : ℕ) → FitsAt is_listening is_parked (slice_get places client) (standing client (notified n line))
+    fit = fit-notified is_listening is_parked n places line served.flags served.fit
+
 module _ (free owed : ℕ) (places : List Place) (line : Line) (client : ℕ) (served : IsServed free owed places line) where
   module _ (p : Place) (at : slice_get places client ≡ Some p) where
     fits_here : Fits (is_listening p) (is_parked p) (standing client line)
@@ -131,7 +159,7 @@ module _ (free owed : ℕ) (places : List Place) (line : Line) (client : ℕ) (s
         served-stays Idle at (First false) free' owed' (fits_here Idle at) (λ had. omega arith) (λ past untold. absurd (cc))
 
     -- a first try takes one
-    pub served-gets : (woken : Bool) → slice_get places client ≡ Some (First woken) → free' + 1 ≤ free → owed ≤ owed' → IsServed free' owed' (set places client Holding) line
+    pub served-gets : (woken : Bool) → slice_get places client ≡ Some (First woken) → free' ≤ free - 1 → owed ≤ owed' → IsServed free' owed' (set places client Holding) line
     served-gets woken at less more =
         let ways = number-set is_woken places client (First woken) Holding at in
         served-stays (First woken) at Holding free' owed' (fits_here (First woken) at) (λ had. omega (arith, at_most_one woken)) (λ past untold. absurd (cc))
@@ -152,7 +180,7 @@ module _ (free owed : ℕ) (places : List Place) (line : Line) (client : ℕ) (s
         served-stays ToListen at Idle free' owed' (fits_here ToListen at) (λ had. omega arith) (λ past untold. absurd (cc))
 
     -- a second try takes one
-    pub served-gets_second : slice_get places client ≡ Some Second → free' + 1 ≤ free → owed ≤ owed' → IsServed free' owed' (set places client Ending) line
+    pub served-gets_second : slice_get places client ≡ Some Second → free' ≤ free - 1 → owed ≤ owed' → IsServed free' owed' (set places client Ending) line
     served-gets_second at less more =
         let ways = number-set is_woken places client Second Ending at in
         served-stays Second at Ending free' owed' (fits_here Second at) (λ had. omega arith) (λ past untold. absurd (cc))
@@ -218,6 +246,18 @@ module _ (free owed : ℕ) (places : List Place) (line : Line) (client : ℕ) (s
     served-takes_more at less more =
         let ways = number-set is_woken places client Holding Holding at in
         served-stays Holding at Holding free' owed' (fits_here Holding at) (λ had. omega arith) (λ past untold. absurd (cc))
+
+    -- a client that is about to drop its listener stays where it is
+    pub served-lingers : slice_get places client ≡ Some Ending → free' ≤ free → owed ≤ owed' → IsServed free' owed' (set places client Ending) line
+    served-lingers at less more =
+        let ways = number-set is_woken places client Ending Ending at in
+        served-stays Ending at Ending free' owed' (fits_here Ending at) (λ had. omega arith) (λ past untold. absurd (cc))
+
+    -- a client that has no listener is done
+    pub served-ends : slice_get places client ≡ Some Holding → free' ≤ free → owed ≤ owed' → IsServed free' owed' (set places client Idle) line
+    served-ends at less more =
+        let ways = number-set is_woken places client Holding Idle at in
+        served-stays Holding at Idle free' owed' (fits_here Holding at) (λ had. omega arith) (λ past untold. absurd (cc))
 
     -- a client frees some, and is to notify of as many
     pub served-frees : (n : ℕ) → slice_get places client ≡ Some Holding → free' ≤ free + n → owed + n ≤ owed' → IsServed free' owed' (set places client Releasing) line

@@ -1,13 +1,13 @@
 -- What each change of a line does to how the clients stand in it, and that telling one keeps them fitting their
 -- places, whatever the type of places.
-use Rattle.std.proofs.Common.{◌≡◌, ◌≢◌, ℕ, zero, suc, ◌+◌, ◌<◌, ◌≤◌, min, Bool, true, false, cond, eqb, List, [], ◌∷◌, ◌++◌, length, set, get_or, replicate, slice_get, Option, Some, None, refl, sym, ap, ◌∙◌, subst, arith, inl, inr, eq-eqb, ne_eqb, eqb-true, length-append, length-set, get_or-set_same, get_or-set_other}
+use Rattle.std.proofs.Common.{◌≡◌, ◌≢◌, ℕ, zero, suc, ◌+◌, ◌-◌, ◌<◌, ◌≤◌, min, Bool, true, false, cond, eqb, List, [], ◌∷◌, ◌++◌, length, set, get_or, replicate, slice_get, Option, Some, None, refl, sym, ap, ◌∙◌, subst, arith, inl, inr, eq-eqb, ne_eqb, eqb-true, length-append, length-set, get_or-set_same, get_or-set_other}
 use Rattle.std.proofs.lemmas.Bool.{cases_Bool, cases_eq, cond_both, or_cases, or_parts}
 use Rattle.std.proofs.lemmas.List.{map-append}
 use Rattle.std.proofs.lemmas.Map.{keys-set_value}
 use Rattle.std.proofs.lemmas.Option.{slice_get_within}
 use Rattle.std.specs.List.{list_any}
 use Rattle.std.specs.Map.{keys_of, remove_entry, set_value}
-use Rattle.event_worlds.specs.Line.{Line, empty_line, is_told, joined, registered, without, told_left, waiting_left, wake_lost, woken, first_told_of, first_told, tell, wanted, notified, dropped}
+use Rattle.event_worlds.specs.Line.{Line, IsLine, empty_line, everybody, is_told, joined, registered, without, told_left, waiting_left, wake_lost, woken, first_told_of, first_told, tell, wanted, notified, dropped}
 use Rattle.event_worlds.specs.Standing.{times, times_unregistered, Standing, standing, Fits, FitsAt, AllFit}
 use Rattle.event_worlds.proofs.PlaceLemmas.{one_if, none_if, slice_get-set, slice_get-set_other}
 
@@ -391,6 +391,19 @@ tell-kind (suc count) line = tell-kind count (first_told line) ∙ first-kind li
 
 pub notified-kind : (count : ℕ) (line : Line) → (notified count line).additional ≡ line.additional
 notified-kind count line = tell-kind (min (wanted count line) (length line.waiting)) line
+
+-- notifying everybody leaves nobody waiting
+
+tell-all : (waiting : List (ℕ × Bool)) (told : List ℕ) (awake : List Bool) (next : ℕ) (kind : Bool) → (tell (length waiting) (record { told = told; waiting = waiting; awake = awake; next = next; additional = kind })).waiting ≡ []
+tell-all [] told awake next kind = refl
+tell-all (first ∷ rest) told awake next kind = tell-all rest _ _ next kind
+
+pub notified-everybody : (line : Line) → IsLine line → (notified everybody line).waiting ≡ []
+notified-everybody line fits =
+    let all : min (wanted everybody line) (length line.waiting) ≡ length line.waiting =
+    cond_both line.additional everybody (everybody - length line.told) (λ (n : ℕ). min n (length line.waiting) ≡ length line.waiting) (λ _. omega (arith, fits.clients_fit)) (λ _. omega (arith, fits.clients_fit)) in
+    ap (λ (n : ℕ). (tell n line).waiting) all
+    ∙ tell-all line.waiting line.told line.awake line.next line.additional
 
 pub dropped-kind : (client : ℕ) (line : Line) → (dropped client line).additional ≡ line.additional
 dropped-kind client line =

@@ -1,5 +1,5 @@
 -- The flag world: clients that wait until a flag is set, setters that set it, and the tables of their steps.
-use Rattle.std.specs.Prelude.{ℕ, ◌+◌, ◌-◌, ◌^◌, Bool, true, false, nat_lt, if◌then◌else◌, List, [], ◌∷◌, length, replicate, slice_get, slice_set, Option, Some, None, is_some, unwrap_or, option_and_then, option_map}
+use Rattle.std.specs.Prelude.{ℕ, ◌+◌, ◌-◌, Bool, true, false, nat_lt, if◌then◌else◌, List, [], ◌∷◌, length, replicate, slice_get, slice_set, Option, Some, None, is_some, unwrap_or, option_and_then, option_map}
 use Rattle.event_worlds.specs.declared.world.acts.Act.{Act}
 use Rattle.event_worlds.specs.declared.world.acts.Act.TheVariants.{Go}
 use Rattle.event_worlds.specs.declared.world.acts.Step.{Step}
@@ -7,7 +7,7 @@ use Rattle.event_worlds.specs.declared.world.flag.FlagPlace.{FlagPlace}
 use Rattle.event_worlds.specs.declared.world.flag.FlagPlace.TheVariants.{Check1, ToListen, Check2, Dropping, ToRegister, Parked, Done}
 use Rattle.event_worlds.specs.declared.world.flag.SetterPlace.{SetterPlace}
 use Rattle.event_worlds.specs.declared.world.flag.SetterPlace.TheVariants.{ToSet, ToNotify, Done as IsDone}
-use Rattle.event_worlds.specs.Line.{Line, empty_line, is_told, has_wake, has_serial_left, joined, registered, told_left, wake_lost, notified, dropped}
+use Rattle.event_worlds.specs.Line.{Line, empty_line, everybody, is_told, has_wake, has_serial_left, joined, registered, told_left, wake_lost, notified, dropped}
 
 -- whether the flag is set; the place of each client, by its number; the place of each setter; who is told, who
 -- waits and who has a wake-up
@@ -45,10 +45,6 @@ from Done client flag line = None
 -- the state once this client has gone there, and the line is this
 abbrev pub goes : ℕ → FlagState → FlagPlace × Line → FlagState
 goes client state to = record state { places = slice_set state.places client to.0; line = to.1 }
-
--- as many as a notification can be for
-abbrev pub everybody : ℕ
-everybody = 2 ^ 64 - 1
 
 -- the table of a setter: from this place, with the flag set or not, where it goes, and the flag and the line then
 abbrev pub from_setter : SetterPlace → Bool → Line → Option (SetterPlace × Bool × Line)

@@ -13,3 +13,7 @@ pub mod SemaphoreInvariant
 pub mod Flag
 pub mod FlagSafety
 pub mod FlagInvariant
+pub mod Buffer
+pub mod Channel
+pub mod ChannelSafety
+pub mod ChannelInvariant

@@ -96,6 +96,10 @@ tell (suc count) line = tell count (first_told line)
 abbrev pub wanted : ℕ → Line → ℕ
 wanted count line = if line.additional then count else count - length line.told
 
+-- as many as a notification can be for
+abbrev pub everybody : ℕ
+everybody = 2 ^ 64 - 1
+
 -- a notification of so many clients
 abbrev pub notified : ℕ → Line → Line
 notified count line = tell (min (wanted count line) (length line.waiting)) line

@@ -10,8 +10,11 @@ use Rattle.event_worlds.specs.Semaphore.{SemaphoreState, from}
 use Rattle.event_worlds.specs.SemaphoreSafety.{PermitsAddUp, NotifiesAdditional, all_owed}
 use Rattle.event_worlds.specs.Served.{is_inside, is_releasing, IsServed}
 
+abbrev pub place_of : SemaphoreClient → Place
+place_of own = own.place
+
 abbrev pub places_of : List SemaphoreClient → List Place
-places_of clients = map (λ own. own.place) clients
+places_of clients = map place_of clients
 
 -- a client holds permits while it is inside alone, and owes notifications while it is releasing alone
 pub record OwnFits (own : SemaphoreClient) : Type 0 where

@@ -1,6 +1,8 @@
 //! What worlds are made of: the places of a client, the acts of a schedule, and the line in which clients stand.
 
 pub mod acts;
+mod buffer;
+pub mod channel;
 mod client;
 pub mod flag;
 mod line;

@@ -1,0 +1,89 @@
+-- The clients of a world as places, and what all of them hold or owe together.
+use Rattle.std.proofs.Common.{◌≡◌, ℕ, zero, suc, ◌+◌, ◌≤◌, Bool, cond, List, [], ◌∷◌, length, map, set, get_or, replicate, slice_get, Option, Some, IfSome, IsSomeAnd, refl, sym, ap, ◌∙◌, subst, arith, inl, inr}
+use Rattle.std.proofs.lemmas.Bool.{cases_eq}
+use Rattle.std.proofs.lemmas.List.Sums.{sum_by-cons, sum_by-set, get_or-le-sum_by}
+use Rattle.std.proofs.lemmas.Option.{none-some, same_Some, slice_get_within}
+use Rattle.std.specs.Prelude.{sum_by, count_by}
+use Rattle.event_worlds.specs.declared.world.place.Place.{Place}
+use Rattle.event_worlds.specs.Standing.{number}
+use Rattle.event_worlds.proofs.PlaceLemmas.{slice_get-set, slice_get-set_other}
+
+module _ {C : Type 0} where
+  -- the places, where each client has one
+
+  module _ (place_of : C → Place) where
+    pub place-at : (clients : List C) (i : ℕ) (own : C) → slice_get clients i ≡ Some own → slice_get (map place_of clients) i ≡ Some (place_of own)
+    place-at [] i own at = absurd (none-some own at)
+    place-at (first ∷ rest) zero own at = ap (λ (c : C). Some (place_of c)) (same_Some first own at)
+    place-at (first ∷ rest) (suc i) own at = place-at rest i own at
+
+    pub place-some : (P : Place → Type 0) (clients : List C) (i : ℕ) → IsSomeAnd (slice_get (map place_of clients) i) P → IsSomeAnd (slice_get clients i) (λ own. P (place_of own))
+    place-some P [] i some = some
+    place-some P (first ∷ rest) zero some = some
+    place-some P (first ∷ rest) (suc i) some = place-some P rest i some
+
+    pub some-place : (P : Place → Type 0) (clients : List C) (i : ℕ) → IsSomeAnd (slice_get clients i) (λ own. P (place_of own)) → IsSomeAnd (slice_get (map place_of clients) i) P
+    some-place P [] i some = some
+    some-place P (first ∷ rest) zero some = some
+    some-place P (first ∷ rest) (suc i) some = some-place P rest i some
+
+    pub places-set : (clients : List C) (i : ℕ) (new : C) → map place_of (set clients i new) ≡ set (map place_of clients) i (place_of new)
+    places-set [] i new = refl
+    places-set (first ∷ rest) zero new = refl
+    places-set (first ∷ rest) (suc i) new = ap (λ (ps : List Place). place_of first ∷ ps) (places-set rest i new)
+
+    pub places-length : (clients : List C) → length (map place_of clients) ≡ length clients
+    places-length [] = refl
+    places-length (first ∷ rest) = ap suc (places-length rest)
+
+    pub places-same : (own : C) (n : ℕ) → map place_of (replicate n own) ≡ replicate n (place_of own)
+    places-same own zero = refl
+    places-same own (suc n) = ap (λ (ps : List Place). place_of own ∷ ps) (places-same own n)
+
+    pub number-places : (test : Place → Bool) (clients : List C) → number test (map place_of clients) ≡ count_by (λ own. test (place_of own)) clients
+    number-places test [] = refl
+    number-places test (first ∷ rest) =
+        omega (arith, number-places test rest, sum_by-cons (λ (own : C). cond {A = ℕ} (test (place_of own)) 1 0) first rest)
+
+  -- sums over clients
+
+  module _ (part : C → ℕ) where
+    read-at : (clients : List C) (i : ℕ) (own : C) → slice_get clients i ≡ Some own → get_or clients i own ≡ own
+    read-at [] i own at = absurd (none-some own at)
+    read-at (first ∷ rest) zero own at = same_Some first own at
+    read-at (first ∷ rest) (suc i) own at = read-at rest i own at
+
+    pub sum-set : (clients : List C) (i : ℕ) (own new : C) → slice_get clients i ≡ Some own → sum_by part (set clients i new) + part own ≡ sum_by part clients + part new
+    sum-set clients i own new at =
+        ap (λ (c : C). sum_by part (set clients i new) + part c) (sym (read-at clients i own at))
+        ∙ sum_by-set part clients i new own (slice_get_within clients i own at)
+
+    pub part-le-sum : (clients : List C) (i : ℕ) (own : C) → slice_get clients i ≡ Some own → part own ≤ sum_by part clients
+    part-le-sum clients i own at =
+        subst (λ (c : C). part c ≤ sum_by part clients) (read-at clients i own at) (get_or-le-sum_by part clients i own (slice_get_within clients i own at))
+
+    pub sum-same : (own : C) (n : ℕ) → part own ≡ 0 → sum_by part (replicate n own) ≡ 0
+    sum-same own zero none = refl
+    sum-same own (suc n) none = omega (arith, sum_by-cons part own (replicate n own), sum-same own n none)
+
+  -- what holds of each client
+
+  module _ (P : C → Type 0) where
+    pub all-set : (clients : List C) (i : ℕ) (own new : C) → slice_get clients i ≡ Some own → ((j : ℕ) → IfSome (slice_get clients j) P) → P new → (j : ℕ) → IfSome (slice_get (set clients i new) j) P
+    all-set clients i own new at all now j =
+        elim (cases_eq j i) [
+          | inl is ↦
+              let here : slice_get (set clients i new) j ≡ Some new =
+              ap (λ (n : ℕ). slice_get (set clients i new) n) is ∙ slice_get-set clients i own new at in
+              subst (λ (o : Option C). IfSome o P) (sym here) now
+          | inr apart ↦
+              subst (λ (o : Option C). IfSome o P) (sym (slice_get-set_other clients i j new apart)) (all j)
+        ]
+
+    pub all-same : (own : C) → P own → (n i : ℕ) → IfSome (slice_get (replicate n own) i) P
+    all-same own fits zero i = tt
+    all-same own fits (suc n) zero = fits
+    all-same own fits (suc n) (suc i) = all-same own fits n i
+
+    pub all-at : (clients : List C) (i : ℕ) (own : C) → slice_get clients i ≡ Some own → ((j : ℕ) → IfSome (slice_get clients j) P) → P own
+    all-at clients i own at all = subst (λ (o : Option C). IfSome o P) at (all i)

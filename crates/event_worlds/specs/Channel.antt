@@ -1,0 +1,227 @@
+-- The channel world: the senders and the receivers of a bounded channel, each side in a line of its own, who closes it,
+-- and the tables of their steps.
+use Rattle.std.specs.Prelude.{ℕ, ◌+◌, Bool, true, false, nat_lt, if◌then◌else◌, List, [], ◌∷◌, ◌++◌, length, drop, replicate, slice_get, slice_set, Option, Some, None, option_to_list, is_some, unwrap_or, option_and_then, option_map}
+use Rattle.event_worlds.specs.declared.world.acts.ChannelAct.{ChannelAct}
+use Rattle.event_worlds.specs.declared.world.acts.ChannelAct.TheVariants.{Go, Send, Poll, TimeOut, Cancel}
+use Rattle.event_worlds.specs.declared.world.acts.ChannelActor.{ChannelActor}
+use Rattle.event_worlds.specs.declared.world.acts.ChannelActor.TheVariants.{Sender, Receiver, Closer}
+use Rattle.event_worlds.specs.declared.world.acts.ChannelStep.{ChannelStep}
+use Rattle.event_worlds.specs.declared.world.channel.ChannelClient.{ChannelClient}
+use Rattle.event_worlds.specs.declared.world.channel.CloserPlace.{CloserPlace}
+use Rattle.event_worlds.specs.declared.world.channel.CloserPlace.TheVariants.{ToClose, ToNotifySenders, ToNotifyReceivers, Done}
+use Rattle.event_worlds.specs.declared.world.channel.Found.{Found}
+use Rattle.event_worlds.specs.declared.world.channel.Found.TheVariants.{One, Nothing, Over}
+use Rattle.event_worlds.specs.declared.world.place.Place.{Place}
+use Rattle.event_worlds.specs.declared.world.place.Place.TheVariants.{Idle, First, ToListen, Second, Ending, ToRegister, Parked, Holding}
+use Rattle.event_worlds.specs.Buffer.{Buffer}
+use Rattle.event_worlds.specs.Line.{Line, empty_line, everybody, is_told, has_wake, has_serial_left, joined, registered, told_left, waiting_left, wake_lost, notified, dropped}
+
+-- the senders, or the receivers: of each, by its number, its place, how many notifications of the other side it owes,
+-- and its message; who is told, who waits and who has its wake-up
+pub record Side : Type 0 where
+  pub clients : List ChannelClient
+  pub line : Line
+
+-- how many messages may wait in the channel; those that do, the oldest first; how far its closing is; both sides
+pub record ChannelState : Type 0 where
+  pub capacity : ℕ
+  pub messages : List ℕ
+  pub closer : CloserPlace
+  pub senders : Side
+  pub receivers : Side
+
+-- the channel of this buffer, with so far a closing, these clients and these lines
+abbrev pub channel_of : Buffer → CloserPlace → List ChannelClient → Line → List ChannelClient → Line → ChannelState
+channel_of buffer closer senders sender_line receivers receiver_line = record {
+  capacity = buffer.capacity;
+  messages = buffer.messages;
+  closer = closer;
+  senders = record { clients = senders; line = sender_line };
+  receivers = record { clients = receivers; line = receiver_line };
+}
+
+-- a client that wants nothing
+abbrev pub idle : ChannelClient
+idle = record { place = Idle; owed = 0; message = 0 }
+
+-- a side of so many clients, who want nothing; nobody is in line, whose notifications are additional
+abbrev pub idle_side : ℕ → Side
+idle_side clients = record { clients = replicate clients idle; line = empty_line true clients 0 }
+
+-- the channel is empty and not closed
+abbrev pub start : ℕ → ℕ → ℕ → ChannelState
+start senders receivers capacity = record {
+  capacity = capacity;
+  messages = [];
+  closer = ToClose;
+  senders = idle_side senders;
+  receivers = idle_side receivers;
+}
+
+abbrev pub is_closed : CloserPlace → Bool
+is_closed ToClose = false
+is_closed _ = true
+
+-- what the look of a sender with this message finds
+abbrev pub room_found : ℕ → ChannelState → Found
+room_found message state =
+    if is_closed state.closer
+    then Over
+    else (if nat_lt (length state.messages) state.capacity then One message else Nothing)
+
+-- what the look of a receiver finds, by the messages and whether the channel is closed
+abbrev pub first_found : List ℕ → Bool → Found
+first_found [] closed = if closed then Over else Nothing
+first_found (message ∷ _) closed = One message
+
+abbrev pub message_found : ChannelState → Found
+message_found state = first_found state.messages (is_closed state.closer)
+
+-- a client that is at another place, and is otherwise as it was
+abbrev pub moved : Place → ChannelClient → ChannelClient
+moved place own = record own { place = place }
+
+-- a client that has looked. It goes to the first place, if it found one or it is over, and to the second, if it found
+-- nothing; with one it owes the other side one notification
+abbrev pub looked : Place → Place → ChannelClient → Found → ChannelClient
+looked got busy own (One message) = record { place = got; owed = 1; message = message }
+looked got busy own Nothing = moved busy own
+looked got busy own Over = moved got own
+
+-- a client that owes nothing, and is at another place
+abbrev pub paid : Place → ChannelClient → ChannelClient
+paid place own = record own { place = place; owed = 0 }
+
+-- the table of both sides: what this act of a client at this place, whose look finds that, makes of the client, of its
+-- line and of the other side's; none where it is no step. A sender begins with a message, and a receiver without
+abbrev pub from : Place → ChannelAct → Bool → ℕ → ChannelClient → Found → Line → Line → Option (ChannelClient × Line × Line)
+from Idle Go sends client own found line other =
+    if sends then None else Some (moved (First false) own, line, other)
+from Idle (Send message) sends client own found line other =
+    if sends then Some (record own { place = First false; message = message }, line, other) else None
+from (First woken) Go sends client own found line other = Some (looked Holding ToListen own found, line, other)
+from ToListen Go sends client own found line other =
+    Some (if has_serial_left line
+    then (moved Second own, joined client line, other)
+    else (moved Idle own, line, other))
+from Second Go sends client own found line other = Some (looked Ending ToRegister own found, line, other)
+from Ending Go sends client own found line other =
+    Some (if nat_lt 0 own.owed
+    then (paid Ending own, line, notified own.owed other)
+    else (moved Holding own, dropped client line, other))
+from ToRegister Go sends client own found line other =
+    Some (if is_told client line
+    then (moved (First true) own, told_left client line, other)
+    else (moved Parked own, registered client line, other))
+from ToRegister Cancel sends client own found line other = Some (moved Idle own, dropped client line, other)
+from Parked Go sends client own found line other =
+    if has_wake client line then Some (moved ToRegister own, wake_lost client line, other) else None
+from Parked Poll sends client own found line other = Some (moved ToRegister own, wake_lost client line, other)
+from Parked TimeOut sends client own found line other =
+    Some (if is_told client line
+    then (moved (First true) own, told_left client line, other)
+    else (moved Idle own, waiting_left client line, other))
+from Parked Cancel sends client own found line other = Some (moved Idle own, dropped client line, other)
+from Holding Go sends client own found line other = Some (paid Idle own, line, notified own.owed other)
+from _ _ sends client own found line other = None
+
+-- the message that this act of a client at this place takes, if its look finds that: a sender's goes into the channel,
+-- and a receiver's out of it
+abbrev pub passed : Place → ChannelAct → Found → Option ℕ
+passed (First woken) Go (One message) = Some message
+passed Second Go (One message) = Some message
+passed _ _ _ = None
+
+-- the state once this sender has sent that, if anything, and the sender and both lines are these
+abbrev pub sender_goes : ℕ → Option ℕ → ChannelState → ChannelClient × Line × Line → ChannelState
+sender_goes client sent state to = record state {
+  messages = state.messages ++ option_to_list sent;
+  senders = record { clients = slice_set state.senders.clients client to.0; line = to.1 };
+  receivers = record { clients = state.receivers.clients; line = to.2 };
+}
+
+-- the same of a receiver
+abbrev pub receiver_goes : ℕ → Option ℕ → ChannelState → ChannelClient × Line × Line → ChannelState
+receiver_goes client received state to = record state {
+  messages = drop (length (option_to_list received)) state.messages;
+  senders = record { clients = state.senders.clients; line = to.2 };
+  receivers = record { clients = slice_set state.receivers.clients client to.0; line = to.1 };
+}
+
+-- the step of a sender that is this one, and of a receiver
+
+abbrev pub step_of_sender : ℕ → ChannelAct → ChannelState → ChannelClient → Option ChannelState
+step_of_sender client act state own =
+    option_map (sender_goes client (passed own.place act (room_found own.message state)) state) (from own.place act true client own (room_found own.message state) state.senders.line state.receivers.line)
+
+abbrev pub step_of_receiver : ℕ → ChannelAct → ChannelState → ChannelClient → Option ChannelState
+step_of_receiver client act state own =
+    option_map (receiver_goes client (passed own.place act (message_found state)) state) (from own.place act false client own (message_found state) state.receivers.line state.senders.line)
+
+abbrev pub next_of_sender : ℕ → ChannelAct → ChannelState → Option ChannelState
+next_of_sender client act state =
+    option_and_then (step_of_sender client act state) (slice_get state.senders.clients client)
+
+abbrev pub next_of_receiver : ℕ → ChannelAct → ChannelState → Option ChannelState
+next_of_receiver client act state =
+    option_and_then (step_of_receiver client act state) (slice_get state.receivers.clients client)
+
+-- the table of closing: it is closed, all senders are notified, and all receivers
+abbrev pub next_of_closer : CloserPlace → ChannelState → Option ChannelState
+next_of_closer ToClose state = Some (record state { closer = ToNotifySenders })
+next_of_closer ToNotifySenders state =
+    Some (record state {
+      closer = ToNotifyReceivers;
+      senders = record { clients = state.senders.clients; line = notified everybody state.senders.line };
+    })
+next_of_closer ToNotifyReceivers state =
+    Some (record state {
+      closer = Done;
+      receivers = record { clients = state.receivers.clients; line = notified everybody state.receivers.line };
+    })
+next_of_closer Done state = None
+
+-- the state after this act of this actor, or none where it is no step
+abbrev pub next : ChannelActor → ChannelAct → ChannelState → Option ChannelState
+next (Sender client) act state = next_of_sender client act state
+next (Receiver client) act state = next_of_receiver client act state
+next Closer Go state = next_of_closer state.closer state
+next Closer _ state = None
+
+-- the state after this act of this actor, where what is no step changes nothing
+abbrev pub after : ChannelActor → ChannelAct → ChannelState → ChannelState
+after actor act state = unwrap_or (next actor act state) state
+
+-- the state after a schedule
+abbrev pub after_all : List ChannelStep → ChannelState → ChannelState
+after_all [] state = state
+after_all (step ∷ steps) state = after_all steps (after step.actor step.act state)
+
+-- how many steps of a schedule are steps of the tables
+abbrev pub taken : List ChannelStep → ChannelState → ℕ
+taken [] state = 0
+taken (step ∷ steps) state =
+    (if is_some (next step.actor step.act state) then 1 else 0)
+    + taken steps (after step.actor step.act state)
+
+-- the message that this act of this actor sends, if it sends one
+abbrev pub sent_by : ChannelActor → ChannelAct → ChannelState → List ℕ
+sent_by (Sender client) act state =
+    option_to_list (option_and_then (λ own. passed own.place act (room_found own.message state)) (slice_get state.senders.clients client))
+sent_by _ act state = []
+
+-- the message that it receives, if it receives one
+abbrev pub received_by : ChannelActor → ChannelAct → ChannelState → List ℕ
+received_by (Receiver client) act state =
+    option_to_list (option_and_then (λ own. passed own.place act (message_found state)) (slice_get state.receivers.clients client))
+received_by _ act state = []
+
+-- the messages that a schedule sends, and those that it receives, one after another
+
+abbrev pub sent : List ChannelStep → ChannelState → List ℕ
+sent [] state = []
+sent (step ∷ steps) state = sent_by step.actor step.act state ++ sent steps (after step.actor step.act state)
+
+abbrev pub received : List ChannelStep → ChannelState → List ℕ
+received [] state = []
+received (step ∷ steps) state = received_by step.actor step.act state ++ received steps (after step.actor step.act state)

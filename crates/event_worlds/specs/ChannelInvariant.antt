@@ -1,0 +1,57 @@
+-- What the channel world keeps in its type: each step of the tables keeps it, and what `ChannelSafety` says follows. No
+-- public clause cites this module.
+use Rattle.std.specs.Prelude.{◌≡◌, ℕ, ◌≤◌, Bool, true, false, List, map, length, slice_get, Option, Some, None, IfSome}
+use Rattle.event_worlds.specs.declared.world.acts.ChannelAct.{ChannelAct}
+use Rattle.event_worlds.specs.declared.world.channel.ChannelClient.{ChannelClient}
+use Rattle.event_worlds.specs.declared.world.channel.CloserPlace.{CloserPlace}
+use Rattle.event_worlds.specs.declared.world.channel.CloserPlace.TheVariants.{ToClose, ToNotifySenders, ToNotifyReceivers, Done}
+use Rattle.event_worlds.specs.declared.world.channel.Found.{Found}
+use Rattle.event_worlds.specs.declared.world.place.Place.{Place}
+use Rattle.event_worlds.specs.Line.{Line}
+use Rattle.event_worlds.specs.Channel.{Side, ChannelState, from}
+use Rattle.event_worlds.specs.ChannelSafety.{all_owed, room, MessagesFit}
+use Rattle.event_worlds.specs.Served.{is_inside, IsServed}
+
+abbrev pub place_of : ChannelClient → Place
+place_of own = own.place
+
+abbrev pub places_of : List ChannelClient → List Place
+places_of clients = map place_of clients
+
+-- a client owes a notification while it is inside alone
+pub record OwnFits (own : ChannelClient) : Type 0 where
+  pub owed : is_inside own.place ≡ false → own.owed ≡ 0
+
+-- how many of a side may count on taking one, if there are so many now: as many as there are while the channel is open;
+-- none once it is closed; any number once the side was notified of that, for then nobody untold waits
+
+abbrev pub SendersMayTake : CloserPlace → ℕ → ℕ → Type 0
+SendersMayTake ToClose now free = free ≤ now
+SendersMayTake ToNotifySenders now free = free ≤ 0
+SendersMayTake ToNotifyReceivers now free = 0 ≤ free
+SendersMayTake Done now free = 0 ≤ free
+
+abbrev pub ReceiversMayTake : CloserPlace → ℕ → ℕ → Type 0
+ReceiversMayTake ToClose now free = free ≤ now
+ReceiversMayTake ToNotifySenders now free = free ≤ 0
+ReceiversMayTake ToNotifyReceivers now free = free ≤ 0
+ReceiversMayTake Done now free = 0 ≤ free
+
+-- a side that is served however many of those that may be taken are counted, and to which so many notifications are
+-- still to come
+pub record IsSideSound (MayTake : ℕ → Type 0) (owed : ℕ) (side : Side) : Type 0 where
+  pub served : (free : ℕ) → MayTake free → IsServed free owed (places_of side.clients) side.line
+  pub owns : (client : ℕ) → IfSome (slice_get side.clients client) OwnFits
+  pub kind : side.line.additional ≡ true
+
+pub record IsSound (state : ChannelState) : Type 0 where
+  pub senders : IsSideSound (SendersMayTake state.closer (room state)) (all_owed state.receivers) state.senders
+  pub receivers : IsSideSound (ReceiversMayTake state.closer (length state.messages)) (all_owed state.senders) state.receivers
+  pub fits : MessagesFit state
+
+-- the table's step leaves this client and these lines; where it is none, the lines stay
+abbrev pub Moves : Bool → ChannelClient → Found → ℕ → ChannelAct → Line → Line → Option ChannelClient → Line → Line → Type 0
+Moves sends own found client act line other None new new_other =
+    (from own.place act sends client own found line other ≡ None) × (new ≡ line) × (new_other ≡ other)
+Moves sends own found client act line other (Some made) new new_other =
+    from own.place act sends client own found line other ≡ Some (made, new, new_other)

@@ -1,0 +1,587 @@
+ghost use Rattle.std.specs.Prelude.{◌≡◌, ℕ, ◌<◌, Bool, true, false, nat_lt, is_some, unwrap_or, if◌then◌else◌, Some, length, slice_get, IfOk, IsSome};
+ghost use Rattle.event_worlds.specs.declared.world.acts.ChannelAct.TheVariants.{Go, Send, Poll, TimeOut, Cancel};
+ghost use Rattle.event_worlds.specs.declared.world.channel.Found.{Found};
+ghost use Rattle.event_worlds.specs.declared.world.channel.Found.TheVariants.{One, Nothing, Over};
+ghost use Rattle.event_worlds.specs.declared.world.place.Place.TheVariants.{Idle};
+ghost use Rattle.event_worlds.specs.declared.world.place.News.TheVariants.{Got, Busy};
+ghost use Rattle.event_worlds.specs.ClientTable.{place_after};
+ghost use Rattle.event_worlds.specs.Line.{Line, is_told, has_wake};
+ghost use Rattle.event_worlds.specs.Channel.{channel_of, start, is_closed, first_found, passed, looked, moved, paid, next, next_of_sender, next_of_receiver, next_of_closer, after, after_all, taken, sent_by, received_by, sent, received};
+ghost use Rattle.event_worlds.specs.ChannelInvariant.{IsSound, Moves};
+ghost use Rattle.event_worlds.specs.ChannelSafety.{IsSafe, MessagesFit, NotifiesAdditional, InLineAreListening, InOrder};
+ghost use Rattle.event_worlds.specs.Served.{MayBeAt};
+
+use super::acts::{ChannelAct, ChannelActor, ChannelStep};
+use super::buffer::Buffer;
+use super::client::{drops_out, hears, listens, registers, times_out, wakes};
+use super::line::ClientLine;
+use super::place::{News, Place};
+use std::alloc::{AllocError, Global};
+use std::marker::Model;
+
+/// Where the closing of a channel is.
+#[derive(Clone, Copy, Debug, PartialEq, Eq)]
+pub enum CloserPlace {
+    /// The channel is open.
+    ToClose,
+    /// The channel is closed, and its senders are still to be notified.
+    ToNotifySenders,
+    /// The channel is closed, its senders were notified, and its receivers are still to be.
+    ToNotifyReceivers,
+    /// The channel is closed, and both sides were notified.
+    Done,
+}
+
+/// A sender or a receiver of a channel.
+#[derive(Clone, Copy, Debug, PartialEq, Eq)]
+pub struct ChannelClient {
+    /// Where it is.
+    pub place: Place,
+    /// How many notifications it owes the other side: one, from the look by which it sent or received until it has
+    /// notified.
+    pub owed: usize,
+    /// The message that a sender sends or sent last, or that a receiver received last; 0 before the first.
+    pub message: usize,
+}
+
+impl ChannelClient {
+    // The client at another place.
+    fn at(self, place: Place) -> Self
+        ensures { result ≡ moved place self }
+    {
+        ChannelClient { place, ..self }
+    }
+
+    // The client at another place, once it has notified of what it owed.
+    fn paid_at(self, place: Place) -> Self
+        ensures { result ≡ paid place self }
+    {
+        ChannelClient {
+            place,
+            owed: 0,
+            ..self
+        }
+    }
+}
+
+// What a client finds when it looks at the channel.
+#[derive(Clone, Copy)]
+enum Found {
+    // Room for the sender's message, or a message for the receiver: the client has this message afterwards.
+    One(usize),
+    // No room, or no message.
+    Nothing,
+    // Neither will come: the channel is closed, and for a receiver empty too.
+    Over,
+}
+
+/// A bounded channel with its senders and its receivers, the two lines in which they wait for room and for messages,
+/// and whoever closes it.
+///
+/// A sender looks for room, listens, looks again, and waits until it is told; a receiver does the same for a message.
+/// The look that finds one sends or receives, and the client then notifies one of the other side, additional to those
+/// told already. Clients go by [`Place::after`]: at `Holding`, and at `Ending` with its listener still to be dropped, a
+/// client has sent or received, or has found the channel closed.
+///
+/// Closing is three steps: the channel is closed, all senders are notified, all receivers are notified. What is left in
+/// the channel is still received. Each step of an actor is one call of [`step`](ChannelWorld::step). Whatever the
+/// schedule, no wake-up and no message is lost, and messages are received in the order in which they were sent.
+#[derive(Drop)]
+pub struct ChannelWorld {
+    buffer: Buffer,
+    closer: CloserPlace,
+    senders: Vec<ChannelClient>,
+    sender_line: ClientLine,
+    receivers: Vec<ChannelClient>,
+    receiver_line: ClientLine,
+}
+
+impl Model for ChannelWorld {
+    ghost use Rattle.event_worlds.specs.Channel.{ChannelState, channel_of};
+    ghost use Rattle.event_worlds.specs.ChannelInvariant.{IsSound};
+
+    ghost Value = { ChannelState };
+
+    ghost view = { λ world. channel_of world.buffer world.closer world.senders.items world.sender_line world.receivers.items world.receiver_line };
+
+    ghost invariant = { λ world. IsSound (channel_of world.buffer world.closer world.senders.items world.sender_line world.receivers.items world.receiver_line) };
+}
+
+impl ChannelWorld {
+    /// An empty channel that is open, for so many messages at most, with so many senders and receivers, none of whom
+    /// wants anything.
+    ///
+    /// The call allocates room for all clients and messages, and returns an error where that is refused. No later call
+    /// allocates.
+    pub fn new(
+        alloc: Global,
+        senders: usize,
+        receivers: usize,
+        capacity: usize,
+    ) -> Result<Self, AllocError>
+        ensures start { IfOk result (λ world. world ≡ start senders receivers capacity) }
+        ensures safe { IfOk result IsSafe }
+        ensures messages_fit { IfOk result MessagesFit }
+        ensures notifies_additional { IfOk result NotifiesAdditional }
+        ensures in_line_are_those_listening { IfOk result InLineAreListening }
+    {
+        Self::make(alloc, senders, receivers, capacity)
+    }
+
+    fn make(
+        alloc: Global,
+        senders: usize,
+        receivers: usize,
+        capacity: usize,
+    ) -> Result<Self, AllocError>
+        ensures start { IfOk result (λ world. world ≡ start senders receivers capacity) }
+        ensures sound { IfOk result IsSound }
+    {
+        let idle = ChannelClient {
+            place: Place::Idle,
+            owed: 0,
+            message: 0,
+        };
+        let buffer = Buffer::new(alloc, capacity)?;
+        let senders_idle = vec![in alloc; idle; senders]?;
+        let sender_line = ClientLine::new(alloc, true, senders, 0)?;
+        let receivers_idle = vec![in alloc; idle; receivers]?;
+        let receiver_line = ClientLine::new(alloc, true, receivers, 0)?;
+        Ok(ChannelWorld {
+            buffer,
+            closer: CloserPlace::ToClose,
+            senders: senders_idle,
+            sender_line,
+            receivers: receivers_idle,
+            receiver_line,
+        })
+    }
+
+    /// Makes a step of one actor, and returns whether it was one: an act that the tables of steps have at the place of
+    /// that actor. Any other act, and any number that nobody has, changes nothing.
+    pub fn step(&mut self, actor: ChannelActor, act: ChannelAct) -> bool
+        ensures step { self.new ≡ after actor act self.old }
+        ensures answer { result ≡ is_some (next actor act self.old) }
+        ensures in_order { InOrder (received_by actor act self.old) (sent_by actor act self.old) self.old self.new }
+        ensures safe { IsSafe self.new }
+        ensures messages_fit { MessagesFit self.new }
+        ensures notifies_additional { NotifiesAdditional self.new }
+        ensures in_line_are_those_listening { InLineAreListening self.new }
+    {
+        self.take_step(actor, act)
+    }
+
+    fn take_step(&mut self, actor: ChannelActor, act: ChannelAct) -> bool
+        ensures step { self.new ≡ after actor act self.old }
+        ensures answer { result ≡ is_some (next actor act self.old) }
+        ensures sound { IsSound self.new }
+    {
+        match actor {
+            ChannelActor::Sender(client) => self.sender_goes(client, act),
+            ChannelActor::Receiver(client) => self.receiver_goes(client, act),
+            ChannelActor::Closer => match act {
+                ChannelAct::Go => self.closer_goes(),
+                _ => self.stays(),
+            },
+        }
+    }
+
+    fn sender_goes(&mut self, client: usize, act: ChannelAct) -> bool
+        ensures step { self.new ≡ unwrap_or (next_of_sender client act self.old) self.old }
+        ensures answer { result ≡ is_some (next_of_sender client act self.old) }
+        ensures sound { IsSound self.new }
+    {
+        let _line = &self.sender_line;
+        if client >= self.senders.len() {
+            return false;
+        }
+        let own = self.senders[client];
+        let found = looks_for_room(own.message, self.closer, &self.buffer);
+        match moves(
+            true,
+            own,
+            found,
+            client,
+            act,
+            &mut self.sender_line,
+            &mut self.receiver_line,
+        ) {
+            Some(made) => {
+                self.buffer.push(passes(own.place, act, found));
+                self.senders[client] = made;
+                true
+            }
+            None => false,
+        }
+    }
+
+    fn receiver_goes(&mut self, client: usize, act: ChannelAct) -> bool
+        ensures step { self.new ≡ unwrap_or (next_of_receiver client act self.old) self.old }
+        ensures answer { result ≡ is_some (next_of_receiver client act self.old) }
+        ensures sound { IsSound self.new }
+    {
+        let _line = &self.receiver_line;
+        if client >= self.receivers.len() {
+            return false;
+        }
+        let own = self.receivers[client];
+        let found = looks_for_message(self.closer, &self.buffer);
+        match moves(
+            false,
+            own,
+            found,
+            client,
+            act,
+            &mut self.receiver_line,
+            &mut self.sender_line,
+        ) {
+            Some(made) => {
+                self.buffer.pop(passes(own.place, act, found));
+                self.receivers[client] = made;
+                true
+            }
+            None => false,
+        }
+    }
+
+    // The closer's step: the channel is closed, then all senders are notified, then all receivers.
+    fn closer_goes(&mut self) -> bool
+        ensures step { self.new ≡ unwrap_or (next_of_closer self.old.closer self.old) self.old }
+        ensures answer { result ≡ is_some (next_of_closer self.old.closer self.old) }
+        ensures sound { IsSound self.new }
+    {
+        match self.closer {
+            CloserPlace::ToClose => {
+                self.closer = CloserPlace::ToNotifySenders;
+                true
+            }
+            CloserPlace::ToNotifySenders => {
+                self.sender_line.notify(usize::MAX);
+                self.closer = CloserPlace::ToNotifyReceivers;
+                true
+            }
+            CloserPlace::ToNotifyReceivers => {
+                self.receiver_line.notify(usize::MAX);
+                self.closer = CloserPlace::Done;
+                true
+            }
+            CloserPlace::Done => false,
+        }
+    }
+
+    // No step.
+    fn stays(&mut self) -> bool
+        ensures step { self.new ≡ self.old }
+        ensures answer { result ≡ false }
+        ensures sound { IsSound self.new }
+    {
+        self.is_sound();
+        false
+    }
+
+    /// Makes the steps of a schedule, one after another, and returns how many were steps of the tables.
+    pub fn run(&mut self, steps: &[ChannelStep]) -> usize
+        ensures state { self.new ≡ after_all steps.now self.old }
+        ensures taken { result ≡ taken steps.now self.old }
+        ensures in_order { InOrder (received steps.now self.old) (sent steps.now self.old) self.old self.new }
+        ensures safe { IsSafe self.new }
+        ensures messages_fit { MessagesFit self.new }
+        ensures notifies_additional { NotifiesAdditional self.new }
+        ensures in_line_are_those_listening { InLineAreListening self.new }
+    {
+        self.is_sound();
+        let mut taken = 0;
+        for step in steps {
+            taken += usize::from(self.take_step(step.actor, step.act));
+        }
+        taken
+    }
+
+    // What the type keeps, for code that reads none of its fields.
+    fn is_sound(&self)
+        ensures { IsSound self.now }
+    {
+        let _line = &self.sender_line;
+    }
+
+    /// How many messages there may be.
+    pub fn capacity(&self) -> usize
+        ensures value { result ≡ self.now.capacity }
+    {
+        self.buffer.capacity()
+    }
+
+    /// How many messages were sent and not yet received.
+    pub fn messages(&self) -> usize
+        ensures value { result ≡ length self.now.messages }
+    {
+        self.buffer.len()
+    }
+
+    /// The message of this place in the channel, which is 0 for the oldest, if there are so many.
+    pub fn message(&self, index: usize) -> Option<usize>
+        ensures value { result ≡ slice_get self.now.messages index }
+    {
+        self.buffer.message(index)
+    }
+
+    /// How far the closing of the channel is.
+    pub fn closer(&self) -> CloserPlace
+        ensures value { result ≡ self.now.closer }
+    {
+        self.closer
+    }
+
+    /// Whether the channel is closed.
+    pub fn is_closed(&self) -> bool
+        ensures value { result ≡ is_closed self.now.closer }
+    {
+        has_closed(self.closer)
+    }
+
+    /// How many senders there are.
+    pub fn senders(&self) -> usize
+        ensures value { result ≡ length self.now.senders.clients }
+    {
+        self.senders.len()
+    }
+
+    /// How many receivers there are.
+    pub fn receivers(&self) -> usize
+        ensures value { result ≡ length self.now.receivers.clients }
+    {
+        self.receivers.len()
+    }
+
+    /// Where a sender is, what it owes, and its message.
+    pub fn sender(&self, client: usize) -> ChannelClient
+        requires client { client < length self.now.senders.clients }
+        ensures value { slice_get self.now.senders.clients client ≡ Some result }
+    {
+        self.senders[client]
+    }
+
+    /// Where a receiver is, what it owes, and its message.
+    pub fn receiver(&self, client: usize) -> ChannelClient
+        requires client { client < length self.now.receivers.clients }
+        ensures value { slice_get self.now.receivers.clients client ≡ Some result }
+    {
+        self.receivers[client]
+    }
+
+    /// Whether a sender is told: it was notified, and has not left the line.
+    pub fn is_sender_told(&self, client: usize) -> bool
+        requires client { client < length self.now.senders.clients }
+        ensures value { result ≡ is_told client self.now.senders.line }
+    {
+        self.sender_line.is_told(client)
+    }
+
+    /// Whether a receiver is told: it was notified, and has not left the line.
+    pub fn is_receiver_told(&self, client: usize) -> bool
+        requires client { client < length self.now.receivers.clients }
+        ensures value { result ≡ is_told client self.now.receivers.line }
+    {
+        self.receiver_line.is_told(client)
+    }
+
+    /// Whether a sender has a wake-up. One that it has when it leaves the line stays until it listens again.
+    pub fn sender_has_wake(&self, client: usize) -> bool
+        requires client { client < length self.now.senders.clients }
+        ensures value { result ≡ has_wake client self.now.senders.line }
+    {
+        self.sender_line.has_wake(client)
+    }
+
+    /// Whether a receiver has a wake-up. One that it has when it leaves the line stays until it listens again.
+    pub fn receiver_has_wake(&self, client: usize) -> bool
+        requires client { client < length self.now.receivers.clients }
+        ensures value { result ≡ has_wake client self.now.receivers.line }
+    {
+        self.receiver_line.has_wake(client)
+    }
+}
+
+fn has_closed(closer: CloserPlace) -> bool
+    ensures { result ≡ is_closed closer }
+{
+    match closer {
+        CloserPlace::ToClose => false,
+        CloserPlace::ToNotifySenders => true,
+        CloserPlace::ToNotifyReceivers => true,
+        CloserPlace::Done => true,
+    }
+}
+
+// What a sender with this message finds.
+fn looks_for_room(message: usize, closer: CloserPlace, buffer: &Buffer) -> Found
+    ensures { result ≡ (if is_closed closer then Over else (if nat_lt (length buffer.now.messages) buffer.now.capacity then One message else Nothing)) }
+{
+    if has_closed(closer) {
+        Found::Over
+    } else if buffer.len() < buffer.capacity() {
+        Found::One(message)
+    } else {
+        Found::Nothing
+    }
+}
+
+// What a receiver finds.
+fn looks_for_message(closer: CloserPlace, buffer: &Buffer) -> Found
+    ensures { result ≡ first_found buffer.now.messages (is_closed closer) }
+{
+    match buffer.message(0) {
+        Some(message) => Found::One(message),
+        None => {
+            if has_closed(closer) {
+                Found::Over
+            } else {
+                Found::Nothing
+            }
+        }
+    }
+}
+
+// The message that this act takes, if it takes one.
+fn passes(place: Place, act: ChannelAct, found: Found) -> Option<usize>
+    ensures { result ≡ passed place act found }
+{
+    match (place, act, found) {
+        (Place::First { .. }, ChannelAct::Go, Found::One(message)) => Some(message),
+        (Place::Second, ChannelAct::Go, Found::One(message)) => Some(message),
+        _ => None,
+    }
+}
+
+// The table of steps of both sides: what this act of a client at its place makes of it, if it is a step. Its line and
+// the other side's change with it.
+fn moves(
+    sends: bool,
+    own: ChannelClient,
+    found: Found,
+    client: usize,
+    act: ChannelAct,
+    line: &mut ClientLine,
+    other: &mut ClientLine,
+) -> Option<ChannelClient>
+    requires client { client < length line.old.awake }
+    requires may_be_at { MayBeAt own.place client line.old }
+    ensures moves { Moves sends own found client act line.old other.old result line.new other.new }
+{
+    match act {
+        ChannelAct::Go => goes(sends, own, found, client, line, other),
+        ChannelAct::Send(message) => begins(sends, own, message),
+        ChannelAct::Poll => is_polled(own, client, line),
+        ChannelAct::TimeOut => is_late(own, client, line),
+        ChannelAct::Cancel => cancels(own, client, line),
+    }
+}
+
+fn goes(
+    sends: bool,
+    own: ChannelClient,
+    found: Found,
+    client: usize,
+    line: &mut ClientLine,
+    other: &mut ClientLine,
+) -> Option<ChannelClient>
+    requires client { client < length line.old.awake }
+    requires may_be_at { MayBeAt own.place client line.old }
+    ensures moves { Moves sends own found client Go line.old other.old result line.new other.new }
+{
+    match own.place {
+        Place::Idle => {
+            if sends {
+                None
+            } else {
+                Some(own.at(hears(own.place, News::Begin)))
+            }
+        }
+        Place::First { .. } => Some(looks(own, found)),
+        Place::ToListen => Some(own.at(listens(client, line))),
+        Place::Second => Some(looks(own, found)),
+        Place::Ending => {
+            if own.owed > 0 {
+                other.notify(own.owed);
+                Some(own.paid_at(own.place))
+            } else {
+                Some(own.at(drops_out(own.place, client, line)))
+            }
+        }
+        Place::ToRegister => Some(own.at(registers(client, line))),
+        Place::Parked => {
+            if line.has_wake(client) {
+                Some(own.at(wakes(client, line)))
+            } else {
+                None
+            }
+        }
+        Place::Holding => {
+            other.notify(own.owed);
+            Some(own.paid_at(hears(hears(own.place, News::Freed), News::Notified)))
+        }
+        Place::Releasing => None,
+    }
+}
+
+// A look, which takes one if there is one.
+fn looks(own: ChannelClient, found: Found) -> ChannelClient
+    requires may_get { IsSome (place_after own.place Got) }
+    requires may_be_busy { IsSome (place_after own.place Busy) }
+    ensures { result ≡ looked (unwrap_or (place_after own.place Got) own.place) (unwrap_or (place_after own.place Busy) own.place) own found }
+{
+    match found {
+        Found::One(message) => ChannelClient {
+            place: hears(own.place, News::Got),
+            owed: 1,
+            message,
+        },
+        Found::Nothing => own.at(hears(own.place, News::Busy)),
+        Found::Over => own.at(hears(own.place, News::Got)),
+    }
+}
+
+// A sender begins to send this message.
+fn begins(sends: bool, own: ChannelClient, message: usize) -> Option<ChannelClient>
+    ensures moves { (found : Found) (client : ℕ) (line other : Line) → Moves sends own found client (Send message) line other result line other }
+{
+    match own.place {
+        Place::Idle if sends => Some(ChannelClient {
+            place: hears(own.place, News::Begin),
+            message,
+            ..own
+        }),
+        _ => None,
+    }
+}
+
+fn is_polled(own: ChannelClient, client: usize, line: &mut ClientLine) -> Option<ChannelClient>
+    requires client { client < length line.old.awake }
+    ensures moves { (sends : Bool) (found : Found) (other : Line) → Moves sends own found client Poll line.old other result line.new other }
+{
+    match own.place {
+        Place::Parked => Some(own.at(wakes(client, line))),
+        _ => None,
+    }
+}
+
+fn is_late(own: ChannelClient, client: usize, line: &mut ClientLine) -> Option<ChannelClient>
+    requires client { client < length line.old.awake }
+    ensures moves { (sends : Bool) (found : Found) (other : Line) → Moves sends own found client TimeOut line.old other result line.new other }
+{
+    match own.place {
+        Place::Parked => Some(own.at(times_out(client, line))),
+        _ => None,
+    }
+}
+
+fn cancels(own: ChannelClient, client: usize, line: &mut ClientLine) -> Option<ChannelClient>
+    requires client { client < length line.old.awake }
+    ensures moves { (sends : Bool) (found : Found) (other : Line) → Moves sends own found client Cancel line.old other result line.new other }
+{
+    match own.place {
+        Place::ToRegister => Some(own.at(drops_out(own.place, client, line))),
+        Place::Parked => Some(own.at(drops_out(own.place, client, line))),
+        _ => None,
+    }
+}
