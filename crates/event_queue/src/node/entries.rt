@@ -1,8 +1,9 @@
 //! The entries of a chain in order, each on a node of one ring, and the cursor.
-ghost use Rattle.std.specs.Prelude.{◌≡◌, ◌+◌, [], ◌∷◌, ◌++◌, cond, ◌↔◌, eqb, IsTrue, IsSome, IfOk};
+ghost use Rattle.std.specs.Prelude.{◌≡◌, ◌≢◌, ◌+◌, [], ◌∷◌, ◌++◌, cond, ◌↔◌, eqb, IsTrue, IsSome, IfOk};
 ghost use Rattle.event_queue.specs.Ring.{placed, first_place, IsAt, AtNode};
-ghost use Rattle.event_queue.specs.Nodes.{key_of, value_before, spare_entry, IsSpareAt, HandsOut, HandsIn, TakesOut};
+ghost use Rattle.event_queue.specs.Nodes.{key_of, value_before, spare_entry, held_by, IsSpareAt, IsEntryAt, IsAfterAt, HandsOut, HandsIn, TakesOut, Advances};
 
+use super::Side;
 use super::ring::{NodePtr, NodeRef, Ring, Steps};
 use crate::key::Key;
 use std::alloc::{AllocError, AllocFailed, Global};
@@ -47,16 +48,22 @@ impl<A, B> Entry<A, B> {
         }
     }
 
+    // What it holds, by the side of the cursor.
     #[inline(always)]
-    fn into_held(self) -> Held<A, B>
-        ensures { result ≡ self.held }
+    fn into_side(self) -> Side<A, B>
+        requires { self.held ≢ Held.Nothing }
+        ensures { self.held ≡ held_by result }
     {
         let Entry {
             slot: _,
             serial: _,
             held,
         } = self;
-        held
+        match held {
+            Held::Before(value) => Side::Before(value),
+            Held::After(value) => Side::After(value),
+            Held::Nothing => unreachable!(),
+        }
     }
 
     /// Drops what a spare node carries.
@@ -64,7 +71,12 @@ impl<A, B> Entry<A, B> {
     pub(super) fn drop_spare(self)
         requires { self.held ≡ Held.Nothing }
     {
-        match self.into_held() {
+        let Entry {
+            slot: _,
+            serial: _,
+            held,
+        } = self;
+        match held {
             Held::Nothing => {}
             _ => unreachable!(),
         }
@@ -146,14 +158,14 @@ impl<A, B> Entries<A, B> {
 
     /// Takes the value off a node, which then carries what a spare one does.
     #[inline(always)]
-    pub(super) fn hand_out(&mut self, own: &NodeRef<Entry<A, B>>) -> Held<A, B>
-        requires { IsAt self.old.ring.nodes own.now.ptr }
+    pub(super) fn hand_out(&mut self, own: &NodeRef<Entry<A, B>>) -> Side<A, B>
+        requires { IsEntryAt self.old.ring.nodes own.now.ptr }
         ensures { HandsOut self.old own.now.ptr result self.new }
     {
         let (entry, _) = self.ring.look(own);
         let slot = entry.slot;
         let entry = self.ring.replace(own, Entry::spare(slot));
-        entry.into_held()
+        entry.into_side()
     }
 
     /// Gives a node that carries what a spare one does an entry after the cursor.
@@ -216,13 +228,9 @@ impl<A, B> Entries<A, B> {
     /// Moves the cursor past the first entry after it, which gets this value. Its key and the value that it had are
     /// the answer.
     #[inline(always)]
-    pub(super) fn advance<L: Ledger>(&mut self, value: A, steps: &mut Steps<L>) -> (Key, Held<A, B>)
-        requires { IsAt self.old.ring.nodes self.old.cursor.ptr }
-        ensures root { self.new.ring.at ≡ self.old.ring.at }
-        ensures cursor { AtNode self.old.ring.nodes self.old.cursor.ptr (λ _ _ ys. self.new.cursor.ptr ≡ first_place ys self.old.ring.at) }
-        ensures key { AtNode self.old.ring.nodes self.old.cursor.ptr (λ _ n _. result.0 ≡ key_of n.entry) }
-        ensures former { AtNode self.old.ring.nodes self.old.cursor.ptr (λ _ n _. result.1 ≡ n.entry.held) }
-        ensures nodes { AtNode self.old.ring.nodes self.old.cursor.ptr (λ xs n ys. self.new.ring.nodes ≡ xs ++ placed n.at (record n.entry { held = Held.Before value }) ∷ ys) }
+    pub(super) fn advance<L: Ledger>(&mut self, value: A, steps: &mut Steps<L>) -> (Key, B)
+        requires { IsAfterAt self.old.ring.nodes self.old.cursor.ptr }
+        ensures advanced { Advances self.old value result self.new }
         ensures visits { steps.new.visits ≡ steps.old.visits + 1 }
         ensures looks { steps.new.looks ≡ steps.old.looks }
     {
@@ -236,6 +244,9 @@ impl<A, B> Entries<A, B> {
         };
         let told = self.ring.replace(&at, entry);
         self.cursor = next;
-        (key, told.into_held())
+        match told.into_side() {
+            Side::After(former) => (key, former),
+            _ => unreachable!(),
+        }
     }
 }
