@@ -1,6 +1,6 @@
 -- What a contract sees of a `Chain`, and how that keeps its entries on nodes. No public clause cites this module.
 use Rattle.std.specs.Map.{lookup, remove_entry, set_value}
-use Rattle.std.specs.Prelude.{◌≡◌, ◌≢◌, ℕ, ◌+◌, cond, eqb, ltb, List, [], ◌∷◌, ◌++◌, map, length, Option, Some, None, IsSome, slice_get, option_map, option_and_then}
+use Rattle.std.specs.Prelude.{◌≡◌, ℕ, ◌+◌, cond, eqb, ltb, List, [], ◌∷◌, ◌++◌, map, length, Option, Some, None, IsSome, slice_get, option_map, option_and_then}
 use denote.RawPtr.{Ptr}
 use Rattle.event_queue.specs.declared.key.Key.{Key}
 use Rattle.event_queue.specs.declared.node.ring.pointers.NodePtr.{NodePtr}
@@ -113,23 +113,18 @@ module _ {A B : Type 0} where
   abbrev pub IsSpareAt : List (Node A B) → Ptr → Type 0
   IsSpareAt nodes p = (xs : List (Node A B)) × (n : Node A B) × (ys : List (Node A B)) × (nodes ≡ xs ++ n ∷ ys) × (n.at ≡ p) × (n.entry.held ≡ Nothing)
 
-  -- what a node holds that has this value
-  abbrev pub held_by : Side A B → Held A B
-  held_by (side.Before value) = Before value
-  held_by (side.After value) = After value
-
-  -- a node is at p that has an entry, and one that has an entry after the cursor
-  abbrev pub IsEntryAt : List (Node A B) → Ptr → Type 0
-  IsEntryAt nodes p = (xs : List (Node A B)) × (n : Node A B) × (ys : List (Node A B)) × (nodes ≡ xs ++ n ∷ ys) × (n.at ≡ p) × (n.entry.held ≢ Nothing)
+  -- a node is at p that has an entry before the cursor, and one that has an entry after it
+  abbrev pub IsBeforeAt : List (Node A B) → Ptr → Type 0
+  IsBeforeAt nodes p = (xs : List (Node A B)) × (n : Node A B) × (ys : List (Node A B)) × (nodes ≡ xs ++ n ∷ ys) × (n.at ≡ p) × IsSome (value_before n.entry.held)
 
   abbrev pub IsAfterAt : List (Node A B) → Ptr → Type 0
   IsAfterAt nodes p = (xs : List (Node A B)) × (n : Node A B) × (ys : List (Node A B)) × (nodes ≡ xs ++ n ∷ ys) × (n.at ≡ p) × IsSome (value_after n.entry.held)
 
-  -- the value was taken off the node at p, which is left with what a spare one carries
-  pub record HandsOut (old : Entries A B) (p : Ptr) (value : Side A B) (new : Entries A B) : Type 0 where
+  -- the value after the cursor was taken off the node at p, which is left with what a spare one carries
+  pub record HandsOut (old : Entries A B) (p : Ptr) (value : B) (new : Entries A B) : Type 0 where
     pub root : new.ring.at ≡ old.ring.at
     pub cursor : new.cursor ≡ old.cursor
-    pub held : AtNode old.ring.nodes p (λ _ n _. n.entry.held ≡ held_by value)
+    pub held : AtNode old.ring.nodes p (λ _ n _. n.entry.held ≡ After value)
     pub nodes : AtNode old.ring.nodes p (λ xs n ys. new.ring.nodes ≡ xs ++ placed n.at (spare_entry n.entry.slot) ∷ ys)
 
   -- the node at p got the entry of that key, which is after the cursor
@@ -146,13 +141,13 @@ module _ {A B : Type 0} where
     pub former : AtNode old.ring.nodes old.cursor.ptr (λ _ n _. n.entry.held ≡ After first.1)
     pub nodes : AtNode old.ring.nodes old.cursor.ptr (λ xs n ys. new.ring.nodes ≡ xs ++ placed n.at (record n.entry { held = Before value }) ∷ ys)
 
-  -- the node at p was taken out
+  -- the node at p was taken out, and is spare
   pub record TakesOut (old : Entries A B) (p : Ptr) (node : Spare A B) (new : Entries A B) : Type 0 where
     pub root : new.ring.at ≡ old.ring.at
     pub place : node.at ≡ p
     pub alone : node.nodes ≡ []
     pub nodes : AtNode old.ring.nodes p (λ xs _ ys. new.ring.nodes ≡ xs ++ ys)
-    pub entry : AtNode old.ring.nodes p (λ _ n _. node.entry ≡ n.entry)
+    pub entry : AtNode old.ring.nodes p (λ _ n _. node.entry ≡ spare_entry n.entry.slot)
 
   -- the entry on a node, if it is before the cursor, and if it is after it
   abbrev pub entry_before : Node A B → Option (Key × A)

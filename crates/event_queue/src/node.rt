@@ -225,20 +225,16 @@ impl<A, B> Chain<A, B> {
     {
         let own = self.table.find(key, steps)?;
         let entries = self.entries.as_mut().unwrap();
-        match entries.hand_out(&own) {
-            Side::Before(value) => {
-                let node = entries.take(own, steps);
-                self.table.recycle(key.slot, node);
-                self.before_len -= 1;
-                Some(Side::Before(value))
-            }
-            Side::After(value) => {
-                let node = entries.take_after(own, steps);
-                self.table.recycle(key.slot, node);
-                self.after_len -= 1;
-                Some(Side::After(value))
-            }
+        if entries.is_after(&own) {
+            let (node, value) = entries.take_after(own, steps);
+            self.table.recycle(key.slot, node);
+            self.after_len -= 1;
+            return Some(Side::After(value));
         }
+        let (node, value) = entries.take_before(own, steps);
+        self.table.recycle(key.slot, node);
+        self.before_len -= 1;
+        Some(Side::Before(value))
     }
 
     /// Takes the entry of that key out, if it is before the cursor. If it is after the cursor, gives it the value that
@@ -259,19 +255,15 @@ impl<A, B> Chain<A, B> {
     {
         let own = self.table.find(key, steps)?;
         let entries = self.entries.as_mut().unwrap();
-        match entries.hand_out(&own) {
-            Side::Before(value) => {
-                let node = entries.take(own, steps);
-                self.table.recycle(key.slot, node);
-                self.before_len -= 1;
-                Some(Side::Before(value))
-            }
-            Side::After(former) => {
-                let value = change.change(on, former);
-                entries.hand_in(&own, key, value);
-                Some(Side::After(()))
-            }
+        if entries.is_after(&own) {
+            let value = change.change(on, entries.hand_out(&own));
+            entries.hand_in(&own, key, value);
+            return Some(Side::After(()));
         }
+        let (node, value) = entries.take_before(own, steps);
+        self.table.recycle(key.slot, node);
+        self.before_len -= 1;
+        Some(Side::Before(value))
     }
 
     /// Moves the cursor past the first entry after it, which gets this value. Its key and the value that it had are
