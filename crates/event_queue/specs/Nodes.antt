@@ -113,11 +113,18 @@ module _ {A B : Type 0} where
   abbrev pub IsSpareAt : List (Node A B) → Ptr → Type 0
   IsSpareAt nodes p = (xs : List (Node A B)) × (n : Node A B) × (ys : List (Node A B)) × (nodes ≡ xs ++ n ∷ ys) × (n.at ≡ p) × (n.entry.held ≡ Nothing)
 
-  -- the value was taken off the node at p, which is left with what a spare one carries
-  pub record HandsOut (old : Entries A B) (p : Ptr) (value : Held A B) (new : Entries A B) : Type 0 where
+  -- a node is at p that has an entry before the cursor, and one that has an entry after it
+  abbrev pub IsBeforeAt : List (Node A B) → Ptr → Type 0
+  IsBeforeAt nodes p = (xs : List (Node A B)) × (n : Node A B) × (ys : List (Node A B)) × (nodes ≡ xs ++ n ∷ ys) × (n.at ≡ p) × IsSome (value_before n.entry.held)
+
+  abbrev pub IsAfterAt : List (Node A B) → Ptr → Type 0
+  IsAfterAt nodes p = (xs : List (Node A B)) × (n : Node A B) × (ys : List (Node A B)) × (nodes ≡ xs ++ n ∷ ys) × (n.at ≡ p) × IsSome (value_after n.entry.held)
+
+  -- the value after the cursor was taken off the node at p, which is left with what a spare one carries
+  pub record HandsOut (old : Entries A B) (p : Ptr) (value : B) (new : Entries A B) : Type 0 where
     pub root : new.ring.at ≡ old.ring.at
     pub cursor : new.cursor ≡ old.cursor
-    pub held : AtNode old.ring.nodes p (λ _ n _. value ≡ n.entry.held)
+    pub held : AtNode old.ring.nodes p (λ _ n _. n.entry.held ≡ After value)
     pub nodes : AtNode old.ring.nodes p (λ xs n ys. new.ring.nodes ≡ xs ++ placed n.at (spare_entry n.entry.slot) ∷ ys)
 
   -- the node at p got the entry of that key, which is after the cursor
@@ -126,13 +133,21 @@ module _ {A B : Type 0} where
     pub cursor : new.cursor ≡ old.cursor
     pub nodes : AtNode old.ring.nodes p (λ xs n ys. new.ring.nodes ≡ xs ++ placed n.at (record { slot = key.slot; serial = key.serial; held = After value }) ∷ ys)
 
-  -- the node at p was taken out
+  -- the first entry after the cursor, of this key and value, got another one, and the cursor moved behind it
+  pub record Advances (old : Entries A B) (value : A) (first : Key × B) (new : Entries A B) : Type 0 where
+    pub root : new.ring.at ≡ old.ring.at
+    pub cursor : AtNode old.ring.nodes old.cursor.ptr (λ _ _ ys. new.cursor.ptr ≡ first_place ys old.ring.at)
+    pub key : AtNode old.ring.nodes old.cursor.ptr (λ _ n _. first.0 ≡ key_of n.entry)
+    pub former : AtNode old.ring.nodes old.cursor.ptr (λ _ n _. n.entry.held ≡ After first.1)
+    pub nodes : AtNode old.ring.nodes old.cursor.ptr (λ xs n ys. new.ring.nodes ≡ xs ++ placed n.at (record n.entry { held = Before value }) ∷ ys)
+
+  -- the node at p was taken out, and is spare
   pub record TakesOut (old : Entries A B) (p : Ptr) (node : Spare A B) (new : Entries A B) : Type 0 where
     pub root : new.ring.at ≡ old.ring.at
     pub place : node.at ≡ p
     pub alone : node.nodes ≡ []
     pub nodes : AtNode old.ring.nodes p (λ xs _ ys. new.ring.nodes ≡ xs ++ ys)
-    pub entry : AtNode old.ring.nodes p (λ _ n _. node.entry ≡ n.entry)
+    pub entry : AtNode old.ring.nodes p (λ _ n _. node.entry ≡ spare_entry n.entry.slot)
 
   -- the entry on a node, if it is before the cursor, and if it is after it
   abbrev pub entry_before : Node A B → Option (Key × A)

@@ -6,7 +6,7 @@ ghost use Rattle.event_queue.specs.Counts.{counted_on};
 ghost use Rattle.event_queue.specs.Nodes.{nodes_of, IsStarted, Takes, TakesOrChanges, visits_of_taking, visits_of_change};
 
 use crate::key::Key;
-use crate::node::entries::{Entries, Held};
+use crate::node::entries::Entries;
 use crate::node::table::Table;
 use std::alloc::{AllocError, AllocFailed, Global};
 use std::marker::Model;
@@ -207,12 +207,8 @@ impl<A, B> Chain<A, B> {
         ensures visits { steps.new.visits ≡ steps.old.visits + 1 }
         ensures looks { steps.new.looks ≡ steps.old.looks }
     {
-        let Some(entries) = &mut self.entries else {
-            unreachable!()
-        };
-        let Some(node) = self.table.take_spare() else {
-            unreachable!()
-        };
+        let entries = self.entries.as_mut().unwrap();
+        let node = self.table.take_spare().unwrap();
         let (slot, own) = entries.append(node, serial, value, self.after_len == 0, steps);
         let key = Key { slot, serial };
         self.table.fill(key, &own);
@@ -228,24 +224,17 @@ impl<A, B> Chain<A, B> {
         ensures looks { steps.new.looks ≡ counted_on steps.old.looks 1 }
     {
         let own = self.table.find(key, steps)?;
-        let Some(entries) = &mut self.entries else {
-            unreachable!()
-        };
-        match entries.hand_out(&own) {
-            Held::Before(value) => {
-                let node = entries.take(own, steps);
-                self.table.recycle(key.slot, node);
-                self.before_len -= 1;
-                Some(Side::Before(value))
-            }
-            Held::After(value) => {
-                let node = entries.take_after(own, steps);
-                self.table.recycle(key.slot, node);
-                self.after_len -= 1;
-                Some(Side::After(value))
-            }
-            Held::Nothing => unreachable!(),
+        let entries = self.entries.as_mut().unwrap();
+        if entries.is_after(&own) {
+            let (node, value) = entries.take_after(own, steps);
+            self.table.recycle(key.slot, node);
+            self.after_len -= 1;
+            return Some(Side::After(value));
         }
+        let (node, value) = entries.take_before(own, steps);
+        self.table.recycle(key.slot, node);
+        self.before_len -= 1;
+        Some(Side::Before(value))
     }
 
     /// Takes the entry of that key out, if it is before the cursor. If it is after the cursor, gives it the value that
@@ -265,23 +254,16 @@ impl<A, B> Chain<A, B> {
         ensures looks { steps.new.looks ≡ counted_on steps.old.looks 1 }
     {
         let own = self.table.find(key, steps)?;
-        let Some(entries) = &mut self.entries else {
-            unreachable!()
-        };
-        match entries.hand_out(&own) {
-            Held::Before(value) => {
-                let node = entries.take(own, steps);
-                self.table.recycle(key.slot, node);
-                self.before_len -= 1;
-                Some(Side::Before(value))
-            }
-            Held::After(former) => {
-                let value = change.change(on, former);
-                entries.hand_in(&own, key, value);
-                Some(Side::After(()))
-            }
-            Held::Nothing => unreachable!(),
+        let entries = self.entries.as_mut().unwrap();
+        if entries.is_after(&own) {
+            let value = change.change(on, entries.hand_out(&own));
+            entries.hand_in(&own, key, value);
+            return Some(Side::After(()));
         }
+        let (node, value) = entries.take_before(own, steps);
+        self.table.recycle(key.slot, node);
+        self.before_len -= 1;
+        Some(Side::Before(value))
     }
 
     /// Moves the cursor past the first entry after it, which gets this value. Its key and the value that it had are
@@ -295,17 +277,10 @@ impl<A, B> Chain<A, B> {
         ensures visits { steps.new.visits ≡ steps.old.visits + 1 }
         ensures looks { steps.new.looks ≡ steps.old.looks }
     {
-        let Some(entries) = &mut self.entries else {
-            unreachable!()
-        };
-        let (key, held) = entries.advance(value, steps);
-        match held {
-            Held::After(former) => {
-                self.before_len += 1;
-                self.after_len -= 1;
-                (key, former)
-            }
-            _ => unreachable!(),
-        }
+        let entries = self.entries.as_mut().unwrap();
+        let first = entries.advance(value, steps);
+        self.before_len += 1;
+        self.after_len -= 1;
+        first
     }
 }

@@ -1,7 +1,6 @@
--- What is left of a chain once a key's entry was taken out, and once it got another value.
-use Rattle.std.proofs.Common.{◌≡◌, ◌≢◌, ℕ, ap₂, true≢false, IsSome, ◌-◌, ◌<◌, ◌≤◌, cond, eqb, List, [], ◌∷◌, ◌++◌, length, set, Option, Some, None, refl, sym, ap, ◌∙◌, subst, arith, length-append}
+-- What is left of a chain once a key's entry was taken out or got another value, and once the cursor moved on.
+use Rattle.std.proofs.Common.{Bool, true, false, IsTrue, ◌↔◌, ◌≡◌, ◌+◌, ◌≢◌, ℕ, ap₂, true≢false, IsSome, ◌-◌, ◌<◌, ◌≤◌, cond, eqb, List, [], ◌∷◌, ◌++◌, length, set, Option, Some, None, refl, sym, ap, ◌∙◌, subst, arith, length-append}
 use Rattle.std.specs.Map.{lookup, set_value}
-use denote.RawPtr.{Ptr}
 use Rattle.event_queue.specs.declared.key.Key.{Key}
 use Rattle.event_queue.specs.declared.node.ring.pointers.NodePtr.{NodePtr}
 use Rattle.event_queue.specs.declared.node.entries.Held.{Held}
@@ -10,9 +9,9 @@ use Rattle.event_queue.specs.declared.node.entries.Entry.{Entry}
 use Rattle.event_queue.specs.declared.node.entries.Entries.{Entries}
 use Rattle.event_queue.specs.Key.{is_key}
 use Rattle.event_queue.specs.Ring.{placed, first_place, IsAt, AtNode}
-use Rattle.event_queue.specs.Nodes.{Node, Spare, Slots, Sequence, nodes_of, node_at, spare_entry, value_before, value_after, before_leaves, after_leaves, HasNone, IsSpareAt, HandsOut, HandsIn, TakesOut, AreBefore, AreAfter, IsSound}
-use Rattle.event_queue.proofs.Nodes.Lookups.{entries_by, AreAfter-cut}
-use Rattle.event_queue.proofs.Nodes.ChainSteps.{Lies, Finds, Cursor, lies, stands_at, slot_within, spare_room, looked, leads_nowhere, some_before, some_after, IsSound-without_before, IsSound-without_after, before_removed, after_removed, before_kept, after_kept, cursor_is, after_set, before_unset, IsSound-set}
+use Rattle.event_queue.specs.Nodes.{Node, Spare, Slots, Sequence, nodes_of, node_at, key_of, spare_entry, value_before, value_after, before_leaves, after_leaves, HasNone, IsBeforeAt, IsAfterAt, IsSpareAt, Advances, HandsOut, HandsIn, TakesOut, AreBefore, AreAfter, IsSound}
+use Rattle.event_queue.proofs.Nodes.Lookups.{entries_by, some_value, AreAfter-cut}
+use Rattle.event_queue.proofs.Nodes.ChainSteps.{Lies, Finds, Cursor, lies, stands_at, slot_within, spare_room, looked, leads_nowhere, some_before, some_after, IsSound-without_before, IsSound-without_after, before_removed, after_removed, before_kept, after_kept, cursor_is, cursor_after, length-after_of, IsSound-advanced, after_advanced, before_advanced, after_set, before_unset, IsSound-set}
 
 module _ {A B : Type 0} where
   -- a linked node holds something
@@ -28,31 +27,11 @@ module _ {A B : Type 0} where
       let others : bs ++ after ≡ fs ++ node ∷ rest = cc in
       holds_something bs after fs rest node others are_before.1 are_after nothing
 
-  -- a node stands where that one stood, and has its slot
-  record StandsAs (nodes : List (Node A B)) (first : Node A B) : Type 0 where
-    pub front : List (Node A B)
-    pub node : Node A B
-    pub rest : List (Node A B)
-    pub is : nodes ≡ front ++ node ∷ rest
-    pub place : node.at ≡ first.at
-    pub slot : node.entry.slot ≡ first.entry.slot
-
-  -- a node changes what it carries, but for its slot: each stands where it stood
-  stands_as : (before others front rest : List (Node A B)) (first node other : Node A B) → before ++ first ∷ others ≡ front ++ node ∷ rest → other.at ≡ node.at → other.entry.slot ≡ node.entry.slot
-      → StandsAs (front ++ other ∷ rest) first
-  stands_as [] others [] rest first node other is place slot =
-      let same : first ≡ node = cc in
-      record { front = []; node = other; rest = rest; is = refl; place = place ∙ ap (λ (n : Node A B). n.at) (sym same); slot = slot ∙ ap (λ (n : Node A B). n.entry.slot) (sym same) }
-  stands_as [] others (f ∷ fs) rest first node other is place slot =
-      let same : first ≡ f = cc in
-      record { front = []; node = f; rest = fs ++ other ∷ rest; is = refl; place = ap (λ (n : Node A B). n.at) (sym same); slot = ap (λ (n : Node A B). n.entry.slot) (sym same) }
-  stands_as (b ∷ bs) others [] rest first node other is place slot =
-      let behind : bs ++ first ∷ others ≡ rest = cc in
-      record { front = other ∷ bs; node = first; rest = others; is = ap (λ ns. other ∷ ns) (sym behind); place = refl; slot = refl }
-  stands_as (b ∷ bs) others (f ∷ fs) rest first node other is place slot =
-      let behind : bs ++ first ∷ others ≡ fs ++ node ∷ rest = cc in
-      let later = stands_as bs others fs rest first node other behind place slot in
-      record { front = f ∷ later.front; node = later.node; rest = later.rest; is = ap (λ ns. f ∷ ns) later.is; place = later.place; slot = later.slot }
+  -- an entry that is not after the cursor is before it
+  other_side : (held : Held A B) → held ≢ Nothing → (IsSome (value_after held) → ⊥) → IsSome (value_before held)
+  other_side (Before value) holds not_after = refl
+  other_side (After value) holds not_after = absurd (not_after refl)
+  other_side Nothing holds not_after = absurd (holds refl)
 
   -- what a contract sees of a chain
   abbrev pub seen : Option (Entries A B) → List (Spare A B) → Sequence A B
@@ -109,131 +88,169 @@ module _ {A B : Type 0} where
           looked = looked entries slots spares before_len after_len node.sound key at node.leads value ∙ held;
         }
 
-    -- ---- once its value was handed out, which leaves a spare node's entry
-    module _ {held : Held A B} {out : Entries A B} (hand_out : HandsOut entries at.ptr held out) where
-      was_held : held ≡ its_place.node.entry.held
-      was_held = hand_out.held its_place.front its_place.node its_place.rest its_place.is its_place.place
+    -- ---- once it was tested on which side of the cursor it is
+    module _ (result : Bool) (tests : AtNode entries.ring.nodes at.ptr (λ _ n _. IsTrue result ↔ IsSome (value_after n.entry.held))) where
+      says : IsTrue result ↔ IsSome (value_after its_place.node.entry.held)
+      says = tests its_place.front its_place.node its_place.rest its_place.is its_place.place
 
+      pub is_after_it : result ≡ true → IsAfterAt entries.ring.nodes at.ptr
+      is_after_it passes =
+          (its_place.front, its_place.node, its_place.rest, its_place.is, its_place.place, says.0 passes)
+
+      pub is_before_it : result ≡ false → IsBeforeAt entries.ring.nodes at.ptr
+      is_before_it fails =
+          let holds = holds_something node.sound.before node.sound.after its_place.front its_place.rest its_place.node (sym node.sound.in_order ∙ its_place.is) node.sound.are_before node.sound.are_after in
+          let before = other_side its_place.node.entry.held holds (λ some. true≢false (sym (says.1 some) ∙ fails)) in
+          (its_place.front, its_place.node, its_place.rest, its_place.is, its_place.place, before)
+
+      pub cursor_stands : result ≡ true → IsAt entries.ring.nodes entries.cursor.ptr
+      cursor_stands passes =
+          let value = some_value (value_after its_place.node.entry.held) (says.0 passes) in
+          let some = some_after entries slots spares before_len after_len node.sound key at.ptr (found value_after value.0 value.1) in
+          let cursor = cursor_is entries slots spares before_len after_len node.sound (omega (arith, some)) in
+          (node.sound.before, cursor.first, cursor.others, cursor.is, cursor.place)
+
+    -- ---- once it was taken out
+    module _ {later : Entries A B} {spare : Spare A B} (take : TakesOut entries at.ptr spare later) where
+      others : later.ring.nodes ≡ its_place.front ++ its_place.rest
+      others = take.nodes its_place.front its_place.node its_place.rest its_place.is its_place.place
+
+      spare_is : spare.entry ≡ spare_entry its_place.node.entry.slot
+      spare_is = take.entry its_place.front its_place.node its_place.rest its_place.is its_place.place
+
+      module _ (value : A) (held : AtNode entries.ring.nodes at.ptr (λ _ n _. n.entry.held ≡ Before value)) where
+        found_before : Finds value_before entries.ring.nodes key at.ptr
+        found_before =
+            found value_before value (ap value_before (held its_place.front its_place.node its_place.rest its_place.is its_place.place))
+
+        pub some_were_before : 1 ≤ before_len
+        some_were_before =
+            some_before entries slots spares before_len after_len node.sound key at.ptr found_before
+
+        pub sound_before : later.cursor ≡ entries.cursor → IsSound (Some later) (set slots key.slot None) (spares ++ spare ∷ []) (before_len - 1) after_len
+        unfolding found_before found
+        sound_before cursor =
+            IsSound-without_before entries slots spares before_len after_len node.sound key at.ptr found_before later spare others take.root cursor take.alone spare_is
+
+        pub was_before : lookup (is_key key) (seen chain spares).before ≡ Some value
+        unfolding found_before found
+        was_before =
+            ap (λ entries. lookup (is_key key) (entries_by value_before (nodes_of entries))) node.is ∙ found_before.looked
+
+        pub left_before : seen (Some later) (spares ++ spare ∷ []) ≡ before_leaves key (seen chain spares)
+        unfolding found_before found
+        left_before =
+            let removed = before_removed entries slots spares before_len after_len node.sound key at.ptr found_before later.ring.nodes others in
+            let kept = after_kept entries slots spares before_len after_len node.sound key at.ptr found_before later.ring.nodes others in
+            rw (node.is, removed, kept, length-append) refl
+
+      module _ (value : B) (held : AtNode entries.ring.nodes at.ptr (λ _ n _. n.entry.held ≡ After value)) where
+        found_after : Finds value_after entries.ring.nodes key at.ptr
+        found_after =
+            found value_after value (ap value_after (held its_place.front its_place.node its_place.rest its_place.is its_place.place))
+
+        pub some_were_after : 1 ≤ after_len
+        some_were_after =
+            some_after entries slots spares before_len after_len node.sound key at.ptr found_after
+
+        pub sound_after : AtNode entries.ring.nodes at.ptr (λ _ n ys. AtNode entries.ring.nodes entries.cursor.ptr (λ _ first _. later.cursor.ptr ≡ cond (eqb first.entry.slot n.entry.slot) (first_place ys entries.ring.at) entries.cursor.ptr))
+            → IsSound (Some later) (set slots key.slot None) (spares ++ spare ∷ []) before_len (after_len - 1)
+        unfolding found_after found
+        sound_after moved =
+            let cursor = cursor_is entries slots spares before_len after_len node.sound (omega (arith, some_were_after)) in
+            let skips = moved its_place.front its_place.node its_place.rest its_place.is its_place.place node.sound.before cursor.first cursor.others cursor.is cursor.place in
+            IsSound-without_after entries slots spares before_len after_len node.sound key at.ptr found_after cursor later spare others take.root skips take.alone spare_is
+
+        pub was_after : lookup (is_key key) (seen chain spares).after ≡ Some value
+        unfolding found_after found
+        was_after =
+            ap (λ entries. lookup (is_key key) (entries_by value_after (nodes_of entries))) node.is ∙ found_after.looked
+
+        pub left_after : seen (Some later) (spares ++ spare ∷ []) ≡ after_leaves key (seen chain spares)
+        unfolding found_after found
+        left_after =
+            let removed = after_removed entries slots spares before_len after_len node.sound key at.ptr found_after later.ring.nodes others in
+            let kept = before_kept entries slots spares before_len after_len node.sound key at.ptr found_after later.ring.nodes others in
+            rw (node.is, removed, kept, length-append) refl
+
+    -- ---- once its value was handed out, and another one was handed in
+    module _ {value : B} {out : Entries A B} (hand_out : HandsOut entries at.ptr value out) where
       abbrev left_behind : Node A B
       left_behind = placed its_place.node.at (spare_entry its_place.node.entry.slot)
 
       cut : out.ring.nodes ≡ its_place.front ++ left_behind ∷ its_place.rest
       cut = hand_out.nodes its_place.front its_place.node its_place.rest its_place.is its_place.place
 
-      pub still_stands : IsAt out.ring.nodes at.ptr
-      still_stands = (its_place.front, left_behind, its_place.rest, cut, its_place.place)
-
       pub stands_spare : IsSpareAt out.ring.nodes at.ptr
       stands_spare = (its_place.front, left_behind, its_place.rest, cut, its_place.place, refl)
 
-      pub holds : held ≢ Nothing
-      holds nothing =
-          holds_something node.sound.before node.sound.after its_place.front its_place.rest its_place.node (sym node.sound.in_order ∙ its_place.is) node.sound.are_before node.sound.are_after
-          (sym was_held ∙ nothing)
+      found_out : Finds value_after entries.ring.nodes key at.ptr
+      found_out =
+          found value_after value (ap value_after (hand_out.held its_place.front its_place.node its_place.rest its_place.is its_place.place))
 
-      found_before : (value : A) → held ≡ Before value → Finds value_before entries.ring.nodes key at.ptr
-      found_before value is = found value_before value (ap value_before (sym was_held ∙ is))
-
-      found_after : (value : B) → held ≡ After value → Finds value_after entries.ring.nodes key at.ptr
-      found_after value is = found value_after value (ap value_after (sym was_held ∙ is))
-
-      pub some_were_before : (value : A) → held ≡ Before value → 1 ≤ before_len
-      some_were_before value is =
-          some_before entries slots spares before_len after_len node.sound key at.ptr (found_before value is)
-
-      pub some_were_after : (value : B) → held ≡ After value → 1 ≤ after_len
-      some_were_after value is =
-          some_after entries slots spares before_len after_len node.sound key at.ptr (found_after value is)
-
-      pub was_before : (value : A) → held ≡ Before value → lookup (is_key key) (seen chain spares).before ≡ Some value
-      unfolding found_before found
-      was_before value is =
-          ap (λ entries. lookup (is_key key) (entries_by value_before (nodes_of entries))) node.is ∙ (found_before value is).looked
-
-      pub was_after : (value : B) → held ≡ After value → lookup (is_key key) (seen chain spares).after ≡ Some value
-      unfolding found_after found
-      was_after value is =
-          ap (λ entries. lookup (is_key key) (entries_by value_after (nodes_of entries))) node.is ∙ (found_after value is).looked
-
-      its_cursor : (value : B) → held ≡ After value → Cursor entries node.sound.before node.sound.after
-      its_cursor value is =
-          cursor_is entries slots spares before_len after_len node.sound (omega (arith, some_were_after value is))
-
-      -- the node at the cursor, be it this one
-      at_cursor : (value : B) (is : held ≡ After value) → StandsAs out.ring.nodes (its_cursor value is).first
-      at_cursor value is =
-          let first = its_cursor value is in
-          let moved = stands_as node.sound.before first.others its_place.front its_place.rest first.first its_place.node left_behind (sym first.is ∙ its_place.is) refl refl in
-          record { front = moved.front; node = moved.node; rest = moved.rest; is = cut ∙ moved.is; place = moved.place; slot = moved.slot }
-
-      pub cursor_stands : (value : B) → held ≡ After value → IsAt out.ring.nodes out.cursor.ptr
-      cursor_stands value is =
-          let there = at_cursor value is in
-          (there.front, there.node, there.rest, there.is, there.place ∙ (its_cursor value is).place ∙ ap (λ (c : NodePtr (Entry A B)). c.ptr) (sym hand_out.cursor))
-
-      -- ---- and once it was taken out
-      module _ {later : Entries A B} {spare : Spare A B} (take : TakesOut out at.ptr spare later) where
-        others : later.ring.nodes ≡ its_place.front ++ its_place.rest
-        others = take.nodes its_place.front left_behind its_place.rest cut its_place.place
-
-        spare_is : spare.entry ≡ spare_entry its_place.node.entry.slot
-        spare_is = take.entry its_place.front left_behind its_place.rest cut its_place.place
-
-        module _ (value : A) (is : held ≡ Before value) where
-          pub sound_before : later.cursor ≡ out.cursor → IsSound (Some later) (set slots key.slot None) (spares ++ spare ∷ []) (before_len - 1) after_len
-          unfolding found_before found
-          sound_before cursor' =
-              IsSound-without_before entries slots spares before_len after_len node.sound key at.ptr (found_before value is) later spare others (take.root ∙ hand_out.root) (cursor' ∙ hand_out.cursor) take.alone spare_is
-
-          pub left_before : seen (Some later) (spares ++ spare ∷ []) ≡ before_leaves key (seen chain spares)
-          unfolding found_before found
-          left_before =
-              let removed = before_removed entries slots spares before_len after_len node.sound key at.ptr (found_before value is) later.ring.nodes others in
-              let kept = after_kept entries slots spares before_len after_len node.sound key at.ptr (found_before value is) later.ring.nodes others in
-              rw (node.is, removed, kept, length-append) refl
-
-        module _ (value : B) (is : held ≡ After value) where
-          pub sound_after : AtNode out.ring.nodes at.ptr (λ _ n ys. AtNode out.ring.nodes out.cursor.ptr (λ _ first _. later.cursor.ptr ≡ cond (eqb first.entry.slot n.entry.slot) (first_place ys out.ring.at) out.cursor.ptr))
-              → IsSound (Some later) (set slots key.slot None) (spares ++ spare ∷ []) before_len (after_len - 1)
-          unfolding found_after found
-          sound_after moved =
-              let there = at_cursor value is in
-              let first = its_cursor value is in
-              let slot = its_place.node.entry.slot in
-              let rest = its_place.rest in
-              let place : there.node.at ≡ out.cursor.ptr = there.place ∙ first.place ∙ ap (λ (c : NodePtr (Entry A B)). c.ptr) (sym hand_out.cursor) in
-              let skipped : later.cursor.ptr ≡ cond (eqb first.first.entry.slot slot) (first_place rest entries.ring.at) entries.cursor.ptr =
-              moved its_place.front left_behind rest cut its_place.place there.front there.node there.rest there.is place
-              ∙ ap (λ (other : ℕ). cond (eqb other slot) (first_place rest out.ring.at) out.cursor.ptr) there.slot
-              ∙ ap (λ (p : Ptr). cond (eqb first.first.entry.slot slot) (first_place rest p) out.cursor.ptr) hand_out.root
-              ∙ ap (λ (c : NodePtr (Entry A B)). cond (eqb first.first.entry.slot slot) (first_place rest entries.ring.at) c.ptr) hand_out.cursor in
-              IsSound-without_after entries slots spares before_len after_len node.sound key at.ptr (found_after value is) first later spare others (take.root ∙ hand_out.root) skipped take.alone spare_is
-
-          pub left_after : seen (Some later) (spares ++ spare ∷ []) ≡ after_leaves key (seen chain spares)
-          unfolding found_after found
-          left_after =
-              let removed = after_removed entries slots spares before_len after_len node.sound key at.ptr (found_after value is) later.ring.nodes others in
-              let kept = before_kept entries slots spares before_len after_len node.sound key at.ptr (found_after value is) later.ring.nodes others in
-              rw (node.is, removed, kept, length-append) refl
-
-      -- ---- and once it got another value
-      module _ {later : Entries A B} {changed : B} (hand_in : HandsIn out at.ptr key changed later) (value : B) (is : held ≡ After value) where
+      module _ {later : Entries A B} {changed : B} (hand_in : HandsIn out at.ptr key changed later) where
         abbrev other : Node A B
         other = placed its_place.node.at (record { slot = key.slot; serial = key.serial; held = After changed })
 
         set_there : later.ring.nodes ≡ its_place.front ++ other ∷ its_place.rest
         set_there = hand_in.nodes its_place.front left_behind its_place.rest cut its_place.place
 
+        pub had_value : lookup (is_key key) (seen chain spares).after ≡ Some value
+        unfolding found_out found
+        had_value =
+            ap (λ entries. lookup (is_key key) (entries_by value_after (nodes_of entries))) node.is ∙ found_out.looked
+
         pub sound_changed : IsSound (Some later) slots spares before_len after_len
-        unfolding found_after found
+        unfolding found_out found
         sound_changed =
-            let finds = found_after value is in
-            IsSound-set entries slots spares before_len after_len node.sound key at.ptr finds later other changed set_there refl (sym finds.key_is) refl (hand_in.root ∙ hand_out.root) (hand_in.cursor ∙ hand_out.cursor)
+            IsSound-set entries slots spares before_len after_len node.sound key at.ptr found_out later other changed set_there refl (sym found_out.key_is) refl (hand_in.root ∙ hand_out.root) (hand_in.cursor ∙ hand_out.cursor)
 
         pub left_changed : seen (Some later) spares ≡ record (seen chain spares) { after = set_value (is_key key) (seen chain spares).after changed }
-        unfolding found_after found
+        unfolding found_out found
         left_changed =
-            let finds = found_after value is in
-            let replaced = after_set entries slots spares before_len after_len node.sound key at.ptr finds later other changed set_there refl (sym finds.key_is) refl in
-            let kept = before_unset entries slots spares before_len after_len node.sound key at.ptr finds later other changed set_there refl (sym finds.key_is) refl in
+            let replaced = after_set entries slots spares before_len after_len node.sound key at.ptr found_out later other changed set_there refl (sym found_out.key_is) refl in
+            let kept = before_unset entries slots spares before_len after_len node.sound key at.ptr found_out later other changed set_there refl (sym found_out.key_is) refl in
             rw (node.is, replaced, kept) refl
+
+  -- ---- the first entry after the cursor, which gets a value before it
+  module _ {chain : Option (Entries A B)} {slots : Slots A B} {spares : List (Spare A B)} {before_len after_len : ℕ} {entries : Entries A B}
+      (sound : IsSound chain slots spares before_len after_len) (is : chain ≡ Some entries) (some : 0 < length (seen chain spares).after) where
+    abbrev sound_now : IsSound (Some entries) slots spares before_len after_len
+    sound_now =
+        subst (λ (entries : Option (Entries A B)). IsSound entries slots spares before_len after_len) is sound
+
+    pub some_after_it : 0 < after_len
+    some_after_it = omega (arith, some, length-after_of chain slots spares before_len after_len sound)
+
+    first : Cursor entries sound_now.before sound_now.after
+    first = cursor_is entries slots spares before_len after_len sound_now some_after_it
+
+    pub has_next : IsAfterAt entries.ring.nodes entries.cursor.ptr
+    has_next =
+        (sound_now.before, first.first, first.others, first.is, first.place, cursor_after entries slots spares before_len after_len sound_now first)
+
+    module _ {value : A} {next : Key × B} {later : Entries A B} (advance : Advances entries value next later) where
+      abbrev told : Node A B
+      told = placed first.first.at (record first.first.entry { held = Before value })
+
+      moved : later.ring.nodes ≡ sound_now.before ++ told ∷ first.others
+      moved = advance.nodes sound_now.before first.first first.others first.is first.place
+
+      former : first.first.entry.held ≡ After next.1
+      former = advance.former sound_now.before first.first first.others first.is first.place
+
+      key_is : next.0 ≡ key_of first.first.entry
+      key_is = advance.key sound_now.before first.first first.others first.is first.place
+
+      pub sound_advanced : IsSound (Some later) slots spares (before_len + 1) (after_len - 1)
+      sound_advanced =
+          let cursor = advance.cursor sound_now.before first.first first.others first.is first.place in
+          IsSound-advanced entries slots spares before_len after_len sound_now first later told value next.1 moved refl refl refl former advance.root cursor
+
+      pub next_was_first : (seen chain spares).after ≡ next ∷ entries_by value_after later.ring.nodes
+      next_was_first =
+          rw (is, key_is) (after_advanced entries slots spares before_len after_len sound_now first later told value next.1 moved refl refl refl former)
+
+      pub next_is_last : entries_by value_before later.ring.nodes ≡ (seen chain spares).before ++ (next.0, value) ∷ []
+      next_is_last =
+          rw (is, key_is) (before_advanced entries slots spares before_len after_len sound_now first later told value next.1 moved refl refl refl former)

@@ -1,7 +1,7 @@
 //! The entries of a chain in order, each on a node of one ring, and the cursor.
 ghost use Rattle.std.specs.Prelude.{◌≡◌, ◌+◌, [], ◌∷◌, ◌++◌, cond, ◌↔◌, eqb, IsTrue, IsSome, IfOk};
 ghost use Rattle.event_queue.specs.Ring.{placed, first_place, IsAt, AtNode};
-ghost use Rattle.event_queue.specs.Nodes.{key_of, value_before, spare_entry, IsSpareAt, HandsOut, HandsIn, TakesOut};
+ghost use Rattle.event_queue.specs.Nodes.{key_of, value_before, value_after, spare_entry, IsSpareAt, IsBeforeAt, IsAfterAt, HandsOut, HandsIn, TakesOut, Advances};
 
 use super::ring::{NodePtr, NodeRef, Ring, Steps};
 use crate::key::Key;
@@ -47,16 +47,38 @@ impl<A, B> Entry<A, B> {
         }
     }
 
+    // The value of an entry before the cursor.
     #[inline(always)]
-    fn into_held(self) -> Held<A, B>
-        ensures { result ≡ self.held }
+    fn into_before(self) -> A
+        requires { IsSome (value_before self.held) }
+        ensures { self.held ≡ Held.Before result }
     {
         let Entry {
             slot: _,
             serial: _,
             held,
         } = self;
-        held
+        match held {
+            Held::Before(value) => value,
+            _ => unreachable!(),
+        }
+    }
+
+    // The value of an entry after the cursor.
+    #[inline(always)]
+    fn into_after(self) -> B
+        requires { IsSome (value_after self.held) }
+        ensures { self.held ≡ Held.After result }
+    {
+        let Entry {
+            slot: _,
+            serial: _,
+            held,
+        } = self;
+        match held {
+            Held::After(value) => value,
+            _ => unreachable!(),
+        }
     }
 
     /// Drops what a spare node carries.
@@ -64,7 +86,12 @@ impl<A, B> Entry<A, B> {
     pub(super) fn drop_spare(self)
         requires { self.held ≡ Held.Nothing }
     {
-        match self.into_held() {
+        let Entry {
+            slot: _,
+            serial: _,
+            held,
+        } = self;
+        match held {
             Held::Nothing => {}
             _ => unreachable!(),
         }
@@ -107,6 +134,16 @@ impl<A, B> Entries<A, B> {
         matches!(entry.held, Held::Before(_))
     }
 
+    /// Whether the node's entry is after the cursor.
+    #[inline(always)]
+    pub(super) fn is_after(&self, own: &NodeRef<Entry<A, B>>) -> bool
+        requires { IsAt self.now.ring.nodes own.now.ptr }
+        ensures { AtNode self.now.ring.nodes own.now.ptr (λ _ n _. IsTrue result ↔ IsSome (value_after n.entry.held)) }
+    {
+        let (entry, _) = self.ring.look(own);
+        matches!(entry.held, Held::After(_))
+    }
+
     /// Links a spare node in at the end, with an entry after the cursor. Its slot and the node are the answer.
     ///
     /// If no other entry is after the cursor, the cursor moves to it.
@@ -144,16 +181,16 @@ impl<A, B> Entries<A, B> {
         (slot, own)
     }
 
-    /// Takes the value off a node, which then carries what a spare one does.
+    /// Takes the value of an entry after the cursor off its node, which then carries what a spare one does.
     #[inline(always)]
-    pub(super) fn hand_out(&mut self, own: &NodeRef<Entry<A, B>>) -> Held<A, B>
-        requires { IsAt self.old.ring.nodes own.now.ptr }
+    pub(super) fn hand_out(&mut self, own: &NodeRef<Entry<A, B>>) -> B
+        requires { IsAfterAt self.old.ring.nodes own.now.ptr }
         ensures { HandsOut self.old own.now.ptr result self.new }
     {
         let (entry, _) = self.ring.look(own);
         let slot = entry.slot;
         let entry = self.ring.replace(own, Entry::spare(slot));
-        entry.into_held()
+        entry.into_after()
     }
 
     /// Gives a node that carries what a spare one does an entry after the cursor.
@@ -170,33 +207,56 @@ impl<A, B> Entries<A, B> {
         self.ring.replace(own, entry).drop_spare();
     }
 
-    /// Takes a node out whose value was handed out. It becomes spare.
+    // Takes a node out. It becomes spare, and the entry that it had is the answer too.
     #[inline(always)]
-    pub(super) fn take<L: Ledger>(
+    fn take<L: Ledger>(
         &mut self,
         own: NodeRef<Entry<A, B>>,
         steps: &mut Steps<L>,
-    ) -> Ring<Entry<A, B>>
+    ) -> (Ring<Entry<A, B>>, Entry<A, B>)
         requires { IsAt self.old.ring.nodes own.ptr }
-        ensures taken { TakesOut self.old own.ptr result self.new }
+        ensures taken { TakesOut self.old own.ptr result.0 self.new }
+        ensures entry { AtNode self.old.ring.nodes own.ptr (λ _ n _. result.1 ≡ n.entry) }
         ensures cursor { self.new.cursor ≡ self.old.cursor }
         ensures visits { steps.new.visits ≡ steps.old.visits + 2 }
         ensures looks { steps.new.looks ≡ steps.old.looks }
     {
-        self.ring.take(own, steps)
+        let (entry, _) = self.ring.look(&own);
+        let slot = entry.slot;
+        let entry = self.ring.replace(&own, Entry::spare(slot));
+        (self.ring.take(own, steps), entry)
     }
 
-    /// Takes a node out as [`Entries::take`] does, whose value was after the cursor. If it is the first of these, the
-    /// cursor moves behind it.
+    /// Takes a node out whose entry is before the cursor. It becomes spare, and its value is the answer too.
+    #[inline(always)]
+    pub(super) fn take_before<L: Ledger>(
+        &mut self,
+        own: NodeRef<Entry<A, B>>,
+        steps: &mut Steps<L>,
+    ) -> (Ring<Entry<A, B>>, A)
+        requires { IsBeforeAt self.old.ring.nodes own.ptr }
+        ensures taken { TakesOut self.old own.ptr result.0 self.new }
+        ensures value { AtNode self.old.ring.nodes own.ptr (λ _ n _. n.entry.held ≡ Held.Before result.1) }
+        ensures cursor { self.new.cursor ≡ self.old.cursor }
+        ensures visits { steps.new.visits ≡ steps.old.visits + 2 }
+        ensures looks { steps.new.looks ≡ steps.old.looks }
+    {
+        let (node, entry) = self.take(own, steps);
+        (node, entry.into_before())
+    }
+
+    /// Takes a node out whose entry is after the cursor, as [`Entries::take_before`] does. If it is the first of these,
+    /// the cursor moves behind it.
     #[inline(always)]
     pub(super) fn take_after<L: Ledger>(
         &mut self,
         own: NodeRef<Entry<A, B>>,
         steps: &mut Steps<L>,
-    ) -> Ring<Entry<A, B>>
-        requires node { IsAt self.old.ring.nodes own.ptr }
+    ) -> (Ring<Entry<A, B>>, B)
+        requires node { IsAfterAt self.old.ring.nodes own.ptr }
         requires cursor { IsAt self.old.ring.nodes self.old.cursor.ptr }
-        ensures taken { TakesOut self.old own.ptr result self.new }
+        ensures taken { TakesOut self.old own.ptr result.0 self.new }
+        ensures value { AtNode self.old.ring.nodes own.ptr (λ _ n _. n.entry.held ≡ Held.After result.1) }
         ensures cursor { AtNode self.old.ring.nodes own.ptr (λ _ n ys. AtNode self.old.ring.nodes self.old.cursor.ptr (λ _ first _.
             self.new.cursor.ptr ≡ cond (eqb first.entry.slot n.entry.slot) (first_place ys self.old.ring.at) self.old.cursor.ptr)) }
         ensures visits { steps.new.visits ≡ steps.old.visits + 3 }
@@ -206,23 +266,19 @@ impl<A, B> Entries<A, B> {
         let (first, _) = self.ring.look(&cursor);
         let (entry, next) = self.ring.look(&own);
         let is_at_cursor = first.slot == entry.slot;
-        let taken = self.take(own, steps);
+        let (node, entry) = self.take(own, steps);
         if is_at_cursor {
             self.cursor = next;
         }
-        taken
+        (node, entry.into_after())
     }
 
     /// Moves the cursor past the first entry after it, which gets this value. Its key and the value that it had are
     /// the answer.
     #[inline(always)]
-    pub(super) fn advance<L: Ledger>(&mut self, value: A, steps: &mut Steps<L>) -> (Key, Held<A, B>)
-        requires { IsAt self.old.ring.nodes self.old.cursor.ptr }
-        ensures root { self.new.ring.at ≡ self.old.ring.at }
-        ensures cursor { AtNode self.old.ring.nodes self.old.cursor.ptr (λ _ _ ys. self.new.cursor.ptr ≡ first_place ys self.old.ring.at) }
-        ensures key { AtNode self.old.ring.nodes self.old.cursor.ptr (λ _ n _. result.0 ≡ key_of n.entry) }
-        ensures former { AtNode self.old.ring.nodes self.old.cursor.ptr (λ _ n _. result.1 ≡ n.entry.held) }
-        ensures nodes { AtNode self.old.ring.nodes self.old.cursor.ptr (λ xs n ys. self.new.ring.nodes ≡ xs ++ placed n.at (record n.entry { held = Held.Before value }) ∷ ys) }
+    pub(super) fn advance<L: Ledger>(&mut self, value: A, steps: &mut Steps<L>) -> (Key, B)
+        requires { IsAfterAt self.old.ring.nodes self.old.cursor.ptr }
+        ensures advanced { Advances self.old value result self.new }
         ensures visits { steps.new.visits ≡ steps.old.visits + 1 }
         ensures looks { steps.new.looks ≡ steps.old.looks }
     {
@@ -236,6 +292,6 @@ impl<A, B> Entries<A, B> {
         };
         let told = self.ring.replace(&at, entry);
         self.cursor = next;
-        (key, told.into_held())
+        (key, told.into_after())
     }
 }

@@ -1,4 +1,4 @@
-use Rattle.std.proofs.Common.{Some, set, ◌≡◌, ◌+◌, arith, refl, ap, ◌∙◌}
+use Rattle.std.proofs.Common.{Some, sym, set, ◌≡◌, ◌+◌, arith, refl, ap, ◌∙◌}
 use Rattle.std.proofs.lemmas.List.{length-set}
 use denote.RawPtr.{Ptr}
 use Rattle.event_queue.specs.declared.node.entries.Held.TheVariants.{After}
@@ -10,32 +10,33 @@ use Rattle.event_queue.proofs.node.Chain.push_spare.Goals as goal
 pub append-slot-requires-clause-alone : goal.append-slot-requires-clause-alone
 append-slot-requires-clause-alone g c =
     let i = c.self.inside in
-    let spares = c.in-Some-take_spare.ensures.spares in
-    (spare_is i.entries i.table.slots.items i.table.spares.items c.take_spare.new.self.spares.items c.in-Some-take_spare.node i.before_len i.after_len c.self.invariant spares).0
+    let spares = rw c.unwrap-node.ensures at c.take_spare.ensures.spares in
+    (spare_is i.entries i.table.slots.items i.table.spares.items c.take_spare.new.self.spares.items c.unwrap-node.result i.before_len i.after_len c.self.invariant spares).0
 
 pub append-slot-requires-clause-spare : goal.append-slot-requires-clause-spare
 append-slot-requires-clause-spare g c =
     let i = c.self.inside in
-    let spares = c.in-Some-take_spare.ensures.spares in
-    (spare_is i.entries i.table.slots.items i.table.spares.items c.take_spare.new.self.spares.items c.in-Some-take_spare.node i.before_len i.after_len c.self.invariant spares).1
+    let spares = rw c.unwrap-node.ensures at c.take_spare.ensures.spares in
+    (spare_is i.entries i.table.slots.items i.table.spares.items c.take_spare.new.self.spares.items c.unwrap-node.result i.before_len i.after_len c.self.invariant spares).1
 
 pub fill-requires : goal.fill-requires
 fill-requires g c =
     let i = c.self.inside in
-    let spares = c.in-Some-take_spare.ensures.spares in
+    let spares = rw c.unwrap-node.ensures at c.take_spare.ensures.spares in
     rw (c.append-slot.ensures.slot, c.take_spare.ensures.slots)
-    (spare_slot_within i.entries i.table.slots.items i.table.spares.items c.take_spare.new.self.spares.items c.in-Some-take_spare.node i.before_len i.after_len c.self.invariant spares)
+    (spare_slot_within i.entries i.table.slots.items i.table.spares.items c.take_spare.new.self.spares.items c.unwrap-node.result i.before_len i.after_len c.self.invariant spares)
 
 pub invariant_of-self : goal.invariant_of-self
 invariant_of-self g c =
     let i = c.self.inside in
-    let sound = rw c.in-Some.is at c.self.invariant in
-    let node = c.in-Some-take_spare.node in
-    let spares = c.in-Some-take_spare.ensures.spares in
+    let is = sym (rw c.unwrap-entries.ensures at c.as_mut.ensures.value) in
+    let sound = rw is at c.self.invariant in
+    let node = c.unwrap-node.result in
+    let spares = rw c.unwrap-node.ensures at c.take_spare.ensures.spares in
     let there = rw (c.take_spare.ensures.slots, c.append-slot.ensures.slot) at c.fill.ensures.slots in
     let slots_are : c.fill.new.self.slots.items ≡ set i.table.slots.items node.entry.slot (Some (c.args.serial, record { ptr = node.at })) =
     there ∙ ap (λ (p : Ptr). set i.table.slots.items node.entry.slot (Some (c.args.serial, record { ptr = p }))) c.append-slot.ensures.place in
-    let later = IsSound-pushed c.in-Some.entries i.table.slots.items i.table.spares.items i.before_len i.after_len sound c.append-slot.new.self
+    let later = IsSound-pushed c.unwrap-entries.result.now i.table.slots.items i.table.spares.items i.before_len i.after_len sound c.append-slot.new.self
     (placed node.at (record {
       slot = node.entry.slot;
       serial = c.args.serial;
@@ -46,45 +47,48 @@ invariant_of-self g c =
 pub returns-clause-before : goal.returns-clause-before
 returns-clause-before g c =
     let i = c.self.inside in
-    let sound = rw c.in-Some.is at c.self.invariant in
-    let node = c.in-Some-take_spare.node in
-    rw (← c.self.view_is, c.in-Some.is)
-    (before_pushed c.in-Some.entries i.table.slots.items i.table.spares.items i.before_len i.after_len sound c.append-slot.new.self
+    let is = sym (rw c.unwrap-entries.ensures at c.as_mut.ensures.value) in
+    let sound = rw is at c.self.invariant in
+    let node = c.unwrap-node.result in
+    rw (← c.self.view_is, is)
+    (before_pushed c.unwrap-entries.result.now i.table.slots.items i.table.spares.items i.before_len i.after_len sound c.append-slot.new.self
     (placed node.at (record { slot = node.entry.slot; serial = c.args.serial; held = After c.args.value })) c.args.value c.append-slot.ensures.nodes refl)
 
 pub returns-clause-after : goal.returns-clause-after
 returns-clause-after g c =
     let i = c.self.inside in
-    let sound = rw c.in-Some.is at c.self.invariant in
-    let node = c.in-Some-take_spare.node in
-    rw (← c.self.view_is, c.in-Some.is, c.append-slot.ensures.slot)
-    (after_pushed c.in-Some.entries i.table.slots.items i.table.spares.items i.before_len i.after_len sound c.append-slot.new.self
+    let is = sym (rw c.unwrap-entries.ensures at c.as_mut.ensures.value) in
+    let sound = rw is at c.self.invariant in
+    let node = c.unwrap-node.result in
+    rw (← c.self.view_is, is, c.append-slot.ensures.slot)
+    (after_pushed c.unwrap-entries.result.now i.table.slots.items i.table.spares.items i.before_len i.after_len sound c.append-slot.new.self
     (placed node.at (record { slot = node.entry.slot; serial = c.args.serial; held = After c.args.value })) c.args.value c.append-slot.ensures.nodes refl)
 
 pub returns-clause-slot_before : goal.returns-clause-slot_before
 returns-clause-slot_before g c =
     let i = c.self.inside in
-    let spares = c.in-Some-take_spare.ensures.spares in
+    let spares = rw c.unwrap-node.ensures at c.take_spare.ensures.spares in
     rw (← c.self.view_is, c.append-slot.ensures.slot)
-    (spare_is_free i.entries i.table.slots.items i.table.spares.items c.take_spare.new.self.spares.items c.in-Some-take_spare.node i.before_len i.after_len c.self.invariant spares value_before)
+    (spare_is_free i.entries i.table.slots.items i.table.spares.items c.take_spare.new.self.spares.items c.unwrap-node.result i.before_len i.after_len c.self.invariant spares value_before)
 
 pub returns-clause-slot_after : goal.returns-clause-slot_after
 returns-clause-slot_after g c =
     let i = c.self.inside in
-    let spares = c.in-Some-take_spare.ensures.spares in
+    let spares = rw c.unwrap-node.ensures at c.take_spare.ensures.spares in
     rw (← c.self.view_is, c.append-slot.ensures.slot)
-    (spare_is_free i.entries i.table.slots.items i.table.spares.items c.take_spare.new.self.spares.items c.in-Some-take_spare.node i.before_len i.after_len c.self.invariant spares value_after)
+    (spare_is_free i.entries i.table.slots.items i.table.spares.items c.take_spare.new.self.spares.items c.unwrap-node.result i.before_len i.after_len c.self.invariant spares value_after)
 
 pub returns-clause-slots_fit : goal.returns-clause-slots_fit
 returns-clause-slots_fit g c =
     let i = c.self.inside in
-    let sound = rw c.in-Some.is at c.self.invariant in
-    let node = c.in-Some-take_spare.node in
-    let spares = c.in-Some-take_spare.ensures.spares in
+    let is = sym (rw c.unwrap-entries.ensures at c.as_mut.ensures.value) in
+    let sound = rw is at c.self.invariant in
+    let node = c.unwrap-node.result in
+    let spares = rw c.unwrap-node.ensures at c.take_spare.ensures.spares in
     let there = rw (c.take_spare.ensures.slots, c.append-slot.ensures.slot) at c.fill.ensures.slots in
     let slots_are : c.fill.new.self.slots.items ≡ set i.table.slots.items node.entry.slot (Some (c.args.serial, record { ptr = node.at })) =
     there ∙ ap (λ (p : Ptr). set i.table.slots.items node.entry.slot (Some (c.args.serial, record { ptr = p }))) c.append-slot.ensures.place in
-    let later = IsSound-pushed c.in-Some.entries i.table.slots.items i.table.spares.items i.before_len i.after_len sound c.append-slot.new.self
+    let later = IsSound-pushed c.unwrap-entries.result.now i.table.slots.items i.table.spares.items i.before_len i.after_len sound c.append-slot.new.self
     (placed node.at (record {
       slot = node.entry.slot;
       serial = c.args.serial;
