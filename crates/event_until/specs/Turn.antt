@@ -9,6 +9,11 @@ abbrev pub IfListens : {T L : Type 0} → Turn T L → (L → Type 0) → Type 0
 IfListens (Succeeded output) P = ⊤
 IfListens (Listens listener) P = P listener
 
+-- one attempt succeeded, or failed and led to a listener
+abbrev pub Attempted : {S T L : Type 0} → (S → S → Type 0) → (S → T → S → Type 0) → S → Turn T L → S → Type 0
+Attempted fails succeeds before (Succeeded output) after = succeeds before output after
+Attempted fails succeeds before (Listens listener) after = fails before after
+
 module _ {S T L E : Type 0} (fails : S → S → Type 0) (succeeds : S → T → S → Type 0) where
   -- an attempt succeeded after others that failed; or all failed, two at least where they led to a listener, and one at
   -- least where they led to an error

@@ -33,8 +33,16 @@ pub(super) fn attempt_within<A: Attempt, R: Wait + Clock + Clone>(
             Turn::Listens(listener) => listener,
         };
         if !limit.is_told_before(listener)? {
-            return Ok(attempt.attempt());
+            return Ok(attempt_at_limit(attempt));
         }
     }
     unreachable!()
+}
+
+// The last attempt. It is made once no listener is left: what came before that may have told nobody.
+fn attempt_at_limit<A: Attempt>(attempt: &mut A) -> Option<A::Output>
+    ensures succeeded { IfSome result (λ output. A.succeeds attempt.old output attempt.new) }
+    ensures failed { IfNone result (A.fails attempt.old attempt.new) }
+{
+    attempt.attempt()
 }

@@ -1,7 +1,7 @@
 //! Two attempts, and between them a listener.
-ghost use Rattle.std.specs.Prelude.{◌≡◌, IfOk, IfSome};
+ghost use Rattle.std.specs.Prelude.{◌≡◌, IfOk, IfSome, OnErr};
 ghost use Rattle.futures.specs.Task.{Covers, Keeps};
-ghost use Rattle.event_until.specs.Turn.{Turns, IfListens};
+ghost use Rattle.event_until.specs.Turn.{Turns, Attempted, IfListens};
 
 use crate::attempt::Attempt;
 use crate::error::UntilError;
@@ -19,7 +19,7 @@ pub(crate) enum Turn<T, L> {
     Listens(L),
 }
 
-/// Attempts, listens, and attempts again: what came before the listener was in the queue told nobody.
+/// Attempts, listens, and attempts again.
 pub(super) fn attempt_twice<'a, A, R>(
     attempt: &mut A,
     rt: &R,
@@ -35,6 +35,23 @@ where
     if let Some(output) = attempt.attempt() {
         return Ok(Turn::Succeeded(output));
     }
+    listen_and_attempt(attempt, rt, alloc, event)
+}
+
+// Listens, and attempts once the listener is in the queue: what came before that told nobody.
+fn listen_and_attempt<'a, A, R>(
+    attempt: &mut A,
+    rt: &R,
+    alloc: Global,
+    event: &'a Event<()>,
+) -> Result<Turn<A::Output, StackListener<'a, (), R>>, ListenError>
+where
+    A: Attempt,
+    R: Wait + Clock + Clone,
+    ensures attempted { IfOk result (λ turn. Attempted A.fails A.succeeds attempt.old turn attempt.new) }
+    ensures refused { OnErr result (attempt.new ≡ attempt.old) }
+    ensures event { IfOk result (λ turn. IfListens turn (λ listener. listener.event_number ≡ event.now)) }
+{
     let slot = StackSlot::new(rt, alloc, event)?;
     let listener = slot.listen(rt)?;
     match attempt.attempt() {

@@ -20,12 +20,12 @@ returns-in_err-is_told_before-clause-failed g c =
 pub returns-then-not-branch-clause-succeeded : goal.returns-then-not-branch-clause-succeeded
 returns-then-not-branch-clause-succeeded g c =
     let failed = rw c.in-Listens.is at c.in_ok-output.ensures.attempts in
-    SucceedsAfter-last _ _ _ _ _ _ (SomeFail-join _ _ _ _ c.loop.invariant (FailsAtLeast-some _ 2 _ _ failed)) c.attempt.ensures.succeeded
+    SucceedsAfter-last _ _ _ _ _ _ (SomeFail-join _ _ _ _ c.loop.invariant (FailsAtLeast-some _ 2 _ _ failed)) c.attempt_at_limit.ensures.succeeded
 
 pub returns-then-not-branch-clause-timed_out : goal.returns-then-not-branch-clause-timed_out
 returns-then-not-branch-clause-timed_out g c =
     let failed = rw c.in-Listens.is at c.in_ok-output.ensures.attempts in
-    FailsAtLeast-last _ _ _ _ _ (FailsAtLeast-after _ 2 _ _ _ c.loop.invariant failed) c.attempt.ensures.failed
+    FailsAtLeast-last _ _ _ _ _ (FailsAtLeast-after _ 2 _ _ _ c.loop.invariant failed) c.attempt_at_limit.ensures.failed
 
 pub loop-preserved : goal.loop-preserved
 loop-preserved g c =

@@ -1,0 +1,25 @@
+//! Tests of `event_until`, and of the locks of `example_until` that stand on it.
+//!
+//! | Module | What it tests |
+//! |---|---|
+//! | `attempts` | how many attempts are made, and which of them while a listener is in the queue; the last one at a deadline; a listener that is told and not needed passes its notification on |
+//! | `polls` | polls by hand: a poll that is not due attempts nothing and wakes nobody; told and dropped; told and too late |
+//! | `locks` | the locks, one call after another: permits, a lock, readers that wait for writers, a barrier, a cell and a gate |
+//! | `refusals` | texts; a refused listening, a refused parker, and futures that need no memory |
+//! | `threads` | 10 threads that make 1,000 calls each, half of them as futures; how often their tasks are polled |
+//!
+//! `support` has what they share.
+#![tactic(auto)]
+
+#[cfg(test)]
+mod attempts;
+#[cfg(test)]
+mod locks;
+#[cfg(test)]
+mod polls;
+#[cfg(test)]
+mod refusals;
+#[cfg(test)]
+mod support;
+#[cfg(test)]
+mod threads;

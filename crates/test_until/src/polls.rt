@@ -1,0 +1,101 @@
+//! Polls by hand.
+use crate::support::{Notes, check, check_woken, new_id, new_task, until_nth};
+use event_listener::Event;
+use example_until::Semaphore;
+use futures::task::Poll;
+
+#[test]
+fn a_poll_that_is_not_due_attempts_nothing(rt: HostRuntime) {
+    let event = Event::new(new_id(&rt));
+    let notes = Notes::new();
+    let task = new_task(&rt);
+    let mut until = until_nth(&rt, &rt, &event, &notes, 5);
+    check(&rt, "the first", task.poll(&mut until), Poll::Pending);
+    notes.check(&rt, 2, [0, 1, 9]);
+    check(&rt, "the second", task.poll(&mut until), Poll::Pending);
+    check(&rt, "the attempts", notes.made.get(), 2);
+    check_woken(&rt, &task, false);
+    check(&rt, "listeners", event.total_listeners(&rt), 1);
+    drop(until);
+    check(&rt, "listeners left", event.total_listeners(&rt), 0);
+}
+
+#[test]
+fn who_is_told_and_fails_listens_anew(rt: HostRuntime) {
+    let event = Event::new(new_id(&rt));
+    let notes = Notes::new();
+    let task = new_task(&rt);
+    let mut until = until_nth(&rt, &rt, &event, &notes, 5);
+    check(&rt, "the first", task.poll(&mut until), Poll::Pending);
+    check(&rt, "told", event.notify_relaxed(&rt, 1), 1);
+    check_woken(&rt, &task, true);
+    check(&rt, "the second", task.poll(&mut until), Poll::Pending);
+    check(&rt, "the attempts", notes.made.get(), 4);
+    check_woken(&rt, &task, false);
+    check(&rt, "told again", event.notify_relaxed(&rt, 1), 1);
+    check(&rt, "the third", task.poll(&mut until), Poll::Ready(Ok(5)));
+    check(&rt, "listeners left", event.total_listeners(&rt), 0);
+}
+
+#[test]
+fn a_wait_drops_what_a_poll_left(rt: HostRuntime) {
+    let event = Event::new(new_id(&rt));
+    let notes = Notes::new();
+    let task = new_task(&rt);
+    let mut until = until_nth(&rt, &rt, &event, &notes, 4);
+    check(&rt, "the poll", task.poll(&mut until), Poll::Pending);
+    check(&rt, "the wait", until.wait(), Ok(4));
+    check(&rt, "listeners left", event.total_listeners(&rt), 0);
+}
+
+#[test]
+fn who_is_told_and_dropped_passes_on(rt: HostRuntime) {
+    let semaphore = Semaphore::new(new_id(&rt), 1);
+    let held = semaphore.try_acquire(&rt).expect(&rt, "a permit");
+    let first = new_task(&rt);
+    let second = new_task(&rt);
+    let mut one = semaphore.acquire(&rt, rt.alloc());
+    let mut other = semaphore.acquire(&rt, rt.alloc());
+    check(&rt, "pending", first.poll(&mut one).is_pending(), true);
+    check(&rt, "pending", second.poll(&mut other).is_pending(), true);
+    drop(held);
+    check_woken(&rt, &first, true);
+    check_woken(&rt, &second, false);
+    drop(one);
+    check_woken(&rt, &second, true);
+    check(&rt, "ready", second.poll(&mut other).is_ready(), true);
+}
+
+#[test]
+fn who_is_not_told_and_dropped_wakes_nobody(rt: HostRuntime) {
+    let semaphore = Semaphore::new(new_id(&rt), 0);
+    let first = new_task(&rt);
+    let second = new_task(&rt);
+    let mut one = semaphore.acquire(&rt, rt.alloc());
+    let mut other = semaphore.acquire(&rt, rt.alloc());
+    check(&rt, "pending", first.poll(&mut one).is_pending(), true);
+    check(&rt, "pending", second.poll(&mut other).is_pending(), true);
+    drop(one);
+    check_woken(&rt, &second, false);
+}
+
+// Two permits that are freed one after the other wake two, though the first has not gone yet.
+#[test]
+fn each_freed_permit_tells_one_more(rt: HostRuntime) {
+    let semaphore = Semaphore::new(new_id(&rt), 2);
+    let held = (
+        semaphore.try_acquire(&rt).expect(&rt, "a permit"),
+        semaphore.try_acquire(&rt).expect(&rt, "a second permit"),
+    );
+    let first = new_task(&rt);
+    let second = new_task(&rt);
+    let mut one = semaphore.acquire(&rt, rt.alloc());
+    let mut other = semaphore.acquire(&rt, rt.alloc());
+    check(&rt, "pending", first.poll(&mut one).is_pending(), true);
+    check(&rt, "pending", second.poll(&mut other).is_pending(), true);
+    drop(held);
+    check_woken(&rt, &first, true);
+    check_woken(&rt, &second, true);
+    check(&rt, "ready", second.poll(&mut other).is_ready(), true);
+    check(&rt, "ready", first.poll(&mut one).is_ready(), true);
+}
