@@ -39,7 +39,7 @@ impl Watched for FlagWorld {
             let place = self.place(actor);
             return Some(Spot {
                 place: name(place),
-                permits: None,
+                number: None,
                 standing: how_it_stands(self.is_told(actor), is_listening(place)),
                 has_wake: self.has_wake(actor),
             });
@@ -50,7 +50,7 @@ impl Watched for FlagWorld {
         }
         Some(Spot {
             place: setter_name(self.setter(number)),
-            permits: None,
+            number: None,
             standing: Standing::Absent,
             has_wake: false,
         })

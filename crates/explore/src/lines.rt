@@ -41,6 +41,7 @@ fn run<W: Write>(alloc: Global, world: World, steps: &[Step], output: &mut W) ->
         World::Mutex(size) => run_in(alloc, size, steps, output),
         World::Flag(size) => run_in(alloc, size, steps, output),
         World::Semaphore(size) => run_in(alloc, size, steps, output),
+        World::Channel(size) => run_in(alloc, size, steps, output),
     }
 }
 
@@ -65,6 +66,7 @@ fn search<P: Print, W: Write>(
         World::Mutex(size) => search_in(progress, alloc, size, depth, output),
         World::Flag(size) => search_in(progress, alloc, size, depth, output),
         World::Semaphore(size) => search_in(progress, alloc, size, depth, output),
+        World::Channel(size) => search_in(progress, alloc, size, depth, output),
     }
 }
 

@@ -2,6 +2,7 @@
 #![tactic(auto)]
 
 mod all;
+mod channel;
 mod flag;
 mod lines;
 mod mutex;

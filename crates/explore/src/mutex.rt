@@ -41,7 +41,7 @@ impl Watched for MutexWorld {
         let place = self.place(actor);
         Some(Spot {
             place: name(place),
-            permits: None,
+            number: None,
             standing: how_it_stands(self.is_told(actor), is_listening(place)),
             has_wake: self.has_wake(actor),
         })

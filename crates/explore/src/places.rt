@@ -1,4 +1,4 @@
-//! The places of a client of a lock or of a semaphore.
+//! The places of a client of a lock, of a semaphore or of a channel.
 use event_worlds::Place;
 
 /// How a table names the place.

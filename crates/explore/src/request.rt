@@ -1,4 +1,5 @@
 //! What a line of the input asks for.
+use crate::channel::ChannelSize;
 use crate::flag::FlagSize;
 use crate::mutex::MutexSize;
 use crate::semaphore::SemaphoreSize;
@@ -17,6 +18,8 @@ pub enum World {
     Flag(FlagSize),
     /// `semaphore CLIENTS PERMITS`
     Semaphore(SemaphoreSize),
+    /// `channel SENDERS RECEIVERS CAPACITY`
+    Channel(ChannelSize),
 }
 
 impl World {
@@ -25,6 +28,7 @@ impl World {
             World::Mutex(size) => size.acts(),
             World::Flag(size) => size.acts(),
             World::Semaphore(size) => size.acts(),
+            World::Channel(size) => size.acts(),
         }
     }
 }
@@ -143,6 +147,11 @@ impl<'a> Words<'a> {
             "semaphore" => Ok(World::Semaphore(SemaphoreSize {
                 clients: self.value()?,
                 permits: self.value()?,
+            })),
+            "channel" => Ok(World::Channel(ChannelSize {
+                senders: self.value()?,
+                receivers: self.value()?,
+                capacity: self.value()?,
             })),
             text => Err(self.wrong(text)),
         }

@@ -47,7 +47,7 @@ impl Watched for SemaphoreWorld {
         let held = self.held(actor);
         Some(Spot {
             place: name(place),
-            permits: Some(if held > 0 { held } else { self.owed(actor) }),
+            number: Some(if held > 0 { held } else { self.owed(actor) }),
             standing: how_it_stands(self.is_told(actor), is_listening(place)),
             has_wake: self.has_wake(actor),
         })

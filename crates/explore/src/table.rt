@@ -37,11 +37,12 @@ fn write_header<V: Watched, W: Write>(world: &V, output: &mut W) -> Result<()> {
         Shared::Lock { .. } => "lock",
         Shared::Flag { .. } => "flag",
         Shared::Permits { .. } => "free",
+        Shared::Messages { .. } => "queued",
     };
     write!(output, "| step | {:<24} | {shared:<7} |", "act")?;
     for actor in 0..world.actors() {
         match world.shared() {
-            Shared::Permits { .. } => write!(output, " {actor:<27} |")?,
+            Shared::Permits { .. } | Shared::Messages { .. } => write!(output, " {actor:<27} |")?,
             _ => write!(output, " {actor:<23} |")?,
         }
     }
@@ -63,6 +64,7 @@ fn write_state<V: Watched, W: Write>(world: &V, output: &mut W) -> Result<()> {
         Shared::Flag { is_set: false } => write!(output, " {:<7} |", "not set")?,
         Shared::Flag { is_set: true } => write!(output, " {:<7} |", "set")?,
         Shared::Permits { free } => write!(output, " {free:<7} |")?,
+        Shared::Messages { waiting } => write!(output, " {waiting:<7} |")?,
     }
     for actor in 0..world.actors() {
         if let Some(spot) = world.spot(actor) {
@@ -81,10 +83,10 @@ fn write_spot<W: Write>(spot: Spot, output: &mut W) -> Result<()> {
     };
     let wake = if spot.has_wake { "wake" } else { "" };
     write!(output, " {:<12}", spot.place)?;
-    match spot.permits {
+    match spot.number {
         None => {}
         Some(0) => write!(output, " {:>3}", "")?,
-        Some(permits) => write!(output, " {permits:>3}")?,
+        Some(number) => write!(output, " {number:>3}")?,
     }
     write!(output, " {standing:<5} {wake:<4} |")?;
     Ok(())

@@ -51,8 +51,8 @@ pub struct Step {
 pub struct Spot {
     /// The name of its place.
     pub place: &'static str,
-    /// How many permits it holds, or is still to notify of, in a world that has permits.
-    pub permits: Option<usize>,
+    /// In a world that has permits, how many it holds, or is still to notify of; in a channel its message. 0 is not shown.
+    pub number: Option<usize>,
     /// How it stands in line.
     pub standing: Standing,
     /// Whether it has its wake-up.
@@ -76,6 +76,8 @@ pub enum Shared {
     Flag { is_set: bool },
     /// The permits, and how many are free.
     Permits { free: usize },
+    /// The messages of a channel, and how many wait in it.
+    Messages { waiting: usize },
 }
 
 /// A world that is run, and looked at by its public questions alone.

@@ -19,6 +19,8 @@ fn a_wrong_word_has_its_number(rt: HostRuntime) {
     is_wrong(&rt, "mutex 2: 0 Go 2, 1 Gob 3", 7, "Gob");
     is_wrong(&rt, "semaphore 3 2: 0 Go 2, 0 More x", 9, "x");
     is_wrong(&rt, "all semaphore 2 x 3", 4, "x");
+    is_wrong(&rt, "channel 1 1 x: 0 Go", 4, "x");
+    is_wrong(&rt, "channel 1 1: 0 Go", 4, "");
     is_wrong(&rt, "all mutex 2 3 4", 5, "4");
 }
 
@@ -27,6 +29,7 @@ fn an_act_of_another_world_is_wrong(rt: HostRuntime) {
     is_wrong(&rt, "mutex 1: 0 More", 4, "More");
     is_wrong(&rt, "flag 1 1: 0 More", 5, "More");
     is_wrong(&rt, "semaphore 1 1: 0 Poll", 5, "Poll");
+    is_wrong(&rt, "channel 1 1 1: 0 More", 6, "More");
 }
 
 #[test]

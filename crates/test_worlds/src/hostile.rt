@@ -1,6 +1,8 @@
 //! Worlds of too many, and acts of those that are not there.
 use crate::support::{ACTS, SEM_ACTS, check};
-use event_worlds::{Act, FlagWorld, MutexWorld, Place, SemAct, SemStep, SemaphoreWorld, Step};
+use event_worlds::{
+    Act, ChannelWorld, FlagWorld, MutexWorld, Place, SemAct, SemStep, SemaphoreWorld, Step,
+};
 use std::alloc::AllocGlobal;
 use std::process::Abort;
 
@@ -17,6 +19,17 @@ fn no_flag_world<R: Abort + AllocGlobal>(rt: &R, clients: usize, setters: usize)
 fn no_semaphore_world<R: Abort + AllocGlobal>(rt: &R, clients: usize, permits: usize) {
     let world = SemaphoreWorld::new(rt.alloc(), clients, permits);
     check(rt, ("semaphore", clients, permits), world.is_err(), true);
+}
+
+fn no_channel_world<R: Abort + AllocGlobal>(
+    rt: &R,
+    senders: usize,
+    receivers: usize,
+    capacity: usize,
+) {
+    let world = ChannelWorld::new(rt.alloc(), senders, receivers, capacity);
+    let asked = ("channel", senders, receivers, capacity);
+    check(rt, asked, world.is_err(), true);
 }
 
 // The world of worked row 52, and others.
@@ -38,6 +51,10 @@ fn worlds_of_too_many_are_refused(rt: HostRuntime) {
     no_semaphore_world(&rt, usize::MAX, 1);
     no_semaphore_world(&rt, usize::MAX, usize::MAX);
     no_semaphore_world(&rt, usize::MAX / 2 + 1, 0);
+    no_channel_world(&rt, usize::MAX, 1, 1);
+    no_channel_world(&rt, 1, usize::MAX, 1);
+    no_channel_world(&rt, 1, 1, usize::MAX);
+    no_channel_world(&rt, usize::MAX, usize::MAX, usize::MAX);
 }
 
 // No act of a client that is not there is a step of either world.

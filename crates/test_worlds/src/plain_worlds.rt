@@ -74,8 +74,8 @@ impl PlainMutex {
     }
 }
 
-// What a client does in its line alone.
-fn goes<R: Abort>(rt: &R, line: &mut PlainLine, place: Place, client: usize) -> Option<Place> {
+/// What a client does in its line alone.
+pub fn goes<R: Abort>(rt: &R, line: &mut PlainLine, place: Place, client: usize) -> Option<Place> {
     match place {
         Place::Idle => Some(FIRST),
         Place::ToListen => Some(if line.join(rt, client) {
@@ -100,18 +100,26 @@ fn goes<R: Abort>(rt: &R, line: &mut PlainLine, place: Place, client: usize) -> 
     }
 }
 
-fn wakes(line: &mut PlainLine, client: usize) -> Place {
+/// A parked client goes on.
+pub fn wakes(line: &mut PlainLine, client: usize) -> Place {
     line.set_wake(client, false);
     Place::ToRegister
 }
 
-fn times_out(line: &mut PlainLine, client: usize) -> Place {
+/// The deadline of a parked client passes.
+pub fn times_out(line: &mut PlainLine, client: usize) -> Place {
     let was_told = line.is_told(client);
     line.leave(client);
     if was_told { WOKEN } else { Place::Idle }
 }
 
-fn cancels<R: Abort>(rt: &R, line: &mut PlainLine, place: Place, client: usize) -> Option<Place> {
+/// A client gives up.
+pub fn cancels<R: Abort>(
+    rt: &R,
+    line: &mut PlainLine,
+    place: Place,
+    client: usize,
+) -> Option<Place> {
     match place {
         Place::Parked | Place::ToRegister => {
             line.drop_out(rt, client);

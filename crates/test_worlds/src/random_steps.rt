@@ -1,8 +1,15 @@
 //! Random steps of each world, compared with a plain program after each of them.
+use crate::plain_channel::{PlainChannel, PlainSide};
 use crate::plain_line::PlainLine;
 use crate::plain_worlds::{PlainFlag, PlainMutex, PlainSemaphore};
-use crate::support::{ClientState, Own, check, flag_state, mutex_state, semaphore_state};
-use event_worlds::{Act, FlagPlace, FlagWorld, MutexWorld, Place, SemAct, SemaphoreWorld};
+use crate::support::{
+    Client, ClientState, Own, check, flag_state, mutex_state, parts, receiver_state,
+    semaphore_state, sender_state,
+};
+use event_worlds::{
+    Act, ChannelAct, ChannelActor, ChannelWorld, FlagPlace, FlagWorld, MutexWorld, Place, SemAct,
+    SemaphoreWorld,
+};
 use std::alloc::AllocGlobal;
 use std::process::Abort;
 
@@ -43,6 +50,27 @@ impl Random {
             1 => SemAct::TimeOut,
             2 => SemAct::Cancel,
             _ => SemAct::Go,
+        }
+    }
+
+    // A sender that goes three times of five, and else begins to send this message or gives up.
+    fn channel_act(&mut self, message: usize) -> ChannelAct {
+        match self.below(15) {
+            0 => ChannelAct::Poll,
+            1 => ChannelAct::TimeOut,
+            2 => ChannelAct::Cancel,
+            3..6 => ChannelAct::Send(message),
+            _ => ChannelAct::Go,
+        }
+    }
+
+    // A sender or a receiver, and now and then who closes. One number in some is of nobody.
+    fn channel_actor(&mut self, clients: usize) -> ChannelActor {
+        let client = self.below(clients.saturating_add(1));
+        match self.below(201) {
+            0 => ChannelActor::Closer,
+            1..101 => ChannelActor::Sender(client),
+            _ => ChannelActor::Receiver(client),
         }
     }
 }
@@ -113,6 +141,72 @@ fn random_steps_of_a_semaphore(rt: HostRuntime) {
     for clients in 1..6 {
         for permits in 0..5 {
             semaphore_steps(&rt, clients, permits, 1_000);
+        }
+    }
+}
+
+fn plain_channel_state(side: &PlainSide, client: usize) -> Option<ClientState<Client>> {
+    let own = side.clients.get(client).copied()?;
+    plain_state(Some(parts(own)), &side.line, client)
+}
+
+// The channel holds the same messages, in order, and is as far closed.
+fn same_messages<R: Abort>(rt: &R, world: &ChannelWorld, plain: &PlainChannel) {
+    check(rt, "closer", world.closer(), plain.closer);
+    check(rt, "messages", world.messages(), plain.messages.len());
+    for index in 0..plain.messages.len().saturating_add(1) {
+        let message = plain.messages.get(index).copied();
+        check(rt, index, world.message(index), message);
+    }
+}
+
+// What was received and what is left are what was sent, in that order.
+fn all_in_order<R: Abort>(rt: &R, plain: &PlainChannel) {
+    for index in 0..plain.sent.len().saturating_add(1) {
+        let left = index.saturating_sub(plain.received.len());
+        let message = match plain.received.get(index) {
+            Some(message) => Some(*message),
+            None => plain.messages.get(left).copied(),
+        };
+        check(rt, index, message, plain.sent.get(index).copied());
+    }
+}
+
+// Random steps of a new channel, whose messages are the numbers of the steps.
+fn channel_steps<R: Abort + AllocGlobal>(
+    rt: &R,
+    random: &mut Random,
+    clients: usize,
+    capacity: usize,
+    steps: usize,
+) {
+    let mut world = ChannelWorld::new(rt.alloc(), clients, clients, capacity).expect(rt, "a world");
+    let mut plain = PlainChannel::new(rt, clients, clients, capacity);
+    for number in 0..steps {
+        let actor = random.channel_actor(clients);
+        let act = random.channel_act(number);
+        let asked = (clients, capacity, number, (actor, act));
+        let taken = plain.step(rt, actor, act);
+        check(rt, asked, world.step(actor, act), taken);
+        same_messages(rt, &world, &plain);
+        for client in 0..clients {
+            let state = plain_channel_state(&plain.senders, client);
+            check(rt, asked, sender_state(&world, client), state);
+            let state = plain_channel_state(&plain.receivers, client);
+            check(rt, asked, receiver_state(&world, client), state);
+        }
+    }
+    all_in_order(rt, &plain);
+}
+
+#[test]
+fn random_steps_of_a_channel(rt: HostRuntime) {
+    let mut random = Random::new(5);
+    for clients in 1..6 {
+        for capacity in 0..4 {
+            for _ in 0..5 {
+                channel_steps(&rt, &mut random, clients, capacity, 250);
+            }
         }
     }
 }

@@ -318,7 +318,7 @@ impl ChannelWorld {
         self.buffer.len()
     }
 
-    /// The message of this place in the channel, which is 0 for the oldest, if there are so many.
+    /// The message that so many others are to be received before, or `None` past the last. The oldest is at 0.
     pub fn message(&self, index: usize) -> Option<usize>
         ensures value { result ≡ slice_get self.now.messages index }
     {
