@@ -5,7 +5,7 @@ ghost use Rattle.event_worlds.specs.declared.world.channel.Found.TheVariants.{On
 ghost use Rattle.event_worlds.specs.declared.world.place.Place.TheVariants.{Idle};
 ghost use Rattle.event_worlds.specs.declared.world.place.News.TheVariants.{Got, Busy};
 ghost use Rattle.event_worlds.specs.ClientTable.{place_after};
-ghost use Rattle.event_worlds.specs.Line.{Line, is_told, has_wake};
+ghost use Rattle.event_worlds.specs.Line.{Line, is_told, has_wake, notified};
 ghost use Rattle.event_worlds.specs.Channel.{channel_of, start, is_closed, first_found, passed, looked, moved, paid, next, next_of_sender, next_of_receiver, next_of_closer, after, after_all, taken, sent_by, received_by, sent, received};
 ghost use Rattle.event_worlds.specs.ChannelInvariant.{IsSound, Moves};
 ghost use Rattle.event_worlds.specs.ChannelSafety.{IsSafe, MessagesFit, NotifiesAdditional, InLineAreListening, InOrder};
@@ -50,17 +50,6 @@ impl ChannelClient {
         ensures { result ≡ moved place self }
     {
         ChannelClient { place, ..self }
-    }
-
-    // The client at another place, once it has notified of what it owed.
-    fn paid_at(self, place: Place) -> Self
-        ensures { result ≡ paid place self }
-    {
-        ChannelClient {
-            place,
-            owed: 0,
-            ..self
-        }
     }
 }
 
@@ -489,38 +478,36 @@ fn goes(
     requires may_be_at { MayBeAt own.place client line.old }
     ensures moves { Moves sends own found client Go line.old other.old result line.new other.new }
 {
-    match own.place {
-        Place::Idle => {
-            if sends {
-                None
-            } else {
-                Some(own.at(hears(own.place, News::Begin)))
-            }
-        }
-        Place::First { .. } => Some(looks(own, found)),
-        Place::ToListen => Some(own.at(listens(client, line))),
-        Place::Second => Some(looks(own, found)),
-        Place::Ending => {
-            if own.owed > 0 {
-                other.notify(own.owed);
-                Some(own.paid_at(own.place))
-            } else {
-                Some(own.at(drops_out(own.place, client, line)))
-            }
-        }
-        Place::ToRegister => Some(own.at(registers(client, line))),
-        Place::Parked => {
-            if line.has_wake(client) {
-                Some(own.at(wakes(client, line)))
-            } else {
-                None
-            }
-        }
+    let place = match own.place {
+        Place::Idle if sends => return None,
+        Place::Idle => hears(own.place, News::Begin),
+        Place::First { .. } => return Some(looks(own, found)),
+        Place::ToListen => listens(client, line),
+        Place::Second => return Some(looks(own, found)),
+        Place::Ending if own.owed > 0 => return Some(pays(own, own.place, other)),
+        Place::Ending => drops_out(own.place, client, line),
+        Place::ToRegister => registers(client, line),
+        Place::Parked if line.has_wake(client) => wakes(client, line),
+        Place::Parked => return None,
         Place::Holding => {
-            other.notify(own.owed);
-            Some(own.paid_at(hears(hears(own.place, News::Freed), News::Notified)))
+            let idle = hears(hears(own.place, News::Freed), News::Notified);
+            return Some(pays(own, idle, other));
         }
-        Place::Releasing => None,
+        Place::Releasing => return None,
+    };
+    Some(own.at(place))
+}
+
+// The client notifies the other side of what it owes, and goes to this place.
+fn pays(own: ChannelClient, place: Place, other: &mut ClientLine) -> ChannelClient
+    ensures made { result ≡ paid place own }
+    ensures line { other.new ≡ notified own.owed other.old }
+{
+    other.notify(own.owed);
+    ChannelClient {
+        place,
+        owed: 0,
+        ..own
     }
 }
 
