@@ -3,6 +3,7 @@ pub mod Queue
 pub mod Insert
 pub mod Register
 pub mod Exchange
+pub mod StoredTask
 pub mod Remove
 pub mod Notify
 pub mod Counts

@@ -1,6 +1,6 @@
 //! The two ways in which the stored task of a waiting listener changes.
 ghost use Rattle.std.specs.Prelude.{◌≡◌, Option, Some};
-ghost use Rattle.event_queue.specs.Exchange.{StoresWhat};
+ghost use Rattle.event_queue.specs.StoredTask.{StoresWhat};
 
 use crate::exchange::TaskExchange;
 use crate::node::Change;
