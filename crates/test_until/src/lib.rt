@@ -4,6 +4,7 @@
 //! |---|---|
 //! | `attempts` | how many attempts are made, and which of them while a listener is in the queue; the last one at a deadline; a listener that is told and not needed passes its notification on |
 //! | `polls` | polls by hand: a poll that is not due attempts nothing and wakes nobody; told and dropped; told and too late |
+//! | `deadlines` | who is told at its deadline |
 //! | `locks` | the locks, one call after another: permits, a lock, readers that wait for writers, a barrier, a cell and a gate |
 //! | `refusals` | texts; a refused listening, a refused parker, and futures that need no memory |
 //! | `threads` | 10 threads that make 1,000 calls each, half of them as futures; how often their tasks are polled |
@@ -13,6 +14,8 @@
 
 #[cfg(test)]
 mod attempts;
+#[cfg(test)]
+mod deadlines;
 #[cfg(test)]
 mod locks;
 #[cfg(test)]
