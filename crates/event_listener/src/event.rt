@@ -28,7 +28,7 @@ use std::time::Clock;
 /// A contract sees an event as the number of its identity. No contract can name what stands in its queue, since other
 /// threads may change it at any time.
 #[derive(Drop)]
-pub struct Event<T> {
+pub struct Event<T = ()> {
     id: EventId,
     shared: OnceLock<Arc<Shared<T>>>,
 }

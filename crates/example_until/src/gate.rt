@@ -10,7 +10,7 @@ use std::time::Clock;
 #[derive(Drop)]
 pub struct Gate {
     is_open: AtomicBool,
-    opened: Event<()>,
+    opened: Event,
 }
 
 impl Gate {
