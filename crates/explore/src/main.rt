@@ -11,8 +11,6 @@ mod request;
 mod semaphore;
 mod table;
 mod watched;
-#[cfg(test)]
-mod wrong_words;
 
 use anyhow::Result;
 use std::io::{self, BufReader, BufWriter, Write};
