@@ -1,6 +1,8 @@
 //! The worked rows over worlds.
 #![tactic(auto)]
 
+mod channel;
+mod channel_calls;
 mod flag;
 mod flag_calls;
 mod mutex;
@@ -9,6 +11,7 @@ mod semaphore;
 mod semaphore_calls;
 mod worlds;
 
+pub use channel::ChannelRow;
 pub use flag::FlagRow;
 pub use mutex::MutexRow;
 pub use semaphore::SemaphoreRow;

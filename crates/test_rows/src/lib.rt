@@ -13,7 +13,7 @@
 //!
 //! | Module | What it has |
 //! |---|---|
-//! | `rows` | the tests: each family, by both drivers. Each asserts how often each kind of request was refused at least, 109 times together, and that 475 calls are made without memory. That is counted from the calls of the rows alone, since how many requests a call makes, and of which sizes, follows from the layout of a queue |
+//! | `rows` | the tests: each family, by both drivers. Each asserts how often each kind of request was refused at least, 119 times together, and that 596 calls are made without memory. That is counted from the calls of the rows alone, since how many requests a call makes, and of which sizes, follows from the layout of a queue |
 //! | `ends` | rows 45, 49 and 52: room that is made in advance, and numbers at their ends |
 //! | `faults` | rows that are wrong, each of which a driver has to find: a refused call that leaves something, one that gives another answer in place of the refusal, and one that is to allocate nothing and does |
 //! | `printed` | what the program `vectors` prints of rows that meet a refusal: that row differs and the others do not, the refusal is printed, and the answer is the one for which `vectors` promises status 1; without any memory each row has its line |

@@ -7,7 +7,7 @@ use rows_events::{EventRow, IdentityRow, TagRow, WaitRow};
 use rows_harness::{Request, Row};
 use rows_queue::QueueRow;
 use rows_recorded::RecordedRow;
-use rows_worlds::{FlagRow, MutexRow, SemaphoreRow};
+use rows_worlds::{ChannelRow, FlagRow, MutexRow, SemaphoreRow};
 use std::process::Abort;
 
 // The counts of the first driver, which found nothing wrong.
@@ -88,6 +88,8 @@ fn rows_on_worlds(rt: HostRuntime) {
     at_least(&rt, &counts, Request::World, 3);
     let counts = refused::<SemaphoreRow, _>(&rt);
     at_least(&rt, &counts, Request::World, 3);
+    let counts = refused::<ChannelRow, _>(&rt);
+    at_least(&rt, &counts, Request::World, 10);
 }
 
 // So many calls, or more, allocate nothing.
@@ -110,5 +112,6 @@ fn calls_that_allocate_nothing(rt: HostRuntime) {
     starved::<MutexRow, _>(&rt, 26);
     starved::<FlagRow, _>(&rt, 10);
     starved::<SemaphoreRow, _>(&rt, 30);
+    starved::<ChannelRow, _>(&rt, 121);
     starved::<EndRow, _>(&rt, 12);
 }

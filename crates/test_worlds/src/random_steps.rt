@@ -2,15 +2,13 @@
 use crate::plain_channel::{PlainChannel, PlainSide};
 use crate::plain_line::PlainLine;
 use crate::plain_worlds::{PlainFlag, PlainMutex, PlainSemaphore};
-use crate::support::{
-    Client, ClientState, Own, check, flag_state, mutex_state, parts, receiver_state,
-    semaphore_state, sender_state,
-};
+use crate::support::{ClientState, Own, check, flag_state, mutex_state, semaphore_state};
 use event_worlds::{
-    Act, ChannelAct, ChannelActor, ChannelWorld, FlagPlace, FlagWorld, MutexWorld, Place, SemAct,
-    SemaphoreWorld,
+    Act, ChannelAct, ChannelActor, ChannelClient, ChannelWorld, FlagPlace, FlagWorld, MutexWorld,
+    Place, SemAct, SemaphoreWorld,
 };
 use std::alloc::AllocGlobal;
+use std::fmt::Debug;
 use std::process::Abort;
 
 // Random numbers, which follow from a seed.
@@ -145,9 +143,40 @@ fn random_steps_of_a_semaphore(rt: HostRuntime) {
     }
 }
 
-fn plain_channel_state(side: &PlainSide, client: usize) -> Option<ClientState<Client>> {
-    let own = side.clients.get(client).copied()?;
-    plain_state(Some(parts(own)), &side.line, client)
+fn plain_channel_state(side: &PlainSide, client: usize) -> Option<ClientState<ChannelClient>> {
+    plain_state(side.clients.get(client).copied(), &side.line, client)
+}
+
+// There are as many senders, and each is where the plain program has it.
+fn same_senders<A, R>(rt: &R, asked: A, world: &ChannelWorld, plain: &PlainSide)
+where
+    A: Debug + Copy + Drop,
+    R: Abort,
+{
+    check(rt, asked, world.senders(), plain.clients.len());
+    for client in 0..world.senders() {
+        let is_told = world.is_sender_told(client);
+        let state = (world.sender(client), is_told, world.sender_has_wake(client));
+        check(rt, asked, Some(state), plain_channel_state(plain, client));
+    }
+}
+
+// The same of the receivers.
+fn same_receivers<A, R>(rt: &R, asked: A, world: &ChannelWorld, plain: &PlainSide)
+where
+    A: Debug + Copy + Drop,
+    R: Abort,
+{
+    check(rt, asked, world.receivers(), plain.clients.len());
+    for client in 0..world.receivers() {
+        let is_told = world.is_receiver_told(client);
+        let state = (
+            world.receiver(client),
+            is_told,
+            world.receiver_has_wake(client),
+        );
+        check(rt, asked, Some(state), plain_channel_state(plain, client));
+    }
 }
 
 // The channel holds the same messages, in order, and is as far closed.
@@ -189,12 +218,8 @@ fn channel_steps<R: Abort + AllocGlobal>(
         let taken = plain.step(rt, actor, act);
         check(rt, asked, world.step(actor, act), taken);
         same_messages(rt, &world, &plain);
-        for client in 0..clients {
-            let state = plain_channel_state(&plain.senders, client);
-            check(rt, asked, sender_state(&world, client), state);
-            let state = plain_channel_state(&plain.receivers, client);
-            check(rt, asked, receiver_state(&world, client), state);
-        }
+        same_senders(rt, asked, &world, &plain.senders);
+        same_receivers(rt, asked, &world, &plain.receivers);
     }
     all_in_order(rt, &plain);
 }

@@ -1,8 +1,5 @@
 //! What the tests share. The assertion stands here once, in a generic function, and is proved once.
-use event_worlds::{
-    Act, ChannelAct, ChannelClient, ChannelWorld, FlagPlace, FlagWorld, MutexWorld, Place, SemAct,
-    SemaphoreWorld,
-};
+use event_worlds::{Act, FlagPlace, FlagWorld, MutexWorld, Place, SemAct, SemaphoreWorld};
 use std::fmt::Debug;
 use std::process::Abort;
 
@@ -18,23 +15,11 @@ pub const ACTS: [Act; 4] = [Act::Go, Act::Poll, Act::TimeOut, Act::Cancel];
 /// Every act of a client of a semaphore.
 pub const SEM_ACTS: [SemAct; 4] = [SemAct::Go, SemAct::More, SemAct::TimeOut, SemAct::Cancel];
 
-/// Every act of an actor of a channel, a message to send among them.
-pub const CHANNEL_ACTS: [ChannelAct; 5] = [
-    ChannelAct::Go,
-    ChannelAct::Send(9),
-    ChannelAct::Poll,
-    ChannelAct::TimeOut,
-    ChannelAct::Cancel,
-];
-
 /// Where a client is, whether it is told, and whether it has its wake-up.
 pub type ClientState<P> = (P, bool, bool);
 
 /// Where a client of a semaphore is, how many permits it holds and how many notifications it owes.
 pub type Own = (Place, usize, usize);
-
-/// Where a client of a channel is, how many notifications it owes, and its message.
-pub type Client = (Place, usize, usize);
 
 /// The answer is the expected one. Where it is not, the message has both, and what was asked.
 pub fn check<A, V, R>(rt: &R, asked: A, answer: V, expected: V)
@@ -72,29 +57,4 @@ pub fn flag_state(world: &FlagWorld, client: usize) -> Option<ClientState<FlagPl
     }
     let is_told = world.is_told(client);
     Some((world.place(client), is_told, world.has_wake(client)))
-}
-
-/// The parts of a client of a channel.
-pub fn parts(own: ChannelClient) -> Client {
-    (own.place, own.owed, own.message)
-}
-
-/// The state of a sender of a channel, or nothing if it is not there.
-pub fn sender_state(world: &ChannelWorld, client: usize) -> Option<ClientState<Client>> {
-    if client >= world.senders() {
-        return None;
-    }
-    let own = parts(world.sender(client));
-    let is_told = world.is_sender_told(client);
-    Some((own, is_told, world.sender_has_wake(client)))
-}
-
-/// The state of a receiver of a channel, or nothing if it is not there.
-pub fn receiver_state(world: &ChannelWorld, client: usize) -> Option<ClientState<Client>> {
-    if client >= world.receivers() {
-        return None;
-    }
-    let own = parts(world.receiver(client));
-    let is_told = world.is_receiver_told(client);
-    Some((own, is_told, world.receiver_has_wake(client)))
 }

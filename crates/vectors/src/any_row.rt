@@ -2,7 +2,7 @@ use rows_events::{EventRow, IdentityRow, TagRow, WaitRow};
 use rows_harness::{Harness, Hook, Row};
 use rows_queue::QueueRow;
 use rows_recorded::RecordedRow;
-use rows_worlds::{FlagRow, MutexRow, SemaphoreRow};
+use rows_worlds::{ChannelRow, FlagRow, MutexRow, SemaphoreRow};
 use std::sync::Wait;
 use std::time::Clock;
 
@@ -18,6 +18,7 @@ pub enum AnyRow {
     Mutex(MutexRow),
     Flag(FlagRow),
     Semaphore(SemaphoreRow),
+    Channel(ChannelRow),
 }
 
 impl Row for AnyRow {
@@ -49,6 +50,9 @@ impl Row for AnyRow {
         if let Some(row) = SemaphoreRow::numbered(number) {
             return Some(AnyRow::Semaphore(row));
         }
+        if let Some(row) = ChannelRow::numbered(number) {
+            return Some(AnyRow::Channel(row));
+        }
         None
     }
 
@@ -67,6 +71,7 @@ impl Row for AnyRow {
             AnyRow::Mutex(row) => row.run(harness),
             AnyRow::Flag(row) => row.run(harness),
             AnyRow::Semaphore(row) => row.run(harness),
+            AnyRow::Channel(row) => row.run(harness),
         }
     }
 }

@@ -1,6 +1,6 @@
 //! All places of a sender and of a receiver of a channel by all acts, whom looks and clients that leave notify, and what
 //! closing does.
-use crate::support::{CHANNEL_ACTS, Client, FIRST, WOKEN, check, receiver_state, sender_state};
+use crate::support::{ACTS, Client, FIRST, WOKEN, check, receiver_state, sender_state};
 use event_worlds::{ChannelAct, ChannelActor, ChannelStep, ChannelWorld, CloserPlace, Place};
 use std::alloc::AllocGlobal;
 use std::process::Abort;
@@ -69,7 +69,7 @@ fn takes_only<R: Abort + AllocGlobal>(
     actor: ChannelActor,
     steps: &[(ChannelAct, State)],
 ) {
-    for act in CHANNEL_ACTS {
+    for act in ACTS {
         let line = steps.iter().find(|(by, _)| *by == act);
         let expected = line.map(|(_, to)| *to);
         check(rt, (setup, act), after(rt, setup, actor, act), expected);
@@ -354,7 +354,7 @@ fn closing_tells_all_senders_and_then_all_receivers(rt: HostRuntime) {
     closing(&rt, 3, true, true);
     let mut world = world_after(&rt, with(1, &[close(3)]));
     check(&rt, "closer", world.closer(), CloserPlace::Done);
-    for act in CHANNEL_ACTS {
+    for act in ACTS {
         check(&rt, act, world.step(ChannelActor::Closer, act), false);
     }
     check(&rt, "closer", world.closer(), CloserPlace::Done);
@@ -384,7 +384,7 @@ fn messages_come_in_order(rt: HostRuntime) {
 #[test]
 fn clients_that_are_not_there(rt: HostRuntime) {
     let mut world = world_after(&rt, with(1, &[]));
-    for act in CHANNEL_ACTS {
+    for act in ACTS {
         for number in [CLIENTS, usize::MAX] {
             let sender = ChannelActor::Sender(number);
             check(&rt, act, world.step(sender, act), false);
