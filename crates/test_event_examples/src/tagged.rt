@@ -1,5 +1,7 @@
-use super::*;
-use crate::checks::{check, listen, new_id, reads};
+//! Tags: which listener gets which, by default and additional notifications.
+use crate::support::{check, listen, new_id, reads};
+use event_listener::{Event, Listener, WaitError};
+use example_events::tagged::{TagsError, tags_of_two, tell_one, tell_one_more};
 
 #[test]
 fn a_default_notification_counts_who_is_told_and_an_additional_one_does_not(rt: HostRuntime) {
