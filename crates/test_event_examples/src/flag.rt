@@ -71,14 +71,21 @@ fn setting_tells_all_who_listen(rt: HostRuntime) {
     check(&rt, "who is told", told, [true, true]);
 }
 
+// The first is set, and the second is not.
+fn is_set_alone<R>(rt: &R, first: &Flag, second: &Flag)
+where
+    R: Abort + AllocGlobal + Wait + Clock + Clone,
+{
+    first.set(rt);
+    let are_set = [first.is_set(), second.is_set()];
+    check(rt, "which are set", are_set, [true, false]);
+    check(rt, "the wait", first.wait(rt, rt.alloc()), Ok(()));
+}
+
 #[test]
 fn each_flag_of_a_pair_is_set_alone(rt: HostRuntime) {
-    let mut ids = EventIds::new();
-    let (first, second) = pair(&mut ids).expect(&rt, "two identities");
-    first.set(&rt);
-    let are_set = [first.is_set(), second.is_set()];
-    check(&rt, "which are set", are_set, [true, false]);
-    check(&rt, "the wait", first.wait(&rt, rt.alloc()), Ok(()));
+    let (first, second) = pair(&mut EventIds::new()).expect(&rt, "two identities");
+    is_set_alone(&rt, &first, &second);
 }
 
 #[test]

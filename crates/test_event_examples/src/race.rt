@@ -15,12 +15,13 @@ const HANDS: usize = 4;
 // How many listened, how many of these took a notification, and how many were dropped.
 fn ends_of_listeners(entries: &[Entry<()>]) -> (usize, usize, usize) {
     let took = RecordedReply::Registered(RegisterResult::Notified(()));
+    let told = entries.iter().filter(|entry| entry.reply == took).count();
     let came = entries
         .iter()
-        .filter(|entry| entry.call == RecordedCall::Listen);
-    let told = entries.iter().filter(|entry| entry.reply == took);
-    let dropped = entries.iter().filter(|entry| entry.hand.is_none());
-    (came.count(), told.count(), dropped.count())
+        .filter(|entry| entry.call == RecordedCall::Listen)
+        .count();
+    let dropped = entries.iter().filter(|entry| entry.hand.is_none()).count();
+    (came, told, dropped)
 }
 
 // How many notifications there were, and which hand made the first.

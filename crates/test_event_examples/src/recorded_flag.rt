@@ -2,6 +2,7 @@
 use crate::support::{SetInBetween, SetsWhenCloned, check, new_id};
 use event_listener::{Entry, Former, Hand, Key, Record, RecordedCall, RecordedReply};
 use example_events::recorded_flag::RecordedFlag;
+use std::alloc::AllocGlobal;
 use std::process::Abort;
 use std::sync::{Mutex, Wait};
 use std::time::Clock;
@@ -23,23 +24,24 @@ impl SetInBetween for Setter<'_> {
     }
 }
 
-// The wait ends, and the flag is set.
-fn waits<R, C>(rt: &R, clock: &C, flag: &RecordedFlag, hand: &mut Hand<()>)
+// The record of a flag that the second hand sets while the first begins to wait. The wait ends.
+fn record_of_a_late_set<R>(rt: &R) -> Record<()>
 where
-    R: Abort,
-    C: Wait + Clock + Clone,
+    R: Abort + AllocGlobal + Wait + Clock + Clone,
 {
-    if !flag.owns(hand) {
-        panic!(rt; "a hand of another flag");
+    let (flag, mut hands) = RecordedFlag::new(rt.alloc(), new_id(rt), 2).expect(rt, "a flag");
+    let setter = Setter {
+        flag: &flag,
+        hand: Mutex::new(hands.pop().expect(rt, "a hand")),
+    };
+    let late = SetsWhenCloned { rt, flag: &setter };
+    check(rt, "the wait", flag.wait(&late, &mut hands[0]), Ok(()));
+    let Setter { flag: _, hand } = setter;
+    let hand = hand.into_inner();
+    if !flag.owns(&hand) {
+        panic!(rt; "the hand is another flag's");
     }
-    check(rt, "the wait", flag.wait(clock, hand), Ok(()));
-}
-
-// The record of the flag, whose hands these are.
-fn close<R: Abort>(rt: &R, flag: RecordedFlag, hands: Vec<Hand<()>>) -> Record<()> {
-    if !hands.iter().all(|hand| flag.owns(hand)) {
-        panic!(rt; "a hand of another flag");
-    }
+    hands.push(hand).expect(rt, "room for the hand");
     flag.close(hands).expect(rt, "a record")
 }
 
@@ -56,25 +58,8 @@ fn key_of<R: Abort>(rt: &R, entry: Option<&Entry<()>>) -> Key {
     }
 }
 
-// The flag is set before the listener is in the queue, so nobody tells it, but the second look finds the flag set.
-#[test]
-fn a_listener_that_is_dropped_stands_without_a_hand(rt: HostRuntime) {
-    let (flag, mut hands) = RecordedFlag::new(rt.alloc(), new_id(&rt), 2).expect(&rt, "a flag");
-    let setter = Setter {
-        flag: &flag,
-        hand: Mutex::new(hands.pop().expect(&rt, "a hand")),
-    };
-    let late = SetsWhenCloned {
-        rt: &rt,
-        flag: &setter,
-    };
-    waits(&rt, &late, &flag, &mut hands[0]);
-    let Setter { flag: _, hand } = setter;
-    hands
-        .push(hand.into_inner())
-        .expect(&rt, "room for the hand");
-    let record = close(&rt, flag, hands);
-    let key = key_of(&rt, record.entries().get(1));
+// The notification of the second hand, which found nobody; the listener of the first, with this key; and its drop.
+fn expected_entries(key: Key) -> [Entry<()>; 3] {
     let set = Entry {
         hand: Some(1),
         call: RecordedCall::Notify {
@@ -97,6 +82,14 @@ fn a_listener_that_is_dropped_stands_without_a_hand(rt: HostRuntime) {
         },
         reply: RecordedReply::Removed(Some(Former::Created)),
     };
-    let expected = [set, came, left];
+    [set, came, left]
+}
+
+// The flag is set before the listener is in the queue, so nobody tells it, but the second look finds the flag set.
+#[test]
+fn a_listener_that_is_dropped_stands_without_a_hand(rt: HostRuntime) {
+    let record = record_of_a_late_set(&rt);
+    let key = key_of(&rt, record.entries().get(1));
+    let expected = expected_entries(key);
     check(&rt, "the record", record.entries(), expected.as_slice());
 }
