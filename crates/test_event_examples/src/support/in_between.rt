@@ -6,6 +6,7 @@ use std::time::{Clock, Duration};
 
 /// What sets a flag once somebody who waits has looked at it.
 pub trait SetInBetween {
+    /// Sets the flag.
     fn set_in_between<R: Wait>(&self, rt: &R);
 }
 
