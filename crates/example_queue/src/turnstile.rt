@@ -37,8 +37,9 @@ impl Turnstile {
         Ok(Turnstile { line })
     }
 
-    /// An empty line whose first ticket has the serial `first`, as for one that follows another line and takes no
-    /// ticket of that. The call allocates nothing.
+    /// An empty line whose first ticket has the serial `first`. The call allocates nothing.
+    ///
+    /// A line that goes on where the serials of another one ended knows none of its tickets.
     pub fn starting_at(alloc: Global, first: u64) -> Self
         ensures empty { listeners_of result ≡ 0 }
         ensures serial { result.next_serial ≡ first }
