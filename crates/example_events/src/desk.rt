@@ -1,8 +1,5 @@
 //! A desk that one at a time sits at: a guard that notifies in its drop, and a future that loops.
 
-#[cfg(test)]
-mod tests;
-
 use event_listener::{Event, EventId, EventListener, ListenError, Listener, NeverInserted};
 use futures::Future;
 use futures::task::{Context, Poll};

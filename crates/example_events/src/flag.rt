@@ -1,9 +1,6 @@
 //! A flag that is set once, and that threads wait for.
 ghost use Rattle.std.specs.Prelude.{◌≡◌, ◌≢◌, ◌+◌, ◌≤◌, ◌^◌, IfOk, OnErr};
 
-#[cfg(test)]
-mod tests;
-
 use event_listener::{Event, EventId, EventIds, IdsUsedUp, ListenError, Listener, WaitError};
 use std::alloc::Global;
 use std::marker::Model;
@@ -39,6 +36,25 @@ impl Flag {
     pub fn set<R: Wait>(&self, rt: &R) {
         self.is_set.store(true, Ordering::SeqCst);
         self.set.notify_relaxed(rt, usize::MAX);
+    }
+
+    /// A listener that is notified when the flag is set, for a task or a wait with a limit. Look at the flag once it is
+    /// made: a flag that was set before does not notify it.
+    pub fn listen<R>(
+        &self,
+        rt: &R,
+        alloc: Global,
+    ) -> Result<event_listener::EventListener<(), R>, ListenError>
+    where
+        R: Wait + Clock + Clone,
+        ensures event { IfOk result (λ listener. listener.event_number ≡ self.now) }
+    {
+        self.set.listen(rt, alloc)
+    }
+
+    /// How many listeners the flag has, those of threads that wait among them.
+    pub fn total_listeners<R: Wait>(&self, rt: &R) -> usize {
+        self.set.total_listeners(rt)
     }
 
     /// Returns once the flag is set.

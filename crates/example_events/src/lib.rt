@@ -1,8 +1,6 @@
 //! What callers write over events: threads that wait, tasks that await, and a recorded event.
 #![tactic(auto)]
 
-#[cfg(test)]
-mod checks;
 pub mod desk;
 pub mod flag;
 pub mod meeting;

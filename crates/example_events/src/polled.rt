@@ -1,9 +1,6 @@
 //! Listeners in tasks: one that is awaited, and a future over two events.
 ghost use Rattle.std.specs.Prelude.{◌≡◌, ◌⊎◌};
 
-#[cfg(test)]
-mod tests;
-
 use event_listener::{Event, EventListener, ListenError, Listener, NeverInserted};
 use futures::Future;
 use futures::executor::block_on;

@@ -3,9 +3,6 @@ ghost use Rattle.std.specs.Prelude.{◌≡◌, IfOk, IsTrue};
 ghost use Rattle.event_listener.specs.Closing.{are_hands_below};
 ghost use Rattle.event_listener.specs.Noting.{Owns};
 
-#[cfg(test)]
-mod tests;
-
 use crate::recorded_flag::RecordedFlag;
 use event_listener::{CloseError, EventId, Hand, Record, RecordError};
 use std::alloc::{AllocError, Global};

@@ -1,8 +1,5 @@
 //! A record as a table.
 
-#[cfg(test)]
-mod tests;
-
 use event_listener::Entry;
 use std::fmt;
 

@@ -1,10 +1,7 @@
 //! A flag that is set once, and whose event keeps a record.
-ghost use Rattle.std.specs.Prelude.{◌≡◌, All, IfOk, IsTrue};
+ghost use Rattle.std.specs.Prelude.{◌≡◌, ◌↔◌, All, IfOk, IsTrue};
 ghost use Rattle.event_listener.specs.Closing.{are_hands_below, are_notes_of_all};
 ghost use Rattle.event_listener.specs.Noting.{Owns, new_hands};
-
-#[cfg(test)]
-mod tests;
 
 use event_listener::{CloseError, EventId, Hand, Record, RecordError, RecordedEvent, WaitError};
 use std::alloc::Global;
@@ -37,6 +34,13 @@ impl RecordedFlag {
             set,
         };
         Ok((flag, hands))
+    }
+
+    /// Whether the hand is one of this flag's.
+    pub fn owns(&self, hand: &Hand<()>) -> bool
+        ensures { IsTrue result ↔ Owns self.now hand.now }
+    {
+        self.set.owns(hand)
     }
 
     /// Whether the flag is set.

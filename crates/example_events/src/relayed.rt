@@ -1,8 +1,5 @@
 //! Errors of waits that are propagated.
 
-#[cfg(test)]
-mod tests;
-
 use event_listener::{Event, ListenError, Listener, WaitError, WaitReason};
 use std::alloc::Global;
 use std::sync::Wait;

@@ -1,9 +1,6 @@
 //! An event with tags, and the two kinds of notification.
 ghost use Rattle.std.specs.Prelude.{◌≤◌};
 
-#[cfg(test)]
-mod tests;
-
 use event_listener::{
     Event, EventId, IntoNotification, IntoTagged, ListenError, Listener, WaitError,
 };

@@ -6,9 +6,6 @@ ghost use Rattle.std.specs.Prelude.{◌≡◌, ◌<◌, ◌≤◌, min, length};
 ghost use Rattle.event_queue.specs.Key.{without};
 ghost use Rattle.event_queue.specs.Queue.{order_of};
 
-#[cfg(test)]
-mod tests;
-
 use event_queue::{IntoNotification, Key, List, Steps, Woken};
 use std::marker::Brand;
 use std::sync::ledger::{Blank, Ledger};

@@ -2,8 +2,6 @@
 //! notifications with tags.
 #![tactic(auto)]
 
-#[cfg(test)]
-mod checks;
 pub mod counted;
 pub mod shared;
 pub mod tagged;

@@ -1,9 +1,6 @@
 //! The same line under a lock, for visitors on several threads.
 ghost use Rattle.std.specs.Prelude.{◌≤◌, length, IfOk};
 
-#[cfg(test)]
-mod tests;
-
 use crate::turnstile::Turnstile;
 use event_queue::{Key, ListenError, Woken};
 use std::alloc::{AllocError, Global};

@@ -2,9 +2,6 @@
 ghost use Rattle.std.specs.Prelude.{◌≡◌, ◌<◌, min, length, IfOk, IfErr};
 ghost use Rattle.event_queue.specs.Queue.{order_of};
 
-#[cfg(test)]
-mod tests;
-
 use event_queue::{IntoNotification, IntoTagged, List, NotifyError, Woken};
 
 /// Calls the first who waits to this desk. Returns how many it called: 1, or 0 if none waits.

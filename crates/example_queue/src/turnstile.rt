@@ -5,9 +5,6 @@ ghost use Rattle.event_queue.specs.Key.{is_key, without};
 ghost use Rattle.event_queue.specs.Queue.{listeners_of, order_of, tasks_of, told_leaves};
 ghost use Rattle.event_queue.specs.Remove.{woken_by_removal};
 
-#[cfg(test)]
-mod tests;
-
 use event_queue::{IntoNotification, Key, List, ListenError, WakeSink, Woken};
 use std::alloc::{AllocError, Global};
 use std::marker::Model;
@@ -38,6 +35,18 @@ impl Turnstile {
         let mut line = List::new(alloc);
         line.reserve(n)?;
         Ok(Turnstile { line })
+    }
+
+    /// An empty line whose first ticket has the serial `first`. The call allocates nothing.
+    ///
+    /// A line that goes on where the serials of another one ended knows none of its tickets.
+    pub fn starting_at(alloc: Global, first: u64) -> Self
+        ensures empty { listeners_of result ≡ 0 }
+        ensures serial { result.next_serial ≡ first }
+    {
+        Turnstile {
+            line: List::starting_at(alloc, first),
+        }
     }
 
     /// Puts a visitor at the end of the line, and gives its ticket.

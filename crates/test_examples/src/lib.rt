@@ -1,6 +1,6 @@
 //! Tests of what callers of events write (`example_events`, `example_locks`): the threads of the example programs, a wait
 //! against a deadline, and locks, semaphores and programs that are refused memory. `test_locks` has the other tests of locks
-//! and semaphores.
+//! and semaphores, and `test_event_examples` those of `example_events`.
 //!
 //! | Module | What it tests |
 //! |---|---|

@@ -1,9 +1,14 @@
-use super::*;
-use crate::checks::{check, is_woken, new_id, reads};
+//! A desk: those who wait for it sit one after another.
+use crate::support::{check, is_woken, new_id, new_task, reads};
+use event_listener::{ListenError, NeverInserted};
+use example_events::desk::{Desk, SitError, Sitting};
+use futures::task::Poll;
 use futures::test::MockTask;
 use std::alloc::AllocGlobal;
 use std::process::Abort;
 use std::random::RandomSource;
+use std::sync::Wait;
+use std::time::Clock;
 
 fn sits<R: Abort + Wait + Clock + Clone>(
     rt: &R,
@@ -26,8 +31,8 @@ where
 {
     let seat = desk.try_sit(rt).expect(rt, "a seat");
     check(rt, "a second seat", desk.try_sit(rt).is_some(), false);
-    let first_task = MockTask::new(rt).expect(rt, "a task");
-    let second_task = MockTask::new(rt).expect(rt, "a task");
+    let first_task = new_task(rt);
+    let second_task = new_task(rt);
     let mut first = desk.sit(rt, rt.alloc());
     let mut second = desk.sit(rt, rt.alloc());
     sits(rt, &first_task, &mut first, false);

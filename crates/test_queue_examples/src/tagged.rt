@@ -1,6 +1,7 @@
-use super::*;
-use crate::checks::check;
-use event_queue::{Key, RegisterResult};
+//! Tags: who gets the desk, and who the text.
+use crate::support::check;
+use event_queue::{Key, List, RegisterResult, Woken};
+use example_queue::tagged::{announce, call_to_desk};
 use std::alloc::AllocGlobal;
 use std::fmt::Debug;
 use std::process::Abort;

@@ -1,7 +1,10 @@
-use super::*;
-use crate::checks::check;
+//! A line under a lock: its calls, and two threads that admit at once.
+use crate::support::check;
+use event_queue::{Key, Woken};
+use example_queue::shared::SharedTurnstile;
 use std::alloc::AllocGlobal;
 use std::process::Abort;
+use std::sync::Wait;
 use std::thread;
 
 fn new_turnstile<R: Abort + AllocGlobal>(rt: &R, room: usize) -> SharedTurnstile {

@@ -1,14 +1,18 @@
-use super::*;
-use crate::checks::{SetInBetween, SetsWhenCloned, check, new_id, reads};
+//! A flag: threads that race to it, one that is set between two looks, and who is told.
+use crate::support::{SetInBetween, SetsWhenCloned, check, new_id, reads};
+use event_listener::{EventIds, ListenError, Listener};
+use example_events::flag::{Flag, FlagError, pair};
 use std::alloc::AllocGlobal;
 use std::process::Abort;
+use std::sync::Wait;
 use std::thread::{self, Threads};
+use std::time::Clock;
 
 const ROUNDS: u32 = 1_000;
 
 // Nobody listens to the flag.
 fn nobody_listens<R: Abort + Wait>(rt: &R, flag: &Flag) {
-    check(rt, "listeners", flag.set.total_listeners(rt), 0);
+    check(rt, "listeners", flag.total_listeners(rt), 0);
 }
 
 // The two race. Whichever comes first, the wait ends and leaves no listener.
@@ -54,8 +58,8 @@ fn are_told<R>(rt: &R, flag: &Flag) -> [bool; 2]
 where
     R: Abort + AllocGlobal + Wait + Clock + Clone,
 {
-    let first = flag.set.listen(rt, rt.alloc()).expect(rt, "a listener");
-    let second = flag.set.listen(rt, rt.alloc()).expect(rt, "a listener");
+    let first = flag.listen(rt, rt.alloc()).expect(rt, "a listener");
+    let second = flag.listen(rt, rt.alloc()).expect(rt, "a listener");
     flag.set(rt);
     [first.discard(), second.discard()]
 }
@@ -67,14 +71,21 @@ fn setting_tells_all_who_listen(rt: HostRuntime) {
     check(&rt, "who is told", told, [true, true]);
 }
 
+// The first is set, and the second is not.
+fn is_set_alone<R>(rt: &R, first: &Flag, second: &Flag)
+where
+    R: Abort + AllocGlobal + Wait + Clock + Clone,
+{
+    first.set(rt);
+    let are_set = [first.is_set(), second.is_set()];
+    check(rt, "which are set", are_set, [true, false]);
+    check(rt, "the wait", first.wait(rt, rt.alloc()), Ok(()));
+}
+
 #[test]
 fn each_flag_of_a_pair_is_set_alone(rt: HostRuntime) {
-    let mut ids = EventIds::new();
-    let (first, second) = pair(&mut ids).expect(&rt, "two identities");
-    first.set(&rt);
-    let are_set = [first.is_set(), second.is_set()];
-    check(&rt, "which are set", are_set, [true, false]);
-    check(&rt, "the wait", first.wait(&rt, rt.alloc()), Ok(()));
+    let (first, second) = pair(&mut EventIds::new()).expect(&rt, "two identities");
+    is_set_alone(&rt, &first, &second);
 }
 
 #[test]

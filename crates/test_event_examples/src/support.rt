@@ -1,17 +1,22 @@
-//! What the tests share. The assertion stands here once, in a generic function, and is proved once.
+//! What the tests share: what ends a test, and the calls that have to succeed. Each ends the test where it does not.
+mod in_between;
+
 use event_listener::{Event, EventId, EventIds, EventListener, IntoNotification, IntoTagged};
 use futures::test::MockTask;
-use std::alloc::{AllocError, AllocGlobal};
+pub use in_between::{SetInBetween, SetsWhenCloned};
+use std::alloc::AllocGlobal;
 use std::fmt::{Debug, Display};
 use std::process::Abort;
+use std::random::RandomSource;
 use std::sync::Wait;
-use std::time::{Clock, Duration};
-use std::{io, thread};
+use std::thread;
+use std::time::Clock;
 
-/// The answer is the expected one. If it is not, the message has both, and what was asked.
-pub fn check<A, R>(rt: &R, asked: &str, answer: A, expected: A)
+/// The answer is the expected one. Where it is not, the message has both, and what was asked. The assertion stands here
+/// once, in a generic function, and is proved once.
+pub fn check<V, R>(rt: &R, asked: &str, answer: V, expected: V)
 where
-    A: PartialEq + Debug + Drop,
+    V: PartialEq + Debug + Drop,
     R: Abort,
 {
     assert_eq!(rt; answer, expected, "{asked}");
@@ -23,7 +28,7 @@ pub fn reads<V: Display + Drop, R: Abort + AllocGlobal>(rt: &R, value: V, text: 
     check(rt, "the text", shown.as_str(), text);
 }
 
-/// The only identity of its source that is given.
+/// The first identity of a source.
 pub fn new_id<R: Abort>(rt: &R) -> EventId {
     EventIds::new().next().expect(rt, "an identity")
 }
@@ -53,42 +58,12 @@ pub fn tell_the_first<R: Abort + Wait>(rt: &R, event: &Event<u32>) {
     tell(rt, event);
 }
 
+/// A task that is not woken.
+pub fn new_task<R: Abort + RandomSource + AllocGlobal>(rt: &R) -> MockTask {
+    MockTask::new(rt).expect(rt, "a task")
+}
+
 /// Since its last poll the task was woken, or was not.
 pub fn is_woken<R: Abort>(rt: &R, task: &MockTask, expected: bool) {
     check(rt, "whether the task is woken", task.is_woken(), expected);
-}
-
-/// A flag that a test sets between the first look of somebody who waits and the queue.
-pub trait SetInBetween {
-    fn set_in_between<R: Wait>(&self, rt: &R);
-}
-
-/// A runtime that sets a flag when it is cloned. A listener keeps a clone, which is made before the listener stands in
-/// the queue.
-#[derive(Drop)]
-pub struct SetsWhenCloned<'a, R, F> {
-    pub rt: &'a R,
-    pub flag: &'a F,
-}
-
-impl<'a, R: Wait, F: SetInBetween> Clone for SetsWhenCloned<'a, R, F> {
-    fn clone(&self) -> Result<Self, AllocError> {
-        self.flag.set_in_between(self.rt);
-        Ok(SetsWhenCloned {
-            rt: self.rt,
-            flag: self.flag,
-        })
-    }
-}
-
-impl<'a, R: Wait, F> Wait for SetsWhenCloned<'a, R, F> {}
-
-impl<'a, R: Clock, F> Clock for SetsWhenCloned<'a, R, F> {
-    fn monotonic(&self) -> io::Result<Duration> {
-        self.rt.monotonic()
-    }
-
-    fn since_1970(&self) -> io::Result<Duration> {
-        self.rt.since_1970()
-    }
 }

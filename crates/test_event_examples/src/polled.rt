@@ -1,8 +1,15 @@
-use super::*;
-use crate::checks::{check, is_woken, new_id, reads, tell, tell_the_first};
+//! A tag that is awaited, and orders that wake their task.
+use crate::support::{check, is_woken, new_id, new_task, reads, tell, tell_the_first};
+use event_listener::{Event, ListenError, NeverInserted};
+use example_events::polled::{AwaitError, NextOrder, Order, await_tag};
+use futures::task::Poll;
 use futures::test::MockTask;
+use std::alloc::AllocGlobal;
 use std::process::Abort;
+use std::random::RandomSource;
+use std::sync::Wait;
 use std::thread::{self, Threads};
+use std::time::Clock;
 
 // Another thread tells the listener, before it listens or after.
 fn is_awaited<R>(rt: &R, event: &Event<u32>)
@@ -81,7 +88,7 @@ where
 
 #[test]
 fn work_and_a_stop_wake_the_task(rt: HostRuntime) {
-    let task = MockTask::new(&rt).expect(&rt, "a task");
+    let task = new_task(&rt);
     let orders = new_orders(&rt);
     work_comes(&rt, &orders, &task);
     a_stop_comes(&rt, &orders, &task);

@@ -1,5 +1,7 @@
-use super::*;
-use crate::checks::check;
+//! At how many others those look who leave and those who admit, and whose numbers they call.
+use crate::support::check;
+use event_queue::{Key, List, Woken};
+use example_queue::counted::{admit_counted, leave_counted};
 use std::alloc::AllocGlobal;
 use std::process::Abort;
 

@@ -1,8 +1,12 @@
-use super::*;
-use crate::checks::{check, listen, new_id, reads, tell, tell_the_first};
+//! Waits whose errors are propagated: a tag that comes, and a listener that an error held.
+use crate::support::{check, listen, new_id, reads, tell, tell_the_first};
+use event_listener::{Event, ListenError, Listener, WaitError, WaitReason};
+use example_events::relayed::{TagError, wait_for_tag};
 use std::alloc::AllocGlobal;
 use std::process::Abort;
+use std::sync::Wait;
 use std::thread::{self, Threads};
+use std::time::Clock;
 
 // Another thread tells the listener once it listens.
 fn is_told<R>(rt: &R, event: &Event<u32>)

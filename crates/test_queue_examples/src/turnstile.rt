@@ -1,5 +1,7 @@
-use super::*;
-use crate::checks::check;
+//! A line: who is admitted, who enters, who leaves, and a line that refuses visitors.
+use crate::support::check;
+use event_queue::{Key, ListenError};
+use example_queue::turnstile::Turnstile;
 use std::alloc::AllocGlobal;
 use std::process::Abort;
 
@@ -82,9 +84,7 @@ fn a_refusal_leaves_the_line_as_it_was(rt: HostRuntime) {
     let is_refused = Turnstile::with_room(rt.alloc(), usize::MAX).is_err();
     check(&rt, "too much room", is_refused, true);
     // The last serial is given out, and then there is none.
-    let mut turnstile = Turnstile {
-        line: List::starting_at(rt.alloc(), u64::MAX - 1),
-    };
+    let mut turnstile = Turnstile::starting_at(rt.alloc(), u64::MAX - 1);
     join(&rt, &mut turnstile, 10);
     let refused = turnstile.join(20);
     check(&rt, "join", refused, Err(ListenError::SerialsUsedUp));

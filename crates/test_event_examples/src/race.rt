@@ -1,8 +1,12 @@
-use super::*;
-use crate::checks::{new_id, reads};
-use event_listener::{Entry, RecordedCall, RecordedReply, RegisterResult};
-use std::alloc::AllocGlobal;
+//! A race: what its record has.
+use crate::support::{check, new_id, reads};
+use event_listener::{CloseError, Entry, RecordError, RecordedCall, RecordedReply, RegisterResult};
+use example_events::race::{RaceError, race};
+use std::alloc::{AllocError, AllocGlobal};
 use std::process::Abort;
+use std::sync::Wait;
+use std::thread::Threads;
+use std::time::Clock;
 
 const ROUNDS: u32 = 200;
 
@@ -11,12 +15,13 @@ const HANDS: usize = 4;
 // How many listened, how many of these took a notification, and how many were dropped.
 fn ends_of_listeners(entries: &[Entry<()>]) -> (usize, usize, usize) {
     let took = RecordedReply::Registered(RegisterResult::Notified(()));
+    let told = entries.iter().filter(|entry| entry.reply == took).count();
     let came = entries
         .iter()
-        .filter(|entry| entry.call == RecordedCall::Listen);
-    let told = entries.iter().filter(|entry| entry.reply == took);
-    let dropped = entries.iter().filter(|entry| entry.hand.is_none());
-    (came.count(), told.count(), dropped.count())
+        .filter(|entry| entry.call == RecordedCall::Listen)
+        .count();
+    let dropped = entries.iter().filter(|entry| entry.hand.is_none()).count();
+    (came, told, dropped)
 }
 
 // How many notifications there were, and which hand made the first.
@@ -33,9 +38,10 @@ where
 {
     let record = race(rt, rt.alloc(), new_id(rt), HANDS).expect(rt, "a record");
     let (came, told, dropped) = ends_of_listeners(record.entries());
-    assert_eq!(rt; told.saturating_add(dropped), came);
-    assert_eq!(rt; notifications(record.entries()), (1, Some(Some(0))));
-    assert_eq!(rt; record.replays(rt.alloc()), Ok(true));
+    check(rt, "the ends", told.saturating_add(dropped), came);
+    let notified = notifications(record.entries());
+    check(rt, "the notifications", notified, (1, Some(Some(0))));
+    check(rt, "a replay", record.replays(rt.alloc()), Ok(true));
 }
 
 #[test]

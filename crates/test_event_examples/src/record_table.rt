@@ -1,5 +1,7 @@
-use super::*;
-use event_listener::{Former, Key, RecordedCall, RecordedReply};
+//! The table of a record.
+use crate::support::check;
+use event_listener::{Entry, Former, Key, RecordedCall, RecordedReply};
+use example_events::record_table::write_table;
 
 #[test]
 fn a_table_has_a_line_for_each_entry(rt: HostRuntime) {
@@ -37,5 +39,5 @@ fn a_table_has_a_line_for_each_entry(rt: HostRuntime) {
 0 | Notify { count: 1, additional: false, tag: 7 } | Notified(1)
 - | Remove { key: Key { slot: 2, serial: 5 }, propagate: true } | Removed(Some(Lost { additional: false, tag: 7 }))
 ";
-    assert_eq!(rt; table.as_str(), expected);
+    check(&rt, "the table", table.as_str(), expected);
 }
