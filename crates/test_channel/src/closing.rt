@@ -1,0 +1,192 @@
+//! Channels that are closed: by a call, or with the last handle of a side; who is woken, what is left, and what comes back.
+use crate::support::{
+    Received, Receiving, Runtime, Sending, Sent, SharedRuntime, WAYS, Way, check, full_channel,
+    has_left, new_channel,
+};
+use event_channel::{Receiver, Sender};
+use std::thread;
+use std::time::Duration;
+
+// Closed already: every send hands its message back, and every receive ends.
+fn is_over<R: Runtime>(rt: &R, sender: &Sender<usize, R>, receiver: &Receiver<usize, R>) {
+    check(rt, "a second close", sender.close(), false);
+    check(rt, "a third", receiver.close(), false);
+    let closed = (sender.is_closed(), receiver.is_closed());
+    check(rt, "whether both say so", closed, (true, true));
+    for way in WAYS {
+        let sent = way.send(rt, sender, 5, Duration::MAX);
+        check(rt, "a send", sent, Sent::Closed(5));
+        let received = way.receive(rt, receiver, Duration::MAX);
+        check(rt, "a receive", received, Received::Closed);
+    }
+}
+
+// One receiver is told of the message, the other waits; both senders wait since the channel is full.
+#[test]
+fn a_close_wakes_both_sides(rt: HostRuntime) {
+    for by_sender in [true, false] {
+        let (sender, receiver) = new_channel(&rt, Some(1));
+        let mut told = Receiving::waiting(&rt, &receiver);
+        let mut waiting = Receiving::waiting(&rt, &receiver);
+        check(&rt, "the send", sender.try_send(0).is_ok(), true);
+        let mut first = Sending::waiting(&rt, &sender, 1);
+        let mut second = Sending::waiting(&rt, &sender, 2);
+        let closes = if by_sender {
+            sender.close()
+        } else {
+            receiver.close()
+        };
+        check(&rt, "whether it was open", closes, true);
+        waiting.is_woken(&rt, true);
+        first.is_woken(&rt, true);
+        second.is_woken(&rt, true);
+        first.gives(&rt, Sent::Closed(1));
+        second.gives(&rt, Sent::Closed(2));
+        told.gives(&rt, Received::Message(0));
+        waiting.gives(&rt, Received::Closed);
+        is_over(&rt, &sender, &receiver);
+    }
+}
+
+#[test]
+fn what_was_sent_before_the_close_is_received(rt: HostRuntime) {
+    for way in WAYS {
+        let (sender, receiver) = full_channel(&rt, 3);
+        check(&rt, "whether it was open", sender.close(), true);
+        let refused = way.send(&rt, &sender, 9, Duration::MAX);
+        check(&rt, "a send", refused, Sent::Closed(9));
+        check(&rt, "messages left", receiver.len(), 3);
+        for message in 0..3 {
+            let received = way.receive(&rt, &receiver, Duration::MAX);
+            check(&rt, "what is left", received, Received::Message(message));
+        }
+        is_over(&rt, &sender, &receiver);
+    }
+}
+
+#[test]
+fn the_last_sender_closes(rt: HostRuntime) {
+    let (sender, receiver) = new_channel(&rt, Some(3));
+    let mut first = Receiving::waiting(&rt, &receiver);
+    let mut second = Receiving::waiting(&rt, &receiver);
+    let other = sender.clone().expect(&rt, "a sender");
+    drop(sender);
+    first.is_woken(&rt, false);
+    check(&rt, "whether it is closed", receiver.is_closed(), false);
+    drop(other);
+    first.is_woken(&rt, true);
+    second.is_woken(&rt, true);
+    check(&rt, "whether it is closed", receiver.is_closed(), true);
+    check(&rt, "senders left", receiver.sender_count(), 0);
+    first.gives(&rt, Received::Closed);
+    second.gives(&rt, Received::Closed);
+    check(&rt, "a close", receiver.close(), false);
+}
+
+#[test]
+fn the_last_receiver_closes(rt: HostRuntime) {
+    let (sender, receiver) = full_channel(&rt, 2);
+    let mut first = Sending::waiting(&rt, &sender, 2);
+    let mut second = Sending::waiting(&rt, &sender, 3);
+    let other = receiver.clone().expect(&rt, "a receiver");
+    drop(other);
+    first.is_woken(&rt, false);
+    check(&rt, "whether it is closed", sender.is_closed(), false);
+    drop(receiver);
+    first.is_woken(&rt, true);
+    second.is_woken(&rt, true);
+    check(&rt, "whether it is closed", sender.is_closed(), true);
+    check(&rt, "receivers left", sender.receiver_count(), 0);
+    first.gives(&rt, Sent::Closed(2));
+    second.gives(&rt, Sent::Closed(3));
+    check(&rt, "a close", sender.close(), false);
+}
+
+#[test]
+fn the_last_sender_leaves_its_messages(rt: HostRuntime) {
+    let (sender, receiver) = full_channel(&rt, 3);
+    drop(sender);
+    has_left(&rt, &receiver, &[0, 1, 2]);
+    for way in WAYS {
+        let received = way.receive(&rt, &receiver, Duration::MAX);
+        check(&rt, "a receive", received, Received::Closed);
+    }
+}
+
+// The ways that wait.
+const WAITS: [Way; 3] = [Way::Blocking, Way::Timed, Way::Awaited];
+
+// How many threads wait in each way.
+const EACH: usize = 2;
+
+fn way_of(thread: usize) -> Way {
+    WAITS.get(thread / EACH).copied().unwrap_or(Way::Awaited)
+}
+
+// What closes a channel.
+#[derive(Clone, Copy, Debug, PartialEq, Eq)]
+enum Closer {
+    Sender,
+    Receiver,
+    LastDrop,
+}
+
+const CLOSERS: [Closer; 3] = [Closer::Sender, Closer::Receiver, Closer::LastDrop];
+
+// Most threads wait by then. What they answer is the same if they do not.
+fn let_them_wait<R: Runtime>(rt: &R) {
+    thread::sleep(rt, Duration::from_millis(30));
+}
+
+fn senders_end<R: SharedRuntime>(rt: &R, closer: Closer) {
+    let (sender, receiver) = full_channel(rt, 1);
+    let sends = |number| way_of(number).send(rt, &sender, number, Duration::MAX);
+    let waits = || thread::map_indices(rt, rt.alloc(), WAITS.len() * EACH, &sends);
+    let closes = || {
+        let_them_wait(rt);
+        match closer {
+            Closer::Sender => drop(sender.close()),
+            Closer::Receiver => drop(receiver.close()),
+            Closer::LastDrop => drop(receiver),
+        }
+    };
+    let (answers, ()) = thread::join(rt, waits, closes);
+    let answers = answers.expect(rt, "the threads");
+    for (number, answer) in answers.iter().copied().enumerate() {
+        check(rt, "a sender's end", answer, Sent::Closed(number));
+    }
+    check(rt, "messages", sender.len(), 1);
+}
+
+#[test]
+fn all_who_wait_for_room_end(rt: HostRuntime) {
+    for closer in CLOSERS {
+        senders_end(&rt, closer);
+    }
+}
+
+fn receivers_end<R: SharedRuntime>(rt: &R, closer: Closer) {
+    let (sender, receiver) = new_channel(rt, Some(1));
+    let receives = |number| way_of(number).receive(rt, &receiver, Duration::MAX);
+    let waits = || thread::map_indices(rt, rt.alloc(), WAITS.len() * EACH, &receives);
+    let closes = || {
+        let_them_wait(rt);
+        match closer {
+            Closer::Sender => drop(sender.close()),
+            Closer::Receiver => drop(receiver.close()),
+            Closer::LastDrop => drop(sender),
+        }
+    };
+    let (answers, ()) = thread::join(rt, waits, closes);
+    let answers = answers.expect(rt, "the threads");
+    for answer in answers.iter().copied() {
+        check(rt, "a receiver's end", answer, Received::Closed);
+    }
+}
+
+#[test]
+fn all_who_wait_for_a_message_end(rt: HostRuntime) {
+    for closer in CLOSERS {
+        receivers_end(&rt, closer);
+    }
+}

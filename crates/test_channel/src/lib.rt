@@ -1,0 +1,31 @@
+//! Tests of `event_channel`.
+//!
+//! | Module | What it tests |
+//! |---|---|
+//! | `order` | calls that need not wait: messages in order, what a channel says of itself, its handles, what makes no channel, and what is dropped |
+//! | `wakes` | polls by hand: whom a message wakes, and whom room does; told and dropped, told and too late |
+//! | `closing` | a close by a call, or with the last handle of a side: who is woken, which messages are left, and which come back |
+//! | `deadlines` | calls that end at a limit, and what comes with it |
+//! | `refusals` | memory that is refused: a message is in the channel or comes back, and never lost |
+//! | `races` | who is woken looks at once, and finds what it was woken for |
+//! | `threads` | 8 threads that send and 8 that receive, blocking, awaiting and with timeouts; a close among them |
+//!
+//! `support` has what they share. What is said of every way to send or to receive is written once, and run with each.
+#![tactic(auto)]
+
+#[cfg(test)]
+mod closing;
+#[cfg(test)]
+mod deadlines;
+#[cfg(test)]
+mod order;
+#[cfg(test)]
+mod races;
+#[cfg(test)]
+mod refusals;
+#[cfg(test)]
+mod support;
+#[cfg(test)]
+mod threads;
+#[cfg(test)]
+mod wakes;

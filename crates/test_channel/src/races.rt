@@ -1,0 +1,152 @@
+//! One thread makes a change and another, which is woken, looks at once: the change comes before the notification. A third
+//! takes the lock of the channel again and again, so that who makes a change may have to wait between its steps.
+use crate::support::{
+    Received, Receiving, Runtime, Sending, Sent, SharedRuntime, WAYS, check, full_channel,
+    new_channel,
+};
+use event_channel::{Receiver, Sender};
+use std::sync::Wait;
+use std::sync::atomic::{AtomicBool, AtomicUsize, Ordering};
+use std::thread;
+use std::time::Duration;
+
+const ROUNDS: usize = 4_000;
+
+// Waits in a loop until the number is there.
+fn until<R: Wait>(rt: &R, number: &AtomicUsize, expected: usize) {
+    for _ in rt.forever() {
+        if number.load(Ordering::SeqCst) == expected {
+            break;
+        }
+        thread::yield_now();
+    }
+}
+
+// Takes the lock of the channel until the others have ended.
+fn disturbs<R: Runtime>(rt: &R, receiver: &Receiver<usize, R>, are_done: &AtomicBool) {
+    for _ in rt.forever() {
+        if are_done.load(Ordering::SeqCst) {
+            break;
+        }
+        receiver.len();
+    }
+}
+
+// In each round it waits, and finds the message as soon as it is woken.
+fn finds_messages<R: Runtime>(rt: &R, receiver: &Receiver<usize, R>, waiting: &AtomicUsize) {
+    for round in 0..ROUNDS {
+        let mut receiving = Receiving::waiting(rt, receiver);
+        waiting.fetch_add(1, Ordering::SeqCst);
+        receiving.until_woken(rt);
+        receiving.gives(rt, Received::Message(round));
+    }
+}
+
+fn sends_to_who_waits<R: Runtime>(rt: &R, sender: &Sender<usize, R>, waiting: &AtomicUsize) {
+    for round in 0..ROUNDS {
+        until(rt, waiting, round.saturating_add(1));
+        let way = WAYS.get(round % 4).expect(rt, "a way");
+        let sent = way.send(rt, sender, round, Duration::ZERO);
+        check(rt, "the send", sent, Sent::Done);
+    }
+}
+
+fn messages_are_there<R: SharedRuntime>(rt: &R, capacity: Option<usize>) {
+    let (sender, receiver) = new_channel(rt, capacity);
+    let waiting = AtomicUsize::new(0);
+    let are_done = AtomicBool::new(false);
+    let both = || {
+        thread::join(
+            rt,
+            || finds_messages(rt, &receiver, &waiting),
+            || sends_to_who_waits(rt, &sender, &waiting),
+        );
+        are_done.store(true, Ordering::SeqCst);
+    };
+    thread::join(rt, both, || disturbs(rt, &receiver, &are_done));
+}
+
+#[test]
+fn who_is_woken_finds_the_message(rt: HostRuntime) {
+    messages_are_there(&rt, Some(1));
+    messages_are_there(&rt, None);
+}
+
+fn finds_room<R: Runtime>(rt: &R, sender: &Sender<usize, R>, waiting: &AtomicUsize) {
+    for round in 0..ROUNDS {
+        let mut sending = Sending::waiting(rt, sender, round.saturating_add(1));
+        waiting.fetch_add(1, Ordering::SeqCst);
+        sending.until_woken(rt);
+        sending.gives(rt, Sent::Done);
+    }
+}
+
+fn receives_from_who_waits<R: Runtime>(
+    rt: &R,
+    receiver: &Receiver<usize, R>,
+    waiting: &AtomicUsize,
+) {
+    for round in 0..ROUNDS {
+        until(rt, waiting, round.saturating_add(1));
+        let way = WAYS.get(round % 4).expect(rt, "a way");
+        let received = way.receive(rt, receiver, Duration::ZERO);
+        check(rt, "the receive", received, Received::Message(round));
+    }
+}
+
+fn room_is_there<R: SharedRuntime>(rt: &R) {
+    let (sender, receiver) = full_channel(rt, 1);
+    let waiting = AtomicUsize::new(0);
+    let are_done = AtomicBool::new(false);
+    let both = || {
+        thread::join(
+            rt,
+            || finds_room(rt, &sender, &waiting),
+            || receives_from_who_waits(rt, &receiver, &waiting),
+        );
+        are_done.store(true, Ordering::SeqCst);
+    };
+    thread::join(rt, both, || disturbs(rt, &receiver, &are_done));
+}
+
+#[test]
+fn who_is_woken_finds_room(rt: HostRuntime) {
+    room_is_there(&rt);
+}
+
+// How often a channel is closed.
+const CLOSES: usize = 1_000;
+
+fn finds_the_end<R: Runtime>(rt: &R, receiver: &Receiver<usize, R>, waiting: &AtomicUsize) {
+    let mut receiving = Receiving::waiting(rt, receiver);
+    waiting.fetch_add(1, Ordering::SeqCst);
+    receiving.until_woken(rt);
+    receiving.gives(rt, Received::Closed);
+}
+
+fn closes<R: Runtime>(rt: &R, sender: Sender<usize, R>, waiting: &AtomicUsize) {
+    until(rt, waiting, 1);
+    drop(sender);
+}
+
+fn the_end_is_there<R: SharedRuntime>(rt: &R) {
+    let (sender, receiver) = new_channel(rt, Some(1));
+    let waiting = AtomicUsize::new(0);
+    let are_done = AtomicBool::new(false);
+    let both = || {
+        thread::join(
+            rt,
+            || finds_the_end(rt, &receiver, &waiting),
+            || closes(rt, sender, &waiting),
+        );
+        are_done.store(true, Ordering::SeqCst);
+    };
+    thread::join(rt, both, || disturbs(rt, &receiver, &are_done));
+}
+
+#[test]
+fn who_is_woken_finds_the_channel_closed(rt: HostRuntime) {
+    for _ in 0..CLOSES {
+        the_end_is_there(&rt);
+    }
+}
