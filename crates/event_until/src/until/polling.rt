@@ -48,6 +48,7 @@ impl<'a, A: Attempt, R: Wait + Clock + Clone> Until<'a, A, R> {
     }
 
     // A listener that an earlier poll left is polled first, and keeps its place in the queue.
+    #[inline(always)]
     fn poll_turn(
         &mut self,
         cx: &mut Context<'_>,

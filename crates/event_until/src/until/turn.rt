@@ -20,6 +20,7 @@ pub(crate) enum Turn<T, L> {
 }
 
 /// Attempts, listens, and attempts again.
+#[inline(always)]
 pub(super) fn attempt_twice<'a, A, R>(
     attempt: &mut A,
     rt: &R,
@@ -38,8 +39,9 @@ where
     listen_and_attempt(attempt, rt, alloc, event)
 }
 
-// Listens, and attempts once the listener is in the queue: what came before that told nobody.
-fn listen_and_attempt<'a, A, R>(
+/// Listens, and attempts once the listener is in the queue: what came before that told nobody.
+#[inline(always)]
+pub(super) fn listen_and_attempt<'a, A, R>(
     attempt: &mut A,
     rt: &R,
     alloc: Global,
@@ -62,6 +64,7 @@ where
 }
 
 /// Takes such turns until an attempt succeeds or a listener is left that has registered the task which polls.
+#[inline(always)]
 pub(super) fn poll_turns<'a, A, R>(
     attempt: &mut A,
     rt: &R,
@@ -90,6 +93,7 @@ where
 }
 
 /// Polls a listener. Returns it where it was not told; else it is gone.
+#[inline(always)]
 pub(super) fn poll_listener<L>(
     listener: L,
     cx: &mut Context<'_>,
