@@ -16,19 +16,6 @@ module _ {S : Type 0} (fails : S → S → Type 0) where
   SomeFail-join before between after some then =
       SomeFail-append then.0 before between after some then.1
 
-  pub FailsAtLeast-after : (least : ℕ) (before between after : S) → SomeFail fails before between → FailsAtLeast fails least between after → FailsAtLeast fails least before after
-  FailsAtLeast-after least before between after some then =
-      (then.0, SomeFail-join before between then.0 some then.1, then.2)
-
-  pub FailsAtLeast-some : (least : ℕ) (before after : S) → FailsAtLeast fails least before after → SomeFail fails before after
-  FailsAtLeast-some least before after failed =
-      SomeFail-append least before failed.0 after failed.1 failed.2
-
-  -- two are one at least
-  pub FailsAtLeast-one : (before after : S) → FailsAtLeast fails 2 before after → FailsAtLeast fails 1 before after
-  FailsAtLeast-one before after failed =
-      (failed.2.0, SomeFail-append 1 before failed.0 failed.2.0 failed.1 failed.2.1, (failed.2.0, refl, failed.2.2))
-
   -- one failed, and then so many others
   pub FailsTimes-first : (times : ℕ) (before between after : S) → fails before between → FailsTimes fails times between after → FailsTimes fails (suc times) before after
   FailsTimes-first zero before between after failed same =
@@ -53,12 +40,6 @@ module _ {S : Type 0} (fails : S → S → Type 0) where
       FailsAtLeast-first 2 before between after failed then
   IfNone-first before between (Ok (Some output)) after failed then = tt
   IfNone-first before between (Err error) after failed then = tt
-
-  -- two failed, and then one more, if it did
-  pub FailsAtLeast-last : {T : Type 0} (before between : S) (answer : Option T) (after : S) → FailsAtLeast fails 2 before between → IfNone answer (fails between after) → IfNone answer (FailsAtLeast fails 3 before after)
-  FailsAtLeast-last before between None after failed last =
-      (failed.0, failed.1, (between, failed.2, last))
-  FailsAtLeast-last before between (Some output) after failed last = tt
 
   module _ {T : Type 0} (succeeds : S → T → S → Type 0) where
     -- some attempts failed, and then others until one succeeded
