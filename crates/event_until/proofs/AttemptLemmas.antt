@@ -1,5 +1,5 @@
 -- Attempts after other attempts.
-use Rattle.std.proofs.Common.{refl, ℕ, zero, suc, Option, Some, None, IfSome, IfNone, Result, Ok, Err}
+use Rattle.std.proofs.Common.{refl, ℕ, zero, suc, Option, Some, None, IfSome, IfNone, Result, Ok, Err, IfOk, OnErr}
 use Rattle.futures.specs.declared.task.Poll.{Poll}
 use Rattle.futures.specs.declared.task.Poll.TheVariants.{Ready, Pending}
 use Rattle.futures.specs.Poll.{OnPending}
@@ -16,24 +16,30 @@ module _ {S : Type 0} (fails : S → S → Type 0) where
   SomeFail-join before between after some then =
       SomeFail-append then.0 before between after some then.1
 
-  pub FailsAtLeast-after : (least : ℕ) (before between after : S) → SomeFail fails before between → FailsAtLeast fails least between after → FailsAtLeast fails least before after
-  FailsAtLeast-after least before between after some then =
-      (then.0, SomeFail-join before between then.0 some then.1, then.2)
+  -- one failed, and then so many others
+  pub FailsTimes-first : (times : ℕ) (before between after : S) → fails before between → FailsTimes fails times between after → FailsTimes fails (suc times) before after
+  FailsTimes-first zero before between after failed same =
+      (before, refl, rw same failed)
+  FailsTimes-first (suc times) before between after failed then =
+      (then.0, FailsTimes-first times before between then.0 failed then.1, then.2)
 
-  pub FailsAtLeast-some : (least : ℕ) (before after : S) → FailsAtLeast fails least before after → SomeFail fails before after
-  FailsAtLeast-some least before after failed =
-      SomeFail-append least before failed.0 after failed.1 failed.2
+  pub FailsAtLeast-first : (least : ℕ) (before between after : S) → fails before between → FailsAtLeast fails least between after → FailsAtLeast fails (suc least) before after
+  FailsAtLeast-first least before between after failed then =
+      let some = FailsTimes-first then.1.0 before between then.0 failed then.1.1 in
+      (some.0, (then.1.0, some.1), FailsTimes-first least some.0 then.0 after some.2 then.2)
 
-  -- two are one at least
-  pub FailsAtLeast-one : (before after : S) → FailsAtLeast fails 2 before after → FailsAtLeast fails 1 before after
-  FailsAtLeast-one before after failed =
-      (failed.2.0, SomeFail-append 1 before failed.0 failed.2.0 failed.1 failed.2.1, (failed.2.0, refl, failed.2.2))
+  -- one failed, and then some others, or none, where there is an error
+  pub OnErr-first : {X E : Type 0} (before between : S) (answer : Result X E) (after : S) → fails before between → OnErr answer (SomeFail fails between after) → OnErr answer (FailsAtLeast fails 1 before after)
+  OnErr-first before between (Ok answer) after failed some = tt
+  OnErr-first before between (Err error) after failed some =
+      FailsAtLeast-first 0 before between after failed (after, some, refl)
 
-  -- two failed, and then one more, if it did
-  pub FailsAtLeast-last : {T : Type 0} (before between : S) (answer : Option T) (after : S) → FailsAtLeast fails 2 before between → IfNone answer (fails between after) → IfNone answer (FailsAtLeast fails 3 before after)
-  FailsAtLeast-last before between None after failed last =
-      (failed.0, failed.1, (between, failed.2, last))
-  FailsAtLeast-last before between (Some output) after failed last = tt
+  -- one failed, and then two others at least, where there is no output
+  pub IfNone-first : {T E : Type 0} (before between : S) (answer : Result (Option T) E) (after : S) → fails before between → IfOk answer (λ output. IfNone output (FailsAtLeast fails 2 between after)) → IfOk answer (λ output. IfNone output (FailsAtLeast fails 3 before after))
+  IfNone-first before between (Ok None) after failed then =
+      FailsAtLeast-first 2 before between after failed then
+  IfNone-first before between (Ok (Some output)) after failed then = tt
+  IfNone-first before between (Err error) after failed then = tt
 
   module _ {T : Type 0} (succeeds : S → T → S → Type 0) where
     -- some attempts failed, and then others until one succeeded
@@ -52,6 +58,13 @@ module _ {S : Type 0} (fails : S → S → Type 0) where
     SucceedsAfter-last before between None after failed last = tt
     SucceedsAfter-last before between (Some output) after failed last =
         record { between = between; failed = failed; succeeded = last }
+
+    -- one failed, and then others until one succeeded, where there is an output
+    pub IfSome-first : {E : Type 0} (before between : S) (answer : Result (Option T) E) (after : S) → fails before between → IfOk answer (λ given. IfSome given (λ output. SucceedsAfter fails succeeds between output after)) → IfOk answer (λ given. IfSome given (λ output. SucceedsAfter fails succeeds before output after))
+    IfSome-first before between (Ok None) after failed then = tt
+    IfSome-first before between (Ok (Some output)) after failed then =
+        SucceedsAfter-append before between output after (1, (before, refl, failed)) then
+    IfSome-first before between (Err error) after failed then = tt
 
     -- what a later poll gives, after one that was pending
     pub OnPending-gives : {X : Type 0} (E : Type 0) (polled : Poll X) (before between : S) → OnPending polled (SomeFail fails before between) → OnPending polled ((output : Result T E) → ((after : S) × SucceedsOrFails fails succeeds between output after) → (after : S) × SucceedsOrFails fails succeeds before output after)

@@ -1,2 +1,1 @@
 pub mod AttemptLemmas
-pub mod TurnLemmas

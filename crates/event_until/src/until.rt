@@ -75,6 +75,7 @@ impl<'a, A: Attempt, R: Wait + Clock + Clone> Until<'a, A, R> {
     /// Blocks the calling thread until an attempt succeeds, and returns its output.
     ///
     /// A listener that a poll left is dropped first. [`UntilError`] says which errors there are and what they leave.
+    #[inline(always)]
     pub fn wait(&mut self) -> Result<A::Output, UntilError>
         ensures succeeded { IfOk result (λ output. SucceedsAfter A.fails A.succeeds self.old.attempt output self.new.attempt) }
         ensures failed { OnErr result (FailsAtLeast A.fails 1 self.old.attempt self.new.attempt) }
@@ -136,6 +137,7 @@ impl<'a, A: Attempt, R: Wait + Clock + Clone> Until<'a, A, R> {
         attempt
     }
 
+    #[inline(always)]
     fn wait_within(&mut self, limit: Limit) -> Result<Option<A::Output>, UntilError>
         ensures succeeded { IfOk result (λ answer. IfSome answer (λ output. SucceedsAfter A.fails A.succeeds self.old.attempt output self.new.attempt)) }
         ensures timed_out { IfOk result (λ answer. IfNone answer (FailsAtLeast A.fails 3 self.old.attempt self.new.attempt)) }

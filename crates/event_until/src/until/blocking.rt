@@ -1,9 +1,9 @@
 //! The loop of a thread.
 ghost use Rattle.std.specs.Prelude.{◌≡◌, IfOk, IfSome, IfNone, IsSome, OnErr};
-ghost use Rattle.event_until.specs.Attempts.{SucceedsAfter, FailsAtLeast};
+ghost use Rattle.event_until.specs.Attempts.{SomeFail, SucceedsAfter, FailsAtLeast};
 
 use super::limit::Limit;
-use super::turn::{Turn, attempt_twice};
+use super::turn::{Turn, listen_and_attempt};
 use crate::attempt::Attempt;
 use crate::error::UntilError;
 use event_listener::Event;
@@ -13,8 +13,7 @@ use std::time::Clock;
 
 /// Attempts until one succeeds, and waits after each two that failed: blocks the calling thread until then, or until the
 /// limit, after which it attempts once more.
-///
-/// Every wait has the same limit, however often it is told and the attempt fails.
+#[inline(always)]
 pub(super) fn attempt_within<A: Attempt, R: Wait + Clock + Clone>(
     attempt: &mut A,
     rt: &R,
@@ -27,13 +26,39 @@ pub(super) fn attempt_within<A: Attempt, R: Wait + Clock + Clone>(
     ensures failed { OnErr result (FailsAtLeast A.fails 1 attempt.old attempt.new) }
     ensures unlimited { limit ≡ Limit.Never → IfOk result IsSome }
 {
+    if let Some(output) = attempt.attempt() {
+        return Ok(Some(output));
+    }
+    attempt_again(attempt, rt, alloc, event, limit)
+}
+
+// Goes on after an attempt that failed: listens and attempts, waits, and attempts. Every wait has the same limit, however
+// often it is told and the attempt fails.
+//
+// It is never inlined, so that an attempt that succeeds at once pays for no listener.
+#[inline(never)]
+fn attempt_again<A: Attempt, R: Wait + Clock + Clone>(
+    attempt: &mut A,
+    rt: &R,
+    alloc: Global,
+    event: &Event<()>,
+    limit: Limit,
+) -> Result<Option<A::Output>, UntilError>
+    ensures succeeded { IfOk result (λ answer. IfSome answer (λ output. SucceedsAfter A.fails A.succeeds attempt.old output attempt.new)) }
+    ensures timed_out { IfOk result (λ answer. IfNone answer (FailsAtLeast A.fails 2 attempt.old attempt.new)) }
+    ensures failed { OnErr result (SomeFail A.fails attempt.old attempt.new) }
+    ensures unlimited { limit ≡ Limit.Never → IfOk result IsSome }
+{
     for _ in rt.forever() {
-        let listener = match attempt_twice(attempt, rt, alloc, event)? {
+        let listener = match listen_and_attempt(attempt, rt, alloc, event)? {
             Turn::Succeeded(output) => return Ok(Some(output)),
             Turn::Listens(listener) => listener,
         };
         if !limit.is_told_before(listener)? {
             return Ok(attempt_at_limit(attempt));
+        }
+        if let Some(output) = attempt.attempt() {
+            return Ok(Some(output));
         }
     }
     unreachable!()

@@ -1,15 +1,13 @@
 //! The loop of a task.
-ghost use Rattle.std.specs.Prelude.{◌≡◌, None, IfOk, IsSomeAnd};
+ghost use Rattle.std.specs.Prelude.{◌≡◌, None, IsSomeAnd};
 ghost use Rattle.futures.specs.Poll.{IfReady, OnPending};
 ghost use Rattle.futures.specs.Task.{Covers, Keeps};
 ghost use Rattle.event_until.specs.Attempts.{SomeFail, FailsAtLeast, SucceedsOrFails};
-ghost use Rattle.event_until.specs.Turn.{Turns, SomeTurns, IfListens};
 
 use super::Until;
-use super::turn::{Turn, poll_listener, poll_turns};
+use super::turn::poll_turns;
 use crate::attempt::Attempt;
 use crate::error::UntilError;
-use event_listener::StackListener;
 use futures::Future;
 use futures::task::{Context, Poll};
 use std::sync::Wait;
@@ -37,35 +35,22 @@ impl<'a, A: Attempt, R: Wait + Clock + Clone> Until<'a, A, R> {
         ensures event { self.new.event_number ≡ self.old.event_number }
         ensures kept { Keeps cx.old cx.new }
     {
-        match self.poll_turn(cx) {
-            Ok(Turn::Succeeded(output)) => Poll::Ready(Ok(output)),
-            Ok(Turn::Listens(listener)) => {
-                self.listener = Some(listener);
-                Poll::Pending
-            }
-            Err(error) => Poll::Ready(Err(error)),
-        }
-    }
-
-    // A listener that an earlier poll left is polled first, and keeps its place in the queue.
-    fn poll_turn(
-        &mut self,
-        cx: &mut Context<'_>,
-    ) -> Result<Turn<A::Output, StackListener<'a, (), R>>, UntilError>
-        ensures attempts { SomeTurns A.fails A.succeeds self.old.attempt result self.new.attempt }
-        ensures attempted { self.old.listener ≡ None → Turns A.fails A.succeeds self.old.attempt result self.new.attempt }
-        ensures listens { IfOk result (λ turn. IfListens turn (λ listener. listener.event_number ≡ self.new.event_number)) }
-        ensures registered { IfOk result (λ turn. IfListens turn (λ listener. Covers cx.new (λ s. s ≡ listener.source))) }
-        ensures unlistened { self.new.listener ≡ None }
-        ensures event { self.new.event_number ≡ self.old.event_number }
-        ensures kept { Keeps cx.old cx.new }
-    {
-        if let Some(listener) = self.listener.take() {
-            if let Some(listener) = poll_listener(listener, cx)? {
-                return Ok(Turn::Listens(listener));
+        let polled = poll_turns(
+            &mut self.attempt,
+            &mut self.listener,
+            self.rt,
+            self.alloc,
+            self.event,
+            cx,
+        );
+        match polled {
+            Ok(Poll::Ready(output)) => Poll::Ready(Ok(output)),
+            Ok(Poll::Pending) => Poll::Pending,
+            Err(error) => {
+                self.listener = None;
+                Poll::Ready(Err(error))
             }
         }
-        poll_turns(&mut self.attempt, self.rt, self.alloc, self.event, cx)
     }
 }
 

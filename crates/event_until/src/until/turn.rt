@@ -1,45 +1,29 @@
-//! Two attempts, and between them a listener.
-ghost use Rattle.std.specs.Prelude.{◌≡◌, IfOk, IfSome, OnErr};
+//! Attempts while a listener is in the queue, and the loop of a task.
+ghost use Rattle.std.specs.Prelude.{◌≡◌, None, IfOk, IfSome, IsSome, IsSomeAnd, OnErr};
+ghost use Rattle.futures.specs.Poll.{IfReady, OnPending};
 ghost use Rattle.futures.specs.Task.{Covers, Keeps};
-ghost use Rattle.event_until.specs.Turn.{Turns, Attempted, IfListens};
+ghost use Rattle.event_until.specs.Attempts.{SomeFail, FailsAtLeast, SucceedsAfter};
+ghost use Rattle.event_until.specs.Turn.{Attempted, IfListens};
 
 use crate::attempt::Attempt;
 use crate::error::UntilError;
-use event_listener::{Event, ListenError, Listener, NeverInserted, StackListener, StackSlot};
+use event_listener::{Event, ListenError, Listener, StackListener, StackSlot};
 use futures::task::{Context, Poll};
 use std::alloc::Global;
 use std::sync::Wait;
 use std::time::Clock;
 
-/// What attempts led to, with a listener between any two.
+/// What an attempt led to that was made while a listener was in the queue.
 pub(crate) enum Turn<T, L> {
-    /// One of them succeeded. No listener is left.
+    /// It succeeded. The listener is gone.
     Succeeded(T),
-    /// All failed, and this listener was in the queue before the last.
+    /// It failed, and this is the listener.
     Listens(L),
 }
 
-/// Attempts, listens, and attempts again.
-pub(super) fn attempt_twice<'a, A, R>(
-    attempt: &mut A,
-    rt: &R,
-    alloc: Global,
-    event: &'a Event<()>,
-) -> Result<Turn<A::Output, StackListener<'a, (), R>>, ListenError>
-where
-    A: Attempt,
-    R: Wait + Clock + Clone,
-    ensures attempts { Turns A.fails A.succeeds attempt.old result attempt.new }
-    ensures event { IfOk result (λ turn. IfListens turn (λ listener. listener.event_number ≡ event.now)) }
-{
-    if let Some(output) = attempt.attempt() {
-        return Ok(Turn::Succeeded(output));
-    }
-    listen_and_attempt(attempt, rt, alloc, event)
-}
-
-// Listens, and attempts once the listener is in the queue: what came before that told nobody.
-fn listen_and_attempt<'a, A, R>(
+/// Listens, and attempts once the listener is in the queue: what came before that told nobody.
+#[inline(always)]
+pub(super) fn listen_and_attempt<'a, A, R>(
     attempt: &mut A,
     rt: &R,
     alloc: Global,
@@ -61,48 +45,46 @@ where
     }
 }
 
-/// Takes such turns until an attempt succeeds or a listener is left that has registered the task which polls.
+/// Attempts, listens and attempts again until an attempt succeeds, or a listener is left that has registered the task which
+/// polls. The one that an earlier poll left is polled first, and keeps its place in the queue.
+///
+/// It is polled where it is left, since each move of a listener costs a copy. An error may leave one that is finished.
+#[inline(always)]
 pub(super) fn poll_turns<'a, A, R>(
     attempt: &mut A,
+    left: &mut Option<StackListener<'a, (), R>>,
     rt: &R,
     alloc: Global,
     event: &'a Event<()>,
     cx: &mut Context<'_>,
-) -> Result<Turn<A::Output, StackListener<'a, (), R>>, UntilError>
+) -> Result<Poll<A::Output>, UntilError>
 where
     A: Attempt,
     R: Wait + Clock + Clone,
-    ensures attempts { Turns A.fails A.succeeds attempt.old result attempt.new }
-    ensures event { IfOk result (λ turn. IfListens turn (λ listener. listener.event_number ≡ event.now)) }
-    ensures registered { IfOk result (λ turn. IfListens turn (λ listener. Covers cx.new (λ s. s ≡ listener.source))) }
+    ensures ready { IfOk result (λ polled. IfReady polled (λ output. SucceedsAfter A.fails A.succeeds attempt.old output attempt.new)) }
+    ensures pending { IfOk result (λ polled. OnPending polled (SomeFail A.fails attempt.old attempt.new)) }
+    ensures failed { OnErr result (SomeFail A.fails attempt.old attempt.new) }
+    ensures attempted { left.old ≡ None → IfOk result (λ polled. OnPending polled (FailsAtLeast A.fails 2 attempt.old attempt.new)) }
+    ensures listens { IfOk result (λ polled. OnPending polled (IsSome left.new)) }
+    ensures registered { IfOk result (λ polled. OnPending polled (IsSomeAnd left.new (λ listener. Covers cx.new (λ s. s ≡ listener.source)))) }
+    ensures unlistened { IfOk result (λ polled. IfReady polled (λ _. left.new ≡ None)) }
+    ensures event { IfSome left.old (λ listener. listener.event_number ≡ event.now) → IfSome left.new (λ listener. listener.event_number ≡ event.now) }
     ensures kept { Keeps cx.old cx.new }
 {
     for _ in rt.forever() {
-        let listener = match attempt_twice(attempt, rt, alloc, event)? {
-            Turn::Succeeded(output) => return Ok(Turn::Succeeded(output)),
-            Turn::Listens(listener) => listener,
-        };
-        if let Some(listener) = poll_listener(listener, cx)? {
-            return Ok(Turn::Listens(listener));
+        if let Some(listener) = left {
+            if listener.poll_in(cx)?.is_pending() {
+                return Ok(Poll::Pending);
+            }
+            *left = None;
+        }
+        if let Some(output) = attempt.attempt() {
+            return Ok(Poll::Ready(output));
+        }
+        match listen_and_attempt(attempt, rt, alloc, event)? {
+            Turn::Succeeded(output) => return Ok(Poll::Ready(output)),
+            Turn::Listens(listener) => *left = Some(listener),
         }
     }
     unreachable!()
-}
-
-/// Polls a listener. Returns it where it was not told; else it is gone.
-pub(super) fn poll_listener<L>(
-    listener: L,
-    cx: &mut Context<'_>,
-) -> Result<Option<L>, NeverInserted>
-where
-    L: Listener<()> + Drop,
-    ensures same { IfOk result (λ left. IfSome left (λ same. same ≡ listener)) }
-    ensures registered { IfOk result (λ left. IfSome left (λ same. Covers cx.new (λ s. s ≡ L.source same))) }
-    ensures kept { Keeps cx.old cx.new }
-{
-    let mut listener = listener;
-    match listener.poll_in(cx)? {
-        Poll::Ready(()) => Ok(None),
-        Poll::Pending => Ok(Some(listener)),
-    }
 }

@@ -1,5 +1,5 @@
 use Rattle.event_until.specs.Attempts.{SomeFail}
-use Rattle.event_until.proofs.until.blocking.attempt_within.Given as goal
+use Rattle.event_until.proofs.until.blocking.attempt_again.Given as goal
 
 -- some attempts have failed
 abbrev pub invariant-loop : goal.invariant-loop
