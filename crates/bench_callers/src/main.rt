@@ -2,6 +2,7 @@
 #![tactic(auto)]
 
 mod by_hand;
+mod channels;
 mod regions;
 mod request;
 mod sides;

@@ -23,7 +23,7 @@ pub enum Workload {
 /// A call gave another answer than the workload expects.
 #[derive(Clone, Copy, Debug, Error)]
 #[error("a call gave another answer than the workload expects")]
-struct OtherAnswer;
+pub struct OtherAnswer;
 
 pub const WORKLOADS: [Workload; 4] = [
     Workload::AcquireUntil,

@@ -30,21 +30,21 @@ fn messages_come_in_the_order_of_sending(rt: HostRuntime) {
         check(&rt, "the capacity", sender.capacity(), Some(3));
         check(&rt, "the capacity", receiver.capacity(), Some(3));
         // The second round begins in the middle of the room.
-        for round in [0, 10] {
+        for [first, second, third] in [[0, 1, 2], [10, 11, 12]] {
             says(&rt, &sender, &receiver, 0, false);
-            for (len, message) in [(1, round), (2, round + 1), (3, round + 2)] {
+            for (len, message) in [(1, first), (2, second), (3, third)] {
                 let sent = way.send(&rt, &sender, message, now);
                 check(&rt, "the send", sent, Sent::Done);
                 says(&rt, &sender, &receiver, len, len == 3);
             }
             check(&rt, "one too many", sender.try_send(9).is_err(), true);
             says(&rt, &sender, &receiver, 3, true);
-            for (len, message) in [(2, round), (1, round + 1)] {
+            for (len, message) in [(2, first), (1, second)] {
                 let received = way.receive(&rt, &receiver, now);
                 check(&rt, "the receive", received, Received::Message(message));
                 says(&rt, &sender, &receiver, len, false);
             }
-            has_left(&rt, &receiver, &[round + 2]);
+            has_left(&rt, &receiver, &[third]);
         }
     }
 }

@@ -1,6 +1,6 @@
 //! What the tests share: channels, the ways to send and to receive with what they answer, and futures that wait.
-ghost use Rattle.std.specs.Prelude.{ℕ};
-ghost use Rattle.event_channel.specs.Handle.{Carries};
+ghost use Rattle.std.specs.Prelude.{IsSome, IsSomeAnd};
+ghost use Rattle.std.proofs.Props.{props};
 
 use event_channel::{
     Receiver, Recv, RecvError, RecvTimeoutError, Send, SendError, SendTimeoutError, Sender,
@@ -204,7 +204,7 @@ fn wait_until_woken<R: Wait>(rt: &R, task: &MockTask) {
 #[derive(Drop)]
 struct Unsent<'a, R: Wait + Clock + Clone> {
     send: Send<'a, usize, R>,
-    ghost carries: { ∥ ((message : ℕ) × Carries message send) ∥₁ },
+    ghost carries: { IsSomeAnd send (λ trying. IsSome trying.attempt) } by { Prim.hlevel props },
 }
 
 /// A send that is awaited by a task of its own.
