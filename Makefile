@@ -3,7 +3,7 @@
 #
 # run       compiles and runs the worked rows, with every check at run time, and proves nothing: under a minute
 # test      proves everything from nothing, and runs all tests and programs, those that must not compile among them: some
-#           52 minutes
+#           76 minutes
 # edits     tries the wrong bodies that the prover must refuse, many at a time: some 20 minutes from nothing; those of
 #           one crate by `make edits CRATE=event_queue`. A merge asks for `make test` and `make edits`, as .ci/run runs them
 # prove     proves every crate and its tests, and runs tests and programs, but tries no edits: as long as
