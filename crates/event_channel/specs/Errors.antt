@@ -15,10 +15,10 @@ module _ {T : Type 0} where
   abbrev pub unsent : SendError T → T
   unsent (Send.Closed message) = message
   unsent (Send.Memory message) = message
-  unsent (Send.Wait message reason) = message
+  unsent (Send.WaitFailed message reason) = message
 
   abbrev pub unsent_in_time : SendTimeoutError T → T
   unsent_in_time (Timeout.TimedOut message) = message
   unsent_in_time (Timeout.Closed message) = message
   unsent_in_time (Timeout.Memory message) = message
-  unsent_in_time (Timeout.Wait message reason) = message
+  unsent_in_time (Timeout.WaitFailed message reason) = message

@@ -20,13 +20,15 @@ module _ {T : Type 0} where
   Pushes message before after =
       (before.is_closed ≡ false) × (after ≡ record { waiting = before.waiting ++ (message ∷ []); capacity = before.capacity; is_closed = false })
 
-  -- the message comes back from a channel that is closed, or full, or, without a limit, out of memory
+  -- the message comes back from a channel that is closed, or from an open one that is full, or, without a limit, out of memory
   abbrev pub Refuses : T → Messages T → TrySendError T → Type 0
   Refuses message before (Closed back) = (back ≡ message) × (before.is_closed ≡ true)
-  Refuses message before (Full back) = (back ≡ message) × IsFull before
-  Refuses message before (Memory back) = (back ≡ message) × (before.capacity ≡ None)
+  Refuses message before (Full back) =
+      (back ≡ message) × (before.is_closed ≡ false) × IsFull before
+  Refuses message before (Memory back) =
+      (back ≡ message) × (before.is_closed ≡ false) × (before.capacity ≡ None)
 
-  -- the message is the first of those that waited, and taken out
+  -- before there was one message more, in front of all others
   abbrev pub Pops : T → Messages T → Messages T → Type 0
   Pops message before after =
-      (before.waiting ≡ message ∷ after.waiting) × (after.capacity ≡ before.capacity) × (after.is_closed ≡ before.is_closed)
+      before ≡ record { waiting = message ∷ after.waiting; capacity = after.capacity; is_closed = after.is_closed }

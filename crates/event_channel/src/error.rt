@@ -28,7 +28,7 @@ pub enum SendError<T> {
     /// There was no memory for the message. A channel with a limit never returns this.
     Memory(T),
     /// The channel is full, and waiting for room was refused.
-    Wait(T, UntilError),
+    WaitFailed(T, UntilError),
 }
 
 /// Why a message was not sent in time, which comes back.
@@ -41,7 +41,7 @@ pub enum SendTimeoutError<T> {
     /// There was no memory for the message. A channel with a limit never returns this.
     Memory(T),
     /// The channel is full, and waiting for room was refused.
-    Wait(T, UntilError),
+    WaitFailed(T, UntilError),
 }
 
 /// Why [`try_recv`](crate::Receiver::try_recv) received no message.
@@ -63,7 +63,7 @@ pub enum RecvError {
     Closed,
     /// The channel is empty, and waiting for a message was refused.
     #[error("{0}")]
-    Wait(#[from] UntilError),
+    WaitFailed(#[from] UntilError),
 }
 
 /// Why no message was received in time.
@@ -77,7 +77,7 @@ pub enum RecvTimeoutError {
     Closed,
     /// The channel is empty, and waiting for a message was refused.
     #[error("{0}")]
-    Wait(#[from] UntilError),
+    WaitFailed(#[from] UntilError),
 }
 
 impl<T> TrySendError<T> {
@@ -101,7 +101,7 @@ impl<T> SendError<T> {
         match self {
             SendError::Closed(message) => message,
             SendError::Memory(message) => message,
-            SendError::Wait(message, _) => message,
+            SendError::WaitFailed(message, _) => message,
         }
     }
 }
@@ -115,7 +115,7 @@ impl<T> SendTimeoutError<T> {
             SendTimeoutError::TimedOut(message) => message,
             SendTimeoutError::Closed(message) => message,
             SendTimeoutError::Memory(message) => message,
-            SendTimeoutError::Wait(message, _) => message,
+            SendTimeoutError::WaitFailed(message, _) => message,
         }
     }
 }
@@ -127,7 +127,7 @@ impl<T> From<SendError<T>> for SendTimeoutError<T> {
         match error {
             SendError::Closed(message) => SendTimeoutError::Closed(message),
             SendError::Memory(message) => SendTimeoutError::Memory(message),
-            SendError::Wait(message, error) => SendTimeoutError::Wait(message, error),
+            SendError::WaitFailed(message, error) => SendTimeoutError::WaitFailed(message, error),
         }
     }
 }
@@ -147,7 +147,7 @@ impl<T> Display for SendError<T> {
         match self {
             SendError::Closed(_) => f.write_str("the channel is closed"),
             SendError::Memory(_) => f.write_str("no memory for a message"),
-            SendError::Wait(_, error) => Display::fmt(error, f),
+            SendError::WaitFailed(_, error) => Display::fmt(error, f),
         }
     }
 }
@@ -158,7 +158,7 @@ impl<T> Display for SendTimeoutError<T> {
             SendTimeoutError::TimedOut(_) => f.write_str("the channel was full for too long"),
             SendTimeoutError::Closed(_) => f.write_str("the channel is closed"),
             SendTimeoutError::Memory(_) => f.write_str("no memory for a message"),
-            SendTimeoutError::Wait(_, error) => Display::fmt(error, f),
+            SendTimeoutError::WaitFailed(_, error) => Display::fmt(error, f),
         }
     }
 }
@@ -180,7 +180,7 @@ impl<T> Debug for SendError<T> {
         f.write_str(match self {
             SendError::Closed(_) => "Closed(..)",
             SendError::Memory(_) => "Memory(..)",
-            SendError::Wait(_, _) => "Wait(..)",
+            SendError::WaitFailed(_, _) => "WaitFailed(..)",
         })
     }
 }
@@ -192,7 +192,7 @@ impl<T> Debug for SendTimeoutError<T> {
             SendTimeoutError::TimedOut(_) => "TimedOut(..)",
             SendTimeoutError::Closed(_) => "Closed(..)",
             SendTimeoutError::Memory(_) => "Memory(..)",
-            SendTimeoutError::Wait(_, _) => "Wait(..)",
+            SendTimeoutError::WaitFailed(_, _) => "WaitFailed(..)",
         })
     }
 }

@@ -129,7 +129,7 @@ impl<'a, T: Drop, R: Wait + Clock + Clone> Future for Send<'a, T, R> {
         match sending.poll_in(cx) {
             Poll::Ready(Ok(answer)) => Poll::Ready(answer),
             Poll::Ready(Err(error)) => {
-                Poll::Ready(Err(SendError::Wait(unsent_message(sending), error)))
+                Poll::Ready(Err(SendError::WaitFailed(unsent_message(sending), error)))
             }
             Poll::Pending => {
                 self.keep(sending);

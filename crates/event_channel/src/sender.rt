@@ -146,7 +146,7 @@ impl<T: Drop, R: Wait + Clock + Clone> Sender<T, R> {
         let mut sending = self.sending(message);
         match sending.wait() {
             Ok(answer) => answer,
-            Err(error) => Err(SendError::Wait(unsent_message(sending), error)),
+            Err(error) => Err(SendError::WaitFailed(unsent_message(sending), error)),
         }
     }
 
@@ -162,7 +162,7 @@ impl<T: Drop, R: Wait + Clock + Clone> Sender<T, R> {
             Ok(Some(Ok(()))) => Ok(()),
             Ok(Some(Err(error))) => Err(SendTimeoutError::from(error)),
             Ok(None) => Err(SendTimeoutError::TimedOut(unsent_message(sending))),
-            Err(error) => Err(SendTimeoutError::Wait(unsent_message(sending), error)),
+            Err(error) => Err(SendTimeoutError::WaitFailed(unsent_message(sending), error)),
         }
     }
 
