@@ -1,4 +1,4 @@
-//! Tests of `event_channel`.
+//! Tests of `event_channel`: what calls answer where one thread makes them.
 //!
 //! | Module | What it tests |
 //! |---|---|
@@ -6,11 +6,9 @@
 //! | `wakes` | polls by hand: whom a message wakes, and whom room does; told and dropped, told and too late |
 //! | `closing` | a close by a call, or with the last handle of a side: who is woken, which messages are left, and which come back |
 //! | `deadlines` | calls that end at a limit, and what comes with it |
-//! | `refusals` | memory that is refused: a message is in the channel or comes back, and never lost |
-//! | `races` | who is woken looks at once, and finds what it was woken for |
-//! | `threads` | 8 threads that send and 8 that receive, blocking, awaiting and with timeouts; a close among them |
 //!
 //! `support` has what they share. What is said of every way to send or to receive is written once, and run with each.
+//! Threads, and memory that is refused, are tested in `test_channel_threads`.
 #![tactic(auto)]
 
 #[cfg(test)]
@@ -20,12 +18,6 @@ mod deadlines;
 #[cfg(test)]
 mod order;
 #[cfg(test)]
-mod races;
-#[cfg(test)]
-mod refusals;
-#[cfg(test)]
 mod support;
-#[cfg(test)]
-mod threads;
 #[cfg(test)]
 mod wakes;

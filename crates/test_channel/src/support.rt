@@ -12,17 +12,10 @@ use futures::executor::block_on;
 use futures::task::Poll;
 use futures::test::MockTask;
 use std::fmt::Debug;
-use std::marker;
 use std::process::Abort;
 use std::sync::Wait;
-use std::thread::{self, Threads};
 use std::time::{Clock, Duration};
 pub use test_support::Runtime;
-
-/// What tests with threads ask of a runtime value.
-pub trait SharedRuntime: Runtime + Threads + Sync + marker::Send {}
-
-impl<R: Runtime + Threads + Sync + marker::Send> SharedRuntime for R {}
 
 /// The answer is the expected one. Where it is not, the message has both, and what was asked. The assertion stands here
 /// once, in a generic function, and is proved once.
@@ -188,18 +181,6 @@ fn received_in_time(answer: Result<usize, RecvTimeoutError>) -> Received {
     }
 }
 
-// It keeps its processor busy, to look as soon as the task is woken.
-fn wait_until_woken<R: Wait>(rt: &R, task: &MockTask) {
-    for _ in rt.forever() {
-        for _ in 0..1000u32 {
-            if task.is_woken() {
-                return;
-            }
-        }
-        thread::yield_now();
-    }
-}
-
 // A send that is not done.
 #[derive(Drop)]
 struct Unsent<'a, R: Wait + Clock + Clone> {
@@ -254,11 +235,6 @@ impl<'a, R: Runtime> Sending<'a, R> {
     pub fn is_woken(&self, rt: &R, expected: bool) {
         check(rt, "a sender is woken", self.task.is_woken(), expected);
     }
-
-    /// Waits in a loop until the task is woken.
-    pub fn until_woken(&self, rt: &R) {
-        wait_until_woken(rt, &self.task);
-    }
 }
 
 /// A receive that is awaited by a task of its own.
@@ -300,11 +276,6 @@ impl<'a, R: Runtime> Receiving<'a, R> {
     /// Since its last poll the task was woken, or was not.
     pub fn is_woken(&self, rt: &R, expected: bool) {
         check(rt, "a receiver is woken", self.task.is_woken(), expected);
-    }
-
-    /// Waits in a loop until the task is woken.
-    pub fn until_woken(&self, rt: &R) {
-        wait_until_woken(rt, &self.task);
     }
 }
 
