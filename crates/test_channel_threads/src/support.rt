@@ -149,7 +149,7 @@ fn waited_to_send(answer: Result<(), SendError<usize>>) -> Sent {
         Ok(()) => Sent::Done,
         Err(SendError::Closed(message)) => Sent::Closed(message),
         Err(SendError::Memory(message)) => Sent::Memory(message),
-        Err(SendError::Wait(message, error)) => Sent::Refused(message, error),
+        Err(SendError::WaitFailed(message, error)) => Sent::Refused(message, error),
     }
 }
 
@@ -159,7 +159,7 @@ fn sent_in_time(answer: Result<(), SendTimeoutError<usize>>) -> Sent {
         Err(SendTimeoutError::TimedOut(message)) => Sent::TimedOut(message),
         Err(SendTimeoutError::Closed(message)) => Sent::Closed(message),
         Err(SendTimeoutError::Memory(message)) => Sent::Memory(message),
-        Err(SendTimeoutError::Wait(message, error)) => Sent::Refused(message, error),
+        Err(SendTimeoutError::WaitFailed(message, error)) => Sent::Refused(message, error),
     }
 }
 
@@ -175,7 +175,7 @@ fn waited_to_receive(answer: Result<usize, RecvError>) -> Received {
     match answer {
         Ok(message) => Received::Message(message),
         Err(RecvError::Closed) => Received::Closed,
-        Err(RecvError::Wait(error)) => Received::Refused(error),
+        Err(RecvError::WaitFailed(error)) => Received::Refused(error),
     }
 }
 
@@ -184,7 +184,7 @@ fn received_in_time(answer: Result<usize, RecvTimeoutError>) -> Received {
         Ok(message) => Received::Message(message),
         Err(RecvTimeoutError::TimedOut) => Received::TimedOut,
         Err(RecvTimeoutError::Closed) => Received::Closed,
-        Err(RecvTimeoutError::Wait(error)) => Received::Refused(error),
+        Err(RecvTimeoutError::WaitFailed(error)) => Received::Refused(error),
     }
 }
 
