@@ -5,7 +5,7 @@
 //! | `order` | calls that need not wait: messages in order, what a channel says of itself, its handles, what makes no channel, and what is dropped |
 //! | `wakes` | polls by hand: whom a message wakes, and whom room does; told and dropped, told and too late |
 //! | `closing` | a close by a call, or with the last handle of a side: who is woken, which messages are left, and which come back |
-//! | `deadlines` | calls that end at a limit, and what comes with it |
+//! | `deadlines` | calls that end at a limit |
 //!
 //! `support` has what they share. What is said of every way to send or to receive is written once, and run with each.
 //! Threads, and memory that is refused, are tested in `test_channel_threads`.
