@@ -8,7 +8,7 @@
 //! | `refusals` | memory that is refused: a message is in the channel or comes back, and never lost |
 //! | `threads` | 8 threads that send and 8 that receive, blocking, awaiting and with timeouts; a close among them |
 //!
-//! `support` has what they share. What calls answer where one thread makes them is tested in `test_channel`.
+//! What calls answer where one thread makes them is tested in `test_channel`.
 #![tactic(auto)]
 
 #[cfg(test)]
