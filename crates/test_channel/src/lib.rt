@@ -9,8 +9,8 @@
 //! | `streams` | receives as a stream, and its end |
 //! | `errors` | what errors say, and the messages that come back in them |
 //!
-//! What is said of every way to send or to receive is written once, and run with each ([`test_channel_support`]). Threads,
-//! and memory that is refused, are tested in `test_channel_threads`.
+//! What is said of every way to send or to receive is written once, and run with each (`test_channel_support`). Threads
+//! are tested in `test_channel_threads`, and refused memory in `test_channel_memory`.
 #![tactic(auto)]
 
 #[cfg(test)]
