@@ -1,11 +1,12 @@
 //! Calls that end at a limit.
-use crate::support::{Received, Runtime, Sent, Way, check, full_channel, has_left, new_channel};
+use crate::support::check;
 use event_channel::{Receiver, Sender, bounded};
 use event_listener::EventIds;
 use std::alloc::AllocGlobal;
 use std::sync::Wait;
 use std::time::{Clock, Duration, Instant};
-use test_support::NoClock;
+use test_channel_support::{Received, Sent, Way, are_left, full_channel, new_channel};
+use test_support::{NoClock, Runtime};
 
 const LIMITS: [u64; 3] = [0, 1, 20];
 
@@ -15,7 +16,7 @@ fn now<R: Runtime>(rt: &R) -> Instant {
 
 #[test]
 fn a_full_channel_hands_back_at_the_limit(rt: HostRuntime) {
-    let (sender, receiver) = full_channel(&rt, 2);
+    let (sender, receiver) = full_channel(&rt, 2).expect(&rt, "a channel");
     for limit in LIMITS {
         let limit = Duration::from_millis(limit);
         let before = now(&rt);
@@ -24,15 +25,15 @@ fn a_full_channel_hands_back_at_the_limit(rt: HostRuntime) {
         let waited = now(&rt).saturating_duration_since(before) >= limit;
         check(&rt, "whether it waited so long", waited, true);
     }
-    has_left(&rt, &receiver, &[0, 1]);
+    check(&rt, "what is left", are_left(&receiver, &[0, 1]), true);
     let sent = Way::Timed.send(&rt, &sender, 8, Duration::ZERO);
     check(&rt, "a send with room", sent, Sent::Done);
-    has_left(&rt, &receiver, &[8]);
+    check(&rt, "what is left", are_left(&receiver, &[8]), true);
 }
 
 #[test]
 fn an_empty_channel_gives_nothing_at_the_limit(rt: HostRuntime) {
-    let (sender, receiver) = new_channel(&rt, Some(2));
+    let (sender, receiver) = new_channel(&rt, Some(2)).expect(&rt, "a channel");
     for limit in LIMITS {
         let limit = Duration::from_millis(limit);
         let before = now(&rt);

@@ -6,9 +6,11 @@
 //! | `wakes` | polls by hand: whom a message wakes, and whom room does; told and dropped, told and too late |
 //! | `closing` | a close by a call, or with the last handle of a side: who is woken, which messages are left, and which come back |
 //! | `deadlines` | calls that end at a limit |
+//! | `streams` | receives as a stream, and its end |
+//! | `errors` | what errors say, and the messages that come back in them |
 //!
-//! `support` has what they share. What is said of every way to send or to receive is written once, and run with each.
-//! Threads, and memory that is refused, are tested in `test_channel_threads`.
+//! What is said of every way to send or to receive is written once, and run with each (`test_channel_support`). Threads
+//! are tested in `test_channel_threads`, and refused memory in `test_channel_memory`.
 #![tactic(auto)]
 
 #[cfg(test)]
@@ -16,7 +18,11 @@ mod closing;
 #[cfg(test)]
 mod deadlines;
 #[cfg(test)]
+mod errors;
+#[cfg(test)]
 mod order;
+#[cfg(test)]
+mod streams;
 #[cfg(test)]
 mod support;
 #[cfg(test)]

@@ -1,11 +1,13 @@
 //! Calls that need not wait: the order of messages, what a channel says of itself, its handles, and what is dropped.
-use crate::support::{Received, Runtime, Sent, WAYS, Way, check, has_left, new_channel, new_task};
+use crate::support::check;
 use event_channel::{ChannelError, Receiver, Sender, bounded, unbounded};
 use event_listener::{EventIds, IdsUsedUp};
+use futures::test::MockTask;
 use std::alloc::AllocGlobal;
 use std::cell::Cell;
 use std::time::Duration;
-use test_support::Unshared;
+use test_channel_support::{Received, Sent, WAYS, Way, are_left, new_channel};
+use test_support::{Runtime, Unshared};
 
 // Both sides say that so many messages wait, and whether more fit.
 fn says<R: Runtime>(
@@ -26,7 +28,7 @@ fn says<R: Runtime>(
 fn messages_come_in_the_order_of_sending(rt: HostRuntime) {
     let now = Duration::ZERO;
     for way in WAYS {
-        let (sender, receiver) = new_channel(&rt, Some(3));
+        let (sender, receiver) = new_channel(&rt, Some(3)).expect(&rt, "a channel");
         check(&rt, "the capacity", sender.capacity(), Some(3));
         check(&rt, "the capacity", receiver.capacity(), Some(3));
         // The second round begins in the middle of the room.
@@ -44,7 +46,7 @@ fn messages_come_in_the_order_of_sending(rt: HostRuntime) {
                 check(&rt, "the receive", received, Received::Message(message));
                 says(&rt, &sender, &receiver, len, false);
             }
-            has_left(&rt, &receiver, &[third]);
+            check(&rt, "what is left", are_left(&receiver, &[third]), true);
         }
     }
 }
@@ -52,7 +54,7 @@ fn messages_come_in_the_order_of_sending(rt: HostRuntime) {
 #[test]
 fn a_channel_without_a_limit_is_never_full(rt: HostRuntime) {
     for way in WAYS {
-        let (sender, receiver) = new_channel(&rt, None);
+        let (sender, receiver) = new_channel(&rt, None).expect(&rt, "a channel");
         check(&rt, "the capacity", sender.capacity(), None);
         check(&rt, "the capacity", receiver.capacity(), None);
         for message in 0..100 {
@@ -70,7 +72,7 @@ fn a_channel_without_a_limit_is_never_full(rt: HostRuntime) {
 
 #[test]
 fn a_full_channel_keeps_what_it_has(rt: HostRuntime) {
-    let (sender, receiver) = new_channel(&rt, Some(1));
+    let (sender, receiver) = new_channel(&rt, Some(1)).expect(&rt, "a channel");
     check(&rt, "the first", sender.try_send(1).is_ok(), true);
     let now = Duration::ZERO;
     let refused = Way::AtOnce.send(&rt, &sender, 2, now);
@@ -78,7 +80,7 @@ fn a_full_channel_keeps_what_it_has(rt: HostRuntime) {
     let refused = Way::Timed.send(&rt, &sender, 3, now);
     check(&rt, "a timed send", refused, Sent::TimedOut(3));
     says(&rt, &sender, &receiver, 1, true);
-    has_left(&rt, &receiver, &[1]);
+    check(&rt, "what is left", are_left(&receiver, &[1]), true);
 }
 
 // Both sides say that there are so many of each.
@@ -97,7 +99,7 @@ fn counts<R: Runtime>(
 
 #[test]
 fn handles_are_counted(rt: HostRuntime) {
-    let (sender, receiver) = new_channel(&rt, Some(3));
+    let (sender, receiver) = new_channel(&rt, Some(3)).expect(&rt, "a channel");
     counts(&rt, &sender, &receiver, (1, 1));
     let second = sender.clone().expect(&rt, "a sender");
     counts(&rt, &second, &receiver, (2, 1));
@@ -110,7 +112,7 @@ fn handles_are_counted(rt: HostRuntime) {
     drop(other);
     counts(&rt, &second, &third, (1, 1));
     check(&rt, "the send", second.try_send(7).is_ok(), true);
-    has_left(&rt, &third, &[7]);
+    check(&rt, "what is left", are_left(&third, &[7]), true);
 }
 
 #[test]
@@ -155,7 +157,7 @@ fn each_message_is_dropped_once(rt: HostRuntime) {
     let first = sender.try_send(Counted { drops: &drops }).is_ok();
     let second = sender.try_send(Counted { drops: &drops }).is_ok();
     check(&rt, "whether both are sent", (first, second), (true, true));
-    let task = new_task(&rt);
+    let task = MockTask::new(&rt).expect(&rt, "a task");
     let mut send = sender.send(Counted { drops: &drops });
     check(&rt, "pending", task.poll(&mut send).is_pending(), true);
     check(&rt, "drops", drops.get(), 0);

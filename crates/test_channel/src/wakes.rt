@@ -1,10 +1,10 @@
 //! Polls by hand: whom a message wakes, and whom room does.
-use crate::support::{
-    Received, Receiving, Sending, Sent, WAYS, Way, check, full_channel, has_left, new_channel,
-    next_of,
-};
+use crate::support::check;
 use event_channel::{Receiver, Sender};
 use std::time::Duration;
+use test_channel_support::{
+    Received, Receiving, Sending, Sent, WAYS, Way, are_left, full_channel, new_channel, next_of,
+};
 use test_support::Runtime;
 
 // Sends what fits.
@@ -22,18 +22,22 @@ fn receives<R: Runtime>(rt: &R, way: Way, receiver: &Receiver<usize, R>, message
 #[test]
 fn each_message_wakes_one_receiver(rt: HostRuntime) {
     for way in WAYS {
-        let (sender, receiver) = new_channel(&rt, Some(3));
-        let mut first = Receiving::waiting(&rt, &receiver);
-        let mut second = Receiving::waiting(&rt, &receiver);
-        first.is_woken(&rt, false);
+        let (sender, receiver) = new_channel(&rt, Some(3)).expect(&rt, "a channel");
+        let mut first = Receiving::waiting(&rt, &receiver).expect(&rt, "a receive that waits");
+        let mut second = Receiving::waiting(&rt, &receiver).expect(&rt, "a receive that waits");
+        check(&rt, "whether it was woken", first.is_woken(), false);
         sends(&rt, way, &sender, 1);
-        first.is_woken(&rt, true);
-        second.is_woken(&rt, false);
-        first.gives(&rt, Received::Message(1));
-        second.is_woken(&rt, false);
+        check(
+            &rt,
+            "who was woken",
+            [first.is_woken(), second.is_woken()],
+            [true, false],
+        );
+        check(&rt, "a poll", first.poll(), Received::Message(1));
+        check(&rt, "whether it was woken", second.is_woken(), false);
         sends(&rt, way, &sender, 2);
-        second.is_woken(&rt, true);
-        second.gives(&rt, Received::Message(2));
+        check(&rt, "whether it was woken", second.is_woken(), true);
+        check(&rt, "a poll", second.poll(), Received::Message(2));
         check(&rt, "messages left", receiver.len(), 0);
     }
 }
@@ -41,50 +45,62 @@ fn each_message_wakes_one_receiver(rt: HostRuntime) {
 #[test]
 fn two_messages_wake_two_receivers(rt: HostRuntime) {
     for way in WAYS {
-        let (sender, receiver) = new_channel(&rt, None);
-        let mut first = Receiving::waiting(&rt, &receiver);
-        let mut second = Receiving::waiting(&rt, &receiver);
+        let (sender, receiver) = new_channel(&rt, None).expect(&rt, "a channel");
+        let mut first = Receiving::waiting(&rt, &receiver).expect(&rt, "a receive that waits");
+        let mut second = Receiving::waiting(&rt, &receiver).expect(&rt, "a receive that waits");
         sends(&rt, way, &sender, 1);
         sends(&rt, way, &sender, 2);
-        first.is_woken(&rt, true);
-        second.is_woken(&rt, true);
-        second.gives(&rt, Received::Message(1));
-        first.gives(&rt, Received::Message(2));
+        check(
+            &rt,
+            "who was woken",
+            [first.is_woken(), second.is_woken()],
+            [true, true],
+        );
+        check(&rt, "a poll", second.poll(), Received::Message(1));
+        check(&rt, "a poll", first.poll(), Received::Message(2));
     }
 }
 
 #[test]
 fn each_receive_wakes_one_sender(rt: HostRuntime) {
     for way in WAYS {
-        let (sender, receiver) = full_channel(&rt, 2);
-        let mut first = Sending::waiting(&rt, &sender, 2);
-        let mut second = Sending::waiting(&rt, &sender, 3);
-        first.is_woken(&rt, false);
+        let (sender, receiver) = full_channel(&rt, 2).expect(&rt, "a channel");
+        let mut first = Sending::waiting(&rt, &sender, 2).expect(&rt, "a send that waits");
+        let mut second = Sending::waiting(&rt, &sender, 3).expect(&rt, "a send that waits");
+        check(&rt, "whether it was woken", first.is_woken(), false);
         receives(&rt, way, &receiver, 0);
-        first.is_woken(&rt, true);
-        second.is_woken(&rt, false);
-        first.gives(&rt, Sent::Done);
-        second.is_woken(&rt, false);
+        check(
+            &rt,
+            "who was woken",
+            [first.is_woken(), second.is_woken()],
+            [true, false],
+        );
+        check(&rt, "a poll", first.poll(), Sent::Done);
+        check(&rt, "whether it was woken", second.is_woken(), false);
         receives(&rt, way, &receiver, 1);
-        second.is_woken(&rt, true);
-        second.gives(&rt, Sent::Done);
-        has_left(&rt, &receiver, &[2, 3]);
+        check(&rt, "whether it was woken", second.is_woken(), true);
+        check(&rt, "a poll", second.poll(), Sent::Done);
+        check(&rt, "what is left", are_left(&receiver, &[2, 3]), true);
     }
 }
 
 #[test]
 fn two_receives_wake_two_senders(rt: HostRuntime) {
     for way in WAYS {
-        let (sender, receiver) = full_channel(&rt, 2);
-        let mut first = Sending::waiting(&rt, &sender, 2);
-        let mut second = Sending::waiting(&rt, &sender, 3);
+        let (sender, receiver) = full_channel(&rt, 2).expect(&rt, "a channel");
+        let mut first = Sending::waiting(&rt, &sender, 2).expect(&rt, "a send that waits");
+        let mut second = Sending::waiting(&rt, &sender, 3).expect(&rt, "a send that waits");
         receives(&rt, way, &receiver, 0);
         receives(&rt, way, &receiver, 1);
-        first.is_woken(&rt, true);
-        second.is_woken(&rt, true);
-        second.gives(&rt, Sent::Done);
-        first.gives(&rt, Sent::Done);
-        has_left(&rt, &receiver, &[3, 2]);
+        check(
+            &rt,
+            "who was woken",
+            [first.is_woken(), second.is_woken()],
+            [true, true],
+        );
+        check(&rt, "a poll", second.poll(), Sent::Done);
+        check(&rt, "a poll", first.poll(), Sent::Done);
+        check(&rt, "what is left", are_left(&receiver, &[3, 2]), true);
     }
 }
 
@@ -92,115 +108,135 @@ fn two_receives_wake_two_senders(rt: HostRuntime) {
 #[test]
 fn a_receiver_that_comes_too_late_waits_again(rt: HostRuntime) {
     for way in WAYS {
-        let (sender, receiver) = new_channel(&rt, Some(3));
-        let mut first = Receiving::waiting(&rt, &receiver);
-        let mut second = Receiving::waiting(&rt, &receiver);
+        let (sender, receiver) = new_channel(&rt, Some(3)).expect(&rt, "a channel");
+        let mut first = Receiving::waiting(&rt, &receiver).expect(&rt, "a receive that waits");
+        let mut second = Receiving::waiting(&rt, &receiver).expect(&rt, "a receive that waits");
         sends(&rt, way, &sender, 1);
         receives(&rt, way, &receiver, 1);
-        second.is_woken(&rt, false);
-        first.gives(&rt, Received::Waits);
-        first.is_woken(&rt, false);
+        check(&rt, "whether it was woken", second.is_woken(), false);
+        check(&rt, "a poll", first.poll(), Received::Waits);
+        check(&rt, "whether it was woken", first.is_woken(), false);
         sends(&rt, way, &sender, 2);
         sends(&rt, way, &sender, 3);
-        first.is_woken(&rt, true);
-        second.is_woken(&rt, true);
-        second.gives(&rt, Received::Message(2));
-        first.gives(&rt, Received::Message(3));
+        check(
+            &rt,
+            "who was woken",
+            [first.is_woken(), second.is_woken()],
+            [true, true],
+        );
+        check(&rt, "a poll", second.poll(), Received::Message(2));
+        check(&rt, "a poll", first.poll(), Received::Message(3));
     }
 }
 
 #[test]
 fn a_sender_that_comes_too_late_waits_again(rt: HostRuntime) {
     for way in WAYS {
-        let (sender, receiver) = full_channel(&rt, 2);
-        let mut first = Sending::waiting(&rt, &sender, 2);
-        let mut second = Sending::waiting(&rt, &sender, 3);
+        let (sender, receiver) = full_channel(&rt, 2).expect(&rt, "a channel");
+        let mut first = Sending::waiting(&rt, &sender, 2).expect(&rt, "a send that waits");
+        let mut second = Sending::waiting(&rt, &sender, 3).expect(&rt, "a send that waits");
         receives(&rt, way, &receiver, 0);
         sends(&rt, way, &sender, 4);
-        second.is_woken(&rt, false);
-        first.gives(&rt, Sent::Waits);
-        first.is_woken(&rt, false);
+        check(&rt, "whether it was woken", second.is_woken(), false);
+        check(&rt, "a poll", first.poll(), Sent::Waits);
+        check(&rt, "whether it was woken", first.is_woken(), false);
         receives(&rt, way, &receiver, 1);
         receives(&rt, way, &receiver, 4);
-        first.is_woken(&rt, true);
-        second.is_woken(&rt, true);
-        second.gives(&rt, Sent::Done);
-        first.gives(&rt, Sent::Done);
-        has_left(&rt, &receiver, &[3, 2]);
+        check(
+            &rt,
+            "who was woken",
+            [first.is_woken(), second.is_woken()],
+            [true, true],
+        );
+        check(&rt, "a poll", second.poll(), Sent::Done);
+        check(&rt, "a poll", first.poll(), Sent::Done);
+        check(&rt, "what is left", are_left(&receiver, &[3, 2]), true);
     }
 }
 
 #[test]
 fn a_receiver_that_is_told_and_dropped_passes_on(rt: HostRuntime) {
-    let (sender, receiver) = new_channel(&rt, Some(3));
-    let first = Receiving::waiting(&rt, &receiver);
-    let mut second = Receiving::waiting(&rt, &receiver);
-    let third = Receiving::waiting(&rt, &receiver);
+    let (sender, receiver) = new_channel(&rt, Some(3)).expect(&rt, "a channel");
+    let first = Receiving::waiting(&rt, &receiver).expect(&rt, "a receive that waits");
+    let mut second = Receiving::waiting(&rt, &receiver).expect(&rt, "a receive that waits");
+    let third = Receiving::waiting(&rt, &receiver).expect(&rt, "a receive that waits");
     sends(&rt, Way::AtOnce, &sender, 1);
-    second.is_woken(&rt, false);
+    check(&rt, "whether it was woken", second.is_woken(), false);
     drop(first);
-    second.is_woken(&rt, true);
-    third.is_woken(&rt, false);
-    second.gives(&rt, Received::Message(1));
+    check(
+        &rt,
+        "who was woken",
+        [second.is_woken(), third.is_woken()],
+        [true, false],
+    );
+    check(&rt, "a poll", second.poll(), Received::Message(1));
 }
 
 #[test]
 fn a_sender_that_is_told_and_dropped_passes_on(rt: HostRuntime) {
-    let (sender, receiver) = full_channel(&rt, 2);
-    let first = Sending::waiting(&rt, &sender, 2);
-    let mut second = Sending::waiting(&rt, &sender, 3);
-    let third = Sending::waiting(&rt, &sender, 4);
+    let (sender, receiver) = full_channel(&rt, 2).expect(&rt, "a channel");
+    let first = Sending::waiting(&rt, &sender, 2).expect(&rt, "a send that waits");
+    let mut second = Sending::waiting(&rt, &sender, 3).expect(&rt, "a send that waits");
+    let third = Sending::waiting(&rt, &sender, 4).expect(&rt, "a send that waits");
     receives(&rt, Way::AtOnce, &receiver, 0);
-    second.is_woken(&rt, false);
+    check(&rt, "whether it was woken", second.is_woken(), false);
     drop(first);
-    second.is_woken(&rt, true);
-    third.is_woken(&rt, false);
-    second.gives(&rt, Sent::Done);
-    has_left(&rt, &receiver, &[1, 3]);
+    check(
+        &rt,
+        "who was woken",
+        [second.is_woken(), third.is_woken()],
+        [true, false],
+    );
+    check(&rt, "a poll", second.poll(), Sent::Done);
+    check(&rt, "what is left", are_left(&receiver, &[1, 3]), true);
 }
 
 #[test]
 fn who_is_not_told_and_dropped_wakes_nobody(rt: HostRuntime) {
-    let (sender, receiver) = new_channel(&rt, Some(1));
-    let first = Receiving::waiting(&rt, &receiver);
-    let second = Receiving::waiting(&rt, &receiver);
+    let (sender, receiver) = new_channel(&rt, Some(1)).expect(&rt, "a channel");
+    let first = Receiving::waiting(&rt, &receiver).expect(&rt, "a receive that waits");
+    let second = Receiving::waiting(&rt, &receiver).expect(&rt, "a receive that waits");
     drop(first);
-    second.is_woken(&rt, false);
+    check(&rt, "whether it was woken", second.is_woken(), false);
     drop(second);
     sends(&rt, Way::AtOnce, &sender, 1);
-    let third = Sending::waiting(&rt, &sender, 2);
-    let fourth = Sending::waiting(&rt, &sender, 3);
+    let third = Sending::waiting(&rt, &sender, 2).expect(&rt, "a send that waits");
+    let fourth = Sending::waiting(&rt, &sender, 3).expect(&rt, "a send that waits");
     drop(third);
-    fourth.is_woken(&rt, false);
+    check(&rt, "whether it was woken", fourth.is_woken(), false);
     drop(fourth);
-    has_left(&rt, &receiver, &[1]);
+    check(&rt, "what is left", are_left(&receiver, &[1]), true);
 }
 
 #[test]
 fn a_poll_that_is_not_due_keeps_its_place(rt: HostRuntime) {
-    let (sender, receiver) = new_channel(&rt, Some(1));
-    let mut first = Receiving::waiting(&rt, &receiver);
-    let second = Receiving::waiting(&rt, &receiver);
-    first.gives(&rt, Received::Waits);
+    let (sender, receiver) = new_channel(&rt, Some(1)).expect(&rt, "a channel");
+    let mut first = Receiving::waiting(&rt, &receiver).expect(&rt, "a receive that waits");
+    let second = Receiving::waiting(&rt, &receiver).expect(&rt, "a receive that waits");
+    check(&rt, "a poll", first.poll(), Received::Waits);
     sends(&rt, Way::AtOnce, &sender, 1);
-    first.is_woken(&rt, true);
-    second.is_woken(&rt, false);
+    check(
+        &rt,
+        "who was woken",
+        [first.is_woken(), second.is_woken()],
+        [true, false],
+    );
 }
 
 #[test]
 fn calls_that_fail_wake_nobody(rt: HostRuntime) {
-    let (sender, receiver) = new_channel(&rt, Some(1));
-    let receiving = Receiving::waiting(&rt, &receiver);
+    let (sender, receiver) = new_channel(&rt, Some(1)).expect(&rt, "a channel");
+    let receiving = Receiving::waiting(&rt, &receiver).expect(&rt, "a receive that waits");
     check(&rt, "a try", next_of(&receiver), Received::Empty);
     let timed = Way::Timed.receive(&rt, &receiver, Duration::ZERO);
     check(&rt, "a timed receive", timed, Received::TimedOut);
-    receiving.is_woken(&rt, false);
+    check(&rt, "whether it was woken", receiving.is_woken(), false);
     drop(receiving);
     sends(&rt, Way::AtOnce, &sender, 1);
-    let sending = Sending::waiting(&rt, &sender, 2);
+    let sending = Sending::waiting(&rt, &sender, 2).expect(&rt, "a send that waits");
     let at_once = Way::AtOnce.send(&rt, &sender, 3, Duration::ZERO);
     check(&rt, "a try", at_once, Sent::Full(3));
     let timed = Way::Timed.send(&rt, &sender, 4, Duration::ZERO);
     check(&rt, "a timed send", timed, Sent::TimedOut(4));
-    sending.is_woken(&rt, false);
+    check(&rt, "whether it was woken", sending.is_woken(), false);
 }

@@ -1,9 +1,9 @@
 //! Many threads wait when the channel is closed: each of them ends.
-use crate::support::{
-    Received, Runtime, Sent, SharedRuntime, Way, check, full_channel, new_channel,
-};
+use crate::support::{SharedRuntime, check};
 use std::thread;
 use std::time::Duration;
+use test_channel_support::{Received, Sent, Way, full_channel, new_channel};
+use test_support::Runtime;
 
 // The ways that wait.
 const WAITS: [Way; 3] = [Way::Blocking, Way::Timed, Way::Awaited];
@@ -31,7 +31,7 @@ fn let_them_wait<R: Runtime>(rt: &R) {
 }
 
 fn senders_end<R: SharedRuntime>(rt: &R, closer: Closer) {
-    let (sender, receiver) = full_channel(rt, 1);
+    let (sender, receiver) = full_channel(rt, 1).expect(rt, "a channel");
     let sends = |number| way_of(number).send(rt, &sender, number, Duration::MAX);
     let waits = || thread::map_indices(rt, rt.alloc(), WAITS.len() * EACH, &sends);
     let closes = || {
@@ -58,7 +58,7 @@ fn all_who_wait_for_room_end(rt: HostRuntime) {
 }
 
 fn receivers_end<R: SharedRuntime>(rt: &R, closer: Closer) {
-    let (sender, receiver) = new_channel(rt, Some(1));
+    let (sender, receiver) = new_channel(rt, Some(1)).expect(rt, "a channel");
     let receives = |number| way_of(number).receive(rt, &receiver, Duration::MAX);
     let waits = || thread::map_indices(rt, rt.alloc(), WAITS.len() * EACH, &receives);
     let closes = || {

@@ -1,14 +1,13 @@
-//! Tests of `event_channel` with threads, and without memory.
+//! Tests of `event_channel` with threads.
 //!
 //! | Module | What it tests |
 //! |---|---|
 //! | `ends` | threads that wait, in each way, when the channel is closed |
 //! | `limits` | a message, or room, that comes with the limit of a call |
 //! | `races` | who is woken looks at once, and finds what it was woken for |
-//! | `refusals` | memory that is refused: a message is in the channel or comes back, and never lost |
 //! | `threads` | 8 threads that send and 8 that receive, blocking, awaiting and with timeouts; a close among them |
 //!
-//! `support` has what they share. What calls answer where one thread makes them is tested in `test_channel`.
+//! What calls answer where one thread makes them is tested in `test_channel`.
 #![tactic(auto)]
 
 #[cfg(test)]
@@ -17,8 +16,6 @@ mod ends;
 mod limits;
 #[cfg(test)]
 mod races;
-#[cfg(test)]
-mod refusals;
 #[cfg(test)]
 mod support;
 #[cfg(test)]

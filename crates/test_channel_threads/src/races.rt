@@ -1,14 +1,13 @@
 //! One thread makes a change and another, which is woken, looks at once: the change comes before the notification. A third
 //! takes the lock of the channel again and again, so that who makes a change may have to wait between its steps.
-use crate::support::{
-    Received, Receiving, Runtime, Sending, Sent, SharedRuntime, WAYS, check, full_channel,
-    new_channel,
-};
+use crate::support::{SharedRuntime, check};
 use event_channel::{Receiver, Sender};
 use std::sync::Wait;
 use std::sync::atomic::{AtomicBool, AtomicUsize, Ordering};
 use std::thread;
 use std::time::Duration;
+use test_channel_support::{Received, Receiving, Sending, Sent, WAYS, full_channel, new_channel};
+use test_support::Runtime;
 
 const ROUNDS: usize = 4_000;
 
@@ -35,10 +34,10 @@ fn disturbs<R: Runtime>(rt: &R, receiver: &Receiver<usize, R>, are_done: &Atomic
 // In each round it waits, and finds the message as soon as it is woken.
 fn finds_messages<R: Runtime>(rt: &R, receiver: &Receiver<usize, R>, waiting: &AtomicUsize) {
     for round in 0..ROUNDS {
-        let mut receiving = Receiving::waiting(rt, receiver);
+        let mut receiving = Receiving::waiting(rt, receiver).expect(rt, "a receive that waits");
         waiting.fetch_add(1, Ordering::SeqCst);
         receiving.until_woken(rt);
-        receiving.gives(rt, Received::Message(round));
+        check(rt, "a poll", receiving.poll(), Received::Message(round));
     }
 }
 
@@ -52,7 +51,7 @@ fn sends_to_who_waits<R: Runtime>(rt: &R, sender: &Sender<usize, R>, waiting: &A
 }
 
 fn messages_are_there<R: SharedRuntime>(rt: &R, capacity: Option<usize>) {
-    let (sender, receiver) = new_channel(rt, capacity);
+    let (sender, receiver) = new_channel(rt, capacity).expect(rt, "a channel");
     let waiting = AtomicUsize::new(0);
     let are_done = AtomicBool::new(false);
     let both = || {
@@ -74,10 +73,13 @@ fn who_is_woken_finds_the_message(rt: HostRuntime) {
 
 fn finds_room<R: Runtime>(rt: &R, sender: &Sender<usize, R>, waiting: &AtomicUsize) {
     for round in 0..ROUNDS {
-        let mut sending = Sending::waiting(rt, sender, round.saturating_add(1));
+        let mut sending = Sending::waiting(rt, sender, round.saturating_add(1)).expect(
+            rt,
+            "a send that waits",
+        );
         waiting.fetch_add(1, Ordering::SeqCst);
         sending.until_woken(rt);
-        sending.gives(rt, Sent::Done);
+        check(rt, "a poll", sending.poll(), Sent::Done);
     }
 }
 
@@ -95,7 +97,7 @@ fn receives_from_who_waits<R: Runtime>(
 }
 
 fn room_is_there<R: SharedRuntime>(rt: &R) {
-    let (sender, receiver) = full_channel(rt, 1);
+    let (sender, receiver) = full_channel(rt, 1).expect(rt, "a channel");
     let waiting = AtomicUsize::new(0);
     let are_done = AtomicBool::new(false);
     let both = || {
@@ -118,10 +120,10 @@ fn who_is_woken_finds_room(rt: HostRuntime) {
 const CLOSES: usize = 1_000;
 
 fn finds_the_end<R: Runtime>(rt: &R, receiver: &Receiver<usize, R>, waiting: &AtomicUsize) {
-    let mut receiving = Receiving::waiting(rt, receiver);
+    let mut receiving = Receiving::waiting(rt, receiver).expect(rt, "a receive that waits");
     waiting.fetch_add(1, Ordering::SeqCst);
     receiving.until_woken(rt);
-    receiving.gives(rt, Received::Closed);
+    check(rt, "a poll", receiving.poll(), Received::Closed);
 }
 
 fn closes<R: Runtime>(rt: &R, sender: Sender<usize, R>, waiting: &AtomicUsize) {
@@ -130,7 +132,7 @@ fn closes<R: Runtime>(rt: &R, sender: Sender<usize, R>, waiting: &AtomicUsize) {
 }
 
 fn the_end_is_there<R: SharedRuntime>(rt: &R) {
-    let (sender, receiver) = new_channel(rt, Some(1));
+    let (sender, receiver) = new_channel(rt, Some(1)).expect(rt, "a channel");
     let waiting = AtomicUsize::new(0);
     let are_done = AtomicBool::new(false);
     let both = || {

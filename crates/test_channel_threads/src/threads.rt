@@ -1,9 +1,11 @@
 //! Many threads at once: each message that is sent is received once, and those of one sender in order.
-use crate::support::{Received, Runtime, Sent, SharedRuntime, Way, check, new_channel};
+use crate::support::{SharedRuntime, check};
 use event_channel::{Receiver, Sender};
 use std::alloc::AllocGlobal;
 use std::thread;
 use std::time::Duration;
+use test_channel_support::{Received, Sent, Way, new_channel};
+use test_support::Runtime;
 
 // Threads of each side.
 const SIDE: usize = 8;
@@ -115,7 +117,7 @@ impl Plan {
 
     // Each job has a handle of its own, and no other is left.
     fn jobs<R: Runtime>(&self, rt: &R) -> Vec<Job<R>> {
-        let (sender, receiver) = new_channel(rt, self.capacity);
+        let (sender, receiver) = new_channel(rt, self.capacity).expect(rt, "a channel");
         let mut jobs = Vec::new(rt.alloc());
         for number in 0..SIDE {
             let own = sender.clone().expect(rt, "a sender");

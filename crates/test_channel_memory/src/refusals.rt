@@ -1,14 +1,17 @@
 //! What is left where memory is refused. Under `rt try --test`, which has an allocator of its own, these tests fail.
-use crate::support::{
-    Received, Receiving, Runtime, Sending, Sent, Way, check, full_channel, has_left, new_channel,
-    next_of,
-};
+use crate::support::check;
 use event_channel::{ChannelError, Receiver, Sender, bounded, unbounded};
 use event_listener::{EventIds, ListenError};
 use event_until::UntilError;
+use futures::StreamExt;
+use futures::task::Poll;
+use futures::test::MockTask;
 use std::alloc::AllocGlobal;
 use std::time::Duration;
-use test_support::{Budget, Hog};
+use test_channel_support::{
+    Received, Receiving, Sending, Sent, Way, are_left, full_channel, new_channel, next_of,
+};
+use test_support::{Budget, Hog, Runtime};
 
 const LISTENING: UntilError = UntilError::Listen(ListenError::Memory);
 
@@ -40,7 +43,7 @@ fn count_refused<R: Runtime>(rt: &R, budget: &mut Budget, capacity: Option<usize
         match made_with(rt, budget, bytes, capacity) {
             Ok((sender, receiver)) => {
                 check(rt, "a send", sender.try_send(7).is_ok(), true);
-                has_left(rt, &receiver, &[7]);
+                check(rt, "what is left", are_left(&receiver, &[7]), true);
                 return refused;
             }
             Err(error) => {
@@ -72,14 +75,14 @@ fn sends_refused<R: Runtime>(
     [
         Way::Blocking.send(rt, sender, 7, Duration::MAX),
         Way::Timed.send(rt, sender, 8, Duration::MAX),
-        sending.poll(rt),
+        sending.poll(),
     ]
 }
 
 #[test]
 fn a_send_that_cannot_listen_hands_back(rt: HostRuntime) {
-    let (sender, receiver) = full_channel(&rt, 2);
-    let mut sending = Sending::new(&rt, &sender, 9);
+    let (sender, receiver) = full_channel(&rt, 2).expect(&rt, "a channel");
+    let mut sending = Sending::new(&rt, &sender, 9).expect(&rt, "a send");
     let hog = new_hog(&rt);
     let answers = sends_refused(&rt, &sender, &mut sending);
     drop(hog);
@@ -89,21 +92,21 @@ fn a_send_that_cannot_listen_hands_back(rt: HostRuntime) {
         Sent::Refused(9, LISTENING),
     ];
     check(&rt, "the sends", answers, refused);
-    has_left(&rt, &receiver, &[0, 1]);
+    check(&rt, "what is left", are_left(&receiver, &[0, 1]), true);
 }
 
 #[test]
 fn a_send_that_cannot_park_hands_back(rt: HostRuntime) {
-    let (sender, receiver) = full_channel(&rt, 2);
+    let (sender, receiver) = full_channel(&rt, 2).expect(&rt, "a channel");
     // Room for two listeners, made by two that have gone.
-    let first = Sending::waiting(&rt, &sender, 5);
-    let second = Sending::waiting(&rt, &sender, 6);
+    let first = Sending::waiting(&rt, &sender, 5).expect(&rt, "a send that waits");
+    let second = Sending::waiting(&rt, &sender, 6).expect(&rt, "a send that waits");
     drop((first, second));
-    let mut sending = Sending::new(&rt, &sender, 9);
+    let mut sending = Sending::new(&rt, &sender, 9).expect(&rt, "a send");
     let hog = new_hog(&rt);
     let answers = sends_refused(&rt, &sender, &mut sending);
     let received = receiver.try_recv().ok();
-    let sent = sending.poll(&rt);
+    let sent = sending.poll();
     drop(hog);
     let parker = UntilError::Parker;
     let refused = [
@@ -114,7 +117,7 @@ fn a_send_that_cannot_park_hands_back(rt: HostRuntime) {
     check(&rt, "the sends", answers, refused);
     check(&rt, "a receive that makes room", received, Some(0));
     check(&rt, "the poll after it", sent, Sent::Done);
-    has_left(&rt, &receiver, &[1, 9]);
+    check(&rt, "what is left", are_left(&receiver, &[1, 9]), true);
 }
 
 // Each way that waits, of a receive without a message.
@@ -132,8 +135,8 @@ fn receives_refused<R: Runtime>(
 
 #[test]
 fn a_receive_that_cannot_listen_loses_nothing(rt: HostRuntime) {
-    let (sender, receiver) = new_channel(&rt, Some(2));
-    let mut receiving = Receiving::new(&rt, &receiver);
+    let (sender, receiver) = new_channel(&rt, Some(2)).expect(&rt, "a channel");
+    let mut receiving = Receiving::new(&rt, &receiver).expect(&rt, "a receive");
     let hog = new_hog(&rt);
     let answers = receives_refused(&rt, &receiver, &mut receiving);
     drop(hog);
@@ -144,17 +147,17 @@ fn a_receive_that_cannot_listen_loses_nothing(rt: HostRuntime) {
         [Received::Refused(LISTENING); 3],
     );
     check(&rt, "the send", sender.try_send(7).is_ok(), true);
-    has_left(&rt, &receiver, &[7]);
+    check(&rt, "what is left", are_left(&receiver, &[7]), true);
 }
 
 #[test]
 fn a_receive_that_cannot_park_loses_nothing(rt: HostRuntime) {
-    let (sender, receiver) = new_channel(&rt, Some(2));
+    let (sender, receiver) = new_channel(&rt, Some(2)).expect(&rt, "a channel");
     // Room for two listeners, made by two that have gone.
-    let first = Receiving::waiting(&rt, &receiver);
-    let second = Receiving::waiting(&rt, &receiver);
+    let first = Receiving::waiting(&rt, &receiver).expect(&rt, "a receive that waits");
+    let second = Receiving::waiting(&rt, &receiver).expect(&rt, "a receive that waits");
     drop((first, second));
-    let mut receiving = Receiving::new(&rt, &receiver);
+    let mut receiving = Receiving::new(&rt, &receiver).expect(&rt, "a receive");
     let hog = new_hog(&rt);
     let answers = receives_refused(&rt, &receiver, &mut receiving);
     let sent = sender.try_send(7).is_ok() && sender.try_send(8).is_ok();
@@ -169,21 +172,38 @@ fn a_receive_that_cannot_park_loses_nothing(rt: HostRuntime) {
     );
     check(&rt, "sends that fit", sent, true);
     check(&rt, "the poll after them", received, Received::Message(7));
-    has_left(&rt, &receiver, &[8]);
+    check(&rt, "what is left", are_left(&receiver, &[8]), true);
+}
+
+// An item that says so is not the end of the stream.
+#[test]
+fn a_stream_that_cannot_listen_goes_on(rt: HostRuntime) {
+    let (sender, receiver) = new_channel(&rt, Some(2)).expect(&rt, "a channel");
+    let task = MockTask::new(&rt).expect(&rt, "a task");
+    let mut messages = receiver.recv();
+    let hog = new_hog(&rt);
+    let item = task.poll(&mut messages.next());
+    drop(hog);
+    check(&rt, "an item", item, Poll::Ready(Some(Err(LISTENING))));
+    let item = task.poll(&mut messages.next());
+    check(&rt, "the next", item, Poll::Pending);
+    check(&rt, "the send", sender.try_send(7).is_ok(), true);
+    let item = task.poll(&mut messages.next());
+    check(&rt, "the last", item, Poll::Ready(Some(Ok(7))));
 }
 
 // A message that was not taken in wakes nobody, and comes back. Those before it are all there.
 #[test]
 fn a_send_that_finds_no_memory_hands_back(rt: HostRuntime) {
-    let (sender, receiver) = new_channel(&rt, None);
-    let receiving = Receiving::waiting(&rt, &receiver);
-    let mut sending = Sending::new(&rt, &sender, 9);
+    let (sender, receiver) = new_channel(&rt, None).expect(&rt, "a channel");
+    let receiving = Receiving::waiting(&rt, &receiver).expect(&rt, "a receive that waits");
+    let mut sending = Sending::new(&rt, &sender, 9).expect(&rt, "a send");
     let hog = new_hog(&rt);
     let answers = [
         Way::AtOnce.send(&rt, &sender, 6, Duration::MAX),
         Way::Blocking.send(&rt, &sender, 7, Duration::MAX),
         Way::Timed.send(&rt, &sender, 8, Duration::MAX),
-        sending.poll(&rt),
+        sending.poll(),
     ];
     drop(hog);
     let refused = [
@@ -193,16 +213,16 @@ fn a_send_that_finds_no_memory_hands_back(rt: HostRuntime) {
         Sent::Memory(9),
     ];
     check(&rt, "the sends", answers, refused);
-    receiving.is_woken(&rt, false);
+    check(&rt, "whether it was woken", receiving.is_woken(), false);
     check(&rt, "messages", sender.len(), 0);
     drop(receiving);
     check(&rt, "a send", sender.try_send(1).is_ok(), true);
-    has_left(&rt, &receiver, &[1]);
+    check(&rt, "what is left", are_left(&receiver, &[1]), true);
 }
 
 #[test]
 fn what_was_sent_before_a_refusal_is_received(rt: HostRuntime) {
-    let (sender, receiver) = new_channel(&rt, None);
+    let (sender, receiver) = new_channel(&rt, None).expect(&rt, "a channel");
     check(&rt, "the first", sender.try_send(0).is_ok(), true);
     let hog = new_hog(&rt);
     let mut sent = 1usize;
@@ -231,9 +251,9 @@ fn what_was_sent_before_a_refusal_is_received(rt: HostRuntime) {
 // A channel with a limit has room for its messages from the beginning, and a call that need not wait needs no memory.
 #[test]
 fn calls_that_need_no_memory(rt: HostRuntime) {
-    let (sender, receiver) = new_channel(&rt, Some(2));
-    let mut sending = Sending::new(&rt, &sender, 3);
-    let mut receiving = Receiving::new(&rt, &receiver);
+    let (sender, receiver) = new_channel(&rt, Some(2)).expect(&rt, "a channel");
+    let mut sending = Sending::new(&rt, &sender, 3).expect(&rt, "a send");
+    let mut receiving = Receiving::new(&rt, &receiver).expect(&rt, "a receive");
     let now = Duration::ZERO;
     let hog = new_hog(&rt);
     let sent = [
@@ -246,7 +266,7 @@ fn calls_that_need_no_memory(rt: HostRuntime) {
         Way::Timed.receive(&rt, &receiver, now),
         Way::AtOnce.receive(&rt, &receiver, now),
     ];
-    let awaited = (sending.poll(&rt), receiving.poll());
+    let awaited = (sending.poll(), receiving.poll());
     let cloned = sender.clone().is_ok() && receiver.clone().is_ok();
     let closed = sender.close();
     let last = Way::Timed.send(&rt, &sender, 8, now);

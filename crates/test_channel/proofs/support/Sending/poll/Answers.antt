@@ -1,5 +1,0 @@
-use Rattle.test_channel.proofs.Carrying.{carried}
-use Rattle.test_channel.proofs.support.Sending.poll.Goals as goal
-
-pub poll-requires : goal.poll-requires
-poll-requires g c = carried _ c.expect-send.result.carries
