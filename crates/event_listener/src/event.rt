@@ -188,6 +188,7 @@ impl<T> Event<T> {
     /// Whether some listener is notified.
     ///
     /// The call does not allocate. It may wait for the lock of the event.
+    #[inline(always)]
     pub fn is_notified<R: Wait>(&self, rt: &R) -> bool {
         match self.shared.get() {
             Some(shared) => take_lock!(shared.queue(), rt).is_notified(),
@@ -198,6 +199,7 @@ impl<T> Event<T> {
     /// How many listeners there are, notified or waiting.
     ///
     /// The call does not allocate. It may wait for the lock of the event.
+    #[inline(always)]
     pub fn total_listeners<R: Wait>(&self, rt: &R) -> usize {
         match self.shared.get() {
             Some(shared) => take_lock!(shared.queue(), rt).total_listeners(),
@@ -219,6 +221,7 @@ impl Event<()> {
     /// [`notify`](Event::notify) with `n.relaxed()`, which here means what `n` means. It returns no error.
     ///
     /// The call does not allocate. It may wait for the lock of the event.
+    #[inline(always)]
     pub fn notify_relaxed<R: Wait>(&self, rt: &R, n: usize) -> usize
         ensures { result ≤ n }
     {
@@ -229,6 +232,7 @@ impl Event<()> {
     /// already. It returns no error.
     ///
     /// The call does not allocate. It may wait for the lock of the event.
+    #[inline(always)]
     pub fn notify_additional<R: Wait>(&self, rt: &R, n: usize) -> usize
         ensures { result ≤ n }
     {
@@ -239,6 +243,7 @@ impl Event<()> {
     /// returns no error.
     ///
     /// The call does not allocate. It may wait for the lock of the event.
+    #[inline(always)]
     pub fn notify_additional_relaxed<R: Wait>(&self, rt: &R, n: usize) -> usize
         ensures { result ≤ n }
     {
@@ -246,6 +251,7 @@ impl Event<()> {
     }
 
     // A notification that refuses no tag returns no error.
+    #[inline(always)]
     fn notify_unrefused<R: Wait, N: IntoNotification<Tag = ()>>(&self, rt: &R, n: N) -> usize
     where
         N::Notify: Drop,

@@ -1,6 +1,6 @@
 -- What a contract sees of a `Chain`, and how that keeps its entries on nodes. No public clause cites this module.
 use Rattle.std.specs.Map.{lookup, remove_entry, set_value}
-use Rattle.std.specs.Prelude.{◌≡◌, ℕ, ◌+◌, cond, eqb, ltb, List, [], ◌∷◌, ◌++◌, map, length, Option, Some, None, IsSome, slice_get, option_map, option_and_then}
+use Rattle.std.specs.Prelude.{◌≡◌, ℕ, ◌+◌, ◌-◌, ◌^◌, cond, eqb, ltb, List, [], ◌∷◌, ◌++◌, map, length, Option, Some, None, IsSome, slice_get, option_map, option_and_then}
 use denote.RawPtr.{Ptr}
 use Rattle.event_queue.specs.declared.key.Key.{Key}
 use Rattle.event_queue.specs.declared.node.ring.pointers.NodePtr.{NodePtr}
@@ -9,6 +9,7 @@ use Rattle.event_queue.specs.declared.node.entries.Held.{Held}
 use Rattle.event_queue.specs.declared.node.entries.Held.TheVariants.{Before, After, Nothing}
 use Rattle.event_queue.specs.declared.node.entries.Entry.{Entry}
 use Rattle.event_queue.specs.declared.node.entries.Entries.{Entries}
+use Rattle.event_queue.specs.declared.node.table.Slot.{Slot}
 use Rattle.event_queue.specs.declared.node.Side.{Side}
 use Rattle.event_queue.specs.declared.node.Side.TheVariants as side
 use Rattle.event_queue.specs.Key.{is_key}
@@ -70,7 +71,7 @@ abbrev pub times : ℕ → List ℕ → ℕ
 times slot [] = 0
 times slot (first ∷ rest) = cond (eqb slot first) 1 0 + times slot rest
 
--- a linked node, a spare node, and the slots: each has an entry's serial and the place of its node, or nothing
+-- a linked node, a spare node, and what the slots say: each an entry's serial and the place of its node, or nothing
 abbrev pub Node : Type 0 → Type 0 → Type 0
 Node A B = Placed (Entry A B)
 
@@ -79,6 +80,13 @@ Spare A B = Ring (Entry A B)
 
 abbrev pub Slots : Type 0 → Type 0 → Type 0
 Slots A B = List (Option (ℕ × NodePtr (Entry A B)))
+
+-- what a slot says: the serial that stands there and the place, or nothing beside the one that no entry gets
+abbrev pub shown : {A B : Type 0} → Slot A B → Option (ℕ × NodePtr (Entry A B))
+shown slot = cond (eqb slot.serial (2 ^ 64 - 1)) None (Some (slot.serial, slot.place))
+
+abbrev pub shown_in : {A B : Type 0} → List (Slot A B) → Slots A B
+shown_in slots = map shown slots
 
 -- the place that stands beside this serial
 abbrev pub place_of : {E : Type 0} → ℕ → ℕ × NodePtr E → Option (NodePtr E)

@@ -1,5 +1,5 @@
 //! A sequence with a cursor: nodes on the heap with raw links, and a table that leads from a key to its node.
-ghost use Rattle.std.specs.Prelude.{◌≡◌, ◌≢◌, ◌+◌, ◌<◌, ◌≤◌, ◌^◌, ◌↔◌, [], ◌∷◌, ◌++◌, length, All, IsTrue, IsOk, IsSome, OnOk, OnErr, IfOk, IfErr, OnSome, IfNone};
+ghost use Rattle.std.specs.Prelude.{◌≡◌, ◌≢◌, ◌+◌, ◌-◌, ◌<◌, ◌≤◌, ◌^◌, ◌↔◌, [], ◌∷◌, ◌++◌, length, All, IsTrue, IsOk, IsSome, OnOk, OnErr, IfOk, IfErr, OnSome, IfNone};
 ghost use Rattle.std.specs.Map.{lookup};
 ghost use Rattle.event_queue.specs.Key.{is_key};
 ghost use Rattle.event_queue.specs.Counts.{counted_on};
@@ -48,7 +48,7 @@ impl<A, B> Model for Chain<A, B> {
 
     ghost Value = { Sequence A B };
 
-    ghost use Rattle.event_queue.specs.Nodes.{nodes_of, entry_before, entry_after, IsSound};
+    ghost use Rattle.event_queue.specs.Nodes.{nodes_of, entry_before, entry_after, shown_in, IsSound};
 
     ghost view = { λ chain. record {
       before = filter_map entry_before (nodes_of chain.entries);
@@ -56,7 +56,7 @@ impl<A, B> Model for Chain<A, B> {
       spare = length chain.table.spares.items;
     } };
 
-    ghost invariant = { λ chain. IsSound chain.entries chain.table.slots.items chain.table.spares.items chain.before_len chain.after_len };
+    ghost invariant = { λ chain. IsSound chain.entries (shown_in chain.table.slots.items) chain.table.spares.items chain.before_len chain.after_len };
 }
 
 // Makes the ring with no entry where there is none.
@@ -159,7 +159,8 @@ impl<A, B> Chain<A, B> {
         entries.is_before(&own)
     }
 
-    /// Appends an entry. It allocates only if no slot is spare; if that fails, the value is returned.
+    /// Appends an entry, whose serial is below `u64::MAX`. It allocates only if no slot is spare; if that fails, the
+    /// value is returned.
     #[inline(always)]
     pub fn push_back<L: Ledger>(
         &mut self,
@@ -167,6 +168,7 @@ impl<A, B> Chain<A, B> {
         value: B,
         steps: &mut Steps<L>,
     ) -> Result<Key, AllocFailed<B>>
+        requires { serial < 2 ^ 64 - 1 }
         ensures serial { IfOk result (λ key. key.serial ≡ serial) }
         ensures before { OnOk result (self.new.before ≡ self.old.before) }
         ensures after { IfOk result (λ key. self.new.after ≡ self.old.after ++ (key, value) ∷ []) }
@@ -196,7 +198,8 @@ impl<A, B> Chain<A, B> {
     // Appends an entry on a spare node.
     #[inline(always)]
     fn push_spare<L: Ledger>(&mut self, serial: u64, value: B, steps: &mut Steps<L>) -> Key
-        requires { 0 < self.old.spare }
+        requires spare { 0 < self.old.spare }
+        requires serial { serial < 2 ^ 64 - 1 }
         ensures serial { result.serial ≡ serial }
         ensures before { self.new.before ≡ self.old.before }
         ensures after { self.new.after ≡ self.old.after ++ (result, value) ∷ [] }

@@ -1,14 +1,15 @@
 -- The table of slots: each slot is that of one node, which is linked or spare.
-use Rattle.std.proofs.Common.{◌≡◌, ◌≢◌, ℕ, zero, suc, ◌+◌, ◌<◌, ◌≤◌, cond, eqb, ltb, List, [], ◌∷◌, ◌++◌, length, set, Option, Some, None, slice_get, refl, sym, ap, ◌∙◌, inl, inr}
+use Rattle.std.proofs.Common.{◌≡◌, ◌≢◌, ℕ, zero, suc, ◌+◌, ◌-◌, ◌^◌, ◌<◌, ◌≤◌, cond, eqb, ltb, List, [], ◌∷◌, ◌++◌, length, set, Option, Some, None, slice_get, refl, sym, ap, ◌∙◌, inl, inr}
 use Rattle.std.proofs.Common.{arith, length-append}
 use Rattle.std.proofs.lemmas.Bool.{cases_eq, eq-eqb, ne_eqb, lt-ltb, le-ltb, cases_lt}
-use Rattle.std.proofs.lemmas.List.{map-append, length-set}
+use Rattle.std.proofs.lemmas.List.{length-map, map-append, map-set, length-set}
 use Rattle.std.proofs.lemmas.Option.{slice_get_past}
 use Rattle.event_queue.specs.declared.key.Key.{Key}
 use Rattle.event_queue.specs.declared.node.ring.pointers.NodePtr.{NodePtr}
 use Rattle.event_queue.specs.declared.node.entries.Held.TheVariants.{Nothing}
 use Rattle.event_queue.specs.declared.node.entries.Entry.{Entry}
-use Rattle.event_queue.specs.Nodes.{Node, Spare, Slots, times, slots_of, spare_slots, node_at, key_of, spare_entry, AreMapped, AreSpare, IsTable}
+use Rattle.event_queue.specs.declared.node.table.Slot.{Slot}
+use Rattle.event_queue.specs.Nodes.{Node, Spare, Slots, shown, shown_in, times, slots_of, spare_slots, node_at, key_of, spare_entry, AreMapped, AreSpare, IsTable}
 
 -- ---- one place of a list
 module _ {X : Type 0} where
@@ -91,6 +92,36 @@ counted_at_end slot n count counted =
                 omega (arith, times_other slot n [] apart, above, above_next, counted)
           ]
     ]
+
+-- ---- what a slot says
+module _ {A B : Type 0} where
+  shown_used : (serial : ℕ) (place : NodePtr (Entry A B)) → serial < 2 ^ 64 - 1 → shown {A = A} {B = B} (record { serial = serial; place = place }) ≡ Some (serial, place)
+  shown_used serial place below =
+      ap (λ b. cond b None (Some (serial, place))) (ne_eqb serial (2 ^ 64 - 1) (λ same. omega arith))
+
+  shown_unused : (place : NodePtr (Entry A B)) → shown {A = A} {B = B} (record { serial = 2 ^ 64 - 1; place = place }) ≡ None
+  shown_unused place =
+      ap (λ b. cond b None (Some (2 ^ 64 - 1, place))) (eq-eqb (2 ^ 64 - 1) (2 ^ 64 - 1) refl)
+
+  pub length-shown_in : (slots : List (Slot A B)) → length (shown_in slots) ≡ length slots
+  length-shown_in slots = length-map slots shown
+
+  pub shown_in-used : (slots : List (Slot A B)) (at serial : ℕ) (place : NodePtr (Entry A B)) → serial < 2 ^ 64 - 1
+      → shown_in (set slots at (record { serial = serial; place = place })) ≡ set (shown_in slots) at (Some (serial, place))
+  shown_in-used slots at serial place below =
+      map-set shown slots at (record { serial = serial; place = place })
+      ∙ ap (λ says. set (shown_in slots) at says) (shown_used serial place below)
+
+  pub shown_in-unused : (slots : List (Slot A B)) (at : ℕ) (place : NodePtr (Entry A B))
+      → shown_in (set slots at (record { serial = 2 ^ 64 - 1; place = place })) ≡ set (shown_in slots) at None
+  shown_in-unused slots at place =
+      map-set shown slots at (record { serial = 2 ^ 64 - 1; place = place })
+      ∙ ap (λ says. set (shown_in slots) at says) (shown_unused place)
+
+  pub shown_in-longer : (slots : List (Slot A B)) (place : NodePtr (Entry A B)) → shown_in (slots ++ record { serial = 2 ^ 64 - 1; place = place } ∷ []) ≡ shown_in slots ++ None ∷ []
+  shown_in-longer slots place =
+      map-append shown slots (record { serial = 2 ^ 64 - 1; place = place } ∷ [])
+      ∙ ap (λ says. shown_in slots ++ says ∷ []) (shown_unused place)
 
 module _ {A B : Type 0} where
   pub times-slots_of-append : (slot : ℕ) (xs ys : List (Node A B)) → times slot (slots_of (xs ++ ys)) ≡ times slot (slots_of xs) + times slot (slots_of ys)

@@ -1,7 +1,7 @@
 //! The table of slots, which leads from a key to its node, and the spare nodes.
-ghost use Rattle.std.specs.Prelude.{◌≡◌, ◌+◌, ◌<◌, ◌≤◌, ◌==◌, [], ◌∷◌, ◌++◌, length, Option, MatchOption, OnOk, OnErr, IsSome, slice_set, vec_capacity, vec_len};
+ghost use Rattle.std.specs.Prelude.{◌≡◌, ◌-◌, ◌+◌, ◌^◌, ◌<◌, ◌≤◌, ◌==◌, [], ◌∷◌, ◌++◌, length, Option, MatchOption, OnOk, OnErr, IsSome, option_and_then, slice_set, vec_capacity, vec_len};
 ghost use Rattle.event_queue.specs.Counts.{counted_on};
-ghost use Rattle.event_queue.specs.Nodes.{node_at, spare_entry, GrowsTo};
+ghost use Rattle.event_queue.specs.Nodes.{place_of, shown, shown_in, node_at, spare_entry, GrowsTo};
 
 use super::entries::Entry;
 use super::ring::{NodePtr, NodeRef, Ring, Steps};
@@ -9,13 +9,32 @@ use crate::key::Key;
 use std::alloc::{AllocError, AllocFailed, Global};
 use std::sync::ledger::Ledger;
 
-/// What stands in a slot: the serial of the entry that uses it and the place of its node, or nothing.
-pub(super) type Slot<A, B> = Option<(u64, NodePtr<Entry<A, B>>)>;
+/// What stands in a slot: the serial of the entry that uses it, and the place of its node. While the node is spare the
+/// serial is `u64::MAX`, which no entry gets, and the place is followed by nobody.
+#[derive(Drop)]
+pub(super) struct Slot<A, B> {
+    serial: u64,
+    place: NodePtr<Entry<A, B>>,
+}
+
+impl<A, B> Slot<A, B> {
+    // The place, if the entry of that serial uses the slot.
+    #[inline(always)]
+    fn place_of(&self, serial: u64) -> Option<NodePtr<Entry<A, B>>>
+        ensures { result ≡ option_and_then (place_of serial) (shown self.now) }
+    {
+        if self.serial == serial && serial != u64::MAX {
+            Some(self.place)
+        } else {
+            None
+        }
+    }
+}
 
 /// A slot for each node but the root, and the nodes that no entry uses.
 ///
-/// A node keeps its slot for ever: its place stands there while an entry uses it, and nothing while it is spare. The
-/// entry's serial stands there too, so that a key of no listener is recognized without a look at any node.
+/// A node keeps its slot for ever. While an entry uses it, the entry's serial stands there too, so that a key of no
+/// listener is recognized without a look at any node.
 #[derive(Drop)]
 pub(super) struct Table<A, B> {
     slots: Vec<Slot<A, B>>,
@@ -58,7 +77,7 @@ impl<A, B> Table<A, B> {
         key: Key,
         steps: &mut Steps<L>,
     ) -> Option<NodeRef<Entry<A, B>>>
-        ensures node { MatchOption result (node_at self.now.slots.items key ≡ Option.None) (λ node. node_at self.now.slots.items key ≡ Option.Some (record { ptr = node.ptr })) }
+        ensures node { MatchOption result (node_at (shown_in self.now.slots.items) key ≡ Option.None) (λ node. node_at (shown_in self.now.slots.items) key ≡ Option.Some (record { ptr = node.ptr })) }
         ensures visits { steps.new.visits ≡ steps.old.visits }
         ensures looks { steps.new.looks ≡ counted_on steps.old.looks 1 }
     {
@@ -68,11 +87,11 @@ impl<A, B> Table<A, B> {
     // Where the node of the key's entry stands, if there is one.
     #[inline(always)]
     fn place_of(&self, key: Key) -> Option<NodePtr<Entry<A, B>>>
-        ensures { result ≡ node_at self.now.slots.items key }
+        ensures { result ≡ node_at (shown_in self.now.slots.items) key }
     {
         match self.slots.as_slice().get(key.slot) {
-            Some(Some((serial, place))) if *serial == key.serial => Some(*place),
-            _ => None,
+            Some(slot) => slot.place_of(key.serial),
+            None => None,
         }
     }
 
@@ -88,28 +107,35 @@ impl<A, B> Table<A, B> {
     /// Writes the serial of an entry and the place of its node, which was spare, into the key's slot.
     #[inline(always)]
     pub(super) fn fill(&mut self, key: Key, node: &NodeRef<Entry<A, B>>)
-        requires { key.slot < length self.old.slots.items }
-        ensures slots { self.new.slots.items ≡ slice_set self.old.slots.items key.slot (Option.Some (key.serial, record { ptr = node.now.ptr })) }
+        requires slot { key.slot < length (shown_in self.old.slots.items) }
+        requires serial { key.serial < 2 ^ 64 - 1 }
+        ensures slots { shown_in self.new.slots.items ≡ slice_set (shown_in self.old.slots.items) key.slot (Option.Some (key.serial, record { ptr = node.now.ptr })) }
         ensures spares { self.new.spares.items ≡ self.old.spares.items }
     {
-        self.slots[key.slot] = Some((key.serial, node.place()));
+        self.slots[key.slot] = Slot {
+            serial: key.serial,
+            place: node.place(),
+        };
     }
 
     /// Makes a node spare, whose slot this is. It allocates nothing.
     #[inline(always)]
     pub(super) fn recycle(&mut self, slot: usize, node: Ring<Entry<A, B>>)
-        requires slot { slot < length self.old.slots.items }
-        requires room { length self.old.spares.items < length self.old.slots.items }
-        ensures slots { self.new.slots.items ≡ slice_set self.old.slots.items slot Option.None }
+        requires slot { slot < length (shown_in self.old.slots.items) }
+        requires room { length self.old.spares.items < length (shown_in self.old.slots.items) }
+        ensures slots { shown_in self.new.slots.items ≡ slice_set (shown_in self.old.slots.items) slot Option.None }
         ensures spares { self.new.spares.items ≡ self.old.spares.items ++ node ∷ [] }
     {
+        self.slots[slot] = Slot {
+            serial: u64::MAX,
+            place: node.root(),
+        };
         self.spares.push_reserved(node);
-        self.slots[slot] = None;
     }
 
     /// Makes `n` more spare nodes. If it fails it keeps those that it made.
     pub(super) fn grow(&mut self, n: usize) -> Result<(), AllocError>
-        ensures grows { GrowsTo self.old.slots.items self.old.spares.items self.new.slots.items self.new.spares.items }
+        ensures grows { GrowsTo (shown_in self.old.slots.items) self.old.spares.items (shown_in self.new.slots.items) self.new.spares.items }
         ensures kept { length self.old.spares.items ≤ length self.new.spares.items }
         ensures ok { OnOk result (length self.new.spares.items ≡ length self.old.spares.items + n) }
         ensures err { OnErr result (length self.new.spares.items < length self.old.spares.items + n) }
@@ -138,7 +164,7 @@ impl<A, B> Table<A, B> {
     fn make_spare(&mut self) -> Result<(), AllocError>
         requires slots_room { vec_len self.old.slots < vec_capacity self.old.slots }
         requires spares_room { vec_len self.old.slots < vec_capacity self.old.spares }
-        ensures grows { GrowsTo self.old.slots.items self.old.spares.items self.new.slots.items self.new.spares.items }
+        ensures grows { GrowsTo (shown_in self.old.slots.items) self.old.spares.items (shown_in self.new.slots.items) self.new.spares.items }
         ensures slots { OnOk result (vec_len self.new.slots ≡ vec_len self.old.slots + 1) }
         ensures spares { OnOk result (vec_len self.new.spares ≡ vec_len self.old.spares + 1) }
         ensures err { OnErr result (self.new ≡ self.old) }
@@ -147,7 +173,10 @@ impl<A, B> Table<A, B> {
     {
         match Ring::alone(self.allocator(), Entry::spare(self.slots.len())) {
             Ok(node) => {
-                self.slots.push_reserved(None);
+                self.slots.push_reserved(Slot {
+                    serial: u64::MAX,
+                    place: node.root(),
+                });
                 self.spares.push_reserved(node);
                 Ok(())
             }

@@ -76,4 +76,5 @@ fn the_last_listener_is_as_any_other(rt: HostRuntime) {
     ];
     queue.runs(calls.expect(&rt, "calls"), expected.as_slice());
     queue.refuses_to_insert(ListenError::SerialsUsedUp);
+    queue.has_no(greatest(last.slot));
 }

@@ -1,18 +1,21 @@
 use Rattle.std.proofs.Common.{arith}
+use Rattle.event_queue.specs.Nodes.{shown_in}
 use Rattle.event_queue.proofs.Nodes.ChainSteps.{length-before_of, length-after_of, total_is, IsSound-started}
+use Rattle.event_queue.proofs.Nodes.Slots.{length-shown_in}
 use Rattle.event_queue.proofs.node.Chain.grow.Goals as goal
 
 pub returns-in_err-start-clause-slots_fit : goal.returns-in_err-start-clause-slots_fit
 returns-in_err-start-clause-slots_fit g c =
     let i = c.self.inside in
     let slots = i.table.slots in
-    let total = total_is i.entries slots.items i.table.spares.items i.before_len i.after_len c.self.invariant in
+    let total = total_is i.entries (shown_in slots.items) i.table.spares.items i.before_len i.after_len c.self.invariant in
     rw c.start.ensures.nodes
     (omega (
       arith,
-      length-before_of i.entries slots.items i.table.spares.items i.before_len i.after_len c.self.invariant,
-      length-after_of i.entries slots.items i.table.spares.items i.before_len i.after_len c.self.invariant,
+      length-before_of i.entries (shown_in slots.items) i.table.spares.items i.before_len i.after_len c.self.invariant,
+      length-after_of i.entries (shown_in slots.items) i.table.spares.items i.before_len i.after_len c.self.invariant,
       total,
+      length-shown_in slots.items,
       slots.ok.0,
       slots.ok.1,
       slots.small,
@@ -23,14 +26,15 @@ returns-clause-slots_fit g c =
     let i = c.self.inside in
     let slots = c.grow.new.self.slots in
     let sound =
-    IsSound-started i.entries c.start.new.entries i.table.slots.items slots.items i.table.spares.items c.grow.new.self.spares.items i.before_len i.after_len c.self.invariant
+    IsSound-started i.entries c.start.new.entries (shown_in i.table.slots.items) (shown_in slots.items) i.table.spares.items c.grow.new.self.spares.items i.before_len i.after_len c.self.invariant
     c.in_ok-start.ensures.started c.start.ensures.nodes c.grow.ensures.grows in
-    let total = total_is c.start.new.entries slots.items c.grow.new.self.spares.items i.before_len i.after_len sound in
+    let total = total_is c.start.new.entries (shown_in slots.items) c.grow.new.self.spares.items i.before_len i.after_len sound in
     omega (
       arith,
-      length-before_of c.start.new.entries slots.items c.grow.new.self.spares.items i.before_len i.after_len sound,
-      length-after_of c.start.new.entries slots.items c.grow.new.self.spares.items i.before_len i.after_len sound,
+      length-before_of c.start.new.entries (shown_in slots.items) c.grow.new.self.spares.items i.before_len i.after_len sound,
+      length-after_of c.start.new.entries (shown_in slots.items) c.grow.new.self.spares.items i.before_len i.after_len sound,
       total,
+      length-shown_in slots.items,
       slots.ok.0,
       slots.ok.1,
       slots.small,

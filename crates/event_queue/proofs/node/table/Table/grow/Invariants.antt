@@ -1,11 +1,11 @@
 -- What the table has gained so far, and that there is room for the rest.
 use Rattle.std.proofs.Common.{◌≡◌, ◌+◌, ◌≤◌, length, vec_capacity, vec_len}
-use Rattle.event_queue.specs.Nodes.{GrowsTo}
+use Rattle.event_queue.specs.Nodes.{shown_in, GrowsTo}
 use Rattle.event_queue.proofs.node.table.Table.grow.Given as goal
 
 abbrev pub invariant-loop : goal.invariant-loop
 invariant-loop g l =
-    GrowsTo l.fn.self.slots.items l.fn.self.spares.items l.self.slots.items l.self.spares.items
+    GrowsTo (shown_in l.fn.self.slots.items) l.fn.self.spares.items (shown_in l.self.slots.items) l.self.spares.items
     × (length l.self.spares.items ≡ length l.fn.self.spares.items + l.counter)
     × (vec_len l.self.slots ≡ vec_len l.fn.self.slots + l.counter)
     × (vec_len l.fn.self.slots + l.n ≤ vec_capacity l.self.slots)
