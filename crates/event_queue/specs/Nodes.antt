@@ -6,7 +6,7 @@ use Rattle.event_queue.specs.declared.key.Key.{Key}
 use Rattle.event_queue.specs.declared.node.ring.pointers.NodePtr.{NodePtr}
 use Rattle.event_queue.specs.declared.node.ring.pointers.Ring.{Ring}
 use Rattle.event_queue.specs.declared.node.entries.Held.{Held}
-use Rattle.event_queue.specs.declared.node.entries.Held.TheVariants.{Before, After, Nothing}
+use Rattle.event_queue.specs.declared.node.entries.Held.TheVariants.{Nothing, Before, AfterWithout, After}
 use Rattle.event_queue.specs.declared.node.entries.Entry.{Entry}
 use Rattle.event_queue.specs.declared.node.entries.Entries.{Entries}
 use Rattle.event_queue.specs.declared.node.table.Slot.{Slot}
@@ -100,22 +100,28 @@ node_at slots key =
 module _ {A B : Type 0} where
   -- the value of an entry before the cursor
   abbrev pub value_before : Held A B → Option A
-  value_before (Before value) = Some value
-  value_before (After value) = None
   value_before Nothing = None
+  value_before (Before value) = Some value
+  value_before AfterWithout = None
+  value_before (After value) = None
 
-  -- the value of an entry after the cursor
-  abbrev pub value_after : Held A B → Option B
-  value_after (Before value) = None
-  value_after (After value) = Some value
+  -- the value of an entry after the cursor, which it may be without
+  abbrev pub value_after : Held A B → Option (Option B)
   value_after Nothing = None
+  value_after (Before value) = None
+  value_after AfterWithout = Some None
+  value_after (After value) = Some (Some value)
+
+  abbrev pub held_after : Option B → Held A B
+  held_after None = AfterWithout
+  held_after (Some value) = After value
 
   abbrev pub key_of : Entry A B → Key
-  key_of entry = record { slot = entry.slot; serial = entry.serial }
+  key_of entry = record { slot = entry.slot; serial = entry.serial.number }
 
   -- what a spare node of that slot carries
   abbrev pub spare_entry : ℕ → Entry A B
-  spare_entry slot = record { slot = slot; serial = 0; held = Nothing }
+  spare_entry slot = record { slot = slot; serial = record { number = 0 }; held = Nothing }
 
   -- a node is at p that carries nothing
   abbrev pub IsSpareAt : List (Node A B) → Ptr → Type 0
@@ -129,25 +135,24 @@ module _ {A B : Type 0} where
   IsAfterAt nodes p = (xs : List (Node A B)) × (n : Node A B) × (ys : List (Node A B)) × (nodes ≡ xs ++ n ∷ ys) × (n.at ≡ p) × IsSome (value_after n.entry.held)
 
   -- the value after the cursor was taken off the node at p, which is left with what a spare one carries
-  pub record HandsOut (old : Entries A B) (p : Ptr) (value : B) (new : Entries A B) : Type 0 where
+  pub record HandsOut (old : Entries A B) (p : Ptr) (value : Option B) (new : Entries A B) : Type 0 where
     pub root : new.ring.at ≡ old.ring.at
     pub cursor : new.cursor ≡ old.cursor
-    pub held : AtNode old.ring.nodes p (λ _ n _. n.entry.held ≡ After value)
+    pub held : AtNode old.ring.nodes p (λ _ n _. n.entry.held ≡ held_after value)
     pub nodes : AtNode old.ring.nodes p (λ xs n ys. new.ring.nodes ≡ xs ++ placed n.at (spare_entry n.entry.slot) ∷ ys)
 
   -- the node at p got the entry of that key, which is after the cursor
-  pub record HandsIn (old : Entries A B) (p : Ptr) (key : Key) (value : B) (new : Entries A B) : Type 0 where
+  pub record HandsIn (old : Entries A B) (p : Ptr) (key : Key) (value : Option B) (new : Entries A B) : Type 0 where
     pub root : new.ring.at ≡ old.ring.at
     pub cursor : new.cursor ≡ old.cursor
-    pub nodes : AtNode old.ring.nodes p (λ xs n ys. new.ring.nodes ≡ xs ++ placed n.at (record { slot = key.slot; serial = key.serial; held = After value }) ∷ ys)
+    pub nodes : AtNode old.ring.nodes p (λ xs n ys. new.ring.nodes ≡ xs ++ placed n.at (record { slot = key.slot; serial = record { number = key.serial }; held = held_after value }) ∷ ys)
 
-  -- the first entry after the cursor, of this key and value, got another one, and the cursor moved behind it
-  pub record Advances (old : Entries A B) (value : A) (first : Key × B) (new : Entries A B) : Type 0 where
+  -- the first entry after the cursor, which had this value, got another one under that key, and the cursor moved behind it
+  pub record Advances (old : Entries A B) (key : Key) (value : A) (former : Option B) (new : Entries A B) : Type 0 where
     pub root : new.ring.at ≡ old.ring.at
     pub cursor : AtNode old.ring.nodes old.cursor.ptr (λ _ _ ys. new.cursor.ptr ≡ first_place ys old.ring.at)
-    pub key : AtNode old.ring.nodes old.cursor.ptr (λ _ n _. first.0 ≡ key_of n.entry)
-    pub former : AtNode old.ring.nodes old.cursor.ptr (λ _ n _. n.entry.held ≡ After first.1)
-    pub nodes : AtNode old.ring.nodes old.cursor.ptr (λ xs n ys. new.ring.nodes ≡ xs ++ placed n.at (record n.entry { held = Before value }) ∷ ys)
+    pub had : AtNode old.ring.nodes old.cursor.ptr (λ _ n _. n.entry.held ≡ held_after former)
+    pub nodes : AtNode old.ring.nodes old.cursor.ptr (λ xs n ys. new.ring.nodes ≡ xs ++ placed n.at (record { slot = key.slot; serial = record { number = key.serial }; held = Before value }) ∷ ys)
 
   -- the node at p was taken out, and is spare
   pub record TakesOut (old : Entries A B) (p : Ptr) (node : Spare A B) (new : Entries A B) : Type 0 where
@@ -161,7 +166,7 @@ module _ {A B : Type 0} where
   abbrev pub entry_before : Node A B → Option (Key × A)
   entry_before node = option_map (λ value. (key_of node.entry, value)) (value_before node.entry.held)
 
-  abbrev pub entry_after : Node A B → Option (Key × B)
+  abbrev pub entry_after : Node A B → Option (Key × Option B)
   entry_after node = option_map (λ value. (key_of node.entry, value)) (value_after node.entry.held)
 
   -- the linked nodes, if there is a ring
@@ -186,7 +191,7 @@ module _ {A B : Type 0} where
   abbrev pub AreMapped : Slots A B → List (Node A B) → Type 0
   AreMapped slots [] = Unit {0}
   AreMapped slots (node ∷ rest) =
-      (slice_get slots node.entry.slot ≡ Some (Some (node.entry.serial, record { ptr = node.at }))) × AreMapped slots rest
+      (slice_get slots node.entry.slot ≡ Some (Some (node.entry.serial.number, record { ptr = node.at }))) × AreMapped slots rest
 
   -- each spare node is a ring of its own that holds nothing, and its slot leads nowhere
   abbrev pub AreSpare : Slots A B → List (Spare A B) → Type 0

@@ -34,7 +34,7 @@ use std::sync::ledger::{Blank, Ledger};
 /// has a namesake for callers that count nothing, as [`insert_uncounted`](List::insert_uncounted).
 #[derive(Drop)]
 pub struct List<T, W> {
-    chain: Chain<Notice<T>, Option<W>>,
+    chain: Chain<Notice<T>, W>,
     next_serial: u64,
 }
 

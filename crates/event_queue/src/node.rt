@@ -16,6 +16,7 @@ use std::sync::ledger::Ledger;
 mod change;
 mod entries;
 mod ring;
+mod serial;
 mod table;
 
 pub use change::Change;
@@ -29,7 +30,7 @@ pub enum Side<A, B> {
 }
 
 /// Entries in the order in which they were pushed, each under a key that the chain gives it, and a cursor between
-/// two of them: those before it carry an `A`, those after it a `B`.
+/// two of them: those before it carry an `A`, those after it a `B` or nothing.
 ///
 /// An entry that leaves makes its node spare, and a push takes a spare node before it allocates.
 #[derive(Drop)]
@@ -43,10 +44,10 @@ pub struct Chain<A, B> {
 }
 
 impl<A, B> Model for Chain<A, B> {
-    ghost use Rattle.std.specs.Prelude.{length, filter_map};
+    ghost use Rattle.std.specs.Prelude.{Option, length, filter_map};
     ghost use Rattle.event_queue.specs.Nodes.{Sequence};
 
-    ghost Value = { Sequence A B };
+    ghost Value = { Sequence A (Option B) };
 
     ghost use Rattle.event_queue.specs.Nodes.{nodes_of, entry_before, entry_after, shown_in, IsSound};
 
@@ -165,9 +166,9 @@ impl<A, B> Chain<A, B> {
     pub fn push_back<L: Ledger>(
         &mut self,
         serial: u64,
-        value: B,
+        value: Option<B>,
         steps: &mut Steps<L>,
-    ) -> Result<Key, AllocFailed<B>>
+    ) -> Result<Key, AllocFailed<Option<B>>>
         requires { serial < 2 ^ 64 - 1 }
         ensures serial { IfOk result (λ key. key.serial ≡ serial) }
         ensures before { OnOk result (self.new.before ≡ self.old.before) }
@@ -197,7 +198,7 @@ impl<A, B> Chain<A, B> {
 
     // Appends an entry on a spare node.
     #[inline(always)]
-    fn push_spare<L: Ledger>(&mut self, serial: u64, value: B, steps: &mut Steps<L>) -> Key
+    fn push_spare<L: Ledger>(&mut self, serial: u64, value: Option<B>, steps: &mut Steps<L>) -> Key
         requires spare { 0 < self.old.spare }
         requires serial { serial < 2 ^ 64 - 1 }
         ensures serial { result.serial ≡ serial }
@@ -221,7 +222,7 @@ impl<A, B> Chain<A, B> {
 
     /// Takes the entry of that key out.
     #[inline(always)]
-    pub fn take<L: Ledger>(&mut self, key: Key, steps: &mut Steps<L>) -> Option<Side<A, B>>
+    pub fn take<L: Ledger>(&mut self, key: Key, steps: &mut Steps<L>) -> Option<Side<A, Option<B>>>
         ensures step { Takes self.old key result self.new }
         ensures visits { steps.new.visits ≡ steps.old.visits + visits_of_taking result }
         ensures looks { steps.new.looks ≡ counted_on steps.old.looks 1 }
@@ -243,7 +244,7 @@ impl<A, B> Chain<A, B> {
     /// Takes the entry of that key out, if it is before the cursor. If it is after the cursor, gives it the value that
     /// `change` makes of the one that it has.
     #[inline(always)]
-    pub fn take_or_change<C, M: Change<B, C>, L: Ledger>(
+    pub fn take_or_change<C, M: Change<Option<B>, C>, L: Ledger>(
         &mut self,
         key: Key,
         change: M,
@@ -272,7 +273,7 @@ impl<A, B> Chain<A, B> {
     /// Moves the cursor past the first entry after it, which gets this value. Its key and the value that it had are
     /// the answer.
     #[inline(always)]
-    pub fn advance<L: Ledger>(&mut self, value: A, steps: &mut Steps<L>) -> (Key, B)
+    pub fn advance<L: Ledger>(&mut self, value: A, steps: &mut Steps<L>) -> (Key, Option<B>)
         requires { 0 < length self.old.after }
         ensures first { self.old.after ≡ result ∷ self.new.after }
         ensures told { self.new.before ≡ self.old.before ++ (result.0, value) ∷ [] }
@@ -281,9 +282,14 @@ impl<A, B> Chain<A, B> {
         ensures looks { steps.new.looks ≡ steps.old.looks }
     {
         let entries = self.entries.as_mut().unwrap();
-        let first = entries.advance(value, steps);
+        let (first, slot) = entries.first(steps);
+        let key = Key {
+            slot,
+            serial: self.table.serial_in(slot),
+        };
+        let former = entries.advance(first, key, value);
         self.before_len += 1;
         self.after_len -= 1;
-        first
+        (key, former)
     }
 }

@@ -7,17 +7,17 @@ use denote.RawPtr.{Ptr}
 use Rattle.event_queue.specs.declared.key.Key.{Key}
 use Rattle.event_queue.specs.declared.node.ring.pointers.NodePtr.{NodePtr}
 use Rattle.event_queue.specs.declared.node.entries.Held.{Held}
-use Rattle.event_queue.specs.declared.node.entries.Held.TheVariants.{Before, After, Nothing}
+use Rattle.event_queue.specs.declared.node.entries.Held.TheVariants.{Nothing, Before}
 use Rattle.event_queue.specs.declared.node.entries.Entry.{Entry}
 use Rattle.event_queue.specs.declared.node.entries.Entries.{Entries}
 use Rattle.event_queue.specs.Key.{is_key}
 use Rattle.event_queue.specs.Ring.{first_place, IsAt, AtNode}
-use Rattle.event_queue.specs.Nodes.{Node, Spare, Slots, times, slots_of, nodes_of, node_at, key_of, spare_entry, value_before, value_after, AreBefore, AreAfter, AreMapped, GrowsTo}
+use Rattle.event_queue.specs.Nodes.{Node, Spare, Slots, times, slots_of, nodes_of, node_at, key_of, spare_entry, value_before, value_after, held_after, AreBefore, AreAfter, AreMapped, GrowsTo}
 use Rattle.event_queue.specs.Nodes.{HasCursor, IsStarted, IsTable, IsSound}
 use Rattle.event_queue.proofs.Nodes.Slots.{times_same, apart_from_times, times-slots_of-append, cut_at, once, within, linked_slot, leads_to, not_linked, spare_within}
 use Rattle.event_queue.proofs.Nodes.Slots.{last_is_spare, IsTable-linked, IsTable-returned, IsTable-changed}
 use Rattle.event_queue.proofs.Nodes.Lookups.{entries_by, entries_by-append, entries_some, entries_none, entries_skip, all_other, lookup_absent, lookup_cut, remove_cut}
-use Rattle.event_queue.proofs.Nodes.Lookups.{set_cut, is_before, is_after, none_before, none_after, AreBefore-append, AreBefore-cut, AreAfter-append, AreAfter-cut, length-before}
+use Rattle.event_queue.proofs.Nodes.Lookups.{set_cut, is_before, is_after, after_of_after, before_of_after, none_before, none_after, AreBefore-append, AreBefore-cut, AreAfter-append, AreAfter-cut, length-before}
 use Rattle.event_queue.proofs.Nodes.Lookups.{length-after}
 
 -- ---- how many there are
@@ -59,15 +59,15 @@ module _ {A B : Type 0} where
       let later = split_before bs after fs rest node others are_after value held in
       (later.0, ap₂ (λ n ns. n ∷ ns) same later.1, later.2)
 
-  pub split_after : (before after front rest : List (Node A B)) (node : Node A B) → before ++ after ≡ front ++ node ∷ rest → AreBefore before → (value : B)
+  pub split_after : (before after front rest : List (Node A B)) (node : Node A B) → before ++ after ≡ front ++ node ∷ rest → AreBefore before → (value : Option B)
       → value_after node.entry.held ≡ Some value → (more : List (Node A B)) × (after ≡ more ++ node ∷ rest) × (front ≡ before ++ more)
   split_after [] after front rest node is are_before value held = (front, is, refl)
   split_after (b ∷ bs) after [] rest node is are_before value held =
       let same : b ≡ node = cc in
       absurd (neither (is_after node.entry.held value held) (subst (λ (n : Node A B). IsSome (value_before n.entry.held)) same are_before.0))
     where
-      neither : node.entry.held ≡ After value → IsSome (value_before node.entry.held) → ⊥
-      neither same some = true≢false (sym (rw same at some))
+      neither : node.entry.held ≡ held_after value → IsSome (value_before node.entry.held) → ⊥
+      neither same some = true≢false (sym (rw (before_of_after value same) at some))
   split_after (b ∷ bs) after (f ∷ fs) rest node is are_before value held =
       let same : b ≡ f = cc in
       let others : bs ++ after ≡ fs ++ node ∷ rest = cc in
@@ -82,7 +82,7 @@ module _ {A B : Type 0} where
     pub rest : List (Node A B)
     pub is : nodes ≡ front ++ node ∷ rest
     pub slot_is : node.entry.slot ≡ key.slot
-    pub serial_is : node.entry.serial ≡ key.serial
+    pub serial_is : node.entry.serial.number ≡ key.serial
     pub place : node.at ≡ at
     pub off_front : times key.slot (slots_of front) ≡ 0
     pub off_rest : times key.slot (slots_of rest) ≡ 0
@@ -96,7 +96,7 @@ module _ {A B : Type 0} where
       let slot = key.slot in
       let cut = cut_at slot nodes (linked_slot slots nodes spares table key at leads) in
       let there = leads_to slots cut.front cut.rest cut.node key cut.at (subst (λ (ns : List (Node A B)). AreMapped slots ns) cut.is table.mapped) in
-      let found = found_there (eqb cut.node.entry.serial key.serial) cut.node.at at (sym there ∙ leads) in
+      let found = found_there (eqb cut.node.entry.serial.number key.serial) cut.node.at at (sym there ∙ leads) in
       let counted = ap (λ (ns : List (Node A B)). times slot (slots_of ns)) cut.is ∙ times-slots_of-append slot cut.front (cut.node ∷ cut.rest) in
       let one = times_same slot cut.node.entry.slot (slots_of cut.rest) (sym cut.at) in
       let most = once slots nodes spares table slot in
@@ -106,7 +106,7 @@ module _ {A B : Type 0} where
         rest = cut.rest;
         is = cut.is;
         slot_is = cut.at;
-        serial_is = eqb-true cut.node.entry.serial key.serial found.0;
+        serial_is = eqb-true cut.node.entry.serial.number key.serial found.0;
         place = found.1;
         off_front = omega (arith, counted, one, most);
         off_rest = omega (arith, counted, one, most);
@@ -145,7 +145,7 @@ module _ {A B : Type 0} where
         looked =
             ap (λ nodes. lookup (is_key key) (entries_by value nodes)) lies.is
             ∙ lookup_cut value key lies.front lies.rest lies.node lies.off_front lies.off_rest lies.slot_is
-            ∙ ap (λ b. cond b (value lies.node.entry.held) None) (eq-eqb key.serial lies.node.entry.serial (sym lies.serial_is))
+            ∙ ap (λ b. cond b (value lies.node.entry.held) None) (eq-eqb key.serial lies.node.entry.serial.number (sym lies.serial_is))
 
         -- a test of the node at the place
         abbrev pub Tests : Bool → Type 0
@@ -174,8 +174,8 @@ module _ {A B : Type 0} where
             let cut = cut_at key.slot (nodes_of entries) some in
             let table = table_of slots (sound.before ++ sound.after) (cut.front ++ cut.node ∷ cut.rest) spares (sym sound.in_order ∙ cut.is) sound.table in
             let there = leads_to slots cut.front cut.rest cut.node key cut.at table.mapped in
-            let fails = nothing_there (eqb cut.node.entry.serial key.serial) (record { ptr = cut.node.at }) (sym there ∙ nowhere) in
-            let other = ne_eqb key.serial cut.node.entry.serial (λ same. true≢false (sym (eq-eqb cut.node.entry.serial key.serial (sym same)) ∙ fails)) in
+            let fails = nothing_there (eqb cut.node.entry.serial.number key.serial) (record { ptr = cut.node.at }) (sym there ∙ nowhere) in
+            let other = ne_eqb key.serial cut.node.entry.serial.number (λ same. true≢false (sym (eq-eqb cut.node.entry.serial.number key.serial (sym same)) ∙ fails)) in
             let split = times-slots_of-append key.slot cut.front (cut.node ∷ cut.rest) in
             let one = times_same key.slot cut.node.entry.slot (slots_of cut.rest) (sym cut.at) in
             let most = once slots (cut.front ++ cut.node ∷ cut.rest) spares table key.slot in
@@ -317,7 +317,8 @@ module _ {A B : Type 0} where
           ∙ ap (λ ns. remove_entry (is_key key) (entries_by value_after ns)) (sym finds.lies.is)
 
       no_value_before : value_before finds.lies.node.entry.held ≡ None
-      no_value_before = rw (is_after finds.lies.node.entry.held finds.x finds.held) refl
+      no_value_before =
+          before_of_after finds.x (is_after finds.lies.node.entry.held finds.x finds.held)
 
       pub before_kept : (later : List (Node A B)) → later ≡ finds.lies.front ++ finds.lies.rest → entries_by value_before later ≡ entries_by value_before entries.ring.nodes
       before_kept later nodes =
@@ -326,18 +327,18 @@ module _ {A B : Type 0} where
           ∙ ap (λ ns. entries_by value_before ns) (sym finds.lies.is)
 
       -- ---- an entry after the cursor gets another value
-      module _ (later : Entries A B) (other : Node A B) (y : B) (nodes : later.ring.nodes ≡ finds.lies.front ++ other ∷ finds.lies.rest)
-          (same_place : other.at ≡ finds.lies.node.at) (same_key : key_of other.entry ≡ key_of finds.lies.node.entry) (held : other.entry.held ≡ After y) where
+      module _ (later : Entries A B) (other : Node A B) (y : Option B) (nodes : later.ring.nodes ≡ finds.lies.front ++ other ∷ finds.lies.rest)
+          (same_place : other.at ≡ finds.lies.node.at) (same_key : key_of other.entry ≡ key_of finds.lies.node.entry) (held : other.entry.held ≡ held_after y) where
         pub after_set : entries_by value_after later.ring.nodes ≡ set_value (is_key key) (entries_by value_after entries.ring.nodes) y
         after_set =
             ap (λ ns. entries_by value_after ns) nodes
-            ∙ sym (set_cut value_after key finds.lies.front finds.lies.rest finds.lies.node other finds.x y finds.lies.off_front finds.key_is finds.held same_key (ap value_after held))
+            ∙ sym (set_cut value_after key finds.lies.front finds.lies.rest finds.lies.node other finds.x y finds.lies.off_front finds.key_is finds.held same_key (after_of_after y held))
             ∙ ap (λ ns. set_value (is_key key) (entries_by value_after ns) y) (sym finds.lies.is)
 
         pub before_unset : entries_by value_before later.ring.nodes ≡ entries_by value_before entries.ring.nodes
         before_unset =
             ap (λ ns. entries_by value_before ns) nodes
-            ∙ entries_skip value_before finds.lies.front finds.lies.rest other (ap value_before held)
+            ∙ entries_skip value_before finds.lies.front finds.lies.rest other (before_of_after y held)
             ∙ sym (entries_skip value_before finds.lies.front finds.lies.rest finds.lies.node no_value_before)
             ∙ ap (λ ns. entries_by value_before ns) (sym finds.lies.is)
 
@@ -354,7 +355,7 @@ module _ {A B : Type 0} where
             ap (λ ns. ns ++ other ∷ lies.rest) split.2 ∙ append_assoc sound.before split.0 (other ∷ lies.rest) in
             let table = table_of slots (sound.before ++ sound.after) (lies.front ++ lies.node ∷ lies.rest) spares (sym sound.in_order ∙ lies.is) sound.table in
             let changed = IsTable-changed slots lies.front lies.rest lies.node other spares same_place same_key table in
-            let some : IsSome (value_after other.entry.held) = rw held refl in
+            let some : IsSome (value_after other.entry.held) = rw (after_of_after y held) refl in
             record {
               before = sound.before;
               after = split.0 ++ other ∷ lies.rest;
@@ -376,8 +377,8 @@ module _ {A B : Type 0} where
       pub cursor_after : IsSome (value_after cursor.first.entry.held)
       cursor_after = (subst AreAfter cursor.after_is sound.are_after).0
 
-      module _ (later : Entries A B) (other : Node A B) (x : A) (y : B) (nodes : later.ring.nodes ≡ sound.before ++ other ∷ cursor.others) (same_place : other.at ≡ cursor.first.at)
-          (same_key : key_of other.entry ≡ key_of cursor.first.entry) (held : other.entry.held ≡ Before x) (former : cursor.first.entry.held ≡ After y) where
+      module _ (later : Entries A B) (other : Node A B) (x : A) (y : Option B) (nodes : later.ring.nodes ≡ sound.before ++ other ∷ cursor.others) (same_place : other.at ≡ cursor.first.at)
+          (same_key : key_of other.entry ≡ key_of cursor.first.entry) (held : other.entry.held ≡ Before x) (former : cursor.first.entry.held ≡ held_after y) where
         are_others : AreAfter cursor.others
         are_others = (subst AreAfter cursor.after_is sound.are_after).1
 
@@ -406,7 +407,7 @@ module _ {A B : Type 0} where
             let old = ap (λ ns. entries_by value_after ns) cursor.is
             ∙ entries_by-append value_after sound.before (cursor.first ∷ cursor.others)
             ∙ ap (λ es. es ++ entries_by value_after (cursor.first ∷ cursor.others)) none
-            ∙ entries_some value_after cursor.first cursor.others y (ap value_after former) in
+            ∙ entries_some value_after cursor.first cursor.others y (after_of_after y former) in
             let new = ap (λ ns. entries_by value_after ns) nodes
             ∙ entries_skip value_after sound.before cursor.others other (ap value_after held)
             ∙ entries_by-append value_after sound.before cursor.others
@@ -417,7 +418,7 @@ module _ {A B : Type 0} where
         before_advanced =
             let none = none_before cursor.others are_others in
             let old = ap (λ ns. entries_by value_before ns) cursor.is
-            ∙ entries_skip value_before sound.before cursor.others cursor.first (ap value_before former)
+            ∙ entries_skip value_before sound.before cursor.others cursor.first (before_of_after y former)
             ∙ entries_by-append value_before sound.before cursor.others
             ∙ ap (λ es. entries_by value_before sound.before ++ es) none
             ∙ append-nil (entries_by value_before sound.before) in
@@ -429,18 +430,18 @@ module _ {A B : Type 0} where
             new ∙ ap (λ es. es ++ (key_of cursor.first.entry, x) ∷ []) (sym old)
 
     -- ---- an entry is pushed
-    module _ (later : Entries A B) (node : Node A B) (y : B) (nodes : later.ring.nodes ≡ entries.ring.nodes ++ node ∷ []) (held : node.entry.held ≡ After y) where
+    module _ (later : Entries A B) (node : Node A B) (y : Option B) (nodes : later.ring.nodes ≡ entries.ring.nodes ++ node ∷ []) (held : node.entry.held ≡ held_after y) where
       pub after_pushed : entries_by value_after later.ring.nodes ≡ entries_by value_after entries.ring.nodes ++ (key_of node.entry, y) ∷ []
       after_pushed =
           ap (λ ns. entries_by value_after ns) nodes
           ∙ entries_by-append value_after entries.ring.nodes (node ∷ [])
-          ∙ ap (λ es. entries_by value_after entries.ring.nodes ++ es) (entries_some value_after node [] y (ap value_after held))
+          ∙ ap (λ es. entries_by value_after entries.ring.nodes ++ es) (entries_some value_after node [] y (after_of_after y held))
 
       pub before_pushed : entries_by value_before later.ring.nodes ≡ entries_by value_before entries.ring.nodes
       before_pushed =
           ap (λ ns. entries_by value_before ns) nodes
           ∙ entries_by-append value_before entries.ring.nodes (node ∷ [])
-          ∙ ap (λ es. entries_by value_before entries.ring.nodes ++ es) (entries_none value_before node [] (ap value_before held))
+          ∙ ap (λ es. entries_by value_before entries.ring.nodes ++ es) (entries_none value_before node [] (before_of_after y held))
           ∙ append-nil (entries_by value_before entries.ring.nodes)
 
       pushed_cursor : (after : List (Node A B)) (root cursor now : Ptr) → cursor ≡ first_place after root → now ≡ cond (eqb (length after) 0) node.at cursor
@@ -452,13 +453,13 @@ module _ {A B : Type 0} where
 
       pub IsSound-pushed : (spare : Spare A B) (others : List (Spare A B)) → spares ≡ others ++ spare ∷ [] → node.at ≡ spare.at → node.entry.slot ≡ spare.entry.slot
           → later.ring.at ≡ entries.ring.at → later.cursor.ptr ≡ cond (eqb after_len 0) node.at entries.cursor.ptr
-          → IsSound (Some later) (set slots spare.entry.slot (Some (node.entry.serial, record { ptr = spare.at }))) others before_len (after_len + 1)
+          → IsSound (Some later) (set slots spare.entry.slot (Some (node.entry.serial.number, record { ptr = spare.at }))) others before_len (after_len + 1)
       IsSound-pushed spare others spares_are same_place same_slot root moved =
           let order : entries.ring.nodes ++ node ∷ [] ≡ sound.before ++ (sound.after ++ node ∷ []) =
           ap (λ ns. ns ++ node ∷ []) sound.in_order ∙ append_assoc sound.before sound.after (node ∷ []) in
           let table = subst (λ (ss : List (Spare A B)). IsTable slots entries.ring.nodes ss) spares_are (table_is entries slots spares before_len after_len sound) in
           let linked = IsTable-linked slots entries.ring.nodes others spare node same_place same_slot table in
-          let some : IsSome (value_after node.entry.held) = rw held refl in
+          let some : IsSome (value_after node.entry.held) = rw (after_of_after y held) refl in
           record {
             before = sound.before;
             after = sound.after ++ node ∷ [];
@@ -467,7 +468,7 @@ module _ {A B : Type 0} where
             are_after = AreAfter-append sound.after (node ∷ []) sound.are_after (some, tt);
             before_len_is = sound.before_len_is;
             after_len_is = omega (arith, sound.after_len_is, length-append sound.after (node ∷ []));
-            table = table_of (set slots spare.entry.slot (Some (node.entry.serial, record { ptr = spare.at }))) (entries.ring.nodes ++ node ∷ [])
+            table = table_of (set slots spare.entry.slot (Some (node.entry.serial.number, record { ptr = spare.at }))) (entries.ring.nodes ++ node ∷ [])
                 (sound.before ++ (sound.after ++ node ∷ [])) others order linked;
             cursor = pushed_cursor sound.after entries.ring.at entries.cursor.ptr later.cursor.ptr sound.cursor (moved ∙ ap (λ n. cond (eqb n 0) node.at entries.cursor.ptr) sound.after_len_is)
                 ∙ ap (λ (p : Ptr). first_place (sound.after ++ node ∷ []) p) (sym root);

@@ -6,9 +6,9 @@ use Rattle.std.proofs.lemmas.Bool.{eq-eqb, ne_eqb, and_left}
 use Rattle.std.proofs.lemmas.List.Elements.{All-nil, All-cons, filter_map-append}
 use Rattle.event_queue.specs.declared.key.Key.{Key}
 use Rattle.event_queue.specs.declared.node.entries.Held.{Held}
-use Rattle.event_queue.specs.declared.node.entries.Held.TheVariants.{Before, After, Nothing}
+use Rattle.event_queue.specs.declared.node.entries.Held.TheVariants.{Nothing, Before, AfterWithout, After}
 use Rattle.event_queue.specs.Key.{is_key}
-use Rattle.event_queue.specs.Nodes.{Node, times, slots_of, key_of, value_before, value_after, AreBefore, AreAfter}
+use Rattle.event_queue.specs.Nodes.{Node, times, slots_of, key_of, value_before, value_after, held_after, AreBefore, AreAfter}
 use Rattle.event_queue.proofs.Nodes.Slots.{times-cons_le, apart_from_times}
 
 pub cases_option : {X : Type 0} (o : Option X) → (o ≡ None) ⊎ ((x : X) × (o ≡ Some x))
@@ -72,11 +72,11 @@ module _ {A B X : Type 0} (value : Held A B → Option X) where
       ]
 
   pub lookup_cut : (key : Key) (front rest : List (Node A B)) (node : Node A B) → times key.slot (slots_of front) ≡ 0 → times key.slot (slots_of rest) ≡ 0
-      → node.entry.slot ≡ key.slot → lookup (is_key key) (entries_by (front ++ node ∷ rest)) ≡ cond (eqb key.serial node.entry.serial) (value node.entry.held) None
+      → node.entry.slot ≡ key.slot → lookup (is_key key) (entries_by (front ++ node ∷ rest)) ≡ cond (eqb key.serial node.entry.serial.number) (value node.entry.held) None
   lookup_cut key [] rest node off_front off_rest at =
       let later = lookup_absent key rest off_rest in
       elim (cases_option (value node.entry.held)) [
-        | inl none ↦ rw none (later ∙ sym (either_way (eqb key.serial node.entry.serial)))
+        | inl none ↦ rw none (later ∙ sym (either_way (eqb key.serial node.entry.serial.number)))
         | inr some ↦ rw (some.1, eq-eqb key.slot node.entry.slot (sym at), later) refl
       ]
   lookup_cut key (n ∷ ns) rest node off_front off_rest at =
@@ -123,24 +123,37 @@ module _ {A B X : Type 0} (value : Held A B → Option X) where
 
 module _ {A B : Type 0} where
   not_before : (held : Held A B) → IsSome (value_after held) → value_before held ≡ None
-  not_before (Before value) some = absurd (true≢false (sym some))
-  not_before (After value) some = refl
   not_before Nothing some = refl
+  not_before (Before value) some = absurd (true≢false (sym some))
+  not_before AfterWithout some = refl
+  not_before (After value) some = refl
 
   not_after : (held : Held A B) → IsSome (value_before held) → value_after held ≡ None
-  not_after (Before value) some = refl
-  not_after (After value) some = absurd (true≢false (sym some))
   not_after Nothing some = refl
+  not_after (Before value) some = refl
+  not_after AfterWithout some = absurd (true≢false (sym some))
+  not_after (After value) some = absurd (true≢false (sym some))
 
   pub is_before : (held : Held A B) (value : A) → value_before held ≡ Some value → held ≡ Before value
   is_before (Before x) value is = let same : x ≡ value = cc in ap (λ v. Before v) same
+  is_before AfterWithout value is = absurd (cc)
   is_before (After x) value is = absurd (cc)
   is_before Nothing value is = absurd (cc)
 
-  pub is_after : (held : Held A B) (value : B) → value_after held ≡ Some value → held ≡ After value
-  is_after (Before x) value is = absurd (cc)
-  is_after (After x) value is = let same : x ≡ value = cc in ap (λ v. After v) same
+  pub is_after : (held : Held A B) (value : Option B) → value_after held ≡ Some value → held ≡ held_after value
   is_after Nothing value is = absurd (cc)
+  is_after (Before x) value is = absurd (cc)
+  is_after AfterWithout value is = let same : None ≡ value = cc in ap held_after same
+  is_after (After x) value is = let same : Some x ≡ value = cc in ap held_after same
+
+  -- what a value after the cursor is on both sides of it
+  pub after_of_after : {held : Held A B} (value : Option B) → held ≡ held_after value → value_after held ≡ Some value
+  after_of_after None is = rw is refl
+  after_of_after (Some value) is = rw is refl
+
+  pub before_of_after : {held : Held A B} (value : Option B) → held ≡ held_after value → value_before held ≡ None
+  before_of_after None is = rw is refl
+  before_of_after (Some value) is = rw is refl
 
   pub none_before : (after : List (Node A B)) → AreAfter after → entries_by value_before after ≡ []
   none_before [] are_after = refl

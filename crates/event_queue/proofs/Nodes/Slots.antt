@@ -1,9 +1,10 @@
 -- The table of slots: each slot is that of one node, which is linked or spare.
-use Rattle.std.proofs.Common.{◌≡◌, ◌≢◌, ℕ, zero, suc, ◌+◌, ◌-◌, ◌^◌, ◌<◌, ◌≤◌, cond, eqb, ltb, List, [], ◌∷◌, ◌++◌, length, set, Option, Some, None, slice_get, refl, sym, ap, ◌∙◌, inl, inr}
+use Rattle.std.proofs.Common.{◌≡◌, ◌≢◌, ℕ, Bool, true, false, zero, suc, ◌+◌, ◌-◌, ◌^◌, ◌<◌, ◌≤◌, cond, eqb, ltb, List, [], ◌∷◌, ◌++◌, length, set, Option, Some, None, slice_get, refl, sym, ap, ◌∙◌, inl, inr}
 use Rattle.std.proofs.Common.{arith, length-append}
 use Rattle.std.proofs.lemmas.Bool.{cases_eq, eq-eqb, ne_eqb, lt-ltb, le-ltb, cases_lt}
 use Rattle.std.proofs.lemmas.List.{length-map, map-append, map-set, length-set}
-use Rattle.std.proofs.lemmas.Option.{slice_get_past}
+use Rattle.std.proofs.lemmas.Option.{slice_get_past, slice_get-map}
+use Rattle.std.specs.Prelude.{option_map}
 use Rattle.event_queue.specs.declared.key.Key.{Key}
 use Rattle.event_queue.specs.declared.node.ring.pointers.NodePtr.{NodePtr}
 use Rattle.event_queue.specs.declared.node.entries.Held.TheVariants.{Nothing}
@@ -30,6 +31,11 @@ module _ {X : Type 0} where
   slice_get-append_left [] ys at x found = absurd (cc)
   slice_get-append_left (z ∷ zs) ys zero x found = found
   slice_get-append_left (z ∷ zs) ys (suc at) x found = slice_get-append_left zs ys at x found
+
+  pub slice_get-within : (xs : List X) (at : ℕ) {x : X} → slice_get xs at ≡ Some x → at < length xs
+  slice_get-within [] at found = absurd (cc)
+  slice_get-within (y ∷ ys) zero found = omega arith
+  slice_get-within (y ∷ ys) (suc at) found = let later : at < length ys = slice_get-within ys at found in omega arith
 
   pub slice_get_at_end : (xs : List X) (x : X) → slice_get (xs ++ x ∷ []) (length xs) ≡ Some x
   slice_get_at_end [] x = refl
@@ -122,6 +128,28 @@ module _ {A B : Type 0} where
   shown_in-longer slots place =
       map-append shown slots (record { serial = 2 ^ 64 - 1; place = place } ∷ [])
       ∙ ap (λ says. shown_in slots ++ says ∷ []) (shown_unused place)
+
+  -- the serial that stands in a slot is the one that it says
+  serial_of_shown : (slot : Slot A B) (serial : ℕ) (place : NodePtr (Entry A B)) → shown slot ≡ Some (serial, place) → slot.serial ≡ serial
+  serial_of_shown slot serial place says =
+      both (eqb slot.serial (2 ^ 64 - 1)) says
+    where
+      both : (b : Bool) → ◌≡◌ {A = Option (ℕ × NodePtr (Entry A B))} (cond b None (Some (slot.serial, slot.place))) (Some (serial, place)) → slot.serial ≡ serial
+      both true is = absurd (cc)
+      both false is = let same : ◌≡◌ {A = ℕ × NodePtr (Entry A B)} (slot.serial, slot.place) (serial, place) = cc in ap (λ (pair : ℕ × NodePtr (Entry A B)). pair.0) same
+
+  serial_in_shown : (o : Option (Slot A B)) (found serial : ℕ) (place : NodePtr (Entry A B)) → option_map shown o ≡ Some (Some (serial, place))
+      → option_map (λ (slot : Slot A B). slot.serial) o ≡ Some found → found ≡ serial
+  serial_in_shown None found serial place says is = absurd (cc)
+  serial_in_shown (Some slot) found serial place says is =
+      let same : slot.serial ≡ found = cc in
+      let shows : shown slot ≡ Some (serial, place) = cc in
+      sym same ∙ serial_of_shown slot serial place shows
+
+  pub serial_shown : (slots : List (Slot A B)) (at found serial : ℕ) (place : NodePtr (Entry A B)) → slice_get (shown_in slots) at ≡ Some (Some (serial, place))
+      → option_map (λ (slot : Slot A B). slot.serial) (slice_get slots at) ≡ Some found → found ≡ serial
+  serial_shown slots at found serial place says is =
+      serial_in_shown (slice_get slots at) found serial place (sym (slice_get-map shown slots at) ∙ says) is
 
 module _ {A B : Type 0} where
   pub times-slots_of-append : (slot : ℕ) (xs ys : List (Node A B)) → times slot (slots_of (xs ++ ys)) ≡ times slot (slots_of xs) + times slot (slots_of ys)
@@ -253,10 +281,10 @@ module _ {A B : Type 0} where
 
   -- ---- what stands in the slot of a linked node
   pub leads_to : (slots : Slots A B) (front rest : List (Node A B)) (node : Node A B) (key : Key) → node.entry.slot ≡ key.slot → AreMapped slots (front ++ node ∷ rest)
-      → node_at slots key ≡ cond (eqb node.entry.serial key.serial) (Some (record { ptr = node.at })) None
+      → node_at slots key ≡ cond (eqb node.entry.serial.number key.serial) (Some (record { ptr = node.at })) None
   leads_to slots front rest node key same mapped =
       let here = (AreMapped-cut slots front (node ∷ rest) mapped).1.0 in
-      let there : slice_get slots key.slot ≡ Some (Some (node.entry.serial, record { ptr = node.at })) = rw (← same) here in
+      let there : slice_get slots key.slot ≡ Some (Some (node.entry.serial.number, record { ptr = node.at })) = rw (← same) here in
       rw there refl
 
   -- no linked node has the slot of a spare one, which is a slot of the table
@@ -282,17 +310,17 @@ module _ {A B : Type 0} where
   -- a spare node is linked in at the end, and its place goes into its slot
   pub IsTable-linked : (slots : Slots A B) (nodes : List (Node A B)) (spares : List (Spare A B)) (spare : Spare A B) (node : Node A B) → node.at ≡ spare.at
       → node.entry.slot ≡ spare.entry.slot → IsTable slots nodes (spares ++ spare ∷ [])
-      → IsTable (set slots spare.entry.slot (Some (node.entry.serial, record { ptr = spare.at }))) (nodes ++ node ∷ []) spares
+      → IsTable (set slots spare.entry.slot (Some (node.entry.serial.number, record { ptr = spare.at }))) (nodes ++ node ∷ []) spares
   IsTable-linked slots nodes spares spare node same_place same_slot table =
       let slot = spare.entry.slot in
-      let place : Option (ℕ × NodePtr (Entry A B)) = Some (node.entry.serial, record { ptr = spare.at }) in
+      let place : Option (ℕ × NodePtr (Entry A B)) = Some (node.entry.serial.number, record { ptr = spare.at }) in
       let one = times_same slot slot [] refl in
       let split = times-spare_slots slot spares (spare ∷ []) in
       let most = once slots nodes (spares ++ spare ∷ []) table slot in
       let off_nodes : times slot (slots_of nodes) ≡ 0 = omega (arith, split, one, most) in
       let off_spares : times slot (spare_slots spares) ≡ 0 = omega (arith, split, one, most) in
       let below = within slots nodes (spares ++ spare ∷ []) table slot (omega (arith, split, one)) in
-      let here : slice_get (set slots slot place) node.entry.slot ≡ Some (Some (node.entry.serial, record { ptr = node.at })) =
+      let here : slice_get (set slots slot place) node.entry.slot ≡ Some (Some (node.entry.serial.number, record { ptr = node.at })) =
       rw (same_slot, same_place) (slice_get-set_same slots slot place below) in
       record {
         mapped = AreMapped-append (set slots slot place) nodes (node ∷ []) (AreMapped-set slots slot place nodes off_nodes table.mapped) (here, tt);
@@ -341,9 +369,9 @@ module _ {A B : Type 0} where
       → key_of other.entry ≡ key_of node.entry → IsTable slots (front ++ node ∷ rest) spares → IsTable slots (front ++ other ∷ rest) spares
   IsTable-changed slots front rest node other spares same_place same_key table =
       let same_slot : other.entry.slot ≡ node.entry.slot = ap (λ (k : Key). k.slot) same_key in
-      let same_serial : other.entry.serial ≡ node.entry.serial = ap (λ (k : Key). k.serial) same_key in
+      let same_serial : other.entry.serial.number ≡ node.entry.serial.number = ap (λ (k : Key). k.serial) same_key in
       let mapped = AreMapped-cut slots front (node ∷ rest) table.mapped in
-      let here : slice_get slots other.entry.slot ≡ Some (Some (other.entry.serial, record { ptr = other.at })) =
+      let here : slice_get slots other.entry.slot ≡ Some (Some (other.entry.serial.number, record { ptr = other.at })) =
       rw (same_slot, same_serial, same_place) mapped.1.0 in
       record {
         mapped = AreMapped-append slots front (other ∷ rest) mapped.0 (here, mapped.1.1);

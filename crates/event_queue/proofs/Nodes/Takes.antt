@@ -1,17 +1,20 @@
 -- What is left of a chain once a key's entry was taken out or got another value, and once the cursor moved on.
 use Rattle.std.proofs.Common.{Bool, true, false, IsTrue, ◌↔◌, ◌≡◌, ◌+◌, ◌≢◌, ℕ, ap₂, true≢false, IsSome, ◌-◌, ◌<◌, ◌≤◌, cond, eqb, List, [], ◌∷◌, ◌++◌, length, set, Option, Some, None, refl, sym, ap, ◌∙◌, subst, arith, length-append}
+use Rattle.std.specs.Prelude.{option_map, slice_get}
 use Rattle.std.specs.Map.{lookup, set_value}
 use Rattle.event_queue.specs.declared.key.Key.{Key}
 use Rattle.event_queue.specs.declared.node.ring.pointers.NodePtr.{NodePtr}
 use Rattle.event_queue.specs.declared.node.entries.Held.{Held}
-use Rattle.event_queue.specs.declared.node.entries.Held.TheVariants.{Before, After, Nothing}
+use Rattle.event_queue.specs.declared.node.entries.Held.TheVariants.{Nothing, Before, AfterWithout, After}
 use Rattle.event_queue.specs.declared.node.entries.Entry.{Entry}
 use Rattle.event_queue.specs.declared.node.entries.Entries.{Entries}
+use Rattle.event_queue.specs.declared.node.table.Slot.{Slot}
 use Rattle.event_queue.specs.Key.{is_key}
 use Rattle.event_queue.specs.Ring.{placed, first_place, IsAt, AtNode}
-use Rattle.event_queue.specs.Nodes.{Node, Spare, Slots, Sequence, nodes_of, node_at, key_of, spare_entry, value_before, value_after, before_leaves, after_leaves, HasNone, IsBeforeAt, IsAfterAt, IsSpareAt, Advances, HandsOut, HandsIn, TakesOut, AreBefore, AreAfter, IsSound}
-use Rattle.event_queue.proofs.Nodes.Lookups.{entries_by, some_value, AreAfter-cut}
-use Rattle.event_queue.proofs.Nodes.ChainSteps.{Lies, Finds, Cursor, lies, stands_at, slot_within, spare_room, looked, leads_nowhere, some_before, some_after, IsSound-without_before, IsSound-without_after, before_removed, after_removed, before_kept, after_kept, cursor_is, cursor_after, length-after_of, IsSound-advanced, after_advanced, before_advanced, after_set, before_unset, IsSound-set}
+use Rattle.event_queue.specs.Nodes.{Node, Spare, Slots, Sequence, shown_in, AreMapped, nodes_of, node_at, key_of, spare_entry, value_before, value_after, held_after, before_leaves, after_leaves, HasNone, IsBeforeAt, IsAfterAt, IsSpareAt, Advances, HandsOut, HandsIn, TakesOut, AreBefore, AreAfter, IsSound}
+use Rattle.event_queue.proofs.Nodes.Slots.{AreMapped-cut, slice_get-within, serial_shown}
+use Rattle.event_queue.proofs.Nodes.Lookups.{entries_by, some_value, after_of_after, AreAfter-cut}
+use Rattle.event_queue.proofs.Nodes.ChainSteps.{Lies, Finds, Cursor, lies, table_is, stands_at, slot_within, spare_room, looked, leads_nowhere, some_before, some_after, IsSound-without_before, IsSound-without_after, before_removed, after_removed, before_kept, after_kept, cursor_is, cursor_after, length-after_of, IsSound-advanced, after_advanced, before_advanced, after_set, before_unset, IsSound-set}
 
 module _ {A B : Type 0} where
   -- a linked node holds something
@@ -29,12 +32,13 @@ module _ {A B : Type 0} where
 
   -- an entry that is not after the cursor is before it
   other_side : (held : Held A B) → held ≢ Nothing → (IsSome (value_after held) → ⊥) → IsSome (value_before held)
-  other_side (Before value) holds not_after = refl
-  other_side (After value) holds not_after = absurd (not_after refl)
   other_side Nothing holds not_after = absurd (holds refl)
+  other_side (Before value) holds not_after = refl
+  other_side AfterWithout holds not_after = absurd (not_after refl)
+  other_side (After value) holds not_after = absurd (not_after refl)
 
   -- what a contract sees of a chain
-  abbrev pub seen : Option (Entries A B) → List (Spare A B) → Sequence A B
+  abbrev pub seen : Option (Entries A B) → List (Spare A B) → Sequence A (Option B)
   seen entries spares =
       record {
         before = entries_by value_before (nodes_of entries);
@@ -144,10 +148,10 @@ module _ {A B : Type 0} where
             let kept = after_kept entries slots spares before_len after_len node.sound key at.ptr found_before later.ring.nodes others in
             rw (node.is, removed, kept, length-append) refl
 
-      module _ (value : B) (held : AtNode entries.ring.nodes at.ptr (λ _ n _. n.entry.held ≡ After value)) where
+      module _ (value : Option B) (held : AtNode entries.ring.nodes at.ptr (λ _ n _. n.entry.held ≡ held_after value)) where
         found_after : Finds value_after entries.ring.nodes key at.ptr
         found_after =
-            found value_after value (ap value_after (held its_place.front its_place.node its_place.rest its_place.is its_place.place))
+            found value_after value (after_of_after value (held its_place.front its_place.node its_place.rest its_place.is its_place.place))
 
         pub some_were_after : 1 ≤ after_len
         some_were_after =
@@ -174,7 +178,7 @@ module _ {A B : Type 0} where
             rw (node.is, removed, kept, length-append) refl
 
     -- ---- once its value was handed out, and another one was handed in
-    module _ {value : B} {out : Entries A B} (hand_out : HandsOut entries at.ptr value out) where
+    module _ {value : Option B} {out : Entries A B} (hand_out : HandsOut entries at.ptr value out) where
       abbrev left_behind : Node A B
       left_behind = placed its_place.node.at (spare_entry its_place.node.entry.slot)
 
@@ -186,11 +190,11 @@ module _ {A B : Type 0} where
 
       found_out : Finds value_after entries.ring.nodes key at.ptr
       found_out =
-          found value_after value (ap value_after (hand_out.held its_place.front its_place.node its_place.rest its_place.is its_place.place))
+          found value_after value (after_of_after value (hand_out.held its_place.front its_place.node its_place.rest its_place.is its_place.place))
 
-      module _ {later : Entries A B} {changed : B} (hand_in : HandsIn out at.ptr key changed later) where
+      module _ {later : Entries A B} {changed : Option B} (hand_in : HandsIn out at.ptr key changed later) where
         abbrev other : Node A B
-        other = placed its_place.node.at (record { slot = key.slot; serial = key.serial; held = After changed })
+        other = placed its_place.node.at (record { slot = key.slot; serial = record { number = key.serial }; held = held_after changed })
 
         set_there : later.ring.nodes ≡ its_place.front ++ other ∷ its_place.rest
         set_there = hand_in.nodes its_place.front left_behind its_place.rest cut its_place.place
@@ -222,35 +226,58 @@ module _ {A B : Type 0} where
     pub some_after_it : 0 < after_len
     some_after_it = omega (arith, some, length-after_of chain slots spares before_len after_len sound)
 
-    first : Cursor entries sound_now.before sound_now.after
+    pub first : Cursor entries sound_now.before sound_now.after
     first = cursor_is entries slots spares before_len after_len sound_now some_after_it
 
     pub has_next : IsAfterAt entries.ring.nodes entries.cursor.ptr
     has_next =
         (sound_now.before, first.first, first.others, first.is, first.place, cursor_after entries slots spares before_len after_len sound_now first)
 
-    module _ {value : A} {next : Key × B} {later : Entries A B} (advance : Advances entries value next later) where
+    pub next_stands : IsAt entries.ring.nodes entries.cursor.ptr
+    next_stands = (sound_now.before, first.first, first.others, first.is, first.place)
+
+    -- a slot that was read off the node at the cursor
+    module _ {slot : ℕ} (read : AtNode entries.ring.nodes entries.cursor.ptr (λ _ n _. slot ≡ n.entry.slot)) where
+      pub read_is : slot ≡ first.first.entry.slot
+      read_is = read sound_now.before first.first first.others first.is first.place
+
+      pub leads_to_first : slice_get slots slot ≡ Some (Some (first.first.entry.serial.number, record { ptr = first.first.at }))
+      leads_to_first =
+          let table = table_is entries slots spares before_len after_len sound_now in
+          let mapped = subst (λ (ns : List (Node A B)). AreMapped slots ns) first.is table.mapped in
+          rw read_is (AreMapped-cut slots sound_now.before (first.first ∷ first.others) mapped).1.0
+
+      pub read_within : slot < length slots
+      read_within = slice_get-within slots slot leads_to_first
+
+    module _ {key : Key} {value : A} {former : Option B} {later : Entries A B} (key_is : key ≡ key_of first.first.entry) (advance : Advances entries key value former later) where
       abbrev told : Node A B
-      told = placed first.first.at (record first.first.entry { held = Before value })
+      told = placed first.first.at (record { slot = key.slot; serial = record { number = key.serial }; held = Before value })
 
       moved : later.ring.nodes ≡ sound_now.before ++ told ∷ first.others
       moved = advance.nodes sound_now.before first.first first.others first.is first.place
 
-      former : first.first.entry.held ≡ After next.1
-      former = advance.former sound_now.before first.first first.others first.is first.place
-
-      key_is : next.0 ≡ key_of first.first.entry
-      key_is = advance.key sound_now.before first.first first.others first.is first.place
+      had : first.first.entry.held ≡ held_after former
+      had = advance.had sound_now.before first.first first.others first.is first.place
 
       pub sound_advanced : IsSound (Some later) slots spares (before_len + 1) (after_len - 1)
       sound_advanced =
           let cursor = advance.cursor sound_now.before first.first first.others first.is first.place in
-          IsSound-advanced entries slots spares before_len after_len sound_now first later told value next.1 moved refl refl refl former advance.root cursor
+          IsSound-advanced entries slots spares before_len after_len sound_now first later told value former moved refl key_is refl had advance.root cursor
 
-      pub next_was_first : (seen chain spares).after ≡ next ∷ entries_by value_after later.ring.nodes
+      pub next_was_first : (seen chain spares).after ≡ (key, former) ∷ entries_by value_after later.ring.nodes
       next_was_first =
-          rw (is, key_is) (after_advanced entries slots spares before_len after_len sound_now first later told value next.1 moved refl refl refl former)
+          rw (is, key_is) (after_advanced entries slots spares before_len after_len sound_now first later told value former moved refl key_is refl had)
 
-      pub next_is_last : entries_by value_before later.ring.nodes ≡ (seen chain spares).before ++ (next.0, value) ∷ []
+      pub next_is_last : entries_by value_before later.ring.nodes ≡ (seen chain spares).before ++ (key, value) ∷ []
       next_is_last =
-          rw (is, key_is) (before_advanced entries slots spares before_len after_len sound_now first later told value next.1 moved refl refl refl former)
+          rw (is, key_is) (before_advanced entries slots spares before_len after_len sound_now first later told value former moved refl key_is refl had)
+
+  -- the key of the first entry after the cursor: the slot that was read off its node, and the serial that stands there
+  pub key_of_first : {chain : Option (Entries A B)} (items : List (Slot A B)) {spares : List (Spare A B)} {before_len after_len : ℕ} {entries : Entries A B}
+      (sound : IsSound chain (shown_in items) spares before_len after_len) (is : chain ≡ Some entries) (some : 0 < length (seen chain spares).after) {slot serial : ℕ}
+      → AtNode entries.ring.nodes entries.cursor.ptr (λ _ n _. slot ≡ n.entry.slot) → option_map (λ (found : Slot A B). found.serial) (slice_get items slot) ≡ Some serial
+      → ◌≡◌ {A = Key} (record { slot = slot; serial = serial }) (key_of (first sound is some).first.entry)
+  key_of_first items sound is some {slot} {serial} read there =
+      ap₂ {C = Key} (λ a b. record { slot = a; serial = b }) (read_is sound is some read)
+      (serial_shown items slot serial _ _ (leads_to_first sound is some read) there)

@@ -1,27 +1,45 @@
 //! The entries of a chain in order, each on a node of one ring, and the cursor.
 ghost use Rattle.std.specs.Prelude.{◌≡◌, ◌+◌, [], ◌∷◌, ◌++◌, cond, ◌↔◌, eqb, IsTrue, IsSome, IfOk};
 ghost use Rattle.event_queue.specs.Ring.{placed, first_place, IsAt, AtNode};
-ghost use Rattle.event_queue.specs.Nodes.{key_of, value_before, value_after, spare_entry, IsSpareAt, IsBeforeAt, IsAfterAt, HandsOut, HandsIn, TakesOut, Advances};
+ghost use Rattle.event_queue.specs.Nodes.{value_before, value_after, held_after, spare_entry, IsSpareAt, IsBeforeAt, IsAfterAt, HandsOut, HandsIn, TakesOut, Advances};
 
 use super::ring::{NodePtr, NodeRef, Ring, Steps};
+use super::serial::Serial;
 use crate::key::Key;
 use std::alloc::{AllocError, AllocFailed, Global};
 use std::sync::ledger::Ledger;
 
-/// What a node carries: the slot that it keeps, and an entry's serial and value.
+/// What a node carries: the slot that it keeps, and an entry's value. The entry's serial stands in that slot, and here
+/// for proofs alone.
 #[derive(Drop)]
 pub(super) struct Entry<A, B> {
     slot: usize,
-    serial: u64,
+    serial: Serial,
     held: Held<A, B>,
 }
 
-/// A value before the cursor or after it. The root and a spare node hold nothing.
+/// A value before the cursor, or one that may be absent after it. The root and a spare node hold nothing.
+///
+/// It is one enum, and not a value with an `Option` in it, since each tag takes 8 bytes of every node.
 #[derive(Drop)]
 pub(super) enum Held<A, B> {
-    Before(A),
-    After(B),
     Nothing,
+    Before(A),
+    AfterWithout,
+    After(B),
+}
+
+impl<A, B> Held<A, B> {
+    /// That value after the cursor.
+    #[inline(always)]
+    fn after(value: Option<B>) -> Self
+        ensures { result ≡ held_after value }
+    {
+        match value {
+            Some(value) => Held::After(value),
+            None => Held::AfterWithout,
+        }
+    }
 }
 
 impl<A, B> Entry<A, B> {
@@ -32,18 +50,8 @@ impl<A, B> Entry<A, B> {
     {
         Entry {
             slot,
-            serial: 0,
+            serial: Serial::new(&0),
             held: Held::Nothing,
-        }
-    }
-
-    #[inline(always)]
-    fn key(&self) -> Key
-        ensures { result ≡ key_of self.now }
-    {
-        Key {
-            slot: self.slot,
-            serial: self.serial,
         }
     }
 
@@ -66,9 +74,9 @@ impl<A, B> Entry<A, B> {
 
     // The value of an entry after the cursor.
     #[inline(always)]
-    fn into_after(self) -> B
+    fn into_after(self) -> Option<B>
         requires { IsSome (value_after self.held) }
-        ensures { self.held ≡ Held.After result }
+        ensures { self.held ≡ held_after result }
     {
         let Entry {
             slot: _,
@@ -76,7 +84,8 @@ impl<A, B> Entry<A, B> {
             held,
         } = self;
         match held {
-            Held::After(value) => value,
+            Held::After(value) => Some(value),
+            Held::AfterWithout => None,
             _ => unreachable!(),
         }
     }
@@ -141,7 +150,7 @@ impl<A, B> Entries<A, B> {
         ensures { AtNode self.now.ring.nodes own.now.ptr (λ _ n _. IsTrue result ↔ IsSome (value_after n.entry.held)) }
     {
         let (entry, _) = self.ring.look(own);
-        matches!(entry.held, Held::After(_))
+        matches!(entry.held, Held::After(_) | Held::AfterWithout)
     }
 
     /// Links a spare node in at the end, with an entry after the cursor. Its slot and the node are the answer.
@@ -152,7 +161,7 @@ impl<A, B> Entries<A, B> {
         &mut self,
         node: Ring<Entry<A, B>>,
         serial: u64,
-        value: B,
+        value: Option<B>,
         is_first: bool,
         steps: &mut Steps<L>,
     ) -> (usize, NodeRef<Entry<A, B>>)
@@ -161,7 +170,7 @@ impl<A, B> Entries<A, B> {
         ensures slot { result.0 ≡ node.entry.slot }
         ensures place { result.1.ptr ≡ node.at }
         ensures root { self.new.ring.at ≡ self.old.ring.at }
-        ensures nodes { self.new.ring.nodes ≡ self.old.ring.nodes ++ placed node.at (record { slot = node.entry.slot; serial = serial; held = Held.After value }) ∷ [] }
+        ensures nodes { self.new.ring.nodes ≡ self.old.ring.nodes ++ placed node.at (record { slot = node.entry.slot; serial = record { number = serial }; held = held_after value }) ∷ [] }
         ensures cursor { self.new.cursor.ptr ≡ cond is_first node.at self.old.cursor.ptr }
         ensures visits { steps.new.visits ≡ steps.old.visits + 1 }
         ensures looks { steps.new.looks ≡ steps.old.looks }
@@ -171,8 +180,8 @@ impl<A, B> Entries<A, B> {
         let slot = spare.slot;
         let entry = Entry {
             slot,
-            serial,
-            held: Held::After(value),
+            serial: Serial::new(&serial),
+            held: Held::after(value),
         };
         self.ring.replace(&own, entry).drop_spare();
         if is_first {
@@ -183,7 +192,7 @@ impl<A, B> Entries<A, B> {
 
     /// Takes the value of an entry after the cursor off its node, which then carries what a spare one does.
     #[inline(always)]
-    pub(super) fn hand_out(&mut self, own: &NodeRef<Entry<A, B>>) -> B
+    pub(super) fn hand_out(&mut self, own: &NodeRef<Entry<A, B>>) -> Option<B>
         requires { IsAfterAt self.old.ring.nodes own.now.ptr }
         ensures { HandsOut self.old own.now.ptr result self.new }
     {
@@ -195,14 +204,14 @@ impl<A, B> Entries<A, B> {
 
     /// Gives a node that carries what a spare one does an entry after the cursor.
     #[inline(always)]
-    pub(super) fn hand_in(&mut self, own: &NodeRef<Entry<A, B>>, key: Key, value: B)
+    pub(super) fn hand_in(&mut self, own: &NodeRef<Entry<A, B>>, key: Key, value: Option<B>)
         requires { IsSpareAt self.old.ring.nodes own.now.ptr }
         ensures { HandsIn self.old own.now.ptr key value self.new }
     {
         let entry = Entry {
             slot: key.slot,
-            serial: key.serial,
-            held: Held::After(value),
+            serial: Serial::new(&key.serial),
+            held: Held::after(value),
         };
         self.ring.replace(own, entry).drop_spare();
     }
@@ -252,11 +261,11 @@ impl<A, B> Entries<A, B> {
         &mut self,
         own: NodeRef<Entry<A, B>>,
         steps: &mut Steps<L>,
-    ) -> (Ring<Entry<A, B>>, B)
+    ) -> (Ring<Entry<A, B>>, Option<B>)
         requires node { IsAfterAt self.old.ring.nodes own.ptr }
         requires cursor { IsAt self.old.ring.nodes self.old.cursor.ptr }
         ensures taken { TakesOut self.old own.ptr result.0 self.new }
-        ensures value { AtNode self.old.ring.nodes own.ptr (λ _ n _. n.entry.held ≡ Held.After result.1) }
+        ensures value { AtNode self.old.ring.nodes own.ptr (λ _ n _. n.entry.held ≡ held_after result.1) }
         ensures cursor { AtNode self.old.ring.nodes own.ptr (λ _ n ys. AtNode self.old.ring.nodes self.old.cursor.ptr (λ _ first _.
             self.new.cursor.ptr ≡ cond (eqb first.entry.slot n.entry.slot) (first_place ys self.old.ring.at) self.old.cursor.ptr)) }
         ensures visits { steps.new.visits ≡ steps.old.visits + 3 }
@@ -273,25 +282,37 @@ impl<A, B> Entries<A, B> {
         (node, entry.into_after())
     }
 
-    /// Moves the cursor past the first entry after it, which gets this value. Its key and the value that it had are
-    /// the answer.
+    /// Goes to the first node after the cursor, and returns the slot that it has, too.
     #[inline(always)]
-    pub(super) fn advance<L: Ledger>(&mut self, value: A, steps: &mut Steps<L>) -> (Key, B)
-        requires { IsAfterAt self.old.ring.nodes self.old.cursor.ptr }
-        ensures advanced { Advances self.old value result self.new }
+    pub(super) fn first<L: Ledger>(&self, steps: &mut Steps<L>) -> (NodeRef<Entry<A, B>>, usize)
+        requires { IsAt self.now.ring.nodes self.now.cursor.ptr }
+        ensures place { result.0.ptr ≡ self.now.cursor.ptr }
+        ensures slot { AtNode self.now.ring.nodes self.now.cursor.ptr (λ _ n _. result.1 ≡ n.entry.slot) }
         ensures visits { steps.new.visits ≡ steps.old.visits + 1 }
         ensures looks { steps.new.looks ≡ steps.old.looks }
     {
-        let at = self.ring.visit(self.cursor, steps);
-        let (first, next) = self.ring.look(&at);
-        let key = first.key();
+        let first = self.ring.visit(self.cursor, steps);
+        let (entry, _) = self.ring.look(&first);
+        let slot = entry.slot;
+        (first, slot)
+    }
+
+    /// Moves the cursor past the first node after it, whose entry has this key and gets this value. The value that it
+    /// had is the answer.
+    #[inline(always)]
+    pub(super) fn advance(&mut self, first: NodeRef<Entry<A, B>>, key: Key, value: A) -> Option<B>
+        requires node { IsAfterAt self.old.ring.nodes self.old.cursor.ptr }
+        requires place { first.ptr ≡ self.old.cursor.ptr }
+        ensures { Advances self.old key value result self.new }
+    {
         let entry = Entry {
             slot: key.slot,
-            serial: key.serial,
+            serial: Serial::new(&key.serial),
             held: Held::Before(value),
         };
-        let told = self.ring.replace(&at, entry);
+        let (_, next) = self.ring.look(&first);
+        let told = self.ring.replace(&first, entry);
         self.cursor = next;
-        (key, told.into_after())
+        told.into_after()
     }
 }

@@ -1,5 +1,5 @@
 //! The table of slots, which leads from a key to its node, and the spare nodes.
-ghost use Rattle.std.specs.Prelude.{◌≡◌, ◌-◌, ◌+◌, ◌^◌, ◌<◌, ◌≤◌, ◌==◌, [], ◌∷◌, ◌++◌, length, Option, MatchOption, OnOk, OnErr, IsSome, option_and_then, slice_set, vec_capacity, vec_len};
+ghost use Rattle.std.specs.Prelude.{◌≡◌, ◌-◌, ◌+◌, ◌^◌, ◌<◌, ◌≤◌, ◌==◌, [], ◌∷◌, ◌++◌, length, Option, MatchOption, OnOk, OnErr, IsSome, option_and_then, option_map, slice_get, slice_set, vec_capacity, vec_len};
 ghost use Rattle.event_queue.specs.Counts.{counted_on};
 ghost use Rattle.event_queue.specs.Nodes.{place_of, shown, shown_in, node_at, spare_entry, GrowsTo};
 
@@ -93,6 +93,15 @@ impl<A, B> Table<A, B> {
             Some(slot) => slot.place_of(key.serial),
             None => None,
         }
+    }
+
+    /// The serial that stands in a slot.
+    #[inline(always)]
+    pub(super) fn serial_in(&self, slot: usize) -> u64
+        requires { slot < length (shown_in self.now.slots.items) }
+        ensures { option_map (λ found. found.serial) (slice_get self.now.slots.items slot) ≡ Option.Some result }
+    {
+        self.slots[slot].serial
     }
 
     /// Takes a spare node.

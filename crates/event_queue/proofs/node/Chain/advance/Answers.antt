@@ -1,9 +1,21 @@
 use Rattle.std.proofs.Common.{sym}
-use Rattle.event_queue.proofs.Nodes.Takes.{some_after_it, has_next, sound_advanced, next_was_first, next_is_last}
+use Rattle.event_queue.proofs.Nodes.Takes.{some_after_it, has_next, next_stands, read_within, key_of_first, sound_advanced, next_was_first, next_is_last}
 use Rattle.event_queue.proofs.node.Chain.advance.Goals as goal
 
-pub advance-first-requires : goal.advance-first-requires
-advance-first-requires g c =
+pub first-slot-requires : goal.first-slot-requires
+first-slot-requires g c =
+    let is = sym (rw c.unwrap-entries.ensures at c.as_mut.ensures.value) in
+    let some = rw (← c.self.view_is) at c.requires in
+    next_stands c.self.invariant is some
+
+pub serial_in-requires : goal.serial_in-requires
+serial_in-requires g c =
+    let is = sym (rw c.unwrap-entries.ensures at c.as_mut.ensures.value) in
+    let some = rw (← c.self.view_is) at c.requires in
+    read_within c.self.invariant is some c.first-slot.ensures.slot
+
+pub advance-former-requires-clause-node : goal.advance-former-requires-clause-node
+advance-former-requires-clause-node g c =
     let is = sym (rw c.unwrap-entries.ensures at c.as_mut.ensures.value) in
     let some = rw (← c.self.view_is) at c.requires in
     has_next c.self.invariant is some
@@ -18,19 +30,19 @@ pub invariant_of-self : goal.invariant_of-self
 invariant_of-self g c =
     let is = sym (rw c.unwrap-entries.ensures at c.as_mut.ensures.value) in
     let some = rw (← c.self.view_is) at c.requires in
-    let advance = c.advance-first.ensures.advanced in
-    sound_advanced c.self.invariant is some advance
+    let key = key_of_first c.self.inside.table.slots.items c.self.invariant is some c.first-slot.ensures.slot c.serial_in.ensures in
+    sound_advanced c.self.invariant is some key c.advance-former.ensures
 
 pub returns-clause-first : goal.returns-clause-first
 returns-clause-first g c =
     let is = sym (rw c.unwrap-entries.ensures at c.as_mut.ensures.value) in
     let some = rw (← c.self.view_is) at c.requires in
-    let advance = c.advance-first.ensures.advanced in
-    rw (← c.self.view_is) (next_was_first c.self.invariant is some advance)
+    let key = key_of_first c.self.inside.table.slots.items c.self.invariant is some c.first-slot.ensures.slot c.serial_in.ensures in
+    rw (← c.self.view_is) (next_was_first c.self.invariant is some key c.advance-former.ensures)
 
 pub returns-clause-told : goal.returns-clause-told
 returns-clause-told g c =
     let is = sym (rw c.unwrap-entries.ensures at c.as_mut.ensures.value) in
     let some = rw (← c.self.view_is) at c.requires in
-    let advance = c.advance-first.ensures.advanced in
-    rw (← c.self.view_is) (next_is_last c.self.invariant is some advance)
+    let key = key_of_first c.self.inside.table.slots.items c.self.invariant is some c.first-slot.ensures.slot c.serial_in.ensures in
+    rw (← c.self.view_is) (next_is_last c.self.invariant is some key c.advance-former.ensures)

@@ -1,7 +1,7 @@
 use Rattle.std.proofs.Common.{Some, sym, set, ◌≡◌, ◌+◌, arith, refl, ap, ◌∙◌}
 use Rattle.std.proofs.lemmas.List.{length-set}
 use denote.RawPtr.{Ptr}
-use Rattle.event_queue.specs.declared.node.entries.Held.TheVariants.{After}
+use Rattle.event_queue.specs.Nodes.{held_after}
 use Rattle.event_queue.specs.Ring.{placed}
 use Rattle.event_queue.specs.Nodes.{shown_in, value_before, value_after}
 use Rattle.event_queue.proofs.Nodes.ChainSteps.{length-before_of, length-after_of, total_is, spare_is, spare_slot_within, spare_is_free, after_pushed, before_pushed, IsSound-pushed}
@@ -40,8 +40,8 @@ invariant_of-self g c =
     let later = IsSound-pushed c.unwrap-entries.result.now (shown_in i.table.slots.items) i.table.spares.items i.before_len i.after_len sound c.append-slot.new.self
     (placed node.at (record {
       slot = node.entry.slot;
-      serial = c.args.serial;
-      held = After c.args.value;
+      serial = record { number = c.args.serial };
+      held = held_after c.args.value;
     })) c.args.value c.append-slot.ensures.nodes refl node c.take_spare.new.self.spares.items spares refl refl c.append-slot.ensures.root c.append-slot.ensures.cursor in
     rw (slots_are, c.fill.ensures.spares) later
 
@@ -53,7 +53,7 @@ returns-clause-before g c =
     let node = c.unwrap-node.result in
     rw (← c.self.view_is, is)
     (before_pushed c.unwrap-entries.result.now (shown_in i.table.slots.items) i.table.spares.items i.before_len i.after_len sound c.append-slot.new.self
-    (placed node.at (record { slot = node.entry.slot; serial = c.args.serial; held = After c.args.value })) c.args.value c.append-slot.ensures.nodes refl)
+    (placed node.at (record { slot = node.entry.slot; serial = record { number = c.args.serial }; held = held_after c.args.value })) c.args.value c.append-slot.ensures.nodes refl)
 
 pub returns-clause-after : goal.returns-clause-after
 returns-clause-after g c =
@@ -63,7 +63,7 @@ returns-clause-after g c =
     let node = c.unwrap-node.result in
     rw (← c.self.view_is, is, c.append-slot.ensures.slot)
     (after_pushed c.unwrap-entries.result.now (shown_in i.table.slots.items) i.table.spares.items i.before_len i.after_len sound c.append-slot.new.self
-    (placed node.at (record { slot = node.entry.slot; serial = c.args.serial; held = After c.args.value })) c.args.value c.append-slot.ensures.nodes refl)
+    (placed node.at (record { slot = node.entry.slot; serial = record { number = c.args.serial }; held = held_after c.args.value })) c.args.value c.append-slot.ensures.nodes refl)
 
 pub returns-clause-slot_before : goal.returns-clause-slot_before
 returns-clause-slot_before g c =
@@ -92,8 +92,8 @@ returns-clause-slots_fit g c =
     let later = IsSound-pushed c.unwrap-entries.result.now (shown_in i.table.slots.items) i.table.spares.items i.before_len i.after_len sound c.append-slot.new.self
     (placed node.at (record {
       slot = node.entry.slot;
-      serial = c.args.serial;
-      held = After c.args.value;
+      serial = record { number = c.args.serial };
+      held = held_after c.args.value;
     })) c.args.value c.append-slot.ensures.nodes refl node c.take_spare.new.self.spares.items spares refl refl c.append-slot.ensures.root c.append-slot.ensures.cursor in
     let slots = i.table.slots in
     let all = set (shown_in slots.items) node.entry.slot (Some (c.args.serial, record { ptr = node.at })) in
