@@ -30,7 +30,7 @@ pub(super) fn perform_step<T: Copy, S: WakeSink<Task>>(
             key, task,
         )),
         StepCall::Remove { key, propagate } => {
-            RecordedReply::Removed(perform_removal(list, key, propagate, sink))
+            RecordedReply::Removed(perform_removal_apart(list, key, propagate, sink))
         }
         StepCall::Notify {
             count,
@@ -77,6 +77,23 @@ pub(super) fn perform_removal<T: Copy, S: WakeSink<Task>>(
     ensures queue { IsQueue list.new }
 {
     Some(Former::of(list.remove_uncounted(key, propagate, sink)?))
+}
+
+// Does what `perform_removal` does, where a hand asks for it, which is rare. It stands apart, since the compiler inlines
+// no function that would grow very large, however it is marked, and a step that is not inlined where its call is known
+// has to ask which call it is.
+#[inline(never)]
+fn perform_removal_apart<T: Copy, S: WakeSink<Task>>(
+    list: &mut List<T, Task>,
+    key: Key,
+    propagate: bool,
+    sink: &mut S,
+) -> Option<Former<T>>
+    ensures step { RemovesAs list.old key propagate result list.new }
+    ensures wakes { FoldsTo S.woke sink.old (woken_by_removal key propagate (unspared list.old)) sink.new }
+    ensures queue { IsQueue list.new }
+{
+    perform_removal(list, key, propagate, sink)
 }
 
 // Notifies with copies of one tag, and returns how many listeners were told. No copy is refused.
