@@ -188,7 +188,6 @@ impl<T> Event<T> {
     /// Whether some listener is notified.
     ///
     /// The call does not allocate. It may wait for the lock of the event.
-    #[inline(always)]
     pub fn is_notified<R: Wait>(&self, rt: &R) -> bool {
         match self.shared.get() {
             Some(shared) => take_lock!(shared.queue(), rt).is_notified(),
@@ -199,7 +198,6 @@ impl<T> Event<T> {
     /// How many listeners there are, notified or waiting.
     ///
     /// The call does not allocate. It may wait for the lock of the event.
-    #[inline(always)]
     pub fn total_listeners<R: Wait>(&self, rt: &R) -> usize {
         match self.shared.get() {
             Some(shared) => take_lock!(shared.queue(), rt).total_listeners(),

@@ -76,7 +76,7 @@ abbrev pub Node : Type 0 → Type 0 → Type 0
 Node A B = Placed (Entry A B)
 
 abbrev pub Spare : Type 0 → Type 0 → Type 0
-Spare A B = Ring (Entry A B)
+Spare A B = Placed (Entry A B)
 
 abbrev pub Slots : Type 0 → Type 0 → Type 0
 Slots A B = List (Option (ℕ × NodePtr (Entry A B)))
@@ -155,7 +155,7 @@ module _ {A B : Type 0} where
     pub nodes : AtNode old.ring.nodes old.cursor.ptr (λ xs n ys. new.ring.nodes ≡ xs ++ placed n.at (record { slot = key.slot; serial = record { number = key.serial }; held = Before value }) ∷ ys)
 
   -- the node at p was taken out, and is spare
-  pub record TakesOut (old : Entries A B) (p : Ptr) (node : Spare A B) (new : Entries A B) : Type 0 where
+  pub record TakesOut (old : Entries A B) (p : Ptr) (node : Ring (Entry A B)) (new : Entries A B) : Type 0 where
     pub root : new.ring.at ≡ old.ring.at
     pub place : node.at ≡ p
     pub alone : node.nodes ≡ []
@@ -193,11 +193,11 @@ module _ {A B : Type 0} where
   AreMapped slots (node ∷ rest) =
       (slice_get slots node.entry.slot ≡ Some (Some (node.entry.serial.number, record { ptr = node.at }))) × AreMapped slots rest
 
-  -- each spare node is a ring of its own that holds nothing, and its slot leads nowhere
+  -- each spare node holds nothing, and its slot leads nowhere
   abbrev pub AreSpare : Slots A B → List (Spare A B) → Type 0
   AreSpare slots [] = Unit {0}
   AreSpare slots (spare ∷ rest) =
-      ((spare.nodes ≡ []) × (spare.entry.held ≡ Nothing) × (slice_get slots spare.entry.slot ≡ Some None)) × AreSpare slots rest
+      ((spare.entry.held ≡ Nothing) × (slice_get slots spare.entry.slot ≡ Some None)) × AreSpare slots rest
 
   -- each slot is that of one node, which is linked or spare
   pub record IsTable (slots : Slots A B) (nodes : List (Node A B)) (spares : List (Spare A B)) : Type 0 where

@@ -2,18 +2,18 @@
 -- unlinking takes cells apart by ownership alone, also where both neighbours are one node.
 use Rattle.std.specs.Prelude.{ℕ, List, [], ◌∷◌, ◌++◌}
 use base.Fraction.{full_share}
-use base.Fml.{Lft, Fml, ftrue, fsep, fwand}
+use base.Fml.{Lft, Fml, ftrue, fsep, feq, fwand}
 use mir.Syntax.{Ty, ty_ptr, ty_struct, tcons, tnil}
 use mir.Raw.{raw}
 use prog.Memory.{align, up}
 use denote.RattleType.{RattleType}
 use denote.Memory.{lone}
 use denote.Sharing.{nothing, beside}
-use denote.RawPtr.{Ptr, RawPtr, lies_at, room_for, ◌+ₚ◌}
+use denote.RawPtr.{Ptr, RawPtr, null_ptr, lies_at, room_for, ◌+ₚ◌}
 use denote.Struct.Lending.{lent_at}
 use Rattle.std.specs.declared.alloc.Global.{Global}
 use Rattle.std.specs.contracts.impls.GlobalAllocator.TheImpl.{ghosts}
-use Rattle.event_queue.specs.Ring.{Placed, placed, places}
+use Rattle.event_queue.specs.Ring.{Placed, placed, places, first_place}
 
 -- the two links of the node at p
 abbrev pub next_of : Ptr → Ptr
@@ -76,6 +76,15 @@ module _ (E : RattleType) where
     -- the edges from the root through the nodes and back, and the nodes
     abbrev pub ring_owns : Ptr → E.Denot → List (Placed E.Denot) → Fml
     ring_owns at entry ns = fsep (path at (places ns ++ at ∷ [])) (nodes_own (placed at entry ∷ ns))
+
+    -- nodes in no ring: each leads to the next of them and the last to nowhere, and none leads back
+    abbrev pub chain_owns : List (Placed E.Denot) → Fml
+    chain_owns [] = ftrue
+    chain_owns (n ∷ ns) = fsep (fsep (lies_at RawPtr full_share (next_of n.at) (first_place ns null_ptr)) (room_for ty_ptr (previous_of n.at))) (fsep (node_owns n) (chain_owns ns))
+
+    -- the same, the first of which is at this pointer
+    abbrev pub pile_owns : Ptr → List (Placed E.Denot) → Fml
+    pile_owns top ns = fsep (feq Ptr top (first_place ns null_ptr)) (chain_owns ns)
 
   abbrev pub nodes_lent : List (Placed E.Denot) → Lft → Fml
   nodes_lent [] = nothing

@@ -54,10 +54,10 @@ impl<A, B> Model for Chain<A, B> {
     ghost view = { λ chain. record {
       before = filter_map entry_before (nodes_of chain.entries);
       after = filter_map entry_after (nodes_of chain.entries);
-      spare = length chain.table.spares.items;
+      spare = length chain.table.spares;
     } };
 
-    ghost invariant = { λ chain. IsSound chain.entries (shown_in chain.table.slots.items) chain.table.spares.items chain.before_len chain.after_len };
+    ghost invariant = { λ chain. IsSound chain.entries (shown_in chain.table.slots.items) chain.table.spares chain.before_len chain.after_len };
 }
 
 // Makes the ring with no entry where there is none.

@@ -202,16 +202,16 @@ module _ {A B : Type 0} where
         omega (arith, sound.before_len_is, ap length split.1, length-append finds.lies.front (finds.lies.node ∷ split.0))
 
     pub IsSound-without_before : (later : Entries A B) (spare : Spare A B) → later.ring.nodes ≡ finds.lies.front ++ finds.lies.rest → later.ring.at ≡ entries.ring.at
-        → later.cursor ≡ entries.cursor → spare.nodes ≡ [] → spare.entry ≡ spare_entry finds.lies.node.entry.slot
+        → later.cursor ≡ entries.cursor → spare.entry ≡ spare_entry finds.lies.node.entry.slot
         → IsSound (Some later) (set slots key.slot None) (spares ++ spare ∷ []) (before_len - 1) after_len
-    IsSound-without_before later spare nodes root cursor alone is =
+    IsSound-without_before later spare nodes root cursor is =
         let lies = finds.lies in
         let split = split_found_before in
         let parts = AreBefore-cut lies.front (lies.node ∷ split.0) (subst AreBefore split.1 sound.are_before) in
         let order : lies.front ++ lies.rest ≡ (lies.front ++ split.0) ++ sound.after =
         ap (λ ns. lies.front ++ ns) split.2 ∙ sym (append_assoc lies.front split.0 sound.after) in
         let table = table_of slots (sound.before ++ sound.after) (lies.front ++ lies.node ∷ lies.rest) spares (sym sound.in_order ∙ lies.is) sound.table in
-        let returned = IsTable-returned slots lies.front lies.rest lies.node spares spare key.slot lies.slot_is alone (is ∙ ap spare_entry lies.slot_is) table in
+        let returned = IsTable-returned slots lies.front lies.rest lies.node spares spare key.slot lies.slot_is (is ∙ ap spare_entry lies.slot_is) table in
         record {
           before = lies.front ++ split.0;
           after = sound.after;
@@ -284,16 +284,16 @@ module _ {A B : Type 0} where
 
       pub IsSound-without_after : (cursor : Cursor entries sound.before sound.after) (later : Entries A B) (spare : Spare A B)
           → later.ring.nodes ≡ finds.lies.front ++ finds.lies.rest → later.ring.at ≡ entries.ring.at
-          → later.cursor.ptr ≡ cond (eqb cursor.first.entry.slot finds.lies.node.entry.slot) (first_place finds.lies.rest entries.ring.at) entries.cursor.ptr → spare.nodes ≡ []
+          → later.cursor.ptr ≡ cond (eqb cursor.first.entry.slot finds.lies.node.entry.slot) (first_place finds.lies.rest entries.ring.at) entries.cursor.ptr
           → spare.entry ≡ spare_entry finds.lies.node.entry.slot → IsSound (Some later) (set slots key.slot None) (spares ++ spare ∷ []) before_len (after_len - 1)
-      IsSound-without_after cursor later spare nodes root skips alone is =
+      IsSound-without_after cursor later spare nodes root skips is =
           let lies = finds.lies in
           let split = split_found_after in
           let parts = AreAfter-cut split.0 (lies.node ∷ lies.rest) (subst AreAfter split.1 sound.are_after) in
           let order : lies.front ++ lies.rest ≡ sound.before ++ (split.0 ++ lies.rest) =
           ap (λ ns. ns ++ lies.rest) split.2 ∙ append_assoc sound.before split.0 lies.rest in
           let table = table_of slots (sound.before ++ sound.after) (lies.front ++ lies.node ∷ lies.rest) spares (sym sound.in_order ∙ lies.is) sound.table in
-          let returned = IsTable-returned slots lies.front lies.rest lies.node spares spare key.slot lies.slot_is alone (is ∙ ap spare_entry lies.slot_is) table in
+          let returned = IsTable-returned slots lies.front lies.rest lies.node spares spare key.slot lies.slot_is (is ∙ ap spare_entry lies.slot_is) table in
           let counted = ap (λ (ns : List (Node A B)). times key.slot (slots_of ns)) split.2 ∙ times-slots_of-append key.slot sound.before split.0 in
           let off : times lies.node.entry.slot (slots_of split.0) ≡ 0 =
           ap (λ slot. times slot (slots_of split.0)) lies.slot_is ∙ omega (arith, counted, lies.off_front) in
@@ -481,7 +481,7 @@ module _ {A B : Type 0} where
     spare_table =
         subst (λ (ss : List (Spare A B)). IsTable slots (sound.before ++ sound.after) ss) spares_are sound.table
 
-    pub spare_is : (spare.nodes ≡ []) × (spare.entry.held ≡ Nothing)
+    pub spare_is : spare.entry.held ≡ Nothing
     spare_is = last_is_spare slots (sound.before ++ sound.after) others spare spare_table
 
     pub spare_slot_within : spare.entry.slot < length slots

@@ -206,20 +206,20 @@ module _ {A B : Type 0} where
   AreSpare-set slots slot place [] off spare = tt
   AreSpare-set slots slot place (s ∷ ss) off spare =
       let apart = apart_from_times slot s.entry.slot (spare_slots ss) off in
-      let here = slice_get-set_other slots slot s.entry.slot place (λ same. apart (sym same)) ∙ spare.0.2 in
-      ((spare.0.0, spare.0.1, here), AreSpare-set slots slot place ss (omega (arith, times-cons_le slot s.entry.slot (spare_slots ss))) spare.1)
+      let here = slice_get-set_other slots slot s.entry.slot place (λ same. apart (sym same)) ∙ spare.0.1 in
+      ((spare.0.0, here), AreSpare-set slots slot place ss (omega (arith, times-cons_le slot s.entry.slot (spare_slots ss))) spare.1)
 
   AreSpare-longer : (slots more : Slots A B) (spares : List (Spare A B)) → AreSpare slots spares → AreSpare (slots ++ more) spares
   AreSpare-longer slots more [] spare = tt
   AreSpare-longer slots more (s ∷ ss) spare =
-      ((spare.0.0, spare.0.1, slice_get-append_left slots more s.entry.slot _ spare.0.2), AreSpare-longer slots more ss spare.1)
+      ((spare.0.0, slice_get-append_left slots more s.entry.slot _ spare.0.1), AreSpare-longer slots more ss spare.1)
 
   -- the slot of a spare node leads nowhere
   spare_leads_nowhere : (slots : Slots A B) (spares : List (Spare A B)) (slot : ℕ) → AreSpare slots spares → 0 < times slot (spare_slots spares) → slice_get slots slot ≡ Some None
   spare_leads_nowhere slots [] slot spare some = absurd (omega arith)
   spare_leads_nowhere slots (s ∷ ss) slot spare some =
       elim (cases_eq slot s.entry.slot) [
-        | inl same ↦ rw same spare.0.2
+        | inl same ↦ rw same spare.0.1
         | inr apart ↦
             spare_leads_nowhere slots ss slot spare.1 (omega (arith, times_other slot s.entry.slot (spare_slots ss) apart))
       ]
@@ -301,10 +301,8 @@ module _ {A B : Type 0} where
     spare_within =
         within slots nodes (spares ++ spare ∷ []) table spare.entry.slot (omega (arith, spare_once))
 
-    pub last_is_spare : (spare.nodes ≡ []) × (spare.entry.held ≡ Nothing)
-    last_is_spare =
-        let last = (AreSpare-cut slots spares (spare ∷ []) table.are_spare).1.0 in
-        (last.0, last.1)
+    pub last_is_spare : spare.entry.held ≡ Nothing
+    last_is_spare = (AreSpare-cut slots spares (spare ∷ []) table.are_spare).1.0.0
 
   -- ---- what the steps keep
   -- a spare node is linked in at the end, and its place goes into its slot
@@ -333,8 +331,8 @@ module _ {A B : Type 0} where
 
   -- a node becomes spare, and its slot leads nowhere
   pub IsTable-returned : (slots : Slots A B) (front rest : List (Node A B)) (node : Node A B) (spares : List (Spare A B)) (spare : Spare A B) (slot : ℕ) → node.entry.slot ≡ slot
-      → spare.nodes ≡ [] → spare.entry ≡ spare_entry slot → IsTable slots (front ++ node ∷ rest) spares → IsTable (set slots slot None) (front ++ rest) (spares ++ spare ∷ [])
-  IsTable-returned slots front rest node spares spare slot at alone is table =
+      → spare.entry ≡ spare_entry slot → IsTable slots (front ++ node ∷ rest) spares → IsTable (set slots slot None) (front ++ rest) (spares ++ spare ∷ [])
+  IsTable-returned slots front rest node spares spare slot at is table =
       let its_slot : spare.entry.slot ≡ slot = ap (λ (entry : Entry A B). entry.slot) is in
       let its_value : spare.entry.held ≡ Nothing = ap (λ (entry : Entry A B). entry.held) is in
       let one = times_same slot node.entry.slot (slots_of rest) (sym at) in
@@ -349,7 +347,7 @@ module _ {A B : Type 0} where
       rw its_slot (slice_get-set_same slots slot None below) in
       record {
         mapped = AreMapped-append (set slots slot None) front rest (AreMapped-set slots slot None front off_front mapped.0) (AreMapped-set slots slot None rest off_rest mapped.1.1);
-        are_spare = AreSpare-append (set slots slot None) spares (spare ∷ []) (AreSpare-set slots slot None spares off_spares table.are_spare) ((alone, its_value, here), tt);
+        are_spare = AreSpare-append (set slots slot None) spares (spare ∷ []) (AreSpare-set slots slot None spares off_spares table.are_spare) ((its_value, here), tt);
         counted = λ other.
             let as_often = ap (λ (s : ℕ). times other (s ∷ [])) (at ∙ sym its_slot) in
             rw (length-set slots slot None)
@@ -383,16 +381,16 @@ module _ {A B : Type 0} where
       }
 
   -- one more slot at the end, with a spare node
-  pub IsTable-grown : (slots : Slots A B) (nodes : List (Node A B)) (spares : List (Spare A B)) (spare : Spare A B) → spare.nodes ≡ [] → spare.entry ≡ spare_entry (length slots)
+  pub IsTable-grown : (slots : Slots A B) (nodes : List (Node A B)) (spares : List (Spare A B)) (spare : Spare A B) → spare.entry ≡ spare_entry (length slots)
       → IsTable slots nodes spares → IsTable (slots ++ None ∷ []) nodes (spares ++ spare ∷ [])
-  IsTable-grown slots nodes spares spare alone is table =
+  IsTable-grown slots nodes spares spare is table =
       let its_slot : spare.entry.slot ≡ length slots = ap (λ (entry : Entry A B). entry.slot) is in
       let its_value : spare.entry.held ≡ Nothing = ap (λ (entry : Entry A B). entry.held) is in
       let here : slice_get (slots ++ None ∷ []) spare.entry.slot ≡ Some None =
       rw its_slot (slice_get_at_end slots None) in
       record {
         mapped = AreMapped-longer slots (None ∷ []) nodes table.mapped;
-        are_spare = AreSpare-append (slots ++ None ∷ []) spares (spare ∷ []) (AreSpare-longer slots (None ∷ []) spares table.are_spare) ((alone, its_value, here), tt);
+        are_spare = AreSpare-append (slots ++ None ∷ []) spares (spare ∷ []) (AreSpare-longer slots (None ∷ []) spares table.are_spare) ((its_value, here), tt);
         counted = λ slot.
             let as_often = ap (λ (s : ℕ). times slot (s ∷ [])) its_slot in
             rw (length-append slots (None ∷ [])) (omega (arith, counted_at_end slot (length slots) _ (table.counted slot), times-spare_slots slot spares (spare ∷ []), as_often));

@@ -4,6 +4,7 @@ use Rattle.std.specs.Prelude.{option_map, slice_get}
 use Rattle.std.specs.Map.{lookup, set_value}
 use Rattle.event_queue.specs.declared.key.Key.{Key}
 use Rattle.event_queue.specs.declared.node.ring.pointers.NodePtr.{NodePtr}
+use Rattle.event_queue.specs.declared.node.ring.pointers.Ring.{Ring}
 use Rattle.event_queue.specs.declared.node.entries.Held.{Held}
 use Rattle.event_queue.specs.declared.node.entries.Held.TheVariants.{Nothing, Before, AfterWithout, After}
 use Rattle.event_queue.specs.declared.node.entries.Entry.{Entry}
@@ -115,7 +116,10 @@ module _ {A B : Type 0} where
           (node.sound.before, cursor.first, cursor.others, cursor.is, cursor.place)
 
     -- ---- once it was taken out
-    module _ {later : Entries A B} {spare : Spare A B} (take : TakesOut entries at.ptr spare later) where
+    module _ {later : Entries A B} {lone : Ring (Entry A B)} (take : TakesOut entries at.ptr lone later) where
+      abbrev spare : Spare A B
+      spare = placed lone.at lone.entry
+
       others : later.ring.nodes ≡ its_place.front ++ its_place.rest
       others = take.nodes its_place.front its_place.node its_place.rest its_place.is its_place.place
 
@@ -134,7 +138,7 @@ module _ {A B : Type 0} where
         pub sound_before : later.cursor ≡ entries.cursor → IsSound (Some later) (set slots key.slot None) (spares ++ spare ∷ []) (before_len - 1) after_len
         unfolding found_before found
         sound_before cursor =
-            IsSound-without_before entries slots spares before_len after_len node.sound key at.ptr found_before later spare others take.root cursor take.alone spare_is
+            IsSound-without_before entries slots spares before_len after_len node.sound key at.ptr found_before later spare others take.root cursor spare_is
 
         pub was_before : lookup (is_key key) (seen chain spares).before ≡ Some value
         unfolding found_before found
@@ -163,7 +167,7 @@ module _ {A B : Type 0} where
         sound_after moved =
             let cursor = cursor_is entries slots spares before_len after_len node.sound (omega (arith, some_were_after)) in
             let skips = moved its_place.front its_place.node its_place.rest its_place.is its_place.place node.sound.before cursor.first cursor.others cursor.is cursor.place in
-            IsSound-without_after entries slots spares before_len after_len node.sound key at.ptr found_after cursor later spare others take.root skips take.alone spare_is
+            IsSound-without_after entries slots spares before_len after_len node.sound key at.ptr found_after cursor later spare others take.root skips spare_is
 
         pub was_after : lookup (is_key key) (seen chain spares).after ≡ Some value
         unfolding found_after found

@@ -1,4 +1,4 @@
--- A ring may cross threads where what its nodes carry may.
+-- A ring and a pile may cross threads where what their nodes carry may.
 use Rattle.std.specs.Prelude.{List, [], ◌∷◌}
 use mir.Syntax.{Ty}
 use base.Fraction.{full_share}
@@ -16,8 +16,9 @@ use Rattle.std.proofs.Crossing as heap
 use Rattle.std.proofs.alloc.Global.TheSendSync as handle
 use Rattle.std.specs.declared.alloc.Global.{Global}
 use Rattle.event_queue.specs.Ring.{Placed, placed}
-use Rattle.event_queue.specs.RingMemory.{path, path_lent, node_type, nodes_own, nodes_lent}
+use Rattle.event_queue.specs.RingMemory.{path, path_lent, node_type, node_owns, nodes_own, nodes_lent, chain_owns}
 use Rattle.event_queue.specs.contracts.node.ring.pointers.Ring as Ring
+use Rattle.event_queue.specs.contracts.node.ring.pointers.Pile as Pile
 
 room-Keyless : (τ : Ty) (p : Ptr) → Keyless (room_for τ p)
 room-Keyless τ (block_ptr b o) = tt
@@ -53,10 +54,16 @@ path_lent-Common a [] κ = tt
 path_lent-Common a (p ∷ ps) κ = ((lent-Common RawPtr RawPtr-sync _ p κ, lent-Common RawPtr RawPtr-sync _ a κ), path_lent-Common p ps κ)
 
 module _ (E : RattleType) where
+  node-Keyless : IsSend E → (alloc : Global) (n : Placed E.Denot) → Keyless (node_owns E alloc n)
+  node-Keyless s alloc n = (lies-Keyless E s _ n.entry, (heap.frees.frees alloc (node_type E) n.at, (((room-Keyless _ _, room-Keyless _ _), room-Keyless _ _), room-Keyless _ n.at)))
+
   nodes-Keyless : IsSend E → (alloc : Global) (ns : List (Placed E.Denot)) → Keyless (nodes_own E alloc ns)
   nodes-Keyless s alloc [] = tt
-  nodes-Keyless s alloc (n ∷ ns) =
-      ((lies-Keyless E s _ n.entry, (heap.frees.frees alloc (node_type E) n.at, (((room-Keyless _ _, room-Keyless _ _), room-Keyless _ _), room-Keyless _ n.at))), nodes-Keyless s alloc ns)
+  nodes-Keyless s alloc (n ∷ ns) = (node-Keyless s alloc n, nodes-Keyless s alloc ns)
+
+  chain-Keyless : IsSend E → (alloc : Global) (ns : List (Placed E.Denot)) → Keyless (chain_owns E alloc ns)
+  chain-Keyless s alloc [] = tt
+  chain-Keyless s alloc (n ∷ ns) = ((lies-Keyless RawPtr RawPtr-send _ _, room-Keyless _ _), (node-Keyless s alloc n, chain-Keyless s alloc ns))
 
   nodes_lent-Common : IsSync E → (ns : List (Placed E.Denot)) → Common (nodes_lent E ns)
   nodes_lent-Common y [] κ = tt
@@ -74,4 +81,14 @@ module _ (E : RattleType) where
       (struct_sync (shape O) (search sendable, (handle.the_field_sync, tt))).shared (to O d) b o κ,
       (path_lent-Common d.at _ κ, nodes_lent-Common y (placed d.at d.entry ∷ d.nodes) κ),
     );
+  }
+
+  pub Pile-send : IsSend E → IsSend (Pile.the_row E)
+  Pile-send s =
+      let O = Pile.the_type E in let all : AllSend (fields O) = (search sendable, (handle.the_field_send, tt)) in
+      owning_send O all (λ d. (tt, chain-Keyless s d.alloc d.nodes)) (λ k. Quiet-hidden (to O) (exits_of k (fields O)) ((struct_send (shape O) all).leaving k))
+
+  pub Pile-sync : IsSync (Pile.the_row E)
+  Pile-sync = let O = Pile.the_type E in record {
+    shared = λ d b o κ. ((struct_sync (shape O) (search sendable, (handle.the_field_sync, tt))).shared (to O d) b o κ, tt);
   }

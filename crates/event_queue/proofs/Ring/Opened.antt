@@ -3,7 +3,6 @@ use mathlib.Core.List.{List, [], ◌∷◌}
 use seplogic.Ra.Ura.{Ura}
 use base.Fraction.{full_share}
 use base.Logic.{ent, sep, never, id⊢}
-use base.Fml.{Fml, ftrue, fsep}
 use mir.Syntax.{ty_ptr}
 use types.Logic.{Logic, sem}
 use types.Kit.{‵, ◌$◌, ◌∵◌, !, qed, move, drop, use1, group, fsplit, fjoin, done}
@@ -11,15 +10,10 @@ use denote.RattleType.{RattleType}
 use denote.Memory.{part_at}
 use denote.RawPtr.{Ptr, RawPtr, block_ptr, null_ptr, lies_at, room_for}
 use Rattle.std.specs.declared.alloc.Global.{Global}
-use Rattle.event_queue.specs.Ring.{Placed, places, first_place}
-use Rattle.event_queue.specs.RingMemory.{next_of, previous_of, path, node_owns, nodes_own}
+use Rattle.event_queue.specs.Ring.{Placed, places}
+use Rattle.event_queue.specs.RingMemory.{next_of, previous_of, path, nodes_own, chain_owns}
 use Rattle.event_queue.proofs.Ring.Places.{last_from}
 use Rattle.event_queue.proofs.Ring.Walks.{link_out, link_to_room}
-
-module _ (R : RattleType) (a : Global) where
-  abbrev pub chain_owns : List (Placed R.Denot) → Fml
-  chain_owns [] = ftrue
-  chain_owns (n ∷ ns) = fsep (fsep (lies_at RawPtr full_share (next_of n.at) (first_place ns null_ptr)) (room_for ty_ptr (previous_of n.at))) (fsep (node_owns R a n) (chain_owns ns))
 
 module _ {M : Type 1} {𝓤 : Ura M} (𝓛 : Logic 𝓤) where
   link_to_room_at : (p x : Ptr) → ent 𝓤 (sem 𝓛 (lies_at RawPtr full_share p x)) (sem 𝓛 (room_for ty_ptr p))

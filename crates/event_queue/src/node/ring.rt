@@ -5,10 +5,12 @@ ghost use Rattle.event_queue.specs.Counts.{counted_on};
 
 use self::pointers::Node;
 pub(super) use self::pointers::{NodePtr, Ring};
+pub(super) use self::spares::Spares;
 pub use self::steps::Steps;
 use std::sync::ledger::Ledger;
 
 mod pointers;
+mod spares;
 mod steps;
 
 /// A node that a call may look at: the one that a look by key led to, once that look was counted, or another one, whose

@@ -1,10 +1,11 @@
 //! The table of slots, which leads from a key to its node, and the spare nodes.
-ghost use Rattle.std.specs.Prelude.{◌≡◌, ◌-◌, ◌+◌, ◌^◌, ◌<◌, ◌≤◌, ◌==◌, [], ◌∷◌, ◌++◌, length, Option, MatchOption, OnOk, OnErr, IsSome, option_and_then, option_map, slice_get, slice_set, vec_capacity, vec_len};
+ghost use Rattle.std.specs.Prelude.{◌≡◌, ◌-◌, ◌+◌, ◌^◌, ◌<◌, ◌≤◌, ◌==◌, [], ◌∷◌, ◌++◌, length, Option, MatchOption, OnOk, OnErr, IfSome, IsSome, option_and_then, option_map, slice_get, slice_set, vec_capacity, vec_len};
+ghost use Rattle.event_queue.specs.Ring.{placed};
 ghost use Rattle.event_queue.specs.Counts.{counted_on};
 ghost use Rattle.event_queue.specs.Nodes.{place_of, shown, shown_in, node_at, spare_entry, GrowsTo};
 
 use super::entries::Entry;
-use super::ring::{NodePtr, NodeRef, Ring, Steps};
+use super::ring::{NodePtr, NodeRef, Ring, Spares, Steps};
 use crate::key::Key;
 use std::alloc::{AllocError, AllocFailed, Global};
 use std::sync::ledger::Ledger;
@@ -38,21 +39,19 @@ impl<A, B> Slot<A, B> {
 #[derive(Drop)]
 pub(super) struct Table<A, B> {
     slots: Vec<Slot<A, B>>,
-    spares: Vec<Ring<Entry<A, B>>>,
-    ghost counted: { vec_len spares ≤ vec_len slots },
-    // No node that becomes spare needs memory.
-    ghost has_room: { vec_len slots ≤ vec_capacity spares },
+    spares: Spares<Entry<A, B>>,
+    ghost counted: { length spares ≤ vec_len slots },
 }
 
 impl<A, B> Table<A, B> {
     /// A table with no slot, which allocates nothing.
     pub(super) fn new(alloc: Global) -> Self
         ensures slots { result.slots.items ≡ [] }
-        ensures spares { result.spares.items ≡ [] }
+        ensures spares { result.spares ≡ [] }
     {
         Table {
             slots: Vec::new(alloc),
-            spares: Vec::new(alloc),
+            spares: Spares::new(alloc),
         }
     }
 
@@ -64,7 +63,7 @@ impl<A, B> Table<A, B> {
     /// How many nodes are spare.
     #[inline(always)]
     pub(super) fn spare(&self) -> usize
-        ensures { result ≡ length self.now.spares.items }
+        ensures { result ≡ length self.now.spares }
     {
         self.spares.len()
     }
@@ -108,7 +107,8 @@ impl<A, B> Table<A, B> {
     #[inline(always)]
     pub(super) fn take_spare(&mut self) -> Option<Ring<Entry<A, B>>>
         ensures slots { self.new.slots ≡ self.old.slots }
-        ensures spares { MatchOption result (self.old.spares.items ≡ []) (λ node. self.old.spares.items ≡ self.new.spares.items ++ node ∷ []) }
+        ensures alone { IfSome result (λ node. node.nodes ≡ []) }
+        ensures spares { MatchOption result (self.old.spares ≡ []) (λ node. self.old.spares ≡ self.new.spares ++ placed node.at node.entry ∷ []) }
     {
         self.spares.pop()
     }
@@ -119,7 +119,7 @@ impl<A, B> Table<A, B> {
         requires slot { key.slot < length (shown_in self.old.slots.items) }
         requires serial { key.serial < 2 ^ 64 - 1 }
         ensures slots { shown_in self.new.slots.items ≡ slice_set (shown_in self.old.slots.items) key.slot (Option.Some (key.serial, record { ptr = node.now.ptr })) }
-        ensures spares { self.new.spares.items ≡ self.old.spares.items }
+        ensures spares { self.new.spares ≡ self.old.spares }
     {
         self.slots[key.slot] = Slot {
             serial: key.serial,
@@ -131,54 +131,40 @@ impl<A, B> Table<A, B> {
     #[inline(always)]
     pub(super) fn recycle(&mut self, slot: usize, node: Ring<Entry<A, B>>)
         requires slot { slot < length (shown_in self.old.slots.items) }
-        requires room { length self.old.spares.items < length (shown_in self.old.slots.items) }
+        requires alone { node.nodes ≡ [] }
+        requires room { length self.old.spares < length (shown_in self.old.slots.items) }
         ensures slots { shown_in self.new.slots.items ≡ slice_set (shown_in self.old.slots.items) slot Option.None }
-        ensures spares { self.new.spares.items ≡ self.old.spares.items ++ node ∷ [] }
+        ensures spares { self.new.spares ≡ self.old.spares ++ placed node.at node.entry ∷ [] }
     {
         self.slots[slot] = Slot {
             serial: u64::MAX,
             place: node.root(),
         };
-        self.spares.push_reserved(node);
+        self.spares.push(node);
     }
 
     /// Makes `n` more spare nodes. If it fails it keeps those that it made.
     pub(super) fn grow(&mut self, n: usize) -> Result<(), AllocError>
-        ensures grows { GrowsTo (shown_in self.old.slots.items) self.old.spares.items (shown_in self.new.slots.items) self.new.spares.items }
-        ensures kept { length self.old.spares.items ≤ length self.new.spares.items }
-        ensures ok { OnOk result (length self.new.spares.items ≡ length self.old.spares.items + n) }
-        ensures err { OnErr result (length self.new.spares.items < length self.old.spares.items + n) }
+        ensures grows { GrowsTo (shown_in self.old.slots.items) self.old.spares (shown_in self.new.slots.items) self.new.spares }
+        ensures kept { length self.old.spares ≤ length self.new.spares }
+        ensures ok { OnOk result (length self.new.spares ≡ length self.old.spares + n) }
+        ensures err { OnErr result (length self.new.spares < length self.old.spares + n) }
     {
-        self.make_room(n)?;
+        self.slots.reserve(n)?;
         for _ in 0..n {
             self.make_spare()?;
         }
         Ok(())
     }
 
-    // Makes room for `n` more nodes, in the table and among the spares.
-    fn make_room(&mut self, n: usize) -> Result<(), AllocError>
-        ensures slots { self.new.slots.items ≡ self.old.slots.items }
-        ensures spares { self.new.spares.items ≡ self.old.spares.items }
-        ensures slots_room { OnOk result (vec_len self.new.slots + n ≤ vec_capacity self.new.slots) }
-        ensures spares_room { OnOk result (vec_len self.new.slots + n ≤ vec_capacity self.new.spares) }
-        ensures err { OnErr result (0 < n) }
-    {
-        self.slots.reserve(n)?;
-        let total = self.slots.len() + n;
-        self.spares.reserve(total - self.spares.len())
-    }
-
     // Makes one more spare node, with a slot of its own at the end of the table.
     fn make_spare(&mut self) -> Result<(), AllocError>
         requires slots_room { vec_len self.old.slots < vec_capacity self.old.slots }
-        requires spares_room { vec_len self.old.slots < vec_capacity self.old.spares }
-        ensures grows { GrowsTo (shown_in self.old.slots.items) self.old.spares.items (shown_in self.new.slots.items) self.new.spares.items }
+        ensures grows { GrowsTo (shown_in self.old.slots.items) self.old.spares (shown_in self.new.slots.items) self.new.spares }
         ensures slots { OnOk result (vec_len self.new.slots ≡ vec_len self.old.slots + 1) }
-        ensures spares { OnOk result (vec_len self.new.spares ≡ vec_len self.old.spares + 1) }
+        ensures spares { OnOk result (length self.new.spares ≡ length self.old.spares + 1) }
         ensures err { OnErr result (self.new ≡ self.old) }
         ensures slots_capacity { vec_capacity self.new.slots ≡ vec_capacity self.old.slots }
-        ensures spares_capacity { vec_capacity self.new.spares ≡ vec_capacity self.old.spares }
     {
         match Ring::alone(self.allocator(), Entry::spare(self.slots.len())) {
             Ok(node) => {
@@ -186,7 +172,7 @@ impl<A, B> Table<A, B> {
                     serial: u64::MAX,
                     place: node.root(),
                 });
-                self.spares.push_reserved(node);
+                self.spares.push(node);
                 Ok(())
             }
             Err(refused) => {

@@ -147,6 +147,23 @@ fn tells_all<R: Abort>(rt: &R, list: &mut List<(), u64>, woken: &mut Woken<u64>,
     }
 }
 
+// Far more queues than there is memory for at once, which is some forty.
+const QUEUES: usize = 500;
+
+// One after another, so each gives back the node of its listener and those that nobody took.
+#[test]
+fn a_dropped_queue_gives_every_node_back(rt: HostRuntime) {
+    let mut budget = new_budget(&rt);
+    budget.leave(Budget::MOST).expect(&rt, "the reserve");
+    for _ in 0..QUEUES {
+        let mut list = List::new(rt.alloc());
+        reserves(&rt, &mut list, 3);
+        insert(&rt, &mut list, 0);
+        drop(list);
+    }
+    budget.give_back();
+}
+
 // As many listeners are inserted as there is room for, and no more.
 fn takes_the_room<R: Abort + AllocGlobal>(rt: &R, n: usize) {
     let mut list = List::new(rt.alloc());

@@ -1,8 +1,9 @@
 //! Nodes on the heap, linked in a ring by raw pointers. Every raw pointer of the crate is made and followed here.
-ghost use Rattle.std.specs.Prelude.{◌≡◌, ⊤, List, [], ◌∷◌, ◌++◌, IfOk, IfErr};
+ghost use base.Fml.{ftrue};
+ghost use Rattle.std.specs.Prelude.{◌≡◌, ◌<◌, ⊤, List, [], ◌∷◌, ◌++◌, length, IfOk, IfErr};
 ghost use Rattle.std.specs.Coded.{prop_coded};
 ghost use Rattle.event_queue.specs.Ring.{Placed, placed, places, first_place, IsApart, IsApart-prop, IsAt, AtNode};
-ghost use Rattle.event_queue.specs.RingMemory.{ring_owns, ring_lent};
+ghost use Rattle.event_queue.specs.RingMemory.{ring_owns, ring_lent, pile_owns};
 
 use std::alloc::{AllocError, AllocFailed, Global};
 use std::marker::{Model, Send, Sync};
@@ -137,6 +138,19 @@ impl<E> Ring<E> {
         }
     }
 
+    /// Puts a lone node on top of a pile.
+    #[inline(always)]
+    pub(super) fn put_on(self, pile: &mut Pile<E>)
+        requires { self.nodes ≡ [] }
+        ensures { pile.new.nodes ≡ placed self.at self.entry ∷ pile.old.nodes }
+    {
+        let Ring { at: node, alloc: _ } = self;
+        unsafe {
+            (*node).next = pile.top;
+        }
+        pile.top = node;
+    }
+
     /// A node of its own, or the value again if memory runs out.
     pub fn alone(alloc: Global, entry: E) -> Result<Ring<E>, AllocFailed<E>>
         ensures made { IfOk result (λ ring. (ring.entry ≡ entry) × (ring.nodes ≡ [])) }
@@ -216,5 +230,55 @@ impl<E> Ring<E> {
 impl<E: Drop> Drop for Ring<E> {
     fn drop(self) {
         self.free_all();
+    }
+}
+
+/// Nodes that are in no ring, each linked to the one that came before it.
+#[derive(Drop)]
+pub struct Pile<E> {
+    top: *mut Node<E>,
+    alloc: Global,
+    pub(super) ghost nodes: { List (Placed E) },
+}
+
+impl<E> Model for Pile<E> {
+    ghost also_owns = { λ p. pile_owns E.row p.alloc p.top p.nodes };
+
+    // Nothing reads a pile through a `&`.
+    ghost also_shares = { λ _ _ _. ftrue };
+}
+
+unsafe impl<E: Send> Send for Pile<E> {}
+
+unsafe impl<E: Sync> Sync for Pile<E> {}
+
+impl<E> Pile<E> {
+    /// No node.
+    pub(super) fn new(alloc: Global) -> Pile<E>
+        ensures { result.nodes ≡ [] }
+    {
+        Pile {
+            top: ptr::null_mut(),
+            alloc,
+        }
+    }
+
+    /// Takes the node off that is on top.
+    #[inline(always)]
+    pub(super) fn take(&mut self) -> Ring<E>
+        requires { 0 < length self.old.nodes }
+        ensures alone { result.nodes ≡ [] }
+        ensures nodes { self.old.nodes ≡ placed result.at result.entry ∷ self.new.nodes }
+    {
+        let node = self.top;
+        unsafe {
+            self.top = (*node).next;
+            (*node).next = node;
+            (*node).previous = node;
+        }
+        Ring {
+            at: node,
+            alloc: self.alloc,
+        }
     }
 }

@@ -7,4 +7,4 @@ pub returns : goal.returns
 returns g c =
     let i = c.self.inside in
     rw (← c.self.view_is)
-    (sym (length-after_of i.entries (shown_in i.table.slots.items) i.table.spares.items i.before_len i.after_len c.self.invariant))
+    (sym (length-after_of i.entries (shown_in i.table.slots.items) i.table.spares i.before_len i.after_len c.self.invariant))

@@ -8,12 +8,12 @@ pub returns-in_err-start-clause-slots_fit : goal.returns-in_err-start-clause-slo
 returns-in_err-start-clause-slots_fit g c =
     let i = c.self.inside in
     let slots = i.table.slots in
-    let total = total_is i.entries (shown_in slots.items) i.table.spares.items i.before_len i.after_len c.self.invariant in
+    let total = total_is i.entries (shown_in slots.items) i.table.spares i.before_len i.after_len c.self.invariant in
     rw c.start.ensures.nodes
     (omega (
       arith,
-      length-before_of i.entries (shown_in slots.items) i.table.spares.items i.before_len i.after_len c.self.invariant,
-      length-after_of i.entries (shown_in slots.items) i.table.spares.items i.before_len i.after_len c.self.invariant,
+      length-before_of i.entries (shown_in slots.items) i.table.spares i.before_len i.after_len c.self.invariant,
+      length-after_of i.entries (shown_in slots.items) i.table.spares i.before_len i.after_len c.self.invariant,
       total,
       length-shown_in slots.items,
       slots.ok.0,
@@ -26,13 +26,13 @@ returns-clause-slots_fit g c =
     let i = c.self.inside in
     let slots = c.grow.new.self.slots in
     let sound =
-    IsSound-started i.entries c.start.new.entries (shown_in i.table.slots.items) (shown_in slots.items) i.table.spares.items c.grow.new.self.spares.items i.before_len i.after_len c.self.invariant
+    IsSound-started i.entries c.start.new.entries (shown_in i.table.slots.items) (shown_in slots.items) i.table.spares c.grow.new.self.spares i.before_len i.after_len c.self.invariant
     c.in_ok-start.ensures.started c.start.ensures.nodes c.grow.ensures.grows in
-    let total = total_is c.start.new.entries (shown_in slots.items) c.grow.new.self.spares.items i.before_len i.after_len sound in
+    let total = total_is c.start.new.entries (shown_in slots.items) c.grow.new.self.spares i.before_len i.after_len sound in
     omega (
       arith,
-      length-before_of c.start.new.entries (shown_in slots.items) c.grow.new.self.spares.items i.before_len i.after_len sound,
-      length-after_of c.start.new.entries (shown_in slots.items) c.grow.new.self.spares.items i.before_len i.after_len sound,
+      length-before_of c.start.new.entries (shown_in slots.items) c.grow.new.self.spares i.before_len i.after_len sound,
+      length-after_of c.start.new.entries (shown_in slots.items) c.grow.new.self.spares i.before_len i.after_len sound,
       total,
       length-shown_in slots.items,
       slots.ok.0,

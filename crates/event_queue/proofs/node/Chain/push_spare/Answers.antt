@@ -10,22 +10,22 @@ use Rattle.event_queue.proofs.node.Chain.push_spare.Goals as goal
 
 pub append-slot-requires-clause-alone : goal.append-slot-requires-clause-alone
 append-slot-requires-clause-alone g c =
-    let i = c.self.inside in
-    let spares = rw c.unwrap-node.ensures at c.take_spare.ensures.spares in
-    (spare_is i.entries (shown_in i.table.slots.items) i.table.spares.items c.take_spare.new.self.spares.items c.unwrap-node.result i.before_len i.after_len c.self.invariant spares).0
+    rw c.unwrap-node.ensures at c.take_spare.ensures.alone
 
 pub append-slot-requires-clause-spare : goal.append-slot-requires-clause-spare
 append-slot-requires-clause-spare g c =
     let i = c.self.inside in
+    let node = c.unwrap-node.result in
     let spares = rw c.unwrap-node.ensures at c.take_spare.ensures.spares in
-    (spare_is i.entries (shown_in i.table.slots.items) i.table.spares.items c.take_spare.new.self.spares.items c.unwrap-node.result i.before_len i.after_len c.self.invariant spares).1
+    spare_is i.entries (shown_in i.table.slots.items) i.table.spares c.take_spare.new.self.spares (placed node.at node.entry) i.before_len i.after_len c.self.invariant spares
 
 pub fill-requires-clause-slot : goal.fill-requires-clause-slot
 fill-requires-clause-slot g c =
     let i = c.self.inside in
+    let node = c.unwrap-node.result in
     let spares = rw c.unwrap-node.ensures at c.take_spare.ensures.spares in
     rw (c.append-slot.ensures.slot, c.take_spare.ensures.slots)
-    (spare_slot_within i.entries (shown_in i.table.slots.items) i.table.spares.items c.take_spare.new.self.spares.items c.unwrap-node.result i.before_len i.after_len c.self.invariant spares)
+    (spare_slot_within i.entries (shown_in i.table.slots.items) i.table.spares c.take_spare.new.self.spares (placed node.at node.entry) i.before_len i.after_len c.self.invariant spares)
 
 pub invariant_of-self : goal.invariant_of-self
 invariant_of-self g c =
@@ -37,12 +37,12 @@ invariant_of-self g c =
     let there = rw (c.take_spare.ensures.slots, c.append-slot.ensures.slot) at c.fill.ensures.slots in
     let slots_are : shown_in c.fill.new.self.slots.items ≡ set (shown_in i.table.slots.items) node.entry.slot (Some (c.args.serial, record { ptr = node.at })) =
     there ∙ ap (λ (p : Ptr). set (shown_in i.table.slots.items) node.entry.slot (Some (c.args.serial, record { ptr = p }))) c.append-slot.ensures.place in
-    let later = IsSound-pushed c.unwrap-entries.result.now (shown_in i.table.slots.items) i.table.spares.items i.before_len i.after_len sound c.append-slot.new.self
+    let later = IsSound-pushed c.unwrap-entries.result.now (shown_in i.table.slots.items) i.table.spares i.before_len i.after_len sound c.append-slot.new.self
     (placed node.at (record {
       slot = node.entry.slot;
       serial = record { number = c.args.serial };
       held = held_after c.args.value;
-    })) c.args.value c.append-slot.ensures.nodes refl node c.take_spare.new.self.spares.items spares refl refl c.append-slot.ensures.root c.append-slot.ensures.cursor in
+    })) c.args.value c.append-slot.ensures.nodes refl (placed node.at node.entry) c.take_spare.new.self.spares spares refl refl c.append-slot.ensures.root c.append-slot.ensures.cursor in
     rw (slots_are, c.fill.ensures.spares) later
 
 pub returns-clause-before : goal.returns-clause-before
@@ -52,7 +52,7 @@ returns-clause-before g c =
     let sound = rw is at c.self.invariant in
     let node = c.unwrap-node.result in
     rw (← c.self.view_is, is)
-    (before_pushed c.unwrap-entries.result.now (shown_in i.table.slots.items) i.table.spares.items i.before_len i.after_len sound c.append-slot.new.self
+    (before_pushed c.unwrap-entries.result.now (shown_in i.table.slots.items) i.table.spares i.before_len i.after_len sound c.append-slot.new.self
     (placed node.at (record { slot = node.entry.slot; serial = record { number = c.args.serial }; held = held_after c.args.value })) c.args.value c.append-slot.ensures.nodes refl)
 
 pub returns-clause-after : goal.returns-clause-after
@@ -62,22 +62,24 @@ returns-clause-after g c =
     let sound = rw is at c.self.invariant in
     let node = c.unwrap-node.result in
     rw (← c.self.view_is, is, c.append-slot.ensures.slot)
-    (after_pushed c.unwrap-entries.result.now (shown_in i.table.slots.items) i.table.spares.items i.before_len i.after_len sound c.append-slot.new.self
+    (after_pushed c.unwrap-entries.result.now (shown_in i.table.slots.items) i.table.spares i.before_len i.after_len sound c.append-slot.new.self
     (placed node.at (record { slot = node.entry.slot; serial = record { number = c.args.serial }; held = held_after c.args.value })) c.args.value c.append-slot.ensures.nodes refl)
 
 pub returns-clause-slot_before : goal.returns-clause-slot_before
 returns-clause-slot_before g c =
     let i = c.self.inside in
+    let node = c.unwrap-node.result in
     let spares = rw c.unwrap-node.ensures at c.take_spare.ensures.spares in
     rw (← c.self.view_is, c.append-slot.ensures.slot)
-    (spare_is_free i.entries (shown_in i.table.slots.items) i.table.spares.items c.take_spare.new.self.spares.items c.unwrap-node.result i.before_len i.after_len c.self.invariant spares value_before)
+    (spare_is_free i.entries (shown_in i.table.slots.items) i.table.spares c.take_spare.new.self.spares (placed node.at node.entry) i.before_len i.after_len c.self.invariant spares value_before)
 
 pub returns-clause-slot_after : goal.returns-clause-slot_after
 returns-clause-slot_after g c =
     let i = c.self.inside in
+    let node = c.unwrap-node.result in
     let spares = rw c.unwrap-node.ensures at c.take_spare.ensures.spares in
     rw (← c.self.view_is, c.append-slot.ensures.slot)
-    (spare_is_free i.entries (shown_in i.table.slots.items) i.table.spares.items c.take_spare.new.self.spares.items c.unwrap-node.result i.before_len i.after_len c.self.invariant spares value_after)
+    (spare_is_free i.entries (shown_in i.table.slots.items) i.table.spares c.take_spare.new.self.spares (placed node.at node.entry) i.before_len i.after_len c.self.invariant spares value_after)
 
 pub returns-clause-slots_fit : goal.returns-clause-slots_fit
 returns-clause-slots_fit g c =
@@ -89,15 +91,15 @@ returns-clause-slots_fit g c =
     let there = rw (c.take_spare.ensures.slots, c.append-slot.ensures.slot) at c.fill.ensures.slots in
     let slots_are : shown_in c.fill.new.self.slots.items ≡ set (shown_in i.table.slots.items) node.entry.slot (Some (c.args.serial, record { ptr = node.at })) =
     there ∙ ap (λ (p : Ptr). set (shown_in i.table.slots.items) node.entry.slot (Some (c.args.serial, record { ptr = p }))) c.append-slot.ensures.place in
-    let later = IsSound-pushed c.unwrap-entries.result.now (shown_in i.table.slots.items) i.table.spares.items i.before_len i.after_len sound c.append-slot.new.self
+    let later = IsSound-pushed c.unwrap-entries.result.now (shown_in i.table.slots.items) i.table.spares i.before_len i.after_len sound c.append-slot.new.self
     (placed node.at (record {
       slot = node.entry.slot;
       serial = record { number = c.args.serial };
       held = held_after c.args.value;
-    })) c.args.value c.append-slot.ensures.nodes refl node c.take_spare.new.self.spares.items spares refl refl c.append-slot.ensures.root c.append-slot.ensures.cursor in
+    })) c.args.value c.append-slot.ensures.nodes refl (placed node.at node.entry) c.take_spare.new.self.spares spares refl refl c.append-slot.ensures.root c.append-slot.ensures.cursor in
     let slots = i.table.slots in
     let all = set (shown_in slots.items) node.entry.slot (Some (c.args.serial, record { ptr = node.at })) in
-    let rest = c.take_spare.new.self.spares.items in
+    let rest = c.take_spare.new.self.spares in
     let after = i.after_len + 1 in
     let entries = c.append-slot.new.self in
     let total = total_is (Some entries) all rest i.before_len after later in

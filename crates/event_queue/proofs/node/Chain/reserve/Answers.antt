@@ -8,12 +8,12 @@ pub returns-then-n-spare-clause-slots_fit : goal.returns-then-n-spare-clause-slo
 returns-then-n-spare-clause-slots_fit g c =
     let i = c.self.inside in
     let slots = i.table.slots in
-    let total = total_is i.entries (shown_in slots.items) i.table.spares.items i.before_len i.after_len c.self.invariant in
+    let total = total_is i.entries (shown_in slots.items) i.table.spares i.before_len i.after_len c.self.invariant in
     rw (← c.self.view_is)
     (omega (
       arith,
-      length-before_of i.entries (shown_in slots.items) i.table.spares.items i.before_len i.after_len c.self.invariant,
-      length-after_of i.entries (shown_in slots.items) i.table.spares.items i.before_len i.after_len c.self.invariant,
+      length-before_of i.entries (shown_in slots.items) i.table.spares i.before_len i.after_len c.self.invariant,
+      length-after_of i.entries (shown_in slots.items) i.table.spares i.before_len i.after_len c.self.invariant,
       total,
       length-shown_in slots.items,
       slots.ok.0,

@@ -8,12 +8,12 @@ pub returns-clause-slots_fit : goal.returns-clause-slots_fit
 returns-clause-slots_fit g c =
     let inside = c.self.inside in
     let slots = inside.table.slots in
-    let total = total_is inside.entries (shown_in slots.items) inside.table.spares.items inside.before_len inside.after_len c.self.invariant in
+    let total = total_is inside.entries (shown_in slots.items) inside.table.spares inside.before_len inside.after_len c.self.invariant in
     rw (← c.self.view_is)
     (omega (
       arith,
-      length-before_of inside.entries (shown_in slots.items) inside.table.spares.items inside.before_len inside.after_len c.self.invariant,
-      length-after_of inside.entries (shown_in slots.items) inside.table.spares.items inside.before_len inside.after_len c.self.invariant,
+      length-before_of inside.entries (shown_in slots.items) inside.table.spares inside.before_len inside.after_len c.self.invariant,
+      length-after_of inside.entries (shown_in slots.items) inside.table.spares inside.before_len inside.after_len c.self.invariant,
       total,
       length-shown_in slots.items,
       slots.ok.0,

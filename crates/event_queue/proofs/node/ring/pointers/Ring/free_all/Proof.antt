@@ -42,13 +42,13 @@ use Rattle.std.proofs.GlobalToken.{dealloc_token-Testable}
 use Rattle.std.proofs.RcSteps.{Ptr-Good}
 use Rattle.std.proofs.VecSteps.Shapes.{after, head}
 use Rattle.event_queue.specs.Ring.{Placed, placed, places, first_place}
-use Rattle.event_queue.specs.RingMemory.{next_of, previous_of, edge, path, node_type, node_owns}
+use Rattle.event_queue.specs.RingMemory.{next_of, previous_of, edge, path, node_type, node_owns, chain_owns}
 use Rattle.event_queue.specs.contracts.node.ring.pointers.Ring as ring
 use Rattle.event_queue.specs.contracts.node.ring.pointers.Ring.free as freed
 use Rattle.event_queue.specs.contracts.node.ring.pointers.Ring.free.Key as freed_key
 use Rattle.event_queue.proofs.node.ring.pointers.Ring.free.Met as freed_met
 use Rattle.event_queue.proofs.Ring.Places.{last_from, apart_one}
-use Rattle.event_queue.proofs.Ring.Opened.{chain_owns, chain_from_path}
+use Rattle.event_queue.proofs.Ring.Opened.{chain_from_path}
 use Rattle.event_queue.proofs.Ring.Walks.{heap_val, heap_Good, ring_Good, ring_val, Fields, handle, fields_stored, fields_made, learn_fact, link_out, link_in, link_to_room}
 use Rattle.event_queue.proofs.Ring.Walks.{edge_out, edge_in, path_cut, no_edge_from_null, no_edge_to_null}
 use Rattle.event_queue.specs.contracts.node.ring.pointers.Ring.free_all as F

@@ -1,0 +1,81 @@
+//! Nodes that no entry uses.
+ghost use Rattle.std.specs.Prelude.{◌≡◌, ◌+◌, ◌<◌, ◌^◌, [], ◌∷◌, ◌++◌, length, MatchOption};
+ghost use Rattle.event_queue.specs.Ring.{placed};
+
+use super::pointers::{Pile, Ring};
+use std::alloc::Global;
+use std::marker::Model;
+
+/// Spare nodes. The one that became spare last is taken first, as it is the likeliest to be in a cache.
+///
+/// Each leads to the one before it, so a node that becomes spare needs no memory. No entry stands on them, so visits of
+/// them are not counted: a call takes the last or adds one, and goes to no other.
+pub struct Spares<E> {
+    pile: Pile<E>,
+    len: usize,
+}
+
+impl<E> Model for Spares<E> {
+    ghost use Rattle.std.specs.Prelude.{◌≡◌, List, length, reverse};
+    ghost use Rattle.event_queue.specs.Ring.{Placed};
+
+    ghost Value = { List (Placed E) };
+
+    ghost view = { λ spares. reverse spares.pile.nodes };
+
+    ghost invariant = { λ spares. spares.len ≡ length spares.pile.nodes };
+}
+
+impl<E> Spares<E> {
+    /// No node.
+    pub fn new(alloc: Global) -> Self
+        ensures { result ≡ [] }
+    {
+        Spares {
+            pile: Pile::new(alloc),
+            len: 0,
+        }
+    }
+
+    /// How many there are.
+    #[inline(always)]
+    pub fn len(&self) -> usize
+        ensures { result ≡ length self.now }
+    {
+        self.len
+    }
+
+    /// Takes the node that became spare last.
+    #[inline(always)]
+    pub fn pop(&mut self) -> Option<Ring<E>>
+        ensures { MatchOption result ((self.old ≡ []) × (self.new ≡ [])) (λ node. (node.nodes ≡ []) × (self.old ≡ self.new ++ placed node.at node.entry ∷ [])) }
+    {
+        if self.len == 0 {
+            return None;
+        }
+        self.len -= 1;
+        Some(self.pile.take())
+    }
+
+    /// Keeps one node more.
+    #[inline(always)]
+    pub fn push(&mut self, node: Ring<E>)
+        requires alone { node.nodes ≡ [] }
+        requires fits { length self.old + 1 < 2 ^ 64 }
+        ensures { self.new ≡ self.old ++ placed node.at node.entry ∷ [] }
+    {
+        node.put_on(&mut self.pile);
+        self.len += 1;
+    }
+}
+
+impl<E: Drop> Drop for Spares<E> {
+    fn drop(mut self) {
+        for _ in 0..self.len {
+            if let Some(node) = self.pop() {
+                drop(node);
+            }
+        }
+        let Self { pile: _, len: _ } = self;
+    }
+}
