@@ -234,6 +234,8 @@ impl<E: Drop> Drop for Ring<E> {
 }
 
 /// Nodes that are in no ring, each linked to the one that came before it.
+///
+/// The drop of a pile gives no block back: whoever keeps one takes every node off first.
 #[derive(Drop)]
 pub struct Pile<E> {
     top: *mut Node<E>,

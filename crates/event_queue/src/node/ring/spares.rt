@@ -76,6 +76,7 @@ impl<E: Drop> Drop for Spares<E> {
                 drop(node);
             }
         }
+        // No node is left on the pile.
         let Self { pile: _, len: _ } = self;
     }
 }
