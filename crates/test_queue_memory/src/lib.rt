@@ -8,7 +8,7 @@
 //!   wake, removals and what they pass on, tags, questions; a new queue, and one at its last serial; the drop of a queue
 //!   of a thousand, half of them told, with every task dropped. `room` has worked row 45: insertions into room that
 //!   `reserve` made, with the requests of `reserve` refused in their turn, too; as many insertions as there is room for,
-//!   and a refusal of the next, by which nothing changes; five hundred queues, one after another, with memory for forty.
+//!   and a refusal of the next, by which nothing changes; five hundred queues, one after another, with memory for few.
 //! - `worlds`: every step of a schedule that comes to each place and takes each act is the same as with memory.
 //!
 //! A test takes all memory of the process by a `Hog`, or all but so much by a `Budget`. Under `rt try --test`, which

@@ -147,7 +147,7 @@ fn tells_all<R: Abort>(rt: &R, list: &mut List<(), u64>, woken: &mut Woken<u64>,
     }
 }
 
-// Far more queues than there is memory for at once, which is some forty.
+// Far more queues than there is memory for at once.
 const QUEUES: usize = 500;
 
 // One after another, so each gives back the node of its listener and those that nobody took.
