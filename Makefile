@@ -1,22 +1,20 @@
-# The times are about those of an idle machine with four processors, from nothing. What a check proves is kept in out/,
-# so the next one of the same sources takes seconds; `make test` takes nothing that was kept.
-#
+# help      prints these lines. Times are those of an idle machine with four processors, from nothing. What a check proves is
+#           kept, so the next one of the same sources takes seconds
 # run       compiles and runs the worked rows, with every check at run time, and proves nothing: under a minute
-# test      proves everything from nothing, and runs all tests and programs, those that must not compile among them: some
-#           76 minutes
-# edits     tries the wrong bodies that the prover must refuse, many at a time: some 20 minutes from nothing; those of
-#           one crate by `make edits CRATE=event_queue`. A merge asks for `make test` and `make edits`, as .ci/run runs them
-# prove     proves every crate and its tests, and runs tests and programs, but tries no edits: as long as
-#           `make test` the first time; `make prove JOBS=4` works on four crates at a time in 10 GB
+# test      proves the libraries, and runs all tests and programs, and the programs that must not compile: half an hour at most
+# gate      proves every crate with its tests, and tries the wrong bodies that the prover must refuse: an hour. A merge
+#           asks for `make test` and `make gate`, as .ci/run runs them
+# prove     proves every crate and its tests, and runs tests and programs, but tries no wrong bodies; `make prove JOBS=4`
+#           works on four crates at a time in 10 GB
 # vectors   proves and runs the program of the worked rows, and keeps it as crates/vectors/out/vectors: 12 minutes
 # check     proves every crate, without tests: what an edit changed takes seconds or minutes
 # refused   tries small programs that must not compile, and some that must: a minute or two
 # quoted    compares what the pages for callers quote with the sources: a second
 # api       writes the API page of each library, every public item with its clauses, from the sources: a second
-# explore   shows a run of a world: `make explore RUN='mutex 2: 0 Go 2, 1 Go 5'`, or lines on its input; it proves the
-#           program first, which takes minutes
-# fuzz      compares queue, events and records on random lists of calls: `make fuzz SECONDS=600 SEED=7`, from another seed
-#           each time if none is given; it proves the program first, which takes minutes
+# explore   shows a run of a world: `make explore RUN='mutex 2: 0 Go 2, 1 Go 5'`, or lines on its input: a minute. It proves
+#           nothing; with PROVED=1 it proves the program first
+# fuzz      compares events and records with a queue on random lists of calls: `make fuzz SECONDS=600 SEED=7`, from another
+#           seed each time if none is given; it proves the program first, which takes minutes
 # soak      has 8 threads call an event and a recorded event, and counts: `make soak SECONDS=600 SEED=7`, the same
 # starved   runs the programs with fewer addresses than they need, and looks at what they print; it proves them first,
 #           which takes minutes
@@ -25,28 +23,34 @@
 #           scripts/bench says. It writes the tables of docs/BENCHMARKS.md: some ten minutes, and the proof of the program
 # diff      compares the queue with the Rust crate, if its answers are at hand: `make diff ORACLE=FOLDER`, with
 #           a folder as crates/replies/README.md says
-.PHONY: run test edits prove vectors check refused quoted api explore fuzz soak starved fmt bench diff
+.PHONY: help run test gate prove vectors check refused quoted api explore fuzz soak starved fmt bench diff
+
+# What a target that runs the toolchain begins with: it ends with status 2 where that is not there.
+needs_rt = $(if $(shell command -v rt),,$(error $@ needs the toolchain's command 'rt', which is not on the path))
+
+help:
+	@sed -n 's/^# \{0,1\}//p; /^\.PHONY/q' $(firstword $(MAKEFILE_LIST))
 
 run:
-	@scripts/run
+	$(needs_rt)@scripts/run
 
 test:
-	@scripts/gate
+	$(needs_rt)@scripts/test
 
-edits:
-	@scripts/edits $(CRATE)
+gate:
+	$(needs_rt)@rt ci
 
 prove:
-	@rt all test $(if $(JOBS),--jobs $(JOBS))
+	$(needs_rt)@rt all test $(if $(JOBS),--jobs $(JOBS))
 
 vectors:
-	@cd crates/vectors && rt run
+	$(needs_rt)@cd crates/vectors && rt run
 
 check:
-	@rt all check
+	$(needs_rt)@rt all check
 
 refused:
-	@scripts/refused
+	$(needs_rt)@scripts/refused
 
 quoted:
 	@scripts/quoted
@@ -55,19 +59,19 @@ api:
 	@scripts/api
 
 explore:
-	@scripts/explore "$(RUN)"
+	$(needs_rt)@scripts/explore "$(RUN)" "$(PROVED)"
 
 fuzz soak:
-	@scripts/random $@ "$(SECONDS)" "$(SEED)"
+	$(needs_rt)@scripts/random $@ "$(SECONDS)" "$(SEED)"
 
 starved:
-	@scripts/starved
+	$(needs_rt)@scripts/starved
 
 fmt:
-	@for crate in crates/*/; do (cd "$$crate" && rt fmt) || exit 1; done
+	$(needs_rt)@for crate in crates/*/; do (cd "$$crate" && rt fmt) || exit 1; done
 
 bench:
-	@ORACLE="$(ORACLE)" scripts/bench
+	$(needs_rt)@ORACLE="$(ORACLE)" scripts/bench
 
 diff:
-	@ORACLE="$(ORACLE)" scripts/diff
+	$(needs_rt)@ORACLE="$(ORACLE)" scripts/diff
