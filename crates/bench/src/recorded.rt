@@ -3,10 +3,10 @@ use crate::error::BenchError;
 use crate::subject::{Subject, waker_of};
 use event_listener::{EventIds, Hand, ListenError, RecordedEvent};
 use futures::task::{Context, Poll};
+use recorded_calls::{Calls, On, OwnListener, Refusal};
 use std::alloc::{AllocGlobal, Global};
 use std::sync::Wait;
 use std::time::Clock;
-use test_support::recorded::{Calls, On, OwnListener, Refusal};
 
 /// A recorded event with the one hand that calls it.
 #[derive(Drop)]

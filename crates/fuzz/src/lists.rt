@@ -1,9 +1,7 @@
 //! Lists of calls, one after another.
-use crate::queues::Queues;
+use crate::events::{Events, Runtime, random_event_calls};
 use anyhow::Result;
-use fuzz_events::{Events, Runtime, random_event_calls};
-use random_calls::{Comparison, Request, Shown, Started, random_queue_calls, shorten};
-use std::alloc::Global;
+use random_calls::{Comparison, Request, Shown, Started, shorten};
 use std::fmt::Debug;
 use std::io::Print;
 
@@ -27,7 +25,6 @@ pub struct Tally {
 /// nothing to print to.
 pub fn try_lists<R: Runtime + Print>(rt: &R, request: Request) -> Result<Tally> {
     let started = Started::new(rt, request.limit)?;
-    let mut queues = Queues::new(rt.alloc());
     let mut events = Events::new(rt);
     let mut tally = Tally {
         lists: 0,
@@ -40,49 +37,30 @@ pub fn try_lists<R: Runtime + Print>(rt: &R, request: Request) -> Result<Tally> 
         }
         let seed = request.seed.wrapping_add(times);
         let is_printed = tally.differing < PRINTED;
-        let differs = try_list(rt, &mut queues, &mut events, seed, is_printed)?;
+        let differs = try_list(rt, &mut events, seed, is_printed)?;
         tally.lists = tally.lists.saturating_add(1);
         tally.differing = tally.differing.saturating_add(u64::from(differs));
     }
     if tally.lists >= LISTS_FOR_EACH_KIND {
-        let of_queues = queues.kinds.print_missing(rt)?;
-        let of_events = events.kinds.print_missing(rt)?;
-        tally.is_kind_missing = of_queues || of_events;
+        tally.is_kind_missing = events.kinds.print_missing(rt)?;
     }
     Ok(tally)
 }
 
-// Tries the list of this seed: every second one is of calls on a queue. Answers whether it differs.
+// Tries the list of this seed. Answers whether it differs.
 fn try_list<R: Runtime + Print>(
     rt: &R,
-    queues: &mut Queues,
     events: &mut Events<'_, R>,
     seed: u64,
     is_printed: bool,
 ) -> Result<bool> {
     let alloc = rt.alloc();
-    if seed % 2 == 0 {
-        let calls = random_queue_calls(alloc, seed)?;
-        try_calls(rt, alloc, queues, seed, calls, is_printed)
-    } else {
-        let calls = random_event_calls(alloc, seed)?;
-        try_calls(rt, alloc, events, seed, calls, is_printed)
-    }
-}
-
-fn try_calls<C: Comparison, R: Print>(
-    rt: &R,
-    alloc: Global,
-    comparison: &mut C,
-    seed: u64,
-    calls: Vec<C::Call>,
-    is_printed: bool,
-) -> Result<bool> {
-    let Some(difference) = comparison.compare(calls.as_slice())? else {
+    let calls = random_event_calls(alloc, seed)?;
+    let Some(difference) = events.compare(calls.as_slice())? else {
         return Ok(false);
     };
     if is_printed {
-        let shown = shorten(alloc, comparison, Shown { calls, difference })?;
+        let shown = shorten(alloc, events, Shown { calls, difference })?;
         print_shown(rt, seed, &shown)?;
     }
     Ok(true)

@@ -1,8 +1,8 @@
-//! Makes random lists of calls on queues and events, and compares what they answer.
+//! Makes random lists of calls on events and recorded events, each beside a queue, and compares what they answer.
 #![tactic(auto)]
 
+mod events;
 mod lists;
-mod queues;
 
 use anyhow::Result;
 use lists::try_lists;

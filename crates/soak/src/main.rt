@@ -1,10 +1,16 @@
 //! Many threads on one event and one recorded event, round after round.
 #![tactic(auto)]
 
+mod counts;
+mod event_listeners;
+mod fault;
 mod record;
+mod recorded_listeners;
 mod round;
 mod rounds;
+mod step;
 mod watch;
+mod worker;
 
 use anyhow::Result;
 use random_calls::Request;

@@ -1,6 +1,7 @@
 //! What a record says of its notifications.
+use crate::counts::Counts;
+use crate::fault::Fault;
 use event_listener::{Entry, IntoNotification, IntoTagged, Key, List, RecordedCall, Woken};
-use soak_workers::{Counts, Fault};
 use std::alloc::Global;
 
 /// A queue that makes the calls of a record again.

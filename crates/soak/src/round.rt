@@ -1,11 +1,14 @@
 //! One round: threads on one event and one recorded event, and what has to hold when all have ended.
+use crate::counts::Counts;
+use crate::fault::Fault;
 use crate::record::count_entries;
+use crate::step::Runtime;
+use crate::worker::{WorkerOutcome, run_worker};
 use event_listener::{Event, EventIds, Hand, Record, RecordedEvent};
-use soak_workers::{Counts, Fault, Runtime, WorkerOutcome, run_worker};
+use recorded_calls::{On, close};
 use std::alloc::Global;
 use std::sync::atomic::{AtomicU64, Ordering};
 use std::thread::{self, Threads};
-use test_support::recorded::{On, close};
 use test_support::{Borrowing, Sharing};
 
 /// What a round asks of a runtime value.

@@ -1,7 +1,8 @@
 //! Rounds, one after another.
+use crate::counts::Counts;
+use crate::fault::Fault;
 use crate::round::{SharedRuntime, run_round};
 use random_calls::{Request, Started};
-use soak_workers::{Counts, Fault};
 use std::io::Print;
 use std::sync::atomic::{AtomicU64, Ordering};
 

@@ -10,7 +10,7 @@
 //! | `errors` | what errors say, and the messages that come back in them |
 //!
 //! What is said of every way to send or to receive is written once, and run with each (`test_channel_support`). Threads
-//! are tested in `test_channel_threads`, and refused memory in `test_channel_memory`.
+//! are tested in `test_channel_threads`, and refused memory in `test_memory`.
 #![tactic(auto)]
 
 #[cfg(test)]

@@ -1,37 +1,28 @@
-//! Tests of notifications by the public calls of events and listeners: what no clause says of who is told, with which tag,
-//! and in which order tasks wake. How listeners are made is tested in `test_listeners`, waits in `test_waits`, listeners
-//! that are awaited in `test_futures`, and refused memory in `test_memory`.
+//! Tests of events and listeners by their public calls: what no clause says of who is told, with which tag, and in which
+//! order tasks wake; of how listeners are made and what they show; and of the lock of an event. Waits are tested in
+//! `test_waits`, tasks that await listeners in `test_records`, and refused memory in `test_memory`.
 //!
 //! | Module | What it tests |
 //! |---|---|
-//! | `notifications` | how many listeners each notifying call tells, and which; that none is kept for the first listener |
-//! | `counts` | the least and the greatest counts, with told and waiting listeners of each kind |
-//! | `tags` | tags whose clone is refused; a tag that is passed on without a clone; tags that own memory |
-//! | `wakes` | the order of wakes, also of a thousand wakers at once; a drop that passes a notification on, a discard that does not; a waker that is replaced |
-//! | `finished` | listeners that gave their tag, and those that a refused wait hands back |
+//! | `listeners` | tables: what each call on a listener answers, and which tasks wake; serial numbers that are used up |
+//! | `notifications` | how many listeners each notifying call tells, and which; that none is kept for the first listener; that both kinds stand in one queue; the order of a thousand wakes; tags that are refused, and tags that own memory |
+//! | `locks` | what is called while the lock of an event is held, by its thread and by another; threads that race to make the queue |
+//! | `making` | the macro `listener!`; slots; what is shown; what threads may share; listeners that outlive their event |
 //!
-//! Each is written once and runs with both kinds of listener of `test_support`: most as a `Case` of `cases`, which makes
-//! its calls on a `Trial`.
-//!
-//! No test here shows that a task is woken, and not only dropped: a waker of `futures` wakes its task when it is dropped,
-//! too. The threads of `test_waits` show it.
-//!
-//! To write a test that is proved quickly, let calls that have to succeed end it by `expect`, as those of `cases` do. A
-//! `?`, or a condition of several parts, is a branch at which every listener alive is dropped, and a few of them make a
-//! proof of a minute.
+//! Each runs with both kinds of listener of `test_support`. Where several tests are alike, each is a table for `script`,
+//! which makes its calls and compares; any other is a `Case`. To be proved quickly, calls that have to succeed end in
+//! `expect`, in helpers: a `?`, or a condition of several parts, is a branch at which every listener alive is dropped.
 #![tactic(auto)]
 
 #[cfg(test)]
-mod cases;
+mod listeners;
 #[cfg(test)]
-mod counts;
+mod locks;
 #[cfg(test)]
-mod finished;
+mod making;
 #[cfg(test)]
 mod notifications;
 #[cfg(test)]
+mod script;
+#[cfg(test)]
 mod support;
-#[cfg(test)]
-mod tags;
-#[cfg(test)]
-mod wakes;

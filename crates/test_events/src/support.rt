@@ -1,8 +1,11 @@
-//! What ends a test, and the calls that have to succeed.
-use event_listener::{Event, EventIds};
+//! What the tests share: the one assertion, and the calls that have to succeed. Each ends the test where it does not.
+use event_listener::{Event, EventIds, Listener};
+use std::alloc::AllocGlobal;
 use std::fmt::Debug;
 use std::process::Abort;
+use std::sync::Wait;
 pub use test_support::Runtime;
+use test_support::{ListenerKind, Trial};
 
 /// The answer is the expected one. Where it is not, the message has both, and what was asked. The assertion stands here
 /// once, in a generic function, and is proved once.
@@ -15,7 +18,44 @@ where
     assert_eq!(rt; answer, expected, "{asked:?}");
 }
 
+/// The value has this text for debugging.
+pub fn shows<V: Debug, R: Abort + AllocGlobal>(rt: &R, value: &V, text: &str) {
+    let shown = format!(in rt.alloc(); "{value:?}").expect(rt, "a text");
+    check(rt, "the text", shown.as_str(), text);
+}
+
 /// A new event, the only one of its source.
 pub fn new_event<T, R: Abort>(rt: &R) -> Event<T> {
     Event::with_tag(EventIds::new().next().expect(rt, "an identity"))
+}
+
+/// A new event, the only one of its source, whose first listener gets this serial number.
+pub fn new_event_at<T: Drop, R: Abort + AllocGlobal>(rt: &R, serial: u64) -> Event<T> {
+    let id = EventIds::new().next().expect(rt, "an identity");
+    Event::starting_at(rt.alloc(), id, serial).expect(rt, "an event")
+}
+
+/// A new listener of this kind.
+pub fn listen_as<'ev, K, L, R>(rt: &R, event: &'ev Event<u32>) -> L
+where
+    K: ListenerKind<'ev, u32, R, Listener = L>,
+    R: Runtime,
+{
+    K::listen(rt, rt.alloc(), event).expect(rt, "a listener")
+}
+
+/// A new listener.
+pub fn listen<R: Abort, S: Trial<Runtime = R>>(trial: &S) -> S::Listener {
+    trial.try_listen().expect(trial.rt(), "a listener")
+}
+
+/// Discards a listener. Whether it is told.
+pub fn discard<T, L: Listener<T>, R: Abort>(rt: &R, listener: L, is_told: bool) {
+    check(rt, "whether it is told", listener.discard(), is_told);
+}
+
+/// So many listeners are in the queue, and whether some of them are told.
+pub fn has_listeners<T, R: Abort + Wait>(rt: &R, event: &Event<T>, total: usize, is_told: bool) {
+    let counts = (event.total_listeners(rt), event.is_notified(rt));
+    check(rt, "the listeners", counts, (total, is_told));
 }

@@ -1,26 +1,21 @@
-//! Tests of what callers of events write (`example_events`, `example_locks`): the threads of the example programs, a wait
-//! against a deadline, and locks, semaphores and programs that are refused memory. `test_locks` has the other tests of locks
-//! and semaphores, and `test_event_examples` those of `example_events`.
+//! Tests of what callers write, `example_queue` and `example_events`, by their public calls: of what the clauses of these
+//! crates leave open. `test_locks` has those of `example_locks`, `test_memory` those in which memory is refused.
 //!
 //! | Module | What it tests |
 //! |---|---|
-//! | `programs` | what the programs do, many times over; worked row 21 |
-//! | `timed` | waits against a deadline: a limit that passes, one that never comes, a clock that can't be read, and waits that are refused and tried again |
-//! | `refused::locks` | `lock`, `lock_timeout` and the polled lock, each of whose requests is refused in its turn while the lock is held: the answer is `MutexError::Memory`, no listener of that call is left, and the lock works; a client that was told before it was refused tells another one |
-//! | `refused::permits` | the same of `acquire` and `acquire_timeout`; a new semaphore and its free permits take no memory |
-//! | `refused::programs` | `count`, `count_with_permits` and `wait_for_setter`, which the programs print the error of: refused the counter or the flag, or a thread. `make starved` runs the programs themselves: they print the refusal, and their status is 1 |
-//!
-//! That a refused call leaves no listener shows by who is told next: a task that polls the lock after the refusal is
-//! woken by the guard's notification, which would go to the listener before it. Of a semaphore, a client that waits after
-//! the refusal is given the permit once that is freed. These tests take memory by `test_support`'s `Budget`. Under
-//! `rt try --test`, which brings an allocator of its own, they fail.
+//! | `queue` | a line of visitors under a lock; who gets which desk or text; at how many others those look who leave a line |
+//! | `events` | which listener gets which tag, that it comes, who passes on, and which tasks are woken; `flags` that are set between a look and the queue, and records as tables; `timed` waits, also such as are refused and tried again |
+//! | `races` | threads that count, take permits and wait for flags, and a race that is recorded, for two seconds each; worked row 21 |
+//! | `texts` | the texts of all errors, those of `example_locks` among them |
 #![tactic(auto)]
 
 #[cfg(test)]
-mod programs;
+mod events;
 #[cfg(test)]
-mod refused;
+mod queue;
+#[cfg(test)]
+mod races;
 #[cfg(test)]
 mod support;
 #[cfg(test)]
-mod timed;
+mod texts;

@@ -1,24 +1,20 @@
-//! What the tests share: what ends a test, and the calls that have to succeed. Each ends the test where it does not.
-use event_listener::{Event, EventId, EventIds, EventListener};
-use example_locks::{Mutex, MutexGuard, Permit, Semaphore};
-use futures::task::Waker;
+//! What the tests share: what ends a test, and calls that have to succeed.
+use event_listener::{Event, EventId, EventIds, EventListener, IntoNotification, IntoTagged};
 use futures::test::MockTask;
-use std::alloc::AllocGlobal;
-use std::fmt::{Debug, Display};
+use std::fmt::Debug;
 use std::process::Abort;
-use std::random::RandomSource;
 use std::sync::Wait;
-use std::time::Clock;
-use test_support::waker_of;
+use std::thread::Threads;
+use std::time::{Clock, Duration, Instant};
+use test_support::Runtime;
 
-/// The answer is the expected one. Where it is not, the message has both, and what was asked. The assertion stands here
-/// once, in a generic function, and is proved once.
-pub fn check<A, V, R>(rt: &R, asked: A, answer: V, expected: V)
-where
-    A: Display + Drop,
-    V: PartialEq + Debug + Drop,
-    R: Abort,
-{
+/// What a test asks of its runtime value that starts threads.
+pub trait Host: Runtime + Threads + Sync {}
+
+impl<R: Runtime + Threads + Sync> Host for R {}
+
+/// The answer is the expected one. Where it is not, the message has both, and what was asked.
+pub fn check<V: PartialEq + Debug + Drop, R: Abort>(rt: &R, asked: &str, answer: V, expected: V) {
     assert_eq!(rt; answer, expected, "{asked}");
 }
 
@@ -28,39 +24,40 @@ pub fn new_id<R: Abort>(rt: &R) -> EventId {
 }
 
 /// A new listener.
-pub fn listen<R>(rt: &R, event: &Event<u32>) -> EventListener<u32, R>
-where
-    R: Abort + AllocGlobal + Wait + Clock + Clone,
-{
+pub fn listen<R: Runtime>(rt: &R, event: &Event<u32>) -> EventListener<u32, R> {
     event.listen(rt, rt.alloc()).expect(rt, "a listener")
 }
 
-/// A free lock round this value.
-pub fn new_mutex<R: Abort>(rt: &R, value: u64) -> Mutex<u64> {
-    Mutex::new(new_id(rt), value)
-}
-
-/// The lock, which is free.
-pub fn hold<'a, R: Abort + Wait>(rt: &'a R, mutex: &'a Mutex<u64>) -> MutexGuard<'a, u64, R> {
-    mutex.try_lock(rt).expect(rt, "the lock")
-}
-
-/// A semaphore with so many permits.
-pub fn new_semaphore<R: Abort>(rt: &R, permits: usize) -> Semaphore {
-    Semaphore::new(new_id(rt), permits)
-}
-
-/// A permit, of which one is free.
-pub fn take_permit<'a, R: Abort + Wait>(rt: &'a R, semaphore: &'a Semaphore) -> Permit<'a, R> {
-    semaphore.try_acquire(rt).expect(rt, "a permit")
+/// Notifies one listener more, with the tag 7.
+pub fn tell<R: Abort + Wait>(rt: &R, event: &Event<u32>) {
+    let told = event.notify(rt, 1.additional().tag(7u32));
+    check(rt, "listeners told", told, Ok(1));
 }
 
 /// A task that is not woken.
-pub fn new_task<R: Abort + RandomSource + AllocGlobal>(rt: &R) -> MockTask {
+pub fn new_task<R: Runtime>(rt: &R) -> MockTask {
     MockTask::new(rt).expect(rt, "a task")
 }
 
-/// A waker of this task, which begins a poll of it.
-pub fn new_waker<R: Abort>(rt: &R, task: &MockTask) -> Waker {
-    waker_of(task).expect(rt, "a waker")
+/// Since its last poll began the task was woken, or was not.
+pub fn is_woken<R: Abort>(rt: &R, task: &MockTask, expected: bool) {
+    check(rt, "whether the task is woken", task.is_woken(), expected);
+}
+
+/// The present moment.
+pub fn now<R: Abort + Clock>(rt: &R) -> Instant {
+    Instant::now(rt).expect(rt, "the time")
+}
+
+/// Does this again and again, for two seconds.
+pub fn for_two_seconds<R: Abort + Wait + Clock, F: Fn()>(rt: &R, once: F)
+    requires { F.IsAlwaysCallable once }
+{
+    let end = now(rt).checked_add(Duration::from_secs(2));
+    for _ in rt.forever() {
+        once();
+        if Some(now(rt)) >= end {
+            break;
+        }
+    }
 }

@@ -1,5 +1,5 @@
-//! Tests of `example_locks`, the lock and the semaphore over an event, by their public calls. `test_examples` has those in
-//! which memory is refused.
+//! Tests of `example_locks`, the lock and the semaphore over an event, by their public calls. `test_examples` has the
+//! texts of their errors, `test_memory` the tests in which memory is refused.
 //!
 //! | Module | What it tests |
 //! |---|---|
@@ -9,7 +9,7 @@
 //! | `permits` | a semaphore: taking permits and giving them back, no more of them out than there are, and threads that wait for one, with a deadline, with one that never comes and with a clock that can't be read |
 //! | `deadlines` | clients that are told again and again and come too late each time: they give up at the deadline that they began with |
 //! | `orders` | what the types of a client's way leave open: that the notification that is owed is the one that is made, and that a told client whose second try succeeds tells another one |
-//! | `refusals` | texts, and locks and semaphores whose listening is refused |
+//! | `refusals` | locks and semaphores whose listening is refused |
 //!
 //! `orders` uses a lock of its own over the way of a client, so that it can free something between a client's listening
 //! and its second try.

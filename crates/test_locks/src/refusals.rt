@@ -1,49 +1,10 @@
 //! Locks that are refused.
 use crate::support::{
-    check, hold, is_given, is_refused, new_mutex, new_semaphore, new_task, reads, take_permit,
+    check, hold, is_given, is_refused, new_mutex, new_semaphore, new_task, take_permit,
 };
-use event_listener::ListenError;
-use example_events::flag::FlagError;
-use example_events::meeting::MeetingError;
-use example_locks::{CountError, MutexError, SemaphoreError};
-use std::alloc::AllocError;
+use example_locks::{MutexError, SemaphoreError};
 use std::time::Duration;
 use test_support::Unshared;
-
-#[test]
-fn texts(rt: HostRuntime) {
-    reads(&rt, MutexError::Memory, "no memory for a listener");
-    reads(&rt, MutexError::SerialsUsedUp, "serial numbers are used up");
-    reads(&rt, MutexError::Finished, "the lock was given");
-    reads(&rt, SemaphoreError::Memory, "no memory for a listener");
-    reads(
-        &rt,
-        SemaphoreError::SerialsUsedUp,
-        "serial numbers are used up",
-    );
-    let fault = CountError::from(MutexError::SerialsUsedUp);
-    reads(&rt, fault, "serial numbers are used up");
-    let fault = CountError::from(SemaphoreError::Memory);
-    reads(&rt, fault, "no memory for a listener");
-    let fault = CountError::from(AllocError);
-    reads(&rt, fault, "no memory for the program");
-    let fault = MeetingError::from(FlagError::Memory);
-    reads(&rt, fault, "no memory for a parker");
-    let fault = MeetingError::from(AllocError);
-    reads(&rt, fault, "no memory for the program");
-}
-
-#[test]
-fn a_refused_listening_is_told_apart(rt: HostRuntime) {
-    let memory = MutexError::from(ListenError::Memory);
-    check(&rt, "no memory", memory, MutexError::Memory);
-    let serials = MutexError::from(ListenError::SerialsUsedUp);
-    check(&rt, "no serials", serials, MutexError::SerialsUsedUp);
-    let memory = SemaphoreError::from(ListenError::Memory);
-    check(&rt, "no memory", memory, SemaphoreError::Memory);
-    let serials = SemaphoreError::from(ListenError::SerialsUsedUp);
-    check(&rt, "no serials", serials, SemaphoreError::SerialsUsedUp);
-}
 
 // A listener keeps a clone of the runtime value, so one that cannot be cloned refuses every listening.
 #[test]

@@ -23,12 +23,6 @@ where
     assert_eq!(rt; answer, expected, "{asked}");
 }
 
-/// The value has this text.
-pub fn reads<V: Display + Drop, R: Abort + AllocGlobal>(rt: &R, value: V, text: &str) {
-    let shown = format!(in rt.alloc(); "{value}").expect(rt, "a text");
-    check(rt, "the text", shown.as_str(), text);
-}
-
 /// The first identity of a source.
 pub fn new_id<R: Abort>(rt: &R) -> EventId {
     EventIds::new().next().expect(rt, "an identity")

@@ -1,28 +1,25 @@
-//! Tests of events and of recorded listeners while requests for memory are refused: what no clause says of a refusal, and
-//! that calls which allocate nothing need none.
+//! Tests of every library while requests for memory are refused: what no clause says of a refusal, and that calls which
+//! allocate nothing need none. The worked rows while memory is refused are a module of their own.
 //!
-//! - `events`: tests that are written once, as a `Case`, and run with both kinds of listener of `test_support`.
-//!   `listening` is refused the queue, its growth or a clone of the runtime value: what stands then, and that the same
-//!   call succeeds later. `waits` are refused what the thread parks on. `rows` has the worked rows 46 and 47, whose other
-//!   requests are refused, too. `without_memory` has the calls that allocate nothing, and listening by a spare slot.
-//!   `wakes` has threads that are parked on a listener, and woken by one that has no memory: by a notification, and by
-//!   the drop of a listener that was told. They end their waits while there is no memory still.
-//! - `recorded_waits`: waits of recorded listeners, each of whose requests is refused in its turn: what the thread parks
-//!   on, and room for the note and the entry of each step. A refused wait answers so, with the notes of the steps that it
-//!   made until then: none, or a registration. The record agrees with the notes, and both kinds of refusal are met. That
-//!   a refused call of one step leaves record, queue and notes as they were is tested in `test_recorded_events`.
+//! | Module | What it tests |
+//! |---|---|
+//! | `events` | listening that is refused the queue, its growth or a clone of the runtime value, or takes a spare slot; waits that are refused what the thread parks on, and hand the listener back as it was; threads that are parked, and woken by one without memory: by a notification, and by the drop of a listener that was told |
+//! | `recorded` | calls on recorded events that are refused the note or the entry; each request of a wait |
+//! | `locks` | locks, polled locks and semaphores, each of whose requests is refused while another one has them; a client that was told before it was refused tells another one; the example programs, refused the counter, the flag or a thread |
+//! | `channels` | attempts until one succeeds, and channels: refused themselves, a listener, what a thread parks on, or room for a message |
 //!
-//! A test takes all memory of the process by a `Hog` of `test_support`, or all but so much by its `Budget`; they say what
-//! that rests on, and leave what the C library keeps for another thread. Under `rt try --test`, which brings an allocator
-//! of its own, both are refused, and these tests fail. Queues, worlds, and the `Hog` itself are in `test_queue_memory`.
-//!
-//! Not tested: a refused share of the queue of an event, since `Arc::try_clone` allocates nothing and is refused only
-//! where the count of owners is full.
+//! A test takes all memory of the process by a `Hog` of `test_queue_memory`, or all but so much by its `Budget`: `support`
+//! makes a call with larger and larger ones until it is granted, so that each of its requests is refused in its turn. Under
+//! `rt try --test`, which brings an allocator of its own, both are refused, and these tests fail.
 #![tactic(auto)]
 
 #[cfg(test)]
+mod channels;
+#[cfg(test)]
 mod events;
 #[cfg(test)]
-mod recorded_waits;
+mod locks;
+#[cfg(test)]
+mod recorded;
 #[cfg(test)]
 mod support;

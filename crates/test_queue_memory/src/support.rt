@@ -1,8 +1,6 @@
-//! What the tests share: the comparison of an answer, and memory that is taken. Each ends the test where it fails.
-use std::alloc::AllocGlobal;
+//! What the tests share.
 use std::fmt::Debug;
 use std::process::Abort;
-use test_support::{Budget, Hog};
 
 /// The answer is the expected one. Where it is not, the message has both, and what was asked. The assertion stands here
 /// once, in a generic function, and is proved once.
@@ -13,14 +11,4 @@ where
     R: Abort,
 {
     assert_eq!(rt; answer, expected, "{asked:?}");
-}
-
-/// All memory.
-pub fn all_memory<R: Abort + AllocGlobal>(rt: &R) -> Hog {
-    Hog::new(rt.alloc()).expect(rt, "all memory")
-}
-
-/// All memory but a reserve, of which a test says how much is left.
-pub fn new_budget<R: Abort + AllocGlobal>(rt: &R) -> Budget {
-    Budget::new(rt.alloc()).expect(rt, "all memory but a reserve")
 }

@@ -1,25 +1,28 @@
-//! Tests of the records of recorded events, and of the recorded state, by their public calls: that each call succeeds
-//! where there is memory, what a refusal of memory leaves, and which records replay.
+//! Tests of recorded events, their records and their state, by public calls, and of tasks that await listeners: what no
+//! clause says. No clause can name what the lock held, so these show that a call asked the queue at all, that the drop of
+//! a listener is recorded, and that `close` returns a record where the notes are right.
 //!
-//! - `replays`: `written` has records that were written by hand, and whether they replay; `long` has records of 10,000
-//!   entries, one of which is wrong.
-//! - `state`: a recorded state whose replies are compared as they come. `calls` has its calls, its entries, and whom it
-//!   wakes; `refused` its calls while memory is refused, and those that take none; `keys` any pair of slot and serial of
-//!   a small range, and the greatest, as a key.
-//! - `texts`: the texts of the refusals.
+//! - `script`: calls with their answers, written as a table, and the interpreter that makes them.
+//! - `steps`: polls, discards and drops, of finished listeners too, and the least and the greatest counts.
+//! - `hands`: which hands an event owns, with which it is closed, whose notes differ, and the texts of the refusals.
+//! - `records`: records that were written by hand, and whether they replay; the recorded state, its entries, and whom it
+//!   wakes.
+//! - `awaited`: how often a task is polled that awaits one listener or several; tasks that move between threads. It is
+//!   about events of both kinds, and stands here for the memory that the proof of `test_events` takes.
 //!
-//! The module `refused` takes all memory of the process by a `Hog` of `test_support`. Under `rt try --test`, which brings
-//! an allocator of its own, its tests fail. Recorded events are in `test_recorded_events`.
-//!
-//! Not tested: a recorded queue whose serial numbers are used up. None can start late, since its record replays from the
-//! serial 0.
+//! Calls that are refused memory are in `test_memory`, waits in `test_waits`. Not tested: a recorded queue whose
+//! serial numbers are used up. None can start late, since its record replays from the serial 0.
 #![tactic(auto)]
 
 #[cfg(test)]
-mod replays;
+mod awaited;
 #[cfg(test)]
-mod state;
+mod hands;
+#[cfg(test)]
+mod records;
+#[cfg(test)]
+mod script;
+#[cfg(test)]
+mod steps;
 #[cfg(test)]
 mod support;
-#[cfg(test)]
-mod texts;

@@ -1,8 +1,10 @@
 //! Tests that are written once and run with each kind of listener.
-use crate::kinds::ListenerKind;
-use event_listener::{Event, ListenError, Listener};
+use crate::kinds::{Borrowing, ListenerKind, Sharing};
+use event_listener::{Event, EventIds, ListenError, Listener};
 use std::alloc::AllocGlobal;
 use std::marker::PhantomData;
+use std::sync::Wait;
+use std::time::Clock;
 
 /// A test of an event, which a crate of tests runs with each kind of listener.
 pub trait Case<R> {
@@ -35,8 +37,27 @@ pub trait Trial {
     fn try_listen(&self) -> Result<Self::Listener, ListenError>;
 }
 
-/// Runs a case on this event, with listeners of this kind.
-pub fn run_case<'ev, K, C, R>(rt: &'ev R, event: &'ev Event<C::Tag>)
+/// Runs a case with each kind of listener, each time on a new event. A test calls this alone: each place that names the
+/// kinds is slow to prove.
+pub fn both<C, R>(rt: &R)
+where
+    C: Case<R>,
+    R: Wait + Clock + Clone + AllocGlobal,
+{
+    run_case::<Sharing, C, R>(rt, &new_event());
+    run_case::<Borrowing, C, R>(rt, &new_event());
+}
+
+// A new event, the only one of its source.
+fn new_event<T>() -> Event<T> {
+    match EventIds::new().next() {
+        Ok(id) => Event::with_tag(id),
+        Err(_) => unreachable!(),
+    }
+}
+
+// Runs a case on this event, with listeners of this kind.
+fn run_case<'ev, K, C, R>(rt: &'ev R, event: &'ev Event<C::Tag>)
 where
     K: ListenerKind<'ev, C::Tag, R>,
     C: Case<R>,

@@ -6,7 +6,6 @@
 //! | `polls` | polls by hand: a poll that is not due attempts nothing and wakes nobody; told and dropped; told and too late |
 //! | `deadlines` | who is told at its deadline |
 //! | `locks` | the locks, one call after another: permits, a lock, readers that wait for writers, a barrier, a cell and a gate |
-//! | `refusals` | texts; a refused listening, a refused parker, and futures that need no memory |
 //! | `threads` | 10 threads that make 1,000 calls each, half of them as futures; how often their tasks are polled |
 //!
 //! `support` has what they share.
@@ -20,8 +19,6 @@ mod deadlines;
 mod locks;
 #[cfg(test)]
 mod polls;
-#[cfg(test)]
-mod refusals;
 #[cfg(test)]
 mod support;
 #[cfg(test)]

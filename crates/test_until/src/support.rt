@@ -10,11 +10,6 @@ use std::random::RandomSource;
 use std::sync::Wait;
 use std::time::Clock;
 
-/// What the tests ask of a runtime value.
-pub trait Runtime: Abort + AllocGlobal + RandomSource + Wait + Clock + Clone {}
-
-impl<R: Abort + AllocGlobal + RandomSource + Wait + Clock + Clone> Runtime for R {}
-
 /// The answer is the expected one. Where it is not, the message has both, and what was asked. The assertion stands here
 /// once, in a generic function, and is proved once.
 pub fn check<V, R>(rt: &R, asked: &str, answer: V, expected: V)

@@ -1,7 +1,7 @@
 //! Threads that call at once, half of them by futures.
 ghost use Rattle.std.specs.Prelude.{◌≡◌};
 
-use crate::support::{Runtime, check, new_id};
+use crate::support::{check, new_id};
 use event_listener::EventIds;
 use event_until::UntilError;
 use example_until::{Barrier, Mutex, Permit, ReadWriteLock, Semaphore, SetOnce};
@@ -10,6 +10,7 @@ use futures::executor::block_on;
 use futures::task::{Context, Poll};
 use std::sync::atomic::{AtomicUsize, Ordering};
 use std::thread;
+use test_support::Runtime;
 
 const THREADS: usize = 10;
 

@@ -1,130 +1,199 @@
-//! Waits that end no earlier than their limits by the clocks of their listeners, and soon after them, or at once where no
-//! time is left.
-use crate::clocks::SlowClock;
-use crate::support::{
-    Runtime, WaitClock, check, elapsed, has_listeners, listen, listen_by, new_event, now, waits,
-};
-use event_listener::{Event, IntoNotification, IntoTagged};
-use std::cell::Cell;
+//! When a wait ends, by the clock of its listener.
+use crate::stage::Habit::{self, Back, Exact, Fails, Notifies, Slow};
+use crate::stage::{AnyEvent, WAITS, check, ends_soon, greatest, limit, long, now};
+use crate::trial::{Case, Polled, Trial, all};
+use event_listener::{Former, RecordedReply, RegisterResult};
+use futures::task::Poll;
+use futures::test::MockTask;
+use recorded_calls::Refusal;
+use std::sync::atomic::Ordering;
 use std::time::Duration;
-use test_support::{Borrowing, CountedClock, ListenerKind, Sharing, TIMED_WAITS, WaitCall};
+use test_support::TIMED_WAITS;
+use test_support::WaitCall::{self, Deadline, GreatestTimeout, Timeout};
+
+// What a step of a wait answers: the listener was told with the tag 7, waits, or is gone; it leaves untold or told.
+const TOLD: RecordedReply<u32> = RecordedReply::Registered(RegisterResult::Notified(7));
+
+const WAITS_ON: RecordedReply<u32> = RecordedReply::Registered(RegisterResult::Registered);
+
+const GONE: RecordedReply<u32> = RecordedReply::Registered(RegisterResult::NeverInserted);
+
+const LEAVES: RecordedReply<u32> = RecordedReply::Removed(Some(Former::Task));
+
+const LEAVES_TOLD: RecordedReply<u32> = RecordedReply::Removed(Some(Former::Notified {
+    additional: false,
+    tag: 7,
+}));
+
+fn an_hour_ahead<S: Trial>(trial: &S) -> Habit {
+    Slow(now(trial.rt()).saturating_add(long()))
+}
+
+// It does not park first, and passes nothing on.
+fn gives_its_tag<S: Trial>(trial: &S, wait: WaitCall, limit: Duration) {
+    let (told, waiting) = (trial.listen(), trial.listen());
+    trial.tell(1, 7);
+    trial.waits(told, wait, limit, Some(7));
+    trial.noted(wait, &[TOLD]);
+    trial.has_listeners(1);
+    trial.waits(waiting, Timeout, Duration::ZERO, None);
+    trial.has_listeners(0);
+}
+
+pub fn gives_its_tag_at_once<S: Trial>(trial: &S) {
+    let (ahead, greatest) = (an_hour_ahead(trial), greatest(trial.rt()));
+    for habit in [Exact, ahead, Fails(0)] {
+        trial.stage().set(habit);
+        for wait in WAITS {
+            for limit in [Duration::ZERO, Duration::from_nanos(1), long(), greatest] {
+                gives_its_tag(trial, wait, limit);
+            }
+        }
+    }
+}
+
+#[test]
+fn a_told_listener_gives_its_tag_at_once(rt: HostRuntime) {
+    all(&rt, Case::Told);
+}
+
+// A poll by this task answers this, and does not wake it.
+fn polls<S: Trial>(trial: &S, task: &MockTask, listener: &mut S::Listener, expected: Polled) {
+    let polled = task.enter(|cx| trial.poll(listener, cx));
+    check(trial.rt(), "a poll", polled, expected);
+    check(trial.rt(), "woken by a poll", task.is_woken(), false);
+}
+
+// However often it is polled, its task is woken only once it is told. It gives its tag to one poll, and is gone then.
+fn gives_one_tag<S: Trial>(trial: &S, task: &MockTask, wait: WaitCall, limit: Duration) {
+    let (mut listener, behind) = (trial.listen(), trial.listen());
+    polls(trial, task, &mut listener, Ok(Poll::Pending));
+    polls(trial, task, &mut listener, Ok(Poll::Pending));
+    trial.tell(1, 7);
+    check(trial.rt(), "woken", task.is_woken(), true);
+    polls(trial, task, &mut listener, Ok(Poll::Ready(7)));
+    let gone = Refusal::NeverInserted;
+    polls(trial, task, &mut listener, Err(gone));
+    let answer = trial.wait(listener, wait, limit);
+    check(trial.rt(), wait, answer, Err(gone));
+    trial.noted(wait, &[WAITS_ON, WAITS_ON, TOLD, GONE, GONE]);
+    trial.leave(behind);
+    trial.has_listeners(0);
+}
+
+pub fn is_told_once<S: Trial>(trial: &S) {
+    let task = MockTask::new(trial.rt()).expect(trial.rt(), "a task");
+    for wait in WAITS {
+        gives_one_tag(trial, &task, wait, Duration::ZERO);
+        gives_one_tag(trial, &task, wait, long());
+    }
+}
+
+#[test]
+fn a_task_is_woken_once_told_and_a_finished_listener_does_not_wait(rt: HostRuntime) {
+    all(&rt, Case::Polled);
+}
+
+pub fn ends_at_once<S: Trial>(trial: &S) {
+    let rt = trial.rt();
+    let (zero, ahead) = (Duration::ZERO, an_hour_ahead(trial));
+    for (habit, wait, limit, tag, last_step) in [
+        // The deadline is now or passed long ago, or the clock can't be read.
+        (Exact, Timeout, zero, None, LEAVES),
+        (Exact, Deadline, zero, None, LEAVES),
+        (ahead, Deadline, zero, None, LEAVES),
+        (Fails(0), Timeout, long(), None, LEAVES),
+        (Fails(0), Deadline, long(), None, LEAVES),
+        (Fails(0), GreatestTimeout, zero, None, LEAVES),
+        // The reading that notifies comes after the wait last registered, and before the listener leaves. A timeout
+        // has one reading before, which fixes its deadline.
+        (Notifies(0), Deadline, zero, Some(7), LEAVES_TOLD),
+        (Notifies(1), Timeout, zero, Some(7), LEAVES_TOLD),
+        // Before the thread parks there is one reading, and one more as it does. No lock is held at either.
+        (Notifies(0), Deadline, limit(), Some(7), TOLD),
+        (Notifies(1), Deadline, limit(), Some(7), TOLD),
+        (Notifies(1), Timeout, limit(), Some(7), TOLD),
+        (Notifies(2), Timeout, limit(), Some(7), TOLD),
+    ] {
+        let (listener, behind, start) = (trial.listen(), trial.listen(), now(rt));
+        trial.stage().set(habit);
+        let answer = trial.wait(listener, wait, limit);
+        check(rt, (habit, wait), answer, Ok(tag));
+        ends_soon(rt, start);
+        trial.noted(wait, &[WAITS_ON, last_step]);
+        // Nothing was passed on.
+        trial.stage().set(Exact);
+        trial.waits(behind, Timeout, Duration::ZERO, None);
+        trial.has_listeners(0);
+    }
+}
+
+#[test]
+fn a_wait_ends_at_once_by_its_clock(rt: HostRuntime) {
+    all(&rt, Case::EndsAtOnce);
+}
+
+pub fn ends_by_any_clock<S: Trial>(trial: &S) {
+    // The first reading fails, or one of those that come as the thread parks; or the clock goes back.
+    for readings in 0..9 {
+        let habit = if readings < 8 { Fails(readings) } else { Back };
+        for wait in TIMED_WAITS {
+            for nanos in [0, 1, 10_000_000] {
+                trial.stage().set(habit);
+                trial.waits(trial.listen(), wait, Duration::from_nanos(nanos), None);
+                trial.has_listeners(0);
+            }
+        }
+    }
+}
+
+#[test]
+fn a_clock_that_goes_back_or_fails_ends_a_wait(rt: HostRuntime) {
+    all(&rt, Case::EndsByAnyClock);
+}
 
 fn short() -> Duration {
     Duration::from_millis(50)
 }
 
-// A wait on which nobody is told finds nothing, ends no earlier than its limit by the clock of the listener, and leaves
-// nobody in the queue.
-fn ends_at_its_limit<'ev, K, C, R>(rt: &R, clock: &C, event: &'ev Event<()>, wait: WaitCall)
-where
-    K: ListenerKind<'ev, (), C>,
-    C: WaitClock,
-    R: Runtime,
-{
-    let listener = listen_by::<K, _, C, R>(rt, clock, event);
-    let start = now(rt, clock);
-    waits(rt, clock, listener, wait, short(), None);
-    let taken = elapsed(rt, clock, start);
-    check(rt, (wait, taken), taken >= short(), true);
-    has_listeners(rt, event, 0);
+// How long a wait takes on which nobody is told: no less than its limit.
+fn time_of<S: Trial>(trial: &S, wait: WaitCall) -> Duration {
+    let (listener, start) = (trial.listen(), now(trial.rt()));
+    trial.waits(listener, wait, short(), None);
+    let taken = now(trial.rt()).saturating_sub(start);
+    check(trial.rt(), (wait, taken), taken >= short(), true);
+    taken
 }
 
-fn each_kind_ends_at_its_limit<C: WaitClock, R: Runtime>(rt: &R, clock: &C, wait: WaitCall) {
-    let event = new_event(rt);
-    ends_at_its_limit::<Sharing, _, _>(rt, clock, &event, wait);
-    ends_at_its_limit::<Borrowing, _, _>(rt, clock, &event, wait);
+const PARKED_ONCE: [RecordedReply<u32>; 3] = [WAITS_ON, WAITS_ON, LEAVES];
+
+// Whether a wait parks once, and ends well before twice its time. One that looked at the time again and again would read
+// its clock thousands of times.
+fn parks_once<S: Trial>(trial: &S, wait: WaitCall) -> bool {
+    let stage = trial.stage();
+    stage.set(Exact);
+    let is_soon = time_of(trial, wait) < Duration::from_millis(87);
+    let reads = stage.reads.load(Ordering::SeqCst);
+    check(trial.rt(), (wait, reads), reads < 25, true);
+    let steps = stage.event.last_steps(trial.rt());
+    trial.has_listeners(0);
+    is_soon && steps.is_none_or(|steps| steps.as_slice() == PARKED_ONCE.as_slice())
+}
+
+pub fn parks_until_its_limit<S: Trial>(trial: &S) {
+    let rt = trial.rt();
+    for wait in TIMED_WAITS {
+        // One of several does. The others may be late, since the machine may be busy.
+        let parks_once = (0..20).any(|_| parks_once(trial, wait));
+        check(rt, ("parks once", wait), parks_once, true);
+        // The thread parks by the system's clock, and so wakes when half of its time is over.
+        trial.stage().set(Slow(now(rt)));
+        let taken = time_of(trial, wait);
+        check(rt, ("parks again", wait), taken / 2 >= short(), true);
+    }
 }
 
 #[test]
-fn a_wait_ends_no_earlier_than_its_limit(rt: HostRuntime) {
-    for wait in TIMED_WAITS {
-        each_kind_ends_at_its_limit(&rt, &rt, wait);
-    }
-}
-
-// The thread parks by the system's clock, and so wakes when half of its time is over.
-#[test]
-fn a_park_that_ends_early_does_not_end_a_wait(rt: HostRuntime) {
-    let slow = SlowClock { rt: &rt };
-    for wait in TIMED_WAITS {
-        each_kind_ends_at_its_limit(&rt, &slow, wait);
-    }
-}
-
-// A wait that looked at the time again and again would read its clock thousands of times.
-fn parks<R: Runtime>(rt: &R, wait: WaitCall) {
-    let reads = Cell::new(0);
-    let counted = CountedClock { rt, reads: &reads };
-    each_kind_ends_at_its_limit(rt, &counted, wait);
-    check(rt, (wait, reads.get()), reads.get() < 50, true);
-}
-
-#[test]
-fn a_timed_wait_parks(rt: HostRuntime) {
-    for wait in TIMED_WAITS {
-        parks(&rt, wait);
-    }
-}
-
-// How long a wait takes that has 100 milliseconds and is not told.
-fn time_of_a_wait<'ev, K, R>(rt: &R, event: &'ev Event<()>, wait: WaitCall) -> Duration
-where
-    K: ListenerKind<'ev, (), R>,
-    R: Runtime,
-{
-    let listener = listen::<K, _, R>(rt, event);
-    let start = now(rt, rt);
-    let _ = wait
-        .make(rt, listener, Duration::from_millis(100))
-        .expect(rt, "a wait");
-    elapsed(rt, rt, start)
-}
-
-// Of several waits one ends well before twice its limit. The others may be late, since the machine may be busy.
-fn ends_soon_after_its_limit<'ev, K, R>(rt: &R, event: &'ev Event<()>, wait: WaitCall)
-where
-    K: ListenerKind<'ev, (), R>,
-    R: Runtime,
-{
-    for _ in 0..20 {
-        if time_of_a_wait::<K, R>(rt, event, wait) < Duration::from_millis(175) {
-            return;
-        }
-    }
-    panic!(rt; "each wait took nearly twice its time");
-}
-
-#[test]
-fn a_wait_ends_soon_after_its_limit(rt: HostRuntime) {
-    let event = new_event(&rt);
-    for wait in TIMED_WAITS {
-        ends_soon_after_its_limit::<Sharing, _>(&rt, &event, wait);
-        ends_soon_after_its_limit::<Borrowing, _>(&rt, &event, wait);
-    }
-}
-
-// Both listeners have no time left, and one of them was told.
-fn gives_its_tag_at_once<'ev, K, R>(rt: &R, event: &'ev Event<u32>, wait: WaitCall)
-where
-    K: ListenerKind<'ev, u32, R>,
-    R: Runtime,
-{
-    let told = listen::<K, _, R>(rt, event);
-    let waiting = listen::<K, _, R>(rt, event);
-    let notified = event.notify(rt, 1.additional().tag(7u32));
-    check(rt, "notify", notified, Ok(1));
-    check(rt, wait, wait.make(rt, told, Duration::ZERO), Ok(Some(7)));
-    check(rt, "is_notified", event.is_notified(rt), false);
-    has_listeners(rt, event, 1);
-    check(rt, wait, wait.make(rt, waiting, Duration::ZERO), Ok(None));
-    has_listeners(rt, event, 0);
-}
-
-#[test]
-fn a_told_listener_with_no_time_left_gives_its_tag(rt: HostRuntime) {
-    let event = new_event(&rt);
-    for wait in TIMED_WAITS {
-        gives_its_tag_at_once::<Sharing, _>(&rt, &event, wait);
-        gives_its_tag_at_once::<Borrowing, _>(&rt, &event, wait);
-    }
+fn a_timed_wait_parks_until_its_limit(rt: HostRuntime) {
+    all(&rt, Case::Parks);
 }

@@ -1,171 +1,91 @@
-//! Threads that park, and what wakes them.
-use crate::support::{Runtime, check, elapsed, has_listeners, listen, new_event, now};
+//! Threads that park, and what wakes them; threads that tell each other, or one another, again and again.
+use crate::stage::{
+    AnyEvent, SharedRuntime, WAITS, check, end_of_race, ends_soon, greatest, limit, now,
+};
+use crate::trial::{Case, Trial, all, new_event};
 use event_listener::{Event, IntoTagged, Listener, NotifyError};
 use std::alloc::AllocError;
-use std::process::Abort;
-use std::sync::atomic::{AtomicBool, Ordering};
-use std::sync::{Arc, Wait};
-use std::thread::{self, Threads};
-use std::time::{Clock, CpuClock, Duration, Instant};
-use test_support::{Borrowing, ListenerKind, Sharing, TIMED_WAITS, WaitCall};
+use std::sync::Wait;
+use std::sync::atomic::{AtomicBool, AtomicU32, Ordering};
+use std::thread;
+use std::time::{Clock, CpuClock, Duration};
+use test_support::{Borrowing, ListenerKind, Runtime, Sharing, WaitCall};
 
-// Long enough for the other thread to park meanwhile. A thread that isn't parked yet needs nobody to wake it.
+// Long enough for other threads to park meanwhile. A thread that isn't parked yet needs nobody to wake it.
 fn a_while() -> Duration {
     Duration::from_millis(100)
 }
 
-// A wait that nobody wakes ends here, if it has a limit.
-fn limit() -> Duration {
-    Duration::from_secs(20)
-}
-
-// One that is woken ends well before this.
-fn soon() -> Duration {
-    Duration::from_secs(10)
-}
-
-// Tells so many listeners, each with the tag 7.
-fn tell<R: Abort + Wait>(rt: &R, event: &Event<u32>, n: usize) {
-    check(rt, "notify", event.notify(rt, n.tag(7u32)), Ok(n));
-}
-
-// The listener is told, with the tag 7.
-fn is_told<L: Listener<u32> + Drop, R: Abort + Clock>(rt: &R, listener: L, wait: WaitCall) {
-    check(rt, wait, wait.make(rt, listener, limit()), Ok(Some(7)));
-}
-
-fn processor_time<R: Abort + CpuClock>(rt: &R) -> Duration {
-    rt.thread_cpu_time().expect(rt, "the processor time")
-}
-
-// The listener is told, and its thread parks until then. One that looked again and again would use most of the time.
-fn parks<L, R>(rt: &R, listener: L, wait: WaitCall)
-where
-    L: Listener<u32> + Drop,
-    R: Abort + Clock + CpuClock,
-{
-    let before = processor_time(rt);
-    is_told(rt, listener, wait);
-    let used = processor_time(rt).saturating_sub(before);
+// The listener is told, and its thread parks until then. One that looked again and again would use most of the time, or
+// note each look.
+fn parks<S: Trial>(trial: &S, listener: S::Listener, wait: WaitCall, limit: Duration) {
+    let rt = trial.rt();
+    let before = rt.thread_cpu_time().expect(rt, "the processor time");
+    trial.waits(listener, wait, limit, Some(7));
+    let after = rt.thread_cpu_time().expect(rt, "the processor time");
+    let used = after.saturating_sub(before);
     check(rt, (wait, used), used < a_while() / 4, true);
+    let steps = trial.stage().event.last_steps(rt);
+    check(rt, wait, steps.is_none_or(|steps| steps.len() < 10), true);
 }
 
-fn ends_soon<R: Abort + Clock>(rt: &R, start: Instant) {
-    let taken = elapsed(rt, rt, start);
-    check(rt, taken, taken < soon(), true);
-}
-
-// A thread waits on the listener until another one makes this call, which comes once it is parked.
-fn is_woken_by<L, R, W>(rt: &R, listener: L, wait: WaitCall, wake: W)
+// Threads wait on new listeners, so many, until this call, which comes once they are parked. Nobody is left.
+fn are_woken_by<S, W>(trial: &S, count: usize, wait: WaitCall, limit: Duration, wake: W)
 where
-    L: Listener<u32> + Drop,
-    R: Runtime + CpuClock + Threads + Sync,
-    W: FnOnce() + Send,
+    S: Trial,
+    W: FnOnce(),
     requires { W.pre wake }
 {
-    let start = now(rt, rt);
-    thread::join(
+    let rt = trial.rt();
+    let mut listeners = Vec::new(rt.alloc());
+    for _ in 0..count {
+        listeners.push(trial.listen()).expect(rt, "room");
+    }
+    let start = now(rt);
+    let park = |listener: S::Listener| parks(trial, listener, wait, limit);
+    let (parked, ()) = thread::join(
         rt,
+        || thread::map_vec(rt, listeners, &park),
         || {
             rt.sleep(a_while());
             wake();
         },
-        || parks(rt, listener, wait),
     );
+    parked.expect(rt, "room for the threads");
     ends_soon(rt, start);
+    trial.has_listeners(0);
 }
 
-fn is_woken_by_a_notification<'ev, K, R>(rt: &R, event: &'ev Event<u32>, wait: WaitCall)
-where
-    K: ListenerKind<'ev, u32, R>,
-    R: Runtime + CpuClock + Threads + Sync,
-{
-    let listener = listen::<K, _, R>(rt, event);
-    is_woken_by(rt, listener, wait, || tell(rt, event, 1));
-    has_listeners(rt, event, 0);
-}
-
-fn each_kind_is_woken<R>(rt: &R, wait: WaitCall)
-where
-    R: Runtime + CpuClock + Threads + Sync,
-{
-    let event = new_event(rt);
-    is_woken_by_a_notification::<Sharing, R>(rt, &event, wait);
-    is_woken_by_a_notification::<Borrowing, R>(rt, &event, wait);
-}
-
-#[test]
-fn a_notification_wakes_a_thread_in_a_timed_wait(rt: HostRuntime) {
-    for wait in TIMED_WAITS {
-        each_kind_is_woken(&rt, wait);
+pub fn are_woken_by_a_notification<S: Trial>(trial: &S) {
+    for wait in WAITS {
+        are_woken_by(trial, 1, wait, limit(), || trial.tell(1, 7));
+        are_woken_by(trial, 1, wait, greatest(trial.rt()), || trial.tell(1, 7));
+        are_woken_by(trial, 3, wait, limit(), || trial.tell(3, 7));
     }
 }
 
 #[test]
-fn a_notification_wakes_a_thread_in_a_wait_without_a_limit(rt: HostRuntime) {
-    each_kind_is_woken(&rt, WaitCall::UntilTold);
-    each_kind_is_woken(&rt, WaitCall::GreatestTimeout);
+fn a_notification_wakes_one_parked_thread_or_three(rt: HostRuntime) {
+    all(&rt, Case::WokenByANotification);
 }
 
-// A thread that waits on the second listener is woken by the drop of the first, which was told.
-fn is_woken_by_a_drop<L, R>(rt: &R, event: &Event<u32>, first: L, second: L)
-where
-    L: Listener<u32> + Drop + Send,
-    R: Runtime + CpuClock + Threads + Sync,
-{
-    tell(rt, event, 1);
-    is_woken_by(rt, second, WaitCall::Timeout, || drop(first));
-    has_listeners(rt, event, 0);
+pub fn is_woken_by_a_drop<S: Trial>(trial: &S) {
+    for wait in WAITS {
+        let told = trial.listen();
+        trial.tell(1, 7);
+        are_woken_by(trial, 1, wait, limit(), || trial.leave(told));
+    }
 }
 
 #[test]
 fn the_drop_of_a_told_listener_wakes_a_parked_thread(rt: HostRuntime) {
-    let event = new_event(&rt);
-    let first = listen::<Sharing, _, _>(&rt, &event);
-    let second = listen::<Sharing, _, _>(&rt, &event);
-    is_woken_by_a_drop(&rt, &event, first, second);
-    let first = listen::<Borrowing, _, _>(&rt, &event);
-    let second = listen::<Borrowing, _, _>(&rt, &event);
-    is_woken_by_a_drop(&rt, &event, first, second);
-}
-
-fn all_are_woken_by_one<L, R>(rt: &R, event: &Event<u32>, first: L, second: L, third: L)
-where
-    L: Listener<u32> + Drop + Send,
-    R: Runtime + CpuClock + Threads + Sync,
-{
-    let start = now(rt, rt);
-    thread::join(
-        rt,
-        || is_told(rt, first, WaitCall::Timeout),
-        || {
-            thread::join(
-                rt,
-                || is_told(rt, second, WaitCall::Timeout),
-                || is_woken_by(rt, third, WaitCall::Timeout, || tell(rt, event, 3)),
-            );
-        },
-    );
-    ends_soon(rt, start);
-}
-
-#[test]
-fn one_notification_wakes_three_parked_threads(rt: HostRuntime) {
-    let event = new_event(&rt);
-    let first = listen::<Sharing, _, _>(&rt, &event);
-    let second = listen::<Sharing, _, _>(&rt, &event);
-    let third = listen::<Sharing, _, _>(&rt, &event);
-    all_are_woken_by_one(&rt, &event, first, second, third);
-    let first = listen::<Borrowing, _, _>(&rt, &event);
-    let second = listen::<Borrowing, _, _>(&rt, &event);
-    let third = listen::<Borrowing, _, _>(&rt, &event);
-    all_are_woken_by_one(&rt, &event, first, second, third);
+    all(&rt, Case::WokenByADrop);
 }
 
 // A tag of which one clone is made: each further one is refused.
 #[derive(Drop)]
 struct Once {
-    is_given: Arc<AtomicBool>,
+    is_given: AtomicBool,
 }
 
 impl Clone for Once {
@@ -173,47 +93,137 @@ impl Clone for Once {
         if self.is_given.swap(true, Ordering::SeqCst) {
             return Err(AllocError);
         }
-        let is_given = Arc::try_clone(&self.is_given)?;
+        let is_given = AtomicBool::new(true);
         Ok(Once { is_given })
     }
 }
 
-fn tell_one_of_two<R: Runtime>(rt: &R, event: &Event<Once>) {
-    let is_given = Arc::new(rt.alloc(), AtomicBool::new(false)).expect(rt, "a tag");
-    let answer = event.notify(rt, 2.tag(Once { is_given }));
-    check(rt, "notify", answer, Err(NotifyError { told: 1 }));
-}
-
-fn gets_a_tag<L: Listener<Once> + Drop, R: Runtime>(rt: &R, listener: L) {
-    let tag = WaitCall::Timeout.make(rt, listener, limit());
-    check(rt, "wait", matches!(tag, Ok(Some(_))), true);
-}
-
-fn is_woken_where_a_tag_is_refused<L, R>(rt: &R, event: &Event<Once>, first: L, second: L)
+fn is_woken_where_a_tag_is_refused<L, N, R>(rt: &R, event: &Event<Once>, first: L, next: N)
 where
-    L: Listener<Once> + Drop + Send,
-    R: Runtime + Threads + Sync,
+    L: Listener<Once> + Drop,
+    N: Drop,
+    R: SharedRuntime,
 {
-    let start = now(rt, rt);
-    thread::join(
+    let start = now(rt);
+    let (_, waited) = thread::join(
         rt,
         || {
             rt.sleep(a_while());
-            tell_one_of_two(rt, event);
+            let is_given = AtomicBool::new(false);
+            let answer = event.notify(rt, 2.tag(Once { is_given }));
+            check(rt, "notify", answer, Err(NotifyError { told: 1 }));
         },
-        || gets_a_tag(rt, first),
+        || WaitCall::Timeout.make(rt, first, limit()),
     );
     ends_soon(rt, start);
-    drop(second);
+    check(rt, "wait", matches!(waited, Ok(Some(_))), true);
+    drop(next);
+}
+
+fn listen<'ev, K: ListenerKind<'ev, Once, R>, R: Runtime>(
+    rt: &R,
+    event: &'ev Event<Once>,
+) -> K::Listener {
+    K::listen(rt, rt.alloc(), event).expect(rt, "a listener")
 }
 
 #[test]
 fn a_thread_told_before_a_tag_is_refused_is_woken(rt: HostRuntime) {
     let event = new_event(&rt);
-    let first = listen::<Sharing, _, _>(&rt, &event);
-    let second = listen::<Sharing, _, _>(&rt, &event);
-    is_woken_where_a_tag_is_refused(&rt, &event, first, second);
-    let first = listen::<Borrowing, _, _>(&rt, &event);
-    let second = listen::<Borrowing, _, _>(&rt, &event);
-    is_woken_where_a_tag_is_refused(&rt, &event, first, second);
+    let first = listen::<Sharing, _>(&rt, &event);
+    let next = listen::<Borrowing, _>(&rt, &event);
+    is_woken_where_a_tag_is_refused(&rt, &event, first, next);
+    let first = listen::<Borrowing, _>(&rt, &event);
+    let next = listen::<Sharing, _>(&rt, &event);
+    is_woken_where_a_tag_is_refused(&rt, &event, first, next);
+}
+
+// The tag of the last round of a race. The others have the tag 7.
+const LAST: u32 = 8;
+
+// Waits to be told, and answers whether that was the last time.
+fn is_last<S: Trial>(trial: &S, listener: S::Listener, wait: WaitCall) -> bool {
+    let answer = trial.wait(listener, wait, limit());
+    let tag = if answer == Ok(Some(LAST)) { LAST } else { 7 };
+    check(trial.rt(), wait, answer, Ok(Some(tag)));
+    tag == LAST
+}
+
+// One of two players waits to be told by the other, and tells it, until the time of one is over. It listens for its next
+// round before it tells the other, whose listener is the first of the two in the queue.
+fn play<S: Trial>(trial: &S, first: S::Listener) {
+    let (rt, mut listener) = (trial.rt(), first);
+    let end = end_of_race(rt);
+    for _ in rt.forever() {
+        if is_last(trial, listener, WaitCall::Deadline) {
+            return;
+        }
+        listener = trial.listen();
+        let tag = if now(rt) < end { 7 } else { LAST };
+        trial.tell(1, tag);
+        if tag == LAST {
+            trial.leave(listener);
+            return;
+        }
+    }
+}
+
+pub fn tell_each_other<S: Trial>(trial: &S) {
+    let (first, second) = (trial.listen(), trial.listen());
+    trial.tell(1, 7);
+    thread::join(trial.rt(), || play(trial, first), || play(trial, second));
+}
+
+#[test]
+fn two_threads_tell_each_other_in_turn(rt: HostRuntime) {
+    all(&rt, Case::Turns);
+}
+
+// Waits again and again, and shows the other thread in which round it begins to listen.
+fn wait_again<S: Trial>(trial: &S, wait: WaitCall, reached: &AtomicU32) {
+    for _ in trial.rt().forever() {
+        reached.fetch_add(1, Ordering::SeqCst);
+        if is_last(trial, trial.listen(), wait) {
+            return;
+        }
+    }
+}
+
+// Tells the listener of each round as soon as there is one: before its thread looks for it, as that parks, or after. In
+// half of the rounds that is a little later, and later in each than in the one before.
+fn tell_again<S: Trial>(trial: &S, reached: &AtomicU32) {
+    let rt = trial.rt();
+    let end = end_of_race(rt);
+    for round in 1..u32::MAX {
+        let tag = if now(rt) < end { 7 } else { LAST };
+        for _ in rt.forever() {
+            if reached.load(Ordering::SeqCst) >= round {
+                break;
+            }
+        }
+        for _ in 0..(round % 2) * (round % 1000) {
+            reached.load(Ordering::SeqCst);
+        }
+        for _ in rt.forever() {
+            if trial.stage().event.tell(rt, 1, tag) == 1 {
+                break;
+            }
+        }
+        if tag == LAST {
+            return;
+        }
+    }
+}
+
+pub fn is_told_as_it_parks<S: Trial>(trial: &S) {
+    for wait in [WaitCall::UntilTold, WaitCall::Timeout] {
+        let reached = AtomicU32::new(0);
+        let tell = || tell_again(trial, &reached);
+        thread::join(trial.rt(), tell, || wait_again(trial, wait, &reached));
+    }
+}
+
+#[test]
+fn a_thread_that_is_told_as_it_parks_does_not_sleep_on(rt: HostRuntime) {
+    all(&rt, Case::ToldAsItParks);
 }

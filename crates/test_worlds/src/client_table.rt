@@ -1,74 +1,56 @@
 //! All places of a client of a lock by all news.
-use crate::support::{FIRST, WOKEN, check};
-use event_worlds::{News, Place};
+use crate::table::check;
+use event_worlds::News::{
+    self, Begin, Busy, Dropped, Freed, Got, Listening, Notified, Refused, Registered, TimedOut,
+    Told, Woke,
+};
+use event_worlds::Place::{
+    self, Ending, First, Holding, Idle, Parked, Releasing, Second, ToListen, ToRegister,
+};
 
-// Every place.
+const FIRST: Place = First { woken: false };
+
+const WOKEN: Place = First { woken: true };
+
 const PLACES: [Place; 10] = [
-    Place::Idle,
-    FIRST,
-    WOKEN,
-    Place::ToListen,
-    Place::Second,
-    Place::Ending,
-    Place::ToRegister,
-    Place::Parked,
-    Place::Holding,
-    Place::Releasing,
+    Idle, FIRST, WOKEN, ToListen, Second, Ending, ToRegister, Parked, Holding, Releasing,
 ];
 
-// All news.
 const NEWS: [News; 12] = [
-    News::Begin,
-    News::Got,
-    News::Busy,
-    News::Listening,
-    News::Refused,
-    News::Told,
-    News::Registered,
-    News::Woke,
-    News::TimedOut,
-    News::Dropped,
-    News::Freed,
-    News::Notified,
+    Begin, Got, Busy, Listening, Refused, Told, Registered, Woke, TimedOut, Dropped, Freed,
+    Notified,
 ];
 
-// From each place, where each news takes it that can come there.
+// Where each news that can come at a place takes a client from there.
 const TABLE: [(Place, News, Place); 19] = [
-    (Place::Idle, News::Begin, FIRST),
-    (FIRST, News::Got, Place::Holding),
-    (WOKEN, News::Got, Place::Holding),
-    (FIRST, News::Busy, Place::ToListen),
-    (WOKEN, News::Busy, Place::ToListen),
-    (Place::ToListen, News::Listening, Place::Second),
-    (Place::ToListen, News::Refused, Place::Idle),
-    (Place::Second, News::Got, Place::Ending),
-    (Place::Second, News::Busy, Place::ToRegister),
-    (Place::Ending, News::Dropped, Place::Holding),
-    (Place::ToRegister, News::Told, WOKEN),
-    (Place::ToRegister, News::Registered, Place::Parked),
-    (Place::ToRegister, News::Dropped, Place::Idle),
-    (Place::Parked, News::Woke, Place::ToRegister),
-    (Place::Parked, News::Told, WOKEN),
-    (Place::Parked, News::TimedOut, Place::Idle),
-    (Place::Parked, News::Dropped, Place::Idle),
-    (Place::Holding, News::Freed, Place::Releasing),
-    (Place::Releasing, News::Notified, Place::Idle),
+    (Idle, Begin, FIRST),
+    (FIRST, Got, Holding),
+    (FIRST, Busy, ToListen),
+    (WOKEN, Got, Holding),
+    (WOKEN, Busy, ToListen),
+    (ToListen, Listening, Second),
+    (ToListen, Refused, Idle),
+    (Second, Got, Ending),
+    (Second, Busy, ToRegister),
+    (Ending, Dropped, Holding),
+    (ToRegister, Told, WOKEN),
+    (ToRegister, Registered, Parked),
+    (ToRegister, Dropped, Idle),
+    (Parked, Told, WOKEN),
+    (Parked, Woke, ToRegister),
+    (Parked, TimedOut, Idle),
+    (Parked, Dropped, Idle),
+    (Holding, Freed, Releasing),
+    (Releasing, Notified, Idle),
 ];
-
-// Where the table says that the news takes a client from that place: nowhere, if no line is of the two.
-fn in_table(place: Place, news: News) -> Option<Place> {
-    let line = TABLE
-        .iter()
-        .find(|(from, by, _)| (*from, *by) == (place, news));
-    line.map(|(_, _, to)| *to)
-}
 
 #[test]
 fn each_place_by_each_news(rt: HostRuntime) {
     for place in PLACES {
         for news in NEWS {
-            let after = place.after(news);
-            check(&rt, (place, news), after, in_table(place, news));
+            let line = TABLE.iter().find(|line| (line.0, line.1) == (place, news));
+            let to = line.map(|line| line.2);
+            check(&rt, (place, news), place.after(news), to);
         }
     }
 }

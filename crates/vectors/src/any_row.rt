@@ -1,7 +1,6 @@
-use rows_events::{EventRow, IdentityRow, TagRow, WaitRow};
+use rows_events::{EventRow, IdentityRow, RecordedRow, TagRow, WaitRow};
 use rows_harness::{Harness, Hook, Row};
 use rows_queue::QueueRow;
-use rows_recorded::RecordedRow;
 use rows_worlds::{ChannelRow, FlagRow, MutexRow, SemaphoreRow};
 use std::sync::Wait;
 use std::time::Clock;

@@ -5,6 +5,8 @@ ghost use Rattle.std.specs.Prelude.{◌≡◌, IfOk, IsErr, if◌then◌else◌}
 ghost use Rattle.std.specs.Process.{exit_status};
 
 mod any_row;
+#[cfg(test)]
+mod refused;
 
 use any_row::AnyRow;
 use rows_harness::{Undisturbed, print_rows};

@@ -1,0 +1,117 @@
+//! Waits against a deadline, which are tried again where they are refused memory.
+use crate::support::{check, listen, new_id, now, tell};
+use event_listener::{Event, Listener, NeverInserted, WaitError, WaitReason};
+use example_events::timed::tag_within;
+use futures::task::{Context, Poll, Waker};
+use std::cell::Cell;
+use std::time::{Clock, Duration, Instant};
+use test_support::{CountedClock, NoClock, Runtime, answered};
+
+// Of two listeners one is told. That one gets its tag, however short the limit is, and the other one waits until then.
+fn give_a_tag_or_none<R: Runtime, C: Clock>(rt: &R, clock: &C, limit: Duration) {
+    let event = Event::with_tag(new_id(rt));
+    let (told, untold) = (listen(rt, &event), listen(rt, &event));
+    tell(rt, &event);
+    let tag = answered(tag_within(clock, told, Duration::ZERO));
+    check(rt, "the tag", tag, Ok(Some(7)));
+    let tag = answered(tag_within(clock, untold, limit));
+    check(rt, "no tag", tag, Ok(None));
+    check(rt, "listeners", event.total_listeners(rt), 0);
+}
+
+#[test]
+fn a_listener_gives_its_tag_or_none_at_its_limit(rt: HostRuntime) {
+    let limit = Duration::from_millis(50);
+    let end = now(&rt).checked_add(limit);
+    give_a_tag_or_none(&rt, &rt, limit);
+    check(&rt, "in time", Some(now(&rt)) < end, false);
+    // A clock that can't be read is past every deadline.
+    give_a_tag_or_none(&rt, &NoClock { rt: &rt }, Duration::MAX);
+}
+
+// A listener whose first waits are refused, and that notes the deadline of the last one. Then it gives its tag.
+#[derive(Drop)]
+struct Refusing<'a, L: Drop> {
+    listener: L,
+    refusals: &'a Cell<u32>,
+    deadline: &'a Cell<Option<Instant>>,
+}
+
+impl<L: Listener<u32> + Drop> Listener<u32> for Refusing<'_, L> {
+    ghost event_number = { λ refusing. L.event_number refusing.listener };
+
+    ghost is_finished = { λ refusing. L.is_finished refusing.listener };
+
+    ghost source = { λ refusing. L.source refusing.listener };
+
+    fn poll(&mut self, waker: Waker) -> Result<Poll<u32>, NeverInserted> {
+        self.listener.poll(waker)
+    }
+
+    fn poll_in(&mut self, cx: &mut Context<'_>) -> Result<Poll<u32>, NeverInserted> {
+        self.listener.poll_in(cx)
+    }
+
+    fn wait(self) -> Result<u32, WaitError<Self>> {
+        self.deadline.set(None);
+        self.listener.wait().map_err(|_| WaitError::NeverInserted)
+    }
+
+    // Nobody is to ask for that.
+    fn wait_timeout(self, _timeout: Duration) -> Result<Option<u32>, WaitError<Self>> {
+        Err(WaitError::NeverInserted)
+    }
+
+    fn wait_deadline(self, deadline: Instant) -> Result<Option<u32>, WaitError<Self>> {
+        self.deadline.set(Some(deadline));
+        if let Some(left) = self.refusals.get().checked_sub(1) {
+            self.refusals.set(left);
+            return Err(WaitError::Memory(self));
+        }
+        let tag = self.listener.wait().map(Some);
+        tag.map_err(|_| WaitError::NeverInserted)
+    }
+
+    fn discard(self) -> bool {
+        self.listener.discard()
+    }
+
+    fn listens_to(&self, event: &Event<u32>) -> bool {
+        self.listener.listens_to(event)
+    }
+
+    fn same_event(&self, other: &Self) -> bool {
+        self.listener.same_event(&other.listener)
+    }
+}
+
+// A listener that is told gives this, though so many of its waits are refused. The last wait had the deadline of the first.
+fn gives<R: Runtime>(rt: &R, refused: u32, limit: Duration, tag: Result<u32, WaitReason>) {
+    let event = Event::with_tag(new_id(rt));
+    let (refusals, deadline, reads) = (Cell::new(refused), Cell::new(None), Cell::new(0));
+    let listener = Refusing {
+        listener: listen(rt, &event),
+        refusals: &refusals,
+        deadline: &deadline,
+    };
+    tell(rt, &event);
+    let clock = CountedClock { rt, reads: &reads };
+    let earliest = now(rt).checked_add(limit);
+    let answer = tag_within(&clock, listener, limit).map_err(|error| error.reason());
+    let latest = now(rt).checked_add(limit);
+    check(rt, "the tag", answer, tag.map(Some));
+    check(rt, "refusals left", refusals.get(), 0);
+    check(rt, "readings", reads.get(), 1);
+    let last = deadline.get();
+    let is_reckoned = earliest <= last && last <= latest;
+    check(rt, "the deadline", is_reckoned, true);
+}
+
+// The clock is read once, so the second wait has the first one's deadline. A limit too long to be represented is none.
+#[test]
+fn a_refused_wait_is_tried_again_once_and_against_the_same_deadline(rt: HostRuntime) {
+    let limit = Duration::from_secs(10);
+    gives(&rt, 1, limit, Ok(7));
+    gives(&rt, 2, limit, Err(WaitReason::Memory));
+    gives(&rt, 0, Duration::MAX, Ok(7));
+}

@@ -1,0 +1,55 @@
+//! Threads that race, for two seconds each time.
+use crate::support::{Host, check, for_two_seconds, new_id};
+use event_listener::{RecordedCall, RecordedReply, RegisterResult};
+use example_events::flag::Flag;
+use example_events::meeting::wait_for_setter;
+use example_events::race::race;
+use example_locks::{count, count_with_permits};
+use std::thread;
+
+// Worked row 21, under a lock and with three permits.
+#[test]
+fn ten_threads_count_to_ten(rt: HostRuntime) {
+    let by_lock = |threads| count(rt, rt.alloc(), new_id(&rt), threads);
+    let by_permit = |n, permits| count_with_permits(rt, rt.alloc(), new_id(&rt), n, permits);
+    check(&rt, "no threads, a lock", by_lock(0), Ok(0));
+    check(&rt, "no threads, no permits", by_permit(0, 0), Ok(0));
+    for_two_seconds(&rt, || check(&rt, "a lock", by_lock(10), Ok(10)));
+    for_two_seconds(&rt, || check(&rt, "permits", by_permit(10, 3), Ok(10)));
+}
+
+// Whichever comes first, the wait ends and leaves no listener.
+#[test]
+fn a_thread_waits_until_another_one_sets_the_flag(rt: HostRuntime) {
+    for_two_seconds(&rt, || {
+        let flag = Flag::new(new_id(&rt));
+        check(&rt, "a new flag", flag.is_set(), false);
+        let wait = || flag.wait(&rt, rt.alloc());
+        let (waited, ()) = thread::join(&rt, wait, || flag.set(&rt));
+        check(&rt, "the wait", waited, Ok(()));
+        check(&rt, "the flag", flag.is_set(), true);
+        check(&rt, "listeners", flag.total_listeners(&rt), 0);
+        let waited = wait_for_setter(rt, rt.alloc(), new_id(&rt));
+        check(&rt, "the program", waited, Ok(()));
+    });
+}
+
+// The record of a race has one notification, which is that of the first hand. Each who listened took it, or was dropped.
+fn is_recorded_whole<R: Host>(rt: &R) {
+    let record = race(rt, rt.alloc(), new_id(rt), 4).expect(rt, "a record");
+    let entries = || record.entries().iter();
+    let took = RecordedReply::Registered(RegisterResult::Notified(()));
+    let came = entries().filter(|entry| entry.call == RecordedCall::Listen);
+    let ended = entries().filter(|entry| entry.reply == took || entry.hand.is_none());
+    check(rt, "the ends", ended.count(), came.count());
+    let mut told = entries().filter(|entry| matches!(entry.call, RecordedCall::Notify { .. }));
+    let first = told.next().map(|entry| entry.hand);
+    check(rt, "the first notification", first, Some(Some(0)));
+    check(rt, "more notifications", told.count(), 0);
+    check(rt, "a replay", record.replays(rt.alloc()), Ok(true));
+}
+
+#[test]
+fn a_race_is_recorded_whole(rt: HostRuntime) {
+    for_two_seconds(&rt, || is_recorded_whole(&rt));
+}

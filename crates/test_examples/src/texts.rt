@@ -1,0 +1,63 @@
+//! The texts of all errors, and what is made of the errors of calls.
+use crate::support::check;
+use event_listener::ListenError::{Memory, SerialsUsedUp};
+use event_listener::{CloseError, NeverInserted, RecordError, WaitError};
+use example_events::desk::SitError;
+use example_events::flag::FlagError;
+use example_events::meeting::MeetingError;
+use example_events::polled::AwaitError;
+use example_events::race::RaceError;
+use example_events::relayed::TagError;
+use example_events::tagged::TagsError;
+use example_locks::{CountError, MutexError, SemaphoreError};
+use std::alloc::AllocError;
+use std::fmt::Display;
+use test_support::Runtime;
+
+const LISTENER: &str = "no memory for a listener";
+
+const PARKER: &str = "no memory for a parker";
+
+const PROGRAM: &str = "no memory for the program";
+
+const SERIALS: &str = "serial numbers are used up";
+
+const ABSENT: &str = "listener is not in the queue";
+
+// The value has this text.
+fn reads<V: Display + Drop, R: Runtime>(rt: &R, value: V, text: &str) {
+    let shown = format!(in rt.alloc(); "{value}").expect(rt, "a text");
+    check(rt, "the text", shown.as_str(), text);
+}
+
+#[test]
+fn all_errors_have_their_texts(rt: HostRuntime) {
+    reads(&rt, MutexError::Memory, LISTENER);
+    reads(&rt, MutexError::Finished, "the lock was given");
+    reads(&rt, MutexError::from(Memory), LISTENER);
+    reads(&rt, MutexError::from(SerialsUsedUp), SERIALS);
+    reads(&rt, SemaphoreError::SerialsUsedUp, SERIALS);
+    reads(&rt, SemaphoreError::from(Memory), LISTENER);
+    reads(&rt, SemaphoreError::from(SerialsUsedUp), SERIALS);
+    reads(&rt, CountError::from(MutexError::SerialsUsedUp), SERIALS);
+    reads(&rt, CountError::from(SemaphoreError::Memory), LISTENER);
+    reads(&rt, CountError::from(AllocError), PROGRAM);
+    reads(&rt, MeetingError::from(FlagError::Memory), PARKER);
+    reads(&rt, MeetingError::from(AllocError), PROGRAM);
+    reads(&rt, SitError::from(Memory), LISTENER);
+    reads(&rt, SitError::from(NeverInserted), ABSENT);
+    reads(&rt, FlagError::from(SerialsUsedUp), SERIALS);
+    reads(&rt, TagError::from(WaitError::<u8>::NeverInserted), ABSENT);
+    reads(&rt, TagError::from(WaitError::Memory(7u8)), PARKER);
+    reads(&rt, TagError::from(Memory), LISTENER);
+    let refused = TagsError::from(WaitError::Memory(7u8));
+    reads(&rt, refused, "no tag was given");
+    reads(&rt, AwaitError::from(Memory), LISTENER);
+    reads(&rt, AwaitError::from(NeverInserted), ABSENT);
+    let refused = RaceError::from(RecordError::Memory);
+    reads(&rt, refused, "no memory for the record");
+    let refused = RaceError::from(AllocError);
+    reads(&rt, refused, "no memory for the threads");
+    let refused = RaceError::from(CloseError::HandsMissing);
+    reads(&rt, refused, "hands are missing");
+}

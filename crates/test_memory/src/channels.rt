@@ -1,0 +1,280 @@
+//! What `Until` leaves where memory is refused, and channels, which stand on it: a message is in the channel or comes back,
+//! and is never lost.
+use crate::support::{
+    Answer, Runtime, Starved, all_memory, check, count_refused, leave, new_id, new_task,
+};
+use event_channel::{
+    ChannelError, Receiver, RecvError, RecvTimeoutError, SendError, SendTimeoutError, Sender,
+    TryRecvError, TrySendError, bounded, unbounded,
+};
+use event_listener::{Event, EventIds, ListenError, NeverInserted, WaitReason};
+use event_until::{Attempt, Until, UntilError};
+use futures::StreamExt;
+use futures::task::Poll;
+use std::alloc::AllocError;
+use std::cell::Cell;
+use std::sync::Wait;
+use std::time::Duration;
+use test_queue_memory::Budget;
+
+const LISTENING: UntilError = UntilError::Listen(ListenError::Memory);
+
+const MAX: Duration = Duration::MAX;
+
+fn reads<R: Runtime>(rt: &R, error: UntilError, text: &str) {
+    let shown = format!(in rt.alloc(); "{error}").expect(rt, "a text");
+    check(rt, "the text", shown.as_str(), text);
+}
+
+#[test]
+fn texts_of_attempts(rt: HostRuntime) {
+    reads(&rt, ListenError::Memory.into(), "no memory for a listener");
+    reads(&rt, WaitReason::Memory.into(), "no memory for a parker");
+    let gone = "listener is not in the queue";
+    reads(&rt, WaitReason::NeverInserted.into(), gone);
+    reads(&rt, NeverInserted.into(), gone);
+}
+
+// An attempt that never succeeds. It notes how many were made, and how many listeners there were at the last.
+#[derive(Drop)]
+struct Never<'r, 'e, 's, R> {
+    rt: &'r R,
+    event: &'e Event<()>,
+    seen: &'s Cell<(usize, usize)>,
+}
+
+impl<R: Wait> Attempt for Never<'_, '_, '_, R> {
+    type Output = ();
+
+    fn attempt(&mut self) -> Option<()> {
+        let attempts = self.seen.get().0.saturating_add(1);
+        let listeners = self.event.total_listeners(self.rt);
+        self.seen.set((attempts, listeners));
+        None
+    }
+}
+
+// Without memory each wait is refused for this reason, after so many attempts, and leaves no listener.
+fn waits_are_refused<R: Runtime>(rt: &R, has_room: bool, refusal: UntilError, attempts: usize) {
+    let event = &Event::new(new_id(rt));
+    if has_room {
+        drop(event.listen(rt, rt.alloc()).expect(rt, "a listener"));
+    }
+    let seen = &Cell::new((0, 0));
+    let mut until = Until::new(rt, rt.alloc(), event, Never { rt, event, seen });
+    let hog = all_memory(rt);
+    check(rt, "the wait", until.wait(), Err(refusal));
+    let listeners = usize::from(has_room);
+    check(rt, "attempts", seen.replace((0, 0)), (attempts, listeners));
+    check(rt, "a timed wait", until.wait_timeout(MAX), Err(refusal));
+    check(rt, "attempts", seen.get(), (attempts, listeners));
+    check(rt, "listeners left", event.total_listeners(rt), 0);
+    drop(hog);
+    let answer = until.wait_timeout(Duration::ZERO);
+    check(rt, "a wait after it", answer, Ok(None));
+}
+
+#[test]
+fn a_refused_listening_or_parker_leaves_no_listener(rt: HostRuntime) {
+    waits_are_refused(&rt, false, LISTENING, 1);
+    waits_are_refused(&rt, true, UntilError::Parker, 2);
+}
+
+type Sides<R> = (Sender<usize, R>, Receiver<usize, R>);
+
+// A channel of numbers, with this capacity or without a limit.
+fn make<R: Runtime>(rt: &R, capacity: Option<usize>) -> Result<Sides<R>, ChannelError> {
+    let mut ids = EventIds::new();
+    match capacity {
+        Some(capacity) => bounded(rt, rt.alloc(), &mut ids, capacity),
+        None => unbounded(rt, rt.alloc(), &mut ids),
+    }
+}
+
+// The call is refused for this reason.
+fn refused<A: Answer, E: Answer, R: Runtime>(rt: &R, answer: Result<A, E>, refusal: E) {
+    check(rt, "a refusal", answer, Err(refusal));
+}
+
+fn sends<R: Runtime>(rt: &R, sender: &Sender<usize, R>, messages: &[usize]) {
+    for message in messages {
+        check(rt, "a send", sender.try_send(*message), Ok(()));
+    }
+}
+
+// These messages wait, and no others. They are taken out.
+fn are_left<R: Runtime>(rt: &R, receiver: &Receiver<usize, R>, messages: &[usize]) {
+    for message in messages {
+        check(rt, "a message", receiver.try_recv(), Ok(*message));
+    }
+    refused(rt, receiver.try_recv(), TryRecvError::Empty);
+}
+
+#[derive(Drop)]
+struct NewChannel<'a, R> {
+    rt: &'a R,
+    room: Option<usize>,
+}
+
+impl<R: Runtime> Starved for NewChannel<'_, R> {
+    fn is_granted(&self, budget: &mut Budget, bytes: usize) -> bool {
+        let rt = self.rt;
+        leave(rt, budget, bytes);
+        let made = make(rt, self.room);
+        budget.give_back();
+        match made {
+            Ok((sender, receiver)) => {
+                sends(rt, &sender, &[7]);
+                are_left(rt, &receiver, &[7]);
+                true
+            }
+            Err(refusal) => {
+                check(rt, bytes, refusal, ChannelError::Memory(AllocError));
+                false
+            }
+        }
+    }
+}
+
+#[test]
+fn each_request_of_a_new_channel_is_refused(rt: HostRuntime) {
+    let rt = &rt;
+    let unlimited = count_refused(rt, &NewChannel { rt, room: None });
+    check(rt, "whether some are refused", unlimited > 0, true);
+    let limited = count_refused(rt, &NewChannel { rt, room: Some(64) });
+    check(rt, "whether its room is, too", limited > unlimited, true);
+}
+
+// The sends that block are refused for this reason, and hand the message back.
+fn sends_are_refused<R: Runtime>(rt: &R, sender: &Sender<usize, R>, reason: UntilError) {
+    let refusal = SendError::WaitFailed(7, reason);
+    refused(rt, sender.send_blocking(7), refusal);
+    let refusal = SendTimeoutError::WaitFailed(8, reason);
+    refused(rt, sender.send_timeout(8, MAX), refusal);
+}
+
+#[test]
+fn a_send_that_cannot_wait_hands_back(rt: HostRuntime) {
+    let rt = &rt;
+    let (sender, receiver) = make(rt, Some(2)).expect(rt, "a channel");
+    sends(rt, &sender, &[0, 1]);
+    let task = new_task(rt);
+    let hog = all_memory(rt);
+    sends_are_refused(rt, &sender, LISTENING);
+    let polled = task.poll(&mut sender.send(9));
+    let refusal = SendError::WaitFailed(9, LISTENING);
+    check(rt, "a poll", polled, Poll::Ready(Err(refusal)));
+    drop(hog);
+
+    // It makes room for a listener.
+    let timed_out = sender.send_timeout(5, Duration::ZERO);
+    refused(rt, timed_out, SendTimeoutError::TimedOut(5));
+    let mut sending = sender.send(9);
+    let hog = all_memory(rt);
+    sends_are_refused(rt, &sender, UntilError::Parker);
+    let Poll::Pending = task.poll(&mut sending) else {
+        panic!(rt; "there is no room");
+    };
+    check(rt, "a receive", receiver.try_recv(), Ok(0));
+    let polled = task.poll(&mut sending);
+    check(rt, "the poll after it", polled, Poll::Ready(Ok(())));
+    drop(hog);
+    are_left(rt, &receiver, &[1, 9]);
+}
+
+// The receives that block are refused for this reason.
+fn receives_are_refused<R: Runtime>(rt: &R, receiver: &Receiver<usize, R>, reason: UntilError) {
+    let refusal = RecvError::WaitFailed(reason);
+    refused(rt, receiver.recv_blocking(), refusal);
+    let refusal = RecvTimeoutError::WaitFailed(reason);
+    refused(rt, receiver.recv_timeout(MAX), refusal);
+}
+
+#[test]
+fn a_receive_that_cannot_wait_loses_nothing(rt: HostRuntime) {
+    let rt = &rt;
+    let (sender, receiver) = make(rt, Some(2)).expect(rt, "a channel");
+    let task = new_task(rt);
+    let mut receiving = receiver.recv();
+    let hog = all_memory(rt);
+    receives_are_refused(rt, &receiver, LISTENING);
+    let refusal = Poll::Ready(Err(RecvError::WaitFailed(LISTENING)));
+    check(rt, "a poll", task.poll(&mut receiving), refusal);
+    // An item that says so is not the end of the stream.
+    let item = task.poll(&mut receiving.next());
+    check(rt, "an item", item, Poll::Ready(Some(Err(LISTENING))));
+    drop(hog);
+
+    let timed_out = receiver.recv_timeout(Duration::ZERO);
+    refused(rt, timed_out, RecvTimeoutError::TimedOut);
+    let hog = all_memory(rt);
+    receives_are_refused(rt, &receiver, UntilError::Parker);
+    let item = task.poll(&mut receiving.next());
+    check(rt, "no item", item, Poll::Pending);
+    sends(rt, &sender, &[7, 8]);
+    let item = task.poll(&mut receiving.next());
+    check(rt, "an item", item, Poll::Ready(Some(Ok(7))));
+    let message = Poll::Ready(Ok(8));
+    check(rt, "a poll", task.poll(&mut receiving), message);
+    drop(hog);
+    are_left(rt, &receiver, &[]);
+}
+
+// A message that was not taken in wakes nobody, and comes back. Those before it are all there.
+#[test]
+fn a_send_that_finds_no_memory_hands_back(rt: HostRuntime) {
+    let rt = &rt;
+    let (sender, receiver) = make(rt, None).expect(rt, "a channel");
+    let (task, other) = (new_task(rt), new_task(rt));
+    let mut receiving = receiver.recv();
+    check(rt, "a poll", task.poll(&mut receiving), Poll::Pending);
+    let hog = all_memory(rt);
+    refused(rt, sender.try_send(6), TrySendError::Memory(6));
+    refused(rt, sender.send_blocking(7), SendError::Memory(7));
+    refused(rt, sender.send_timeout(8, MAX), SendTimeoutError::Memory(8));
+    let polled = other.poll(&mut sender.send(9));
+    let refusal = Poll::Ready(Err(SendError::Memory(9)));
+    check(rt, "a poll", polled, refusal);
+    drop(hog);
+    check(rt, "whether it was woken", task.is_woken(), false);
+    check(rt, "messages", sender.len(), 0);
+    drop(receiving);
+
+    sends(rt, &sender, &[0]);
+    let hog = all_memory(rt);
+    let mut sent = 1usize;
+    for _ in 1..1000 {
+        sent = sent.saturating_add(usize::from(sender.try_send(sent).is_ok()));
+    }
+    refused(rt, sender.try_send(sent), TrySendError::Memory(sent));
+    drop(hog);
+    check(rt, "messages", sender.len(), sent);
+    for message in 0..sent {
+        check(rt, "the next", receiver.try_recv(), Ok(message));
+    }
+    are_left(rt, &receiver, &[]);
+}
+
+// A channel with a limit has room for its messages from the beginning, and a call that need not wait needs no memory.
+#[test]
+fn calls_that_need_no_memory(rt: HostRuntime) {
+    let rt = &rt;
+    let (sender, receiver) = make(rt, Some(2)).expect(rt, "a channel");
+    let task = new_task(rt);
+    let hog = all_memory(rt);
+    sends(rt, &sender, &[1]);
+    check(rt, "a send", sender.send_blocking(2), Ok(()));
+    refused(rt, sender.try_send(9), TrySendError::Full(9));
+    check(rt, "a receive", receiver.recv_blocking(), Ok(1));
+    check(rt, "the next", receiver.recv_timeout(MAX), Ok(2));
+    are_left(rt, &receiver, &[]);
+    let polled = task.poll(&mut sender.send(3));
+    check(rt, "a poll", polled, Poll::Ready(Ok(())));
+    let polled = task.poll(&mut receiver.recv());
+    check(rt, "a poll", polled, Poll::Ready(Ok(3)));
+    let cloned = sender.clone().is_ok() && receiver.clone().is_ok();
+    check(rt, "clones", cloned, true);
+    check(rt, "whether it was open", sender.close(), true);
+    refused(rt, sender.send_timeout(8, MAX), SendTimeoutError::Closed(8));
+    drop(hog);
+}

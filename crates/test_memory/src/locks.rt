@@ -1,0 +1,295 @@
+//! Locks that are held, and semaphores whose permits are taken, while their callers are refused memory, and the example
+//! programs.
+use crate::support::{
+    Answer, Runtime, Starved, all_memory, check, count_refused, leave, new_budget, new_id, new_task,
+};
+use example_events::meeting::{MeetingError, wait_for_setter};
+use example_locks::{
+    CountError, Mutex, MutexError, MutexGuard, PolledLock, Semaphore, SemaphoreError, count,
+    count_with_permits,
+};
+use futures::task::Waker;
+use futures::test::MockTask;
+use std::alloc::AllocError;
+use std::cell::Cell;
+use std::io;
+use std::sync::{self, Wait};
+use std::time::{Clock, Duration};
+use test_queue_memory::{Budget, Hog};
+use test_support::{OwnClock, WithClock, any_waker, waker_of};
+
+// Whether it was given. There is no answer where memory was refused.
+fn is_given<G: Drop, E: Answer, R: Runtime>(
+    rt: &R,
+    answer: Result<Option<G>, E>,
+    no_memory: E,
+) -> Option<bool> {
+    match answer {
+        Ok(given) => Some(given.is_some()),
+        Err(refusal) => {
+            check(rt, "the refusal", refusal, no_memory);
+            None
+        }
+    }
+}
+
+fn poll<R: Runtime>(rt: &R, lock: &mut PolledLock<'_, u64, R>, waker: Waker) -> Option<bool> {
+    match lock.poll(waker) {
+        Ok(polled) => Some(polled.is_ready()),
+        Err(refusal) => {
+            check(rt, "the refusal", refusal, MutexError::Memory);
+            None
+        }
+    }
+}
+
+// A clock that can't be read. A client that waits reads it for the second time when it listens, and before it makes what
+// its thread parks on. Then what is held is freed, which tells the client.
+#[derive(Drop)]
+struct FreesWhenRead<'a, G, R> {
+    rt: &'a R,
+    reads: Cell<u32>,
+    held: sync::Mutex<Option<G>>,
+}
+
+impl<G: Drop, R: Runtime> OwnClock for FreesWhenRead<'_, G, R> {
+    fn read(&self) -> io::Result<Duration> {
+        let reads = self.reads.get();
+        self.reads.set(reads.saturating_add(1));
+        if reads == 1 {
+            drop(self.held.lock(self.rt).take());
+        }
+        Err(io::ErrorKind::Unsupported.into())
+    }
+}
+
+// Such a clock, at whose second reading another client listens before the lock is freed, and all memory is taken after.
+#[derive(Drop)]
+struct RefusesOnceTold<'a, R: Runtime> {
+    rt: &'a R,
+    reads: Cell<u32>,
+    held: sync::Mutex<Option<MutexGuard<'a, u64, R>>>,
+    behind: sync::Mutex<PolledLock<'a, u64, R>>,
+    task: &'a MockTask,
+    hog: sync::Mutex<Option<Hog>>,
+}
+
+impl<'a, R: Runtime> RefusesOnceTold<'a, R> {
+    // The lock is free, and is held from now on.
+    fn new(rt: &'a R, mutex: &'a Mutex<u64>, task: &'a MockTask) -> Self {
+        RefusesOnceTold {
+            rt,
+            reads: Cell::new(0),
+            held: sync::Mutex::new(Some(mutex.try_lock(rt).expect(rt, "the lock"))),
+            behind: sync::Mutex::new(mutex.polled_lock(rt, rt.alloc())),
+            task,
+            hog: sync::Mutex::new(None),
+        }
+    }
+}
+
+impl<R: Runtime> OwnClock for RefusesOnceTold<'_, R> {
+    fn read(&self) -> io::Result<Duration> {
+        let (rt, reads) = (self.rt, self.reads.get());
+        self.reads.set(reads.saturating_add(1));
+        if reads == 1 {
+            let waker = waker_of(self.task).expect(rt, "a waker");
+            let polled = poll(rt, &mut self.behind.lock(rt), waker);
+            check(rt, "a poll", polled, Some(false));
+            drop(self.held.lock(rt).take());
+            *self.hog.lock(rt) = Some(all_memory(rt));
+        }
+        Err(io::ErrorKind::Unsupported.into())
+    }
+}
+
+// The calls that wait, and a poll.
+#[derive(Clone, Copy, Debug)]
+enum Call {
+    Lock,
+    TimedLock,
+    Poll,
+    Acquire,
+    TimedAcquire,
+}
+
+impl Call {
+    // The timed wait for the same.
+    fn timed(self) -> Call {
+        match self {
+            Call::Lock | Call::TimedLock | Call::Poll => Call::TimedLock,
+            Call::Acquire | Call::TimedAcquire => Call::TimedAcquire,
+        }
+    }
+}
+
+// What some have and others want.
+#[derive(Drop)]
+struct Wanted<'a, R> {
+    rt: &'a R,
+    mutex: Mutex<u64>,
+    permits: Semaphore,
+}
+
+impl<R: Runtime> Wanted<'_, R> {
+    fn make<C: Wait + Clock + Clone>(&self, call: Call, clock: &C, waker: Waker) -> Option<bool> {
+        let (rt, alloc) = (self.rt, self.rt.alloc());
+        let (mutex, permits) = (&self.mutex, &self.permits);
+        let (lock, permit) = (MutexError::Memory, SemaphoreError::Memory);
+        let now = Duration::ZERO;
+        match call {
+            Call::Lock => is_given(rt, mutex.lock(clock, alloc).map(Some), lock),
+            Call::TimedLock => is_given(rt, mutex.lock_timeout(clock, alloc, now), lock),
+            Call::Poll => poll(rt, &mut mutex.polled_lock(rt, alloc), waker),
+            Call::Acquire => is_given(rt, permits.acquire(clock, alloc).map(Some), permit),
+            Call::TimedAcquire => is_given(rt, permits.acquire_timeout(clock, alloc, now), permit),
+        }
+    }
+
+    // Makes the call with so many bytes of memory while both are taken. Nobody is left that waits: the first client that
+    // waits from now on is told, and is given what was taken.
+    fn make_in_vain(&self, call: Call, budget: &mut Budget, bytes: usize) -> Option<bool> {
+        let rt = self.rt;
+        let lock = self.mutex.try_lock(rt).expect(rt, "the lock");
+        let permit = self.permits.try_acquire(rt).expect(rt, "the permit");
+        let waker = any_waker(rt).expect(rt, "a waker");
+        let last_waker = any_waker(rt).expect(rt, "a waker");
+        leave(rt, budget, bytes);
+        let answer = self.make(call, rt, waker);
+        budget.give_back();
+        let clock = FreesWhenRead {
+            rt,
+            reads: Cell::new(0),
+            held: sync::Mutex::new(Some((lock, permit))),
+        };
+        let clock = WithClock { rt, clock: &clock };
+        let next = self.make(call.timed(), &clock, last_waker);
+        check(rt, call, next, Some(true));
+        answer
+    }
+}
+
+// A call on what is taken, for which somebody has waited before if there is to be a slot in its queue.
+#[derive(Drop)]
+struct InVain<'a, R> {
+    rt: &'a R,
+    call: Call,
+    has_slot: bool,
+}
+
+impl<R: Runtime> Starved for InVain<'_, R> {
+    fn is_granted(&self, budget: &mut Budget, bytes: usize) -> bool {
+        let (rt, call) = (self.rt, self.call);
+        let wanted = Wanted {
+            rt,
+            mutex: Mutex::new(new_id(rt), 7),
+            permits: Semaphore::new(new_id(rt), 1),
+        };
+        if self.has_slot {
+            let answer = wanted.make_in_vain(call.timed(), budget, Budget::MOST);
+            check(rt, call, answer, Some(false));
+        }
+        let answer = wanted.make_in_vain(call, budget, bytes);
+        if answer.is_none() {
+            let again = wanted.make_in_vain(call.timed(), budget, Budget::MOST);
+            check(rt, call, again, Some(false));
+            return false;
+        }
+        check(rt, (call, bytes), answer, Some(false));
+        true
+    }
+}
+
+// Each request is refused in its turn, and so are those of the same call without a limit, which asks for no more: where
+// nothing is refused, it would wait for ever. Answers how many budgets are too small.
+fn waits_are_refused<R: Runtime>(rt: &R, endless: Call, has_slot: bool) -> usize {
+    let call = endless.timed();
+    let refused = count_refused(rt, &InVain { rt, call, has_slot });
+    let call = endless;
+    let (endless, mut budget) = (InVain { rt, call, has_slot }, new_budget(rt));
+    for bytes in (0..Budget::MOST).step_by(Budget::STEP).take(refused) {
+        let is_granted = endless.is_granted(&mut budget, bytes);
+        check(rt, bytes, is_granted, false);
+    }
+    refused
+}
+
+#[test]
+fn each_request_of_a_wait_for_a_lock_or_a_permit_is_refused(rt: HostRuntime) {
+    for call in [Call::Lock, Call::Acquire] {
+        // Where there is a slot, only what the thread parks on is asked for.
+        let parker = waits_are_refused(&rt, call, true);
+        check(&rt, "whether a parker was refused", parker > 0, true);
+        let queue = waits_are_refused(&rt, call, false);
+        check(&rt, "whether a queue was refused", queue > parker, true);
+    }
+}
+
+// A task waits without a parker.
+#[test]
+fn a_polled_lock_needs_memory_for_its_slot_alone(rt: HostRuntime) {
+    let (rt, call) = (&rt, Call::Poll);
+    for has_slot in [false, true] {
+        let refused = count_refused(rt, &InVain { rt, call, has_slot });
+        check(rt, "whether it needs none", refused == 0, has_slot);
+    }
+}
+
+#[test]
+fn a_told_client_that_is_refused_a_parker_tells_another_one(rt: HostRuntime) {
+    let mutex: Mutex<u64> = Mutex::new(new_id(&rt), 7);
+    let task = new_task(&rt);
+    let refuses = RefusesOnceTold::new(&rt, &mutex, &task);
+    let clock = WithClock {
+        rt: &rt,
+        clock: &refuses,
+    };
+    let refusal = mutex.lock_timeout(&clock, rt.alloc(), Duration::ZERO).err();
+    drop(refuses.hog.lock(&rt).take());
+    check(&rt, "the refusal", refusal, Some(MutexError::Memory));
+    check(&rt, "whether the task is woken", task.is_woken(), true);
+    let is_free = mutex.try_lock(&rt).is_some();
+    check(&rt, "whether it is free", is_free, true);
+}
+
+#[test]
+fn what_is_free_needs_no_memory(rt: HostRuntime) {
+    let rt = &rt;
+    let hog = all_memory(rt);
+    let permits = Semaphore::new(new_id(rt), 3);
+    let mut two = permits.try_acquire(rt).expect(rt, "a permit");
+    check(rt, "a second", two.more(), true);
+    drop(permits.acquire(rt, rt.alloc()).expect(rt, "the third"));
+    let third = permits.acquire_timeout(rt, rt.alloc(), Duration::ZERO);
+    check(rt, "a fourth", two.more(), false);
+    let third = third.expect(rt, "no refusal").is_some();
+    check(rt, "the third in time", third, true);
+    drop(two);
+    drop(hog);
+}
+
+// No budget has room for the stack of a thread. What the programs print then is the text of the refusal.
+#[test]
+fn programs_start_no_thread(rt: HostRuntime) {
+    let mut budget = new_budget(&rt);
+    let no_memory = CountError::from(AllocError);
+    for bytes in (0..Budget::MOST).step_by(8 * Budget::STEP) {
+        leave(&rt, &mut budget, bytes);
+        let counted = count(rt, rt.alloc(), new_id(&rt), 2);
+        leave(&rt, &mut budget, bytes);
+        let permitted = count_with_permits(rt, rt.alloc(), new_id(&rt), 2, 1);
+        leave(&rt, &mut budget, bytes);
+        let met = wait_for_setter(rt, rt.alloc(), new_id(&rt));
+        budget.give_back();
+        check(&rt, bytes, counted, Err(no_memory));
+        check(&rt, bytes, permitted, Err(no_memory));
+        check(&rt, bytes, met, Err(MeetingError::from(AllocError)));
+    }
+    drop(budget);
+    let counted = count(rt, rt.alloc(), new_id(&rt), 2);
+    check(&rt, "a count", counted, Ok(2));
+    let permitted = count_with_permits(rt, rt.alloc(), new_id(&rt), 2, 1);
+    check(&rt, "a count by permits", permitted, Ok(2));
+    let met = wait_for_setter(rt, rt.alloc(), new_id(&rt));
+    check(&rt, "a meeting", met, Ok(()));
+}

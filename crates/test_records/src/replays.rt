@@ -1,3 +1,0 @@
-//! Replays of records.
-mod long;
-mod written;

@@ -1,0 +1,165 @@
+//! What a case is, and what it makes its calls on.
+use crate::recorded::{OfRecorded, Recorded};
+use crate::stage::{AnyEvent, SharedRuntime, Stage, StageClock, check};
+use crate::{limits, wakes};
+use event_listener::{Event, EventIds, Listener, RecordedReply};
+use futures::task::{Context, Poll};
+use recorded_calls::{Refusal, answered};
+use std::marker::PhantomData;
+use std::time::Duration;
+use test_support::{Borrowing, ListenerKind, Sharing, WaitCall, WithClock, deadline_after};
+
+/// A test that runs with each kind of listener.
+#[derive(Clone, Copy)]
+pub enum Case {
+    Told,
+    Polled,
+    EndsAtOnce,
+    EndsByAnyClock,
+    Parks,
+    WokenByANotification,
+    WokenByADrop,
+    Turns,
+    ToldAsItParks,
+}
+
+/// What a poll answered.
+pub type Polled = Result<Poll<u32>, Refusal>;
+
+/// What a wait answered.
+pub type Waited = Result<Option<u32>, Refusal>;
+
+/// An event and its listeners, which are of one kind.
+pub trait Trial: Sync {
+    type Runtime: SharedRuntime;
+
+    type Event: AnyEvent + Sync;
+
+    type Listener: Drop + Send;
+
+    fn stage(&self) -> &Stage<Self::Runtime, Self::Event>;
+
+    /// A new listener.
+    fn listen(&self) -> Self::Listener;
+
+    fn poll(&self, listener: &mut Self::Listener, cx: &mut Context<'_>) -> Polled;
+
+    /// Waits, with this limit from now on by the system's clock if the wait has one.
+    fn wait(&self, listener: Self::Listener, wait: WaitCall, limit: Duration) -> Waited;
+
+    /// Drops a listener, which is in the queue.
+    fn leave(&self, listener: Self::Listener);
+
+    fn rt(&self) -> &Self::Runtime {
+        &self.stage().rt
+    }
+
+    /// Tells so many listeners, with this tag.
+    fn tell(&self, count: usize, tag: u32) {
+        let told = self.stage().event.tell(self.rt(), count, tag);
+        check(self.rt(), "listeners told", told, count);
+    }
+
+    /// This wait gives that tag, or none.
+    fn waits(&self, listener: Self::Listener, wait: WaitCall, limit: Duration, tag: Option<u32>) {
+        let answer = self.wait(listener, wait, limit);
+        check(self.rt(), (wait, limit), answer, Ok(tag));
+    }
+
+    /// The steps of the wait that ended last had these answers, if they were noted.
+    fn noted(&self, wait: WaitCall, expected: &[RecordedReply<u32>]) {
+        if let Some(steps) = self.stage().event.last_steps(self.rt()) {
+            check(self.rt(), wait, steps.as_slice(), expected);
+        }
+    }
+
+    /// So many listeners are in the queue.
+    fn has_listeners(&self, expected: usize) {
+        let total = self.stage().event.count_listeners(self.rt());
+        check(self.rt(), "listeners", total, expected);
+    }
+}
+
+/// Runs a case with each kind of listener. A test calls this alone: each place that names the kinds is slow to prove.
+pub fn all<R: SharedRuntime>(rt: &R, case: Case) {
+    let stage = &Stage::new(rt, new_event(rt));
+    let kind: PhantomData<Sharing> = PhantomData;
+    run(&OfKind { stage, kind }, case);
+    let stage = &Stage::new(rt, new_event(rt));
+    let kind: PhantomData<Borrowing> = PhantomData;
+    run(&OfKind { stage, kind }, case);
+    let stage = Stage::new(rt, Recorded::new(rt, 5));
+    run(&OfRecorded { stage: &stage }, case);
+    let Stage { event, .. } = stage;
+    event.close(rt);
+}
+
+// Runs a case on a new event.
+fn run<S: Trial>(trial: &S, case: Case) {
+    match case {
+        Case::Told => limits::gives_its_tag_at_once(trial),
+        Case::Polled => limits::is_told_once(trial),
+        Case::EndsAtOnce => limits::ends_at_once(trial),
+        Case::EndsByAnyClock => limits::ends_by_any_clock(trial),
+        Case::Parks => limits::parks_until_its_limit(trial),
+        Case::WokenByANotification => wakes::are_woken_by_a_notification(trial),
+        Case::WokenByADrop => wakes::is_woken_by_a_drop(trial),
+        Case::Turns => wakes::tell_each_other(trial),
+        Case::ToldAsItParks => wakes::is_told_as_it_parks(trial),
+    }
+}
+
+/// A new event, the only one of its source.
+pub fn new_event<T, R: SharedRuntime>(rt: &R) -> Event<T> {
+    Event::with_tag(EventIds::new().next().expect(rt, "an identity"))
+}
+
+// An event that is not recorded, with one kind of listeners.
+#[derive(Drop)]
+struct OfKind<'a, K, R> {
+    stage: &'a Stage<R, Event<u32>>,
+    kind: PhantomData<K>,
+}
+
+impl<'a, K, L, R> Trial for OfKind<'a, K, R>
+where
+    K: ListenerKind<'a, u32, StageClock<'a, R, Event<u32>>, Listener = L> + Sync,
+    L: Listener<u32> + Drop + Send,
+    R: SharedRuntime,
+{
+    type Runtime = R;
+
+    type Event = Event<u32>;
+
+    type Listener = L;
+
+    fn stage(&self) -> &Stage<R, Event<u32>> {
+        self.stage
+    }
+
+    fn listen(&self) -> L {
+        let (rt, clock) = (&self.stage.rt, self.stage);
+        K::listen(&WithClock { rt, clock }, rt.alloc(), &clock.event).expect(rt, "a listener")
+    }
+
+    fn poll(&self, listener: &mut L, cx: &mut Context<'_>) -> Polled {
+        let polled = listener.poll_in(cx);
+        polled.map_err(|_| Refusal::NeverInserted)
+    }
+
+    fn wait(&self, listener: L, wait: WaitCall, limit: Duration) -> Waited {
+        match wait {
+            WaitCall::Timeout => answered(listener.wait_timeout(limit)),
+            WaitCall::Deadline => {
+                let deadline = deadline_after(self.rt(), limit).expect(self.rt(), "a moment");
+                answered(listener.wait_deadline(deadline))
+            }
+            WaitCall::UntilTold => answered(listener.wait()).map(Some),
+            WaitCall::GreatestTimeout => answered(listener.wait_timeout(Duration::MAX)),
+        }
+    }
+
+    fn leave(&self, listener: L) {
+        drop(listener);
+    }
+}
