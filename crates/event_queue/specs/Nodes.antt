@@ -4,7 +4,6 @@ use Rattle.std.specs.Prelude.{◌≡◌, ℕ, ◌+◌, ◌-◌, ◌^◌, cond, e
 use denote.RawPtr.{Ptr}
 use Rattle.event_queue.specs.declared.key.Key.{Key}
 use Rattle.event_queue.specs.declared.node.ring.pointers.NodePtr.{NodePtr}
-use Rattle.event_queue.specs.declared.node.ring.pointers.Ring.{Ring}
 use Rattle.event_queue.specs.declared.node.entries.Held.{Held}
 use Rattle.event_queue.specs.declared.node.entries.Held.TheVariants.{Nothing, Before, AfterWithout, After}
 use Rattle.event_queue.specs.declared.node.entries.Entry.{Entry}
@@ -154,13 +153,10 @@ module _ {A B : Type 0} where
     pub had : AtNode old.ring.nodes old.cursor.ptr (λ _ n _. n.entry.held ≡ held_after former)
     pub nodes : AtNode old.ring.nodes old.cursor.ptr (λ xs n ys. new.ring.nodes ≡ xs ++ placed n.at (record { slot = key.slot; serial = record { number = key.serial }; held = Before value }) ∷ ys)
 
-  -- the node at p was taken out, and is spare
-  pub record TakesOut (old : Entries A B) (p : Ptr) (node : Ring (Entry A B)) (new : Entries A B) : Type 0 where
+  -- the node at p was taken out
+  pub record TakesOut (old : Entries A B) (p : Ptr) (new : Entries A B) : Type 0 where
     pub root : new.ring.at ≡ old.ring.at
-    pub place : node.at ≡ p
-    pub alone : node.nodes ≡ []
     pub nodes : AtNode old.ring.nodes p (λ xs _ ys. new.ring.nodes ≡ xs ++ ys)
-    pub entry : AtNode old.ring.nodes p (λ _ n _. node.entry ≡ spare_entry n.entry.slot)
 
   -- the entry on a node, if it is before the cursor, and if it is after it
   abbrev pub entry_before : Node A B → Option (Key × A)

@@ -230,13 +230,13 @@ impl<A, B> Chain<A, B> {
         let own = self.table.find(key, steps)?;
         let entries = self.entries.as_mut().unwrap();
         if entries.is_after(&own) {
-            let (node, value) = entries.take_after(own, steps);
-            self.table.recycle(key.slot, node);
+            let (value, room) = entries.take_after(own, steps);
+            self.table.recycle(key.slot, room);
             self.after_len -= 1;
             return Some(Side::After(value));
         }
-        let (node, value) = entries.take_before(own, steps);
-        self.table.recycle(key.slot, node);
+        let (value, room) = entries.take_before(own, steps);
+        self.table.recycle(key.slot, room);
         self.before_len -= 1;
         Some(Side::Before(value))
     }
@@ -264,8 +264,8 @@ impl<A, B> Chain<A, B> {
             entries.hand_in(&own, key, value);
             return Some(Side::After(()));
         }
-        let (node, value) = entries.take_before(own, steps);
-        self.table.recycle(key.slot, node);
+        let (value, room) = entries.take_before(own, steps);
+        self.table.recycle(key.slot, room);
         self.before_len -= 1;
         Some(Side::Before(value))
     }

@@ -2,9 +2,9 @@
 use Rattle.std.proofs.Common.{Bool, true, false, IsTrue, ◌↔◌, ◌≡◌, ◌+◌, ◌≢◌, ℕ, ap₂, true≢false, IsSome, ◌-◌, ◌<◌, ◌≤◌, cond, eqb, List, [], ◌∷◌, ◌++◌, length, set, Option, Some, None, refl, sym, ap, ◌∙◌, subst, arith, length-append}
 use Rattle.std.specs.Prelude.{option_map, slice_get}
 use Rattle.std.specs.Map.{lookup, set_value}
+use denote.RawPtr.{Ptr}
 use Rattle.event_queue.specs.declared.key.Key.{Key}
 use Rattle.event_queue.specs.declared.node.ring.pointers.NodePtr.{NodePtr}
-use Rattle.event_queue.specs.declared.node.ring.pointers.Ring.{Ring}
 use Rattle.event_queue.specs.declared.node.entries.Held.{Held}
 use Rattle.event_queue.specs.declared.node.entries.Held.TheVariants.{Nothing, Before, AfterWithout, After}
 use Rattle.event_queue.specs.declared.node.entries.Entry.{Entry}
@@ -116,15 +116,15 @@ module _ {A B : Type 0} where
           (node.sound.before, cursor.first, cursor.others, cursor.is, cursor.place)
 
     -- ---- once it was taken out
-    module _ {later : Entries A B} {lone : Ring (Entry A B)} (take : TakesOut entries at.ptr lone later) where
-      abbrev spare : Spare A B
-      spare = placed lone.at lone.entry
+    module _ {later : Entries A B} (take : TakesOut entries at.ptr later) where
+      abbrev spare : Ptr → Spare A B
+      spare made = placed made (spare_entry key.slot)
 
       others : later.ring.nodes ≡ its_place.front ++ its_place.rest
       others = take.nodes its_place.front its_place.node its_place.rest its_place.is its_place.place
 
-      spare_is : spare.entry ≡ spare_entry its_place.node.entry.slot
-      spare_is = take.entry its_place.front its_place.node its_place.rest its_place.is its_place.place
+      spare_is : (made : Ptr) → (spare made).entry ≡ spare_entry its_place.node.entry.slot
+      spare_is made = ap spare_entry (sym its_place.slot_is)
 
       module _ (value : A) (held : AtNode entries.ring.nodes at.ptr (λ _ n _. n.entry.held ≡ Before value)) where
         found_before : Finds value_before entries.ring.nodes key at.ptr
@@ -135,19 +135,19 @@ module _ {A B : Type 0} where
         some_were_before =
             some_before entries slots spares before_len after_len node.sound key at.ptr found_before
 
-        pub sound_before : later.cursor ≡ entries.cursor → IsSound (Some later) (set slots key.slot None) (spares ++ spare ∷ []) (before_len - 1) after_len
+        pub sound_before : (made : Ptr) → later.cursor ≡ entries.cursor → IsSound (Some later) (set slots key.slot None) (spares ++ spare made ∷ []) (before_len - 1) after_len
         unfolding found_before found
-        sound_before cursor =
-            IsSound-without_before entries slots spares before_len after_len node.sound key at.ptr found_before later spare others take.root cursor spare_is
+        sound_before made cursor =
+            IsSound-without_before entries slots spares before_len after_len node.sound key at.ptr found_before later (spare made) others take.root cursor (spare_is made)
 
         pub was_before : lookup (is_key key) (seen chain spares).before ≡ Some value
         unfolding found_before found
         was_before =
             ap (λ entries. lookup (is_key key) (entries_by value_before (nodes_of entries))) node.is ∙ found_before.looked
 
-        pub left_before : seen (Some later) (spares ++ spare ∷ []) ≡ before_leaves key (seen chain spares)
+        pub left_before : (made : Ptr) → seen (Some later) (spares ++ spare made ∷ []) ≡ before_leaves key (seen chain spares)
         unfolding found_before found
-        left_before =
+        left_before made =
             let removed = before_removed entries slots spares before_len after_len node.sound key at.ptr found_before later.ring.nodes others in
             let kept = after_kept entries slots spares before_len after_len node.sound key at.ptr found_before later.ring.nodes others in
             rw (node.is, removed, kept, length-append) refl
@@ -161,22 +161,22 @@ module _ {A B : Type 0} where
         some_were_after =
             some_after entries slots spares before_len after_len node.sound key at.ptr found_after
 
-        pub sound_after : AtNode entries.ring.nodes at.ptr (λ _ n ys. AtNode entries.ring.nodes entries.cursor.ptr (λ _ first _. later.cursor.ptr ≡ cond (eqb first.entry.slot n.entry.slot) (first_place ys entries.ring.at) entries.cursor.ptr))
-            → IsSound (Some later) (set slots key.slot None) (spares ++ spare ∷ []) before_len (after_len - 1)
+        pub sound_after : (made : Ptr) → AtNode entries.ring.nodes at.ptr (λ _ n ys. AtNode entries.ring.nodes entries.cursor.ptr (λ _ first _. later.cursor.ptr ≡ cond (eqb first.entry.slot n.entry.slot) (first_place ys entries.ring.at) entries.cursor.ptr))
+            → IsSound (Some later) (set slots key.slot None) (spares ++ spare made ∷ []) before_len (after_len - 1)
         unfolding found_after found
-        sound_after moved =
+        sound_after made moved =
             let cursor = cursor_is entries slots spares before_len after_len node.sound (omega (arith, some_were_after)) in
             let skips = moved its_place.front its_place.node its_place.rest its_place.is its_place.place node.sound.before cursor.first cursor.others cursor.is cursor.place in
-            IsSound-without_after entries slots spares before_len after_len node.sound key at.ptr found_after cursor later spare others take.root skips spare_is
+            IsSound-without_after entries slots spares before_len after_len node.sound key at.ptr found_after cursor later (spare made) others take.root skips (spare_is made)
 
         pub was_after : lookup (is_key key) (seen chain spares).after ≡ Some value
         unfolding found_after found
         was_after =
             ap (λ entries. lookup (is_key key) (entries_by value_after (nodes_of entries))) node.is ∙ found_after.looked
 
-        pub left_after : seen (Some later) (spares ++ spare ∷ []) ≡ after_leaves key (seen chain spares)
+        pub left_after : (made : Ptr) → seen (Some later) (spares ++ spare made ∷ []) ≡ after_leaves key (seen chain spares)
         unfolding found_after found
-        left_after =
+        left_after made =
             let removed = after_removed entries slots spares before_len after_len node.sound key at.ptr found_after later.ring.nodes others in
             let kept = before_kept entries slots spares before_len after_len node.sound key at.ptr found_after later.ring.nodes others in
             rw (node.is, removed, kept, length-append) refl

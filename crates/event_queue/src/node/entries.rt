@@ -3,11 +3,12 @@ ghost use Rattle.std.specs.Prelude.{◌≡◌, ◌+◌, [], ◌∷◌, ◌++◌,
 ghost use Rattle.event_queue.specs.Ring.{placed, first_place, IsAt, AtNode};
 ghost use Rattle.event_queue.specs.Nodes.{value_before, value_after, held_after, spare_entry, IsSpareAt, IsBeforeAt, IsAfterAt, HandsOut, HandsIn, TakesOut, Advances};
 
-use super::ring::{NodePtr, NodeRef, Ring, Steps};
+use super::ring::{NodePtr, NodeRef, Ring, Room, Steps};
 use super::serial::Serial;
 use crate::key::Key;
-use std::alloc::{AllocError, AllocFailed, Global};
+use std::alloc::{AllocError, Global};
 use std::sync::ledger::Ledger;
+use std_alloc::room::Vacant;
 
 /// What a node carries: the slot that it keeps, and an entry's value. The entry's serial stands in that slot, and here
 /// for proofs alone.
@@ -120,17 +121,11 @@ impl<A, B> Entries<A, B> {
         ensures nodes { IfOk result (λ entries. entries.ring.nodes ≡ []) }
         ensures cursor { IfOk result (λ entries. entries.cursor.ptr ≡ entries.ring.at) }
     {
-        match Ring::alone(alloc, Entry::spare(0)) {
-            Ok(ring) => {
-                let cursor = ring.root();
-                Ok(Entries { ring, cursor })
-            }
-            Err(refused) => {
-                let AllocFailed { value } = refused;
-                value.drop_spare();
-                Err(AllocError)
-            }
-        }
+        let Ok(room) = Vacant::take(alloc) else {
+            return Err(AllocError);
+        };
+        let (ring, cursor) = Ring::alone(alloc, room, Entry::spare(0));
+        Ok(Entries { ring, cursor })
     }
 
     /// Whether the node's entry is before the cursor.
@@ -216,42 +211,22 @@ impl<A, B> Entries<A, B> {
         self.ring.replace(own, entry).drop_spare();
     }
 
-    // Takes a node out. It becomes spare, and the entry that it had is the answer too.
-    #[inline(always)]
-    fn take<L: Ledger>(
-        &mut self,
-        own: NodeRef<Entry<A, B>>,
-        steps: &mut Steps<L>,
-    ) -> (Ring<Entry<A, B>>, Entry<A, B>)
-        requires { IsAt self.old.ring.nodes own.ptr }
-        ensures taken { TakesOut self.old own.ptr result.0 self.new }
-        ensures entry { AtNode self.old.ring.nodes own.ptr (λ _ n _. result.1 ≡ n.entry) }
-        ensures cursor { self.new.cursor ≡ self.old.cursor }
-        ensures visits { steps.new.visits ≡ steps.old.visits + 2 }
-        ensures looks { steps.new.looks ≡ steps.old.looks }
-    {
-        let (entry, _) = self.ring.look(&own);
-        let slot = entry.slot;
-        let entry = self.ring.replace(&own, Entry::spare(slot));
-        (self.ring.take(own, steps), entry)
-    }
-
-    /// Takes a node out whose entry is before the cursor. It becomes spare, and its value is the answer too.
+    /// Takes a node out whose entry is before the cursor. Its value and its block are the answer.
     #[inline(always)]
     pub(super) fn take_before<L: Ledger>(
         &mut self,
         own: NodeRef<Entry<A, B>>,
         steps: &mut Steps<L>,
-    ) -> (Ring<Entry<A, B>>, A)
+    ) -> (A, Room<Entry<A, B>>)
         requires { IsBeforeAt self.old.ring.nodes own.ptr }
-        ensures taken { TakesOut self.old own.ptr result.0 self.new }
-        ensures value { AtNode self.old.ring.nodes own.ptr (λ _ n _. n.entry.held ≡ Held.Before result.1) }
+        ensures taken { TakesOut self.old own.ptr self.new }
+        ensures value { AtNode self.old.ring.nodes own.ptr (λ _ n _. n.entry.held ≡ Held.Before result.0) }
         ensures cursor { self.new.cursor ≡ self.old.cursor }
         ensures visits { steps.new.visits ≡ steps.old.visits + 2 }
         ensures looks { steps.new.looks ≡ steps.old.looks }
     {
-        let (node, entry) = self.take(own, steps);
-        (node, entry.into_before())
+        let (entry, room) = self.ring.take(own, steps);
+        (entry.into_before(), room)
     }
 
     /// Takes a node out whose entry is after the cursor, as [`Entries::take_before`] does. If it is the first of these,
@@ -261,11 +236,11 @@ impl<A, B> Entries<A, B> {
         &mut self,
         own: NodeRef<Entry<A, B>>,
         steps: &mut Steps<L>,
-    ) -> (Ring<Entry<A, B>>, Option<B>)
+    ) -> (Option<B>, Room<Entry<A, B>>)
         requires node { IsAfterAt self.old.ring.nodes own.ptr }
         requires cursor { IsAt self.old.ring.nodes self.old.cursor.ptr }
-        ensures taken { TakesOut self.old own.ptr result.0 self.new }
-        ensures value { AtNode self.old.ring.nodes own.ptr (λ _ n _. n.entry.held ≡ held_after result.1) }
+        ensures taken { TakesOut self.old own.ptr self.new }
+        ensures value { AtNode self.old.ring.nodes own.ptr (λ _ n _. n.entry.held ≡ held_after result.0) }
         ensures cursor { AtNode self.old.ring.nodes own.ptr (λ _ n ys. AtNode self.old.ring.nodes self.old.cursor.ptr (λ _ first _.
             self.new.cursor.ptr ≡ cond (eqb first.entry.slot n.entry.slot) (first_place ys self.old.ring.at) self.old.cursor.ptr)) }
         ensures visits { steps.new.visits ≡ steps.old.visits + 3 }
@@ -275,11 +250,11 @@ impl<A, B> Entries<A, B> {
         let (first, _) = self.ring.look(&cursor);
         let (entry, next) = self.ring.look(&own);
         let is_at_cursor = first.slot == entry.slot;
-        let (node, entry) = self.take(own, steps);
+        let (entry, room) = self.ring.take(own, steps);
         if is_at_cursor {
             self.cursor = next;
         }
-        (node, entry.into_after())
+        (entry.into_after(), room)
     }
 
     /// Goes to the first node after the cursor, and returns the slot that it has, too.

@@ -4,7 +4,7 @@ ghost use Rattle.event_queue.specs.Ring.{placed, first_place, IsAt, AtNode};
 ghost use Rattle.event_queue.specs.Counts.{counted_on};
 
 use self::pointers::Node;
-pub(super) use self::pointers::{NodePtr, Ring};
+pub(super) use self::pointers::{NodePtr, Ring, Room};
 pub(super) use self::spares::Spares;
 pub use self::steps::Steps;
 use std::sync::ledger::Ledger;
@@ -92,19 +92,18 @@ impl<E> Ring<E> {
         ensures visits { steps.new.visits ≡ steps.old.visits + 1 }
         ensures looks { steps.new.looks ≡ steps.old.looks }
     {
-        let place = node.root();
         steps.add(1);
-        self.link_last(node);
+        let place = self.link_last(node);
         NodeRef { ptr: place.ptr }
     }
 
-    /// Takes the call's own node out, as a ring of its own. Its two neighbors are visited.
+    /// Takes the call's own node out: what it carries, and its block with nothing in it. Its two neighbors are visited.
     #[inline(always)]
-    pub(super) fn take<L: Ledger>(&mut self, node: NodeRef<E>, steps: &mut Steps<L>) -> Ring<E>
+    pub(super) fn take<L: Ledger>(&mut self, node: NodeRef<E>, steps: &mut Steps<L>) -> (E, Room<E>)
         requires { IsAt self.old.nodes node.ptr }
         ensures root { (self.new.at ≡ self.old.at) × (self.new.entry ≡ self.old.entry) }
-        ensures alone { (result.at ≡ node.ptr) × (result.nodes ≡ []) }
-        ensures nodes { AtNode self.old.nodes node.ptr (λ xs n ys. (self.new.nodes ≡ xs ++ ys) × (result.entry ≡ n.entry)) }
+        ensures place { result.1.ptr ≡ node.ptr }
+        ensures nodes { AtNode self.old.nodes node.ptr (λ xs n ys. (self.new.nodes ≡ xs ++ ys) × (result.0 ≡ n.entry)) }
         ensures visits { steps.new.visits ≡ steps.old.visits + 2 }
         ensures looks { steps.new.looks ≡ steps.old.looks }
     {

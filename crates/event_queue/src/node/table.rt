@@ -5,10 +5,11 @@ ghost use Rattle.event_queue.specs.Counts.{counted_on};
 ghost use Rattle.event_queue.specs.Nodes.{place_of, shown, shown_in, node_at, spare_entry, GrowsTo};
 
 use super::entries::Entry;
-use super::ring::{NodePtr, NodeRef, Ring, Spares, Steps};
+use super::ring::{NodePtr, NodeRef, Ring, Room, Spares, Steps};
 use crate::key::Key;
-use std::alloc::{AllocError, AllocFailed, Global};
+use std::alloc::{AllocError, Global};
 use std::sync::ledger::Ledger;
+use std_alloc::room::Vacant;
 
 /// What stands in a slot: the serial of the entry that uses it, and the place of its node. While the node is spare the
 /// serial is `u64::MAX`, which no entry gets, and the place is followed by nobody.
@@ -127,20 +128,19 @@ impl<A, B> Table<A, B> {
         };
     }
 
-    /// Makes a node spare, whose slot this is. It allocates nothing.
+    /// Makes a spare node in that room, whose slot this is. It allocates nothing.
     #[inline(always)]
-    pub(super) fn recycle(&mut self, slot: usize, node: Ring<Entry<A, B>>)
+    pub(super) fn recycle(&mut self, slot: usize, room: Room<Entry<A, B>>)
         requires slot { slot < length (shown_in self.old.slots.items) }
-        requires alone { node.nodes ≡ [] }
         requires room { length self.old.spares < length (shown_in self.old.slots.items) }
         ensures slots { shown_in self.new.slots.items ≡ slice_set (shown_in self.old.slots.items) slot Option.None }
-        ensures spares { self.new.spares ≡ self.old.spares ++ placed node.at node.entry ∷ [] }
+        ensures spares { self.new.spares ≡ self.old.spares ++ placed room.ptr (spare_entry slot) ∷ [] }
     {
+        let place = self.spares.push(room, Entry::spare(slot));
         self.slots[slot] = Slot {
             serial: u64::MAX,
-            place: node.root(),
+            place,
         };
-        self.spares.push(node);
     }
 
     /// Makes `n` more spare nodes. If it fails it keeps those that it made.
@@ -166,20 +166,14 @@ impl<A, B> Table<A, B> {
         ensures err { OnErr result (self.new ≡ self.old) }
         ensures slots_capacity { vec_capacity self.new.slots ≡ vec_capacity self.old.slots }
     {
-        match Ring::alone(self.allocator(), Entry::spare(self.slots.len())) {
-            Ok(node) => {
-                self.slots.push_reserved(Slot {
-                    serial: u64::MAX,
-                    place: node.root(),
-                });
-                self.spares.push(node);
-                Ok(())
-            }
-            Err(refused) => {
-                let AllocFailed { value } = refused;
-                value.drop_spare();
-                Err(AllocError)
-            }
-        }
+        let Ok(room) = Vacant::take(self.allocator()) else {
+            return Err(AllocError);
+        };
+        let place = self.spares.push(room, Entry::spare(self.slots.len()));
+        self.slots.push_reserved(Slot {
+            serial: u64::MAX,
+            place,
+        });
+        Ok(())
     }
 }

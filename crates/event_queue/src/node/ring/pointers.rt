@@ -1,11 +1,11 @@
 //! Nodes on the heap, linked in a ring by raw pointers. Every raw pointer of the crate is made and followed here.
 ghost use base.Fml.{ftrue};
-ghost use Rattle.std.specs.Prelude.{◌≡◌, ◌<◌, ⊤, List, [], ◌∷◌, ◌++◌, length, IfOk, IfErr};
+ghost use Rattle.std.specs.Prelude.{◌≡◌, ◌<◌, ⊤, List, [], ◌∷◌, ◌++◌, length};
 ghost use Rattle.std.specs.Coded.{prop_coded};
 ghost use Rattle.event_queue.specs.Ring.{Placed, placed, places, first_place, IsApart, IsApart-prop, IsAt, AtNode};
 ghost use Rattle.event_queue.specs.RingMemory.{ring_owns, ring_lent, pile_owns};
 
-use std::alloc::{AllocError, AllocFailed, Global};
+use std::alloc::{AllocError, Global};
 use std::marker::{Model, Send, Sync};
 use std::ptr;
 use std_alloc::room::Vacant;
@@ -16,6 +16,9 @@ pub struct Node<E> {
     previous: *mut Node<E>,
     entry: E,
 }
+
+/// A node's block with nothing in it.
+pub type Room<E> = Vacant<Node<E>, Global>;
 
 /// Where a node stands. It owns nothing.
 pub struct NodePtr<E> {
@@ -60,14 +63,6 @@ unsafe impl<E: Send> Send for Ring<E> {}
 unsafe impl<E: Sync> Sync for Ring<E> {}
 
 impl<E> Ring<E> {
-    /// Where the root stands.
-    #[inline(always)]
-    pub fn root(&self) -> NodePtr<E>
-        ensures { result.ptr ≡ self.now.at }
-    {
-        NodePtr { ptr: self.at }
-    }
-
     /// What the node carries, and the node behind it: behind the last one, the root.
     #[inline(always)]
     pub(super) fn look_at(&self, node: NodePtr<E>) -> (&E, NodePtr<E>)
@@ -100,10 +95,11 @@ impl<E> Ring<E> {
         }
     }
 
-    /// Links a node in behind the last.
+    /// Links a lone node in behind the last, and returns where it stands.
     #[inline(always)]
-    pub(super) fn link_last(&mut self, node: Ring<E>)
+    pub(super) fn link_last(&mut self, node: Ring<E>) -> NodePtr<E>
         requires { node.nodes ≡ [] }
+        ensures place { result.ptr ≡ node.at }
         ensures root { (self.new.at ≡ self.old.at) × (self.new.entry ≡ self.old.entry) }
         ensures nodes { self.new.nodes ≡ self.old.nodes ++ placed node.at node.entry ∷ [] }
     {
@@ -115,95 +111,49 @@ impl<E> Ring<E> {
             (*root).previous = node;
             (*(*node).previous).next = node;
         }
+        NodePtr { ptr: node }
     }
 
-    /// Takes the node out, as a ring of its own.
+    /// Takes the node out: what it carries, and its block with nothing in it.
     #[inline(always)]
-    pub(super) fn unlink(&mut self, node: NodePtr<E>) -> Ring<E>
+    pub(super) fn unlink(&mut self, node: NodePtr<E>) -> (E, Room<E>)
         requires { IsAt self.old.nodes node.ptr }
+        ensures place { result.1.ptr ≡ node.ptr }
         ensures root { (self.new.at ≡ self.old.at) × (self.new.entry ≡ self.old.entry) }
-        ensures alone { (result.at ≡ node.ptr) × (result.nodes ≡ []) }
-        ensures nodes { AtNode self.old.nodes node.ptr (λ xs n ys. (self.new.nodes ≡ xs ++ ys) × (result.entry ≡ n.entry)) }
+        ensures nodes { AtNode self.old.nodes node.ptr (λ xs n ys. (self.new.nodes ≡ xs ++ ys) × (result.0 ≡ n.entry)) }
     {
         let node = node.ptr;
         unsafe {
+            let entry = (&raw const (*node).entry).read();
             (*(*node).previous).next = (*node).next;
             (*(*node).next).previous = (*node).previous;
-            (*node).next = node;
-            (*node).previous = node;
-        }
-        Ring {
-            at: node,
-            alloc: self.alloc,
+            (
+                entry,
+                Vacant {
+                    ptr: node,
+                    alloc: self.alloc,
+                },
+            )
         }
     }
 
-    /// Puts a lone node on top of a pile.
-    #[inline(always)]
-    pub(super) fn put_on(self, pile: &mut Pile<E>)
-        requires { self.nodes ≡ [] }
-        ensures { pile.new.nodes ≡ placed self.at self.entry ∷ pile.old.nodes }
+    /// A lone node in that room, and where it stands.
+    pub fn alone(alloc: Global, room: Room<E>, entry: E) -> (Ring<E>, NodePtr<E>)
+        ensures alone { (result.0.entry ≡ entry) × (result.0.nodes ≡ []) }
+        ensures place { result.1.ptr ≡ result.0.at }
     {
-        let Ring { at: node, alloc: _ } = self;
-        unsafe {
-            (*node).next = pile.top;
-        }
-        pile.top = node;
+        let mut pile = Pile::new(alloc);
+        let place = pile.fill(room, entry);
+        (pile.take(), place)
     }
 
-    /// A node of its own, or the value again if memory runs out.
-    pub fn alone(alloc: Global, entry: E) -> Result<Ring<E>, AllocFailed<E>>
-        ensures made { IfOk result (λ ring. (ring.entry ≡ entry) × (ring.nodes ≡ [])) }
-        ensures value_returned { IfErr result (λ failed. failed.value ≡ entry) }
-    {
-        match Vacant::take(alloc) {
-            Ok(room) => Ok(Ring::fill(room, entry)),
-            Err(_) => Err(AllocFailed { value: entry }),
-        }
-    }
-
-    // Makes a node in the room, linked to itself.
-    fn fill(room: Vacant<Node<E>, Global>, entry: E) -> Ring<E>
-        ensures { (result.entry ≡ entry) × (result.nodes ≡ []) }
-    {
-        let Vacant { ptr: node, alloc } = room;
-        unsafe {
-            (*node).next = node;
-            (*node).previous = node;
-            (&raw mut (*node).entry).write(entry);
-        }
-        Ring { at: node, alloc }
-    }
-
-    /// Gives the heap a lone node's block back, and returns what the node carried.
-    pub(super) fn end(self) -> E
-        requires { self.nodes ≡ [] }
-        ensures { result ≡ self.entry }
-    {
-        let (entry, room) = self.empty();
-        room.free();
-        entry
-    }
-
-    // What a lone node carries, and its block with nothing in it.
-    fn empty(self) -> (E, Vacant<Node<E>, Global>)
-        requires { self.nodes ≡ [] }
-        ensures { result.0 ≡ self.entry }
-    {
-        let Ring { at: node, alloc } = self;
-        unsafe {
-            let entry = (&raw const (*node).entry).read();
-            (entry, Vacant { ptr: node, alloc })
-        }
-    }
-
-    // Gives a lone node's block back, and drops what the node carried.
-    fn free(self)
+    // Gives a block back, and drops what a node there carried.
+    fn free(entry: E, room: Room<E>)
     where
         E: Drop,
-        requires { self.nodes ≡ [] }
     {
-        drop(self.end());
+        room.free();
+        drop(entry);
     }
 
     // Gives every node's block back, and drops what it carried. The walk ends at the last node, whose link to the
@@ -218,9 +168,8 @@ impl<E> Ring<E> {
             let mut at = root;
             while !ptr::eq(at, ptr::null_mut()) {
                 let next = (*at).next;
-                (*at).next = at;
-                (*at).previous = at;
-                Ring { at, alloc }.free();
+                let entry = (&raw const (*at).entry).read();
+                Ring::free(entry, Vacant { ptr: at, alloc });
                 at = next;
             }
         }
@@ -263,6 +212,24 @@ impl<E> Pile<E> {
             top: ptr::null_mut(),
             alloc,
         }
+    }
+
+    /// Makes a node in the room, on top of the pile, and returns where it stands.
+    #[inline(always)]
+    pub(super) fn fill(&mut self, room: Room<E>, entry: E) -> NodePtr<E>
+        ensures place { result.ptr ≡ room.ptr }
+        ensures nodes { self.new.nodes ≡ placed room.ptr entry ∷ self.old.nodes }
+    {
+        let Vacant {
+            ptr: node,
+            alloc: _,
+        } = room;
+        unsafe {
+            (*node).next = self.top;
+            (&raw mut (*node).entry).write(entry);
+        }
+        self.top = node;
+        NodePtr { ptr: node }
     }
 
     /// Takes the node off that is on top.

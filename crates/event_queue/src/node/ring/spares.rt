@@ -2,7 +2,7 @@
 ghost use Rattle.std.specs.Prelude.{◌≡◌, ◌+◌, ◌<◌, ◌^◌, [], ◌∷◌, ◌++◌, length, MatchOption};
 ghost use Rattle.event_queue.specs.Ring.{placed};
 
-use super::pointers::{Pile, Ring};
+use super::pointers::{NodePtr, Pile, Ring, Room};
 use std::alloc::Global;
 use std::marker::Model;
 
@@ -57,15 +57,15 @@ impl<E> Spares<E> {
         Some(self.pile.take())
     }
 
-    /// Keeps one node more.
+    /// Keeps one node more, which it makes in that room. Where the node stands is the answer.
     #[inline(always)]
-    pub fn push(&mut self, node: Ring<E>)
-        requires alone { node.nodes ≡ [] }
-        requires fits { length self.old + 1 < 2 ^ 64 }
-        ensures { self.new ≡ self.old ++ placed node.at node.entry ∷ [] }
+    pub fn push(&mut self, room: Room<E>, entry: E) -> NodePtr<E>
+        requires { length self.old + 1 < 2 ^ 64 }
+        ensures place { result.ptr ≡ room.ptr }
+        ensures nodes { self.new ≡ self.old ++ placed room.ptr entry ∷ [] }
     {
-        node.put_on(&mut self.pile);
         self.len += 1;
+        self.pile.fill(room, entry)
     }
 }
 

@@ -12,8 +12,8 @@ is_after-requires g c =
     let node = reached c.self.invariant (sym (rw c.unwrap-entries.ensures at c.as_mut.ensures.value)) (rw c.in_ok-own.was at c.find.ensures.node) in
     stands node
 
-pub take_before-node-requires : goal.take_before-node-requires
-take_before-node-requires g c =
+pub take_before-value-requires : goal.take_before-value-requires
+take_before-value-requires g c =
     let node = reached c.self.invariant (sym (rw c.unwrap-entries.ensures at c.as_mut.ensures.value)) (rw c.in_ok-own.was at c.find.ensures.node) in
     is_before_it node c.is_after.result c.is_after.ensures c.if-is_after.false
 
@@ -30,28 +30,28 @@ recycle-requires-2-clause-room g c =
 pub overflow_sub-self-2 : goal.overflow_sub-self-2
 overflow_sub-self-2 g c =
     let node = reached c.self.invariant (sym (rw c.unwrap-entries.ensures at c.as_mut.ensures.value)) (rw c.in_ok-own.was at c.find.ensures.node) in
-    some_were_before node c.take_before-node.ensures.taken c.take_before-node.result.1 c.take_before-node.ensures.value
+    some_were_before node c.take_before-value.ensures.taken c.take_before-value.result.0 c.take_before-value.ensures.value
 
 pub invariant_of-self-2 : goal.invariant_of-self-2
 invariant_of-self-2 g c =
     let node = reached c.self.invariant (sym (rw c.unwrap-entries.ensures at c.as_mut.ensures.value)) (rw c.in_ok-own.was at c.find.ensures.node) in
     rw (c.recycle-2.ensures.slots, c.recycle-2.ensures.spares)
-    (sound_before node c.take_before-node.ensures.taken c.take_before-node.result.1 c.take_before-node.ensures.value c.take_before-node.ensures.cursor)
+    (sound_before node c.take_before-value.ensures.taken c.take_before-value.result.0 c.take_before-value.ensures.value _ c.take_before-value.ensures.cursor)
 
 pub returns-clause-step : goal.returns-clause-step
 returns-clause-step g c =
     let node = reached c.self.invariant (sym (rw c.unwrap-entries.ensures at c.as_mut.ensures.value)) (rw c.in_ok-own.was at c.find.ensures.node) in
-    let found = was_before node c.take_before-node.ensures.taken c.take_before-node.result.1 c.take_before-node.ensures.value in
-    let left = left_before node c.take_before-node.ensures.taken c.take_before-node.result.1 c.take_before-node.ensures.value in
+    let found = was_before node c.take_before-value.ensures.taken c.take_before-value.result.0 c.take_before-value.ensures.value in
+    let left = left_before node c.take_before-value.ensures.taken c.take_before-value.result.0 c.take_before-value.ensures.value _ in
     rw (← c.self.view_is, c.recycle-2.ensures.spares) (found, left)
 
-pub take_after-node-requires-clause-node : goal.take_after-node-requires-clause-node
-take_after-node-requires-clause-node g c =
+pub take_after-value-requires-clause-node : goal.take_after-value-requires-clause-node
+take_after-value-requires-clause-node g c =
     let node = reached c.self.invariant (sym (rw c.unwrap-entries.ensures at c.as_mut.ensures.value)) (rw c.in_ok-own.was at c.find.ensures.node) in
     is_after_it node c.is_after.result c.is_after.ensures c.if-is_after.true
 
-pub take_after-node-requires-clause-cursor : goal.take_after-node-requires-clause-cursor
-take_after-node-requires-clause-cursor g c =
+pub take_after-value-requires-clause-cursor : goal.take_after-value-requires-clause-cursor
+take_after-value-requires-clause-cursor g c =
     let node = reached c.self.invariant (sym (rw c.unwrap-entries.ensures at c.as_mut.ensures.value)) (rw c.in_ok-own.was at c.find.ensures.node) in
     cursor_stands node c.is_after.result c.is_after.ensures c.if-is_after.true
 
@@ -68,17 +68,17 @@ recycle-requires-clause-room g c =
 pub overflow_sub-self : goal.overflow_sub-self
 overflow_sub-self g c =
     let node = reached c.self.invariant (sym (rw c.unwrap-entries.ensures at c.as_mut.ensures.value)) (rw c.in_ok-own.was at c.find.ensures.node) in
-    some_were_after node c.take_after-node.ensures.taken c.take_after-node.result.1 c.take_after-node.ensures.value
+    some_were_after node c.take_after-value.ensures.taken c.take_after-value.result.0 c.take_after-value.ensures.value
 
 pub invariant_of-self : goal.invariant_of-self
 invariant_of-self g c =
     let node = reached c.self.invariant (sym (rw c.unwrap-entries.ensures at c.as_mut.ensures.value)) (rw c.in_ok-own.was at c.find.ensures.node) in
     rw (c.recycle.ensures.slots, c.recycle.ensures.spares)
-    (sound_after node c.take_after-node.ensures.taken c.take_after-node.result.1 c.take_after-node.ensures.value c.take_after-node.ensures.cursor)
+    (sound_after node c.take_after-value.ensures.taken c.take_after-value.result.0 c.take_after-value.ensures.value _ c.take_after-value.ensures.cursor)
 
 pub returns-then-is_after-clause-step : goal.returns-then-is_after-clause-step
 returns-then-is_after-clause-step g c =
     let node = reached c.self.invariant (sym (rw c.unwrap-entries.ensures at c.as_mut.ensures.value)) (rw c.in_ok-own.was at c.find.ensures.node) in
-    let found = was_after node c.take_after-node.ensures.taken c.take_after-node.result.1 c.take_after-node.ensures.value in
-    let left = left_after node c.take_after-node.ensures.taken c.take_after-node.result.1 c.take_after-node.ensures.value in
+    let found = was_after node c.take_after-value.ensures.taken c.take_after-value.result.0 c.take_after-value.ensures.value in
+    let left = left_after node c.take_after-value.ensures.taken c.take_after-value.result.0 c.take_after-value.ensures.value _ in
     rw (← c.self.view_is, c.recycle.ensures.spares) (found, left)

@@ -12,8 +12,8 @@ is_after-requires g c =
     let node = reached c.self.invariant (sym (rw c.unwrap-entries.ensures at c.as_mut.ensures.value)) (rw c.in_ok-own.was at c.find.ensures.node) in
     stands node
 
-pub take_before-node-requires : goal.take_before-node-requires
-take_before-node-requires g c =
+pub take_before-value-requires : goal.take_before-value-requires
+take_before-value-requires g c =
     let node = reached c.self.invariant (sym (rw c.unwrap-entries.ensures at c.as_mut.ensures.value)) (rw c.in_ok-own.was at c.find.ensures.node) in
     is_before_it node c.is_after.result c.is_after.ensures c.if-is_after.false
 
@@ -30,19 +30,19 @@ recycle-requires-clause-room g c =
 pub overflow_sub-self : goal.overflow_sub-self
 overflow_sub-self g c =
     let node = reached c.self.invariant (sym (rw c.unwrap-entries.ensures at c.as_mut.ensures.value)) (rw c.in_ok-own.was at c.find.ensures.node) in
-    some_were_before node c.take_before-node.ensures.taken c.take_before-node.result.1 c.take_before-node.ensures.value
+    some_were_before node c.take_before-value.ensures.taken c.take_before-value.result.0 c.take_before-value.ensures.value
 
 pub invariant_of-self-2 : goal.invariant_of-self-2
 invariant_of-self-2 g c =
     let node = reached c.self.invariant (sym (rw c.unwrap-entries.ensures at c.as_mut.ensures.value)) (rw c.in_ok-own.was at c.find.ensures.node) in
     rw (c.recycle.ensures.slots, c.recycle.ensures.spares)
-    (sound_before node c.take_before-node.ensures.taken c.take_before-node.result.1 c.take_before-node.ensures.value c.take_before-node.ensures.cursor)
+    (sound_before node c.take_before-value.ensures.taken c.take_before-value.result.0 c.take_before-value.ensures.value _ c.take_before-value.ensures.cursor)
 
 pub returns-clause-step : goal.returns-clause-step
 returns-clause-step g c =
     let node = reached c.self.invariant (sym (rw c.unwrap-entries.ensures at c.as_mut.ensures.value)) (rw c.in_ok-own.was at c.find.ensures.node) in
-    let found = was_before node c.take_before-node.ensures.taken c.take_before-node.result.1 c.take_before-node.ensures.value in
-    let left = left_before node c.take_before-node.ensures.taken c.take_before-node.result.1 c.take_before-node.ensures.value in
+    let found = was_before node c.take_before-value.ensures.taken c.take_before-value.result.0 c.take_before-value.ensures.value in
+    let left = left_before node c.take_before-value.ensures.taken c.take_before-value.result.0 c.take_before-value.ensures.value _ in
     rw (← c.self.view_is, c.recycle.ensures.spares) (found, left, refl)
 
 pub hand_out-requires : goal.hand_out-requires

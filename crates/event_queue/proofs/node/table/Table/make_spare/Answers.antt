@@ -1,16 +1,13 @@
 use Rattle.std.proofs.Common.{length, arith, ◌≡◌, ap, ◌∙◌}
-use Rattle.event_queue.specs.Ring.{placed}
 use Rattle.event_queue.specs.Nodes.{spare_entry, shown_in}
 use Rattle.event_queue.proofs.Nodes.Slots.{IsTable-grown, length-shown_in, shown_in-longer}
 use Rattle.event_queue.proofs.node.table.Table.make_spare.Goals as goal
 
-pub returns-in-Ok-clause-grows : goal.returns-in-Ok-clause-grows
-returns-in-Ok-clause-grows g c = λ nodes table.
+pub returns-clause-grows : goal.returns-clause-grows
+returns-clause-grows g c = λ nodes table.
     let slots = c.args.self.now.slots in
-    let made = c.in-Ok.ensures.made in
     let at_end : c.len.result ≡ length (shown_in slots.items) =
     omega (arith, c.len.ensures, slots.ok.0, length-shown_in slots.items) in
-    let is = made.0 ∙ c.spare.ensures ∙ ap spare_entry at_end in
-    let node = c.in-Ok.node in
-    rw (c.push_reserved.ensures.items, c.push.ensures, shown_in-longer slots.items c.root.result)
-    (IsTable-grown (shown_in slots.items) nodes c.args.self.now.spares (placed node.at node.entry) is table)
+    let is = c.spare.ensures ∙ ap spare_entry at_end in
+    rw (c.push_reserved.ensures.items, c.push-place.ensures.nodes, shown_in-longer slots.items c.push-place.result)
+    (IsTable-grown (shown_in slots.items) nodes c.args.self.now.spares _ is table)

@@ -1,15 +1,15 @@
 -- `link_last` cuts the last edge in two, at a node that is apart from the others.
 use Rattle.std.proofs.Common.{◌≡◌, ℕ, ◌+◌, List, [], ◌∷◌, ◌++◌, refl, sym, ap, subst, append-nil}
 use mir.Syntax.{a_type}
-use mir.Val.{Val, vptr, vunit}
+use mir.Val.{Val, vptr}
 use mir.MapTy.{inst_fn}
 use base.Fraction.{full_share}
 use base.Logic.{SProp}
 use base.Fml.{Lft, Fml, ftrue, fsep, flft}
 use prog.Wp.{WpFn}
 use types.Kit.{‵, raw, drop, ◌⊛◌, prop, at_ret, ◌$◌, ◌∵◌, !, qed, by, move, keep, split, join, regoal, rewrite, fsplit, fsplit3, fjoin, fjoin3, feq_i, feq_l, use1, use2}
-use types.Part.{whole, sub, look_in}
-use types.Run.{look, store, init, unit_lit, stop, hop, fld, load, of_opd, assigns, assigns_last, first, blocks, exec, returns, enter}
+use types.Part.{whole, sub, agg, look_in}
+use types.Run.{look, store, init, stop, hop, fld, load, of_opd, and_then, no_more, assigns, assigns_last, first, blocks, exec, returns, enter}
 use types.ByLocal.{alloc_all, pass_all, free_all, look_at, get, get_in, through, sets, is, env}
 use contract.Running.{tables}
 use contract.Monad.{fact}
@@ -25,12 +25,13 @@ use denote.Triple.Walked.{Stays, stay_dropped, stay_ref, walk_of, Goes-ref}
 use Rattle.std.proofs.alloc.Calls.{Goes-blank}
 use Rattle.std.proofs.raw_atomic.Walks.{proved_at, leaves}
 use Rattle.std.proofs.VecSteps.Shapes.{after}
+use Rattle.std.proofs.RcSteps.{word, word-Good}
 use Rattle.event_queue.specs.Ring.{Placed, placed, places}
 use Rattle.event_queue.specs.RingMemory.{edge, path, nodes_own, ring_owns}
 use Rattle.event_queue.specs.contracts.node.ring.pointers.Ring as ring
 use Rattle.event_queue.proofs.Ring.Places.{IsNew, last_from, round_cut, apart_linked}
 use Rattle.event_queue.proofs.Ring.Walks.{ring_Good, learn_fact_of_two, link_to_room, none_of_path, ring_val, Fields, handle, fields_stored, edge_out, edge_in, path_cut, path_glue}
-use Rattle.event_queue.proofs.Ring.Walks.{nodes_glue, no_edge_from_null, no_edge_to_null, ensure_two}
+use Rattle.event_queue.proofs.Ring.Walks.{nodes_glue, no_edge_from_null, no_edge_to_null, ensure_three, word_made}
 use Rattle.event_queue.specs.contracts.node.ring.pointers.Ring.link_last.{ended, clauses}
 use Rattle.event_queue.specs.contracts.node.ring.pointers.Ring.link_last.Key.{name as #self}
 use Rattle.event_queue.proofs.node.ring.pointers.Ring.link_last.Statement.{statement}
@@ -73,7 +74,7 @@ link_last_spec 𝓤 𝓛 𝓜 𝓡 wired X L =
     assigns ! (of_opd ! (get ! refl)) (through ! refl (fld ! refl (stop !))) (init ! 5 refl (tt, tt)) $
     assigns ! (of_opd ! (get ! refl)) (through ! refl (fld ! refl (stop !))) (store ! 1 refl (tt, tt)) $
     assigns_last ! (of_opd ! (get ! refl)) (through ! refl (fld ! refl (hop ! (look ! 5 refl) (fld ! refl (stop !))))) (store ! 0 refl (tt, tt)) $
-    exec ! 𝓣.C 𝓣.Λ Ev (after 3 fn.body) (at_ret Ev Post) $ sets ! (of_opd ! (unit_lit !)) refl (tt, tt) $
+    exec ! 𝓣.C 𝓣.Λ Ev (after 3 fn.body) (at_ret Ev Post) $ sets ! (agg ! (and_then ! (get ! refl) (no_more !))) refl (word-Good [] (block_ptr pb po)) $
     move ! (0 ∷ 5 ∷ []) $ edge_in ! lb lo pb po $ move ! (4 ∷ 1 ∷ []) $ edge_in ! pb po tb to $
     rewrite ! 0 (λ (p : Ptr × Ptr). ‵ (edge p.0 p.1)) (λ i. (sym ep i, sym et i)) refl $ rewrite ! 1 (λ (p : Ptr × Ptr). ‵ (edge p.0 p.1)) (λ i. (sym el i, sym ep i)) refl $
     move ! (0 ∷ 2 ∷ []) $ fjoin ! $ move ! (1 ∷ 0 ∷ []) $ fjoin ! $ move ! (1 ∷ 0 ∷ []) $
@@ -85,5 +86,6 @@ link_last_spec 𝓤 𝓛 𝓜 𝓡 wired X L =
     move ! (1 ∷ 0 ∷ []) $ fjoin ! $ move ! (1 ∷ 0 ∷ []) $ fjoin ! $ rewrite ! 1 (λ (ws : List Val). ‵ (cell_at full_share Row.mir ws b o)) (sym ev) refl $ move ! (1 ∷ 0 ∷ []) $
     closes ! tt Row new vs b o $
     feq_i ! (List Val) z.0.4.0 (vptr b o ∷ []) e0 $ fjoin3 ! $ nothing ! $ nothing ! $ fjoin ! $ move ! (1 ∷ 0 ∷ []) $ fjoin ! $ move ! (1 ∷ 2 ∷ []) $ join ! $
-    feq_i ! (List Val) (vunit ∷ []) (vunit ∷ []) refl $ ensure_two ! ((d.at ≡ d.at) × (d.entry ≡ d.entry)) (new.nodes ≡ d.nodes ++ placed node.at node.entry ∷ []) (refl, refl) refl $
-    returns ! (look_at ! 0 refl) $ free_all ! refl $ keep ! (2 ∷ 3 ∷ 1 ∷ 0 ∷ []) $ by ! (leaves 𝓛 En hs c z vunit tt (new, (tt, tt)) (tt, (tt, tt))))))))))))))
+    word_made ! (block_ptr pb po) $
+    ensure_three ! (block_ptr pb po ≡ node.at) ((d.at ≡ d.at) × (d.entry ≡ d.entry)) (new.nodes ≡ d.nodes ++ placed node.at node.entry ∷ []) (sym ep) (refl, refl) refl $
+    returns ! (look_at ! 0 refl) $ free_all ! refl $ keep ! (2 ∷ 3 ∷ 1 ∷ 0 ∷ []) $ by ! (leaves 𝓛 En hs c z (word (block_ptr pb po)) (record { ptr = block_ptr pb po }) (new, (tt, tt)) (tt, (tt, tt))))))))))))))
