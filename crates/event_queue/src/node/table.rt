@@ -136,11 +136,8 @@ impl<A, B> Table<A, B> {
         ensures slots { shown_in self.new.slots.items ≡ slice_set (shown_in self.old.slots.items) slot Option.None }
         ensures spares { self.new.spares ≡ self.old.spares ++ placed room.ptr (spare_entry slot) ∷ [] }
     {
-        let place = self.spares.push(room, Entry::spare(slot));
-        self.slots[slot] = Slot {
-            serial: u64::MAX,
-            place,
-        };
+        self.slots[slot].serial = u64::MAX;
+        self.spares.push(room, Entry::spare(slot));
     }
 
     /// Makes `n` more spare nodes. If it fails it keeps those that it made.
