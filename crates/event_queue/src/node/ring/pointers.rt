@@ -1,4 +1,5 @@
-//! Nodes on the heap, linked in a ring by raw pointers. Every raw pointer of the crate is made and followed here.
+//! Nodes on the heap, linked by raw pointers: in a ring, or in a pile while they are spare. Every raw pointer of the
+//! crate is made and followed here, by eight functions: those with `unsafe`, and `Pile::new`.
 ghost use base.Fml.{ftrue};
 ghost use Rattle.std.specs.Prelude.{◌≡◌, ◌<◌, ⊤, List, [], ◌∷◌, ◌++◌, length};
 ghost use Rattle.std.specs.Coded.{prop_coded};
