@@ -1,11 +1,12 @@
 //! Clocks that free a permit when they are read, so that who waits is told at its deadline.
 use crate::support::{check, new_id};
-use example_until::{Permit, Semaphore};
+use example_until::{Gate, Permit, Semaphore};
 use std::cell::Cell;
 use std::io;
 use std::sync::{self, Wait};
-use std::time::Duration;
-use test_support::{OwnClock, WithClock};
+use std::thread::{self, Threads};
+use std::time::{Clock, Duration};
+use test_support::{OwnClock, Runtime, WithClock};
 
 // A clock that goes on by a second at each reading. From the second reading to the last that it is told to, it frees the
 // permit that it holds, and may take it again at once.
@@ -78,4 +79,44 @@ fn who_is_told_and_too_late_keeps_its_deadline(rt: HostRuntime) {
     let given = answer.expect(&rt, "an answer").is_some();
     check(&rt, "whether a permit is given", given, false);
     check(&rt, "the readings", steals.reads.get(), 6);
+}
+
+// A clock that stands at its beginning.
+#[derive(Drop)]
+struct Still;
+
+impl OwnClock for Still {
+    fn read(&self) -> io::Result<Duration> {
+        Ok(Duration::ZERO)
+    }
+}
+
+// A wait with this limit lasts until the gate is opened. One that ends at once has ended by then.
+fn waits_for_the_gate<R, C>(rt: &R, clock: &C, limit: Duration)
+where
+    R: Runtime + Threads + Sync,
+    C: Wait + Clock + Clone + Sync,
+{
+    let gate = Gate::new(new_id(rt));
+    let passes = || gate.pass(clock, rt.alloc()).wait_timeout(limit);
+    let opens = || {
+        thread::sleep(rt, Duration::from_millis(30));
+        gate.open(rt);
+    };
+    let (passed, ()) = thread::join(rt, passes, opens);
+    check(rt, "whether it passed", passed, Ok(Some(())));
+}
+
+// The greatest limit whose moment can be represented, the next one, and the greatest of all.
+#[test]
+fn the_greatest_limits_end_no_wait(rt: HostRuntime) {
+    let clock = WithClock {
+        rt: &rt,
+        clock: &Still,
+    };
+    let last = Duration::new(u64::MAX / 2, 999_999_999);
+    let next = Duration::from_secs(u64::MAX / 2 + 1);
+    for limit in [last, next, Duration::MAX] {
+        waits_for_the_gate(&rt, &clock, limit);
+    }
 }

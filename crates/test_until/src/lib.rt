@@ -3,10 +3,10 @@
 //! | Module | What it tests |
 //! |---|---|
 //! | `attempts` | how many attempts are made, and which of them while a listener is in the queue; the last one at a deadline; a listener that is told and not needed passes its notification on |
-//! | `polls` | polls by hand: a poll that is not due attempts nothing and wakes nobody; told and dropped; told and too late |
-//! | `deadlines` | who is told at its deadline |
+//! | `polls` | polls by hand: a poll that is not due attempts nothing and wakes nobody; told and dropped, or blocking from then on, or giving its attempt back; told and too late |
+//! | `deadlines` | who is told at its deadline; limits whose moment can't be represented |
 //! | `locks` | the locks, one call after another: permits, a lock, readers that wait for writers, a barrier, a cell and a gate |
-//! | `threads` | 10 threads that make 1,000 calls each, half of them as futures; how often their tasks are polled |
+//! | `threads` | 10 threads that make 1,000 calls each, half of them as futures; how often their tasks are polled; who is woken finds the gate open |
 //!
 //! `support` has what they share.
 #![tactic(auto)]

@@ -1,8 +1,11 @@
 //! Polls by hand.
-use crate::support::{Notes, check, check_woken, new_id, new_task, until_nth};
-use event_listener::Event;
+use crate::support::{Notes, Nth, check, check_woken, new_id, new_task, until_nth};
+use event_listener::{Event, Listener};
+use event_until::Until;
 use example_until::Semaphore;
 use futures::task::Poll;
+use std::time::Duration;
+use test_support::{Runtime, deadline_after};
 
 #[test]
 fn a_poll_that_is_not_due_attempts_nothing(rt: HostRuntime) {
@@ -37,15 +40,62 @@ fn who_is_told_and_fails_listens_anew(rt: HostRuntime) {
     check(&rt, "listeners left", event.total_listeners(&rt), 0);
 }
 
+// What is made of an `Until` that a poll left pending, after two attempts of three.
+#[derive(Clone, Copy)]
+enum End {
+    IntoAttempt,
+    Wait,
+    Timeout,
+    Deadline,
+}
+
+impl End {
+    fn make<R: Runtime>(self, rt: &R, mut until: Until<'_, Nth<'_, R>, R>) {
+        match self {
+            End::IntoAttempt => drop(until.into_attempt()),
+            End::Wait => check(rt, "the wait", until.wait(), Ok(3)),
+            End::Timeout => {
+                let output = until.wait_timeout(Duration::ZERO);
+                check(rt, "the wait", output, Ok(Some(3)));
+            }
+            End::Deadline => {
+                let deadline = deadline_after(rt, Duration::ZERO).expect(rt, "a deadline");
+                check(rt, "the wait", until.wait_deadline(deadline), Ok(Some(3)));
+            }
+        }
+    }
+}
+
+// Of two tasks and a thread that wait the first is told, and tells the next as it ends, as does the second.
+fn passes_on<R: Runtime>(rt: &R, end: End) {
+    let event = Event::new(new_id(rt));
+    let notes = (Notes::new(), Notes::new());
+    let tasks = (new_task(rt), new_task(rt));
+    let mut first = until_nth(rt, rt, &event, &notes.0, 3);
+    let mut second = until_nth(rt, rt, &event, &notes.1, 3);
+    check(rt, "the first", tasks.0.poll(&mut first), Poll::Pending);
+    check(rt, "the second", tasks.1.poll(&mut second), Poll::Pending);
+    let third = event.listen(rt, rt.alloc()).expect(rt, "a listener");
+    check(rt, "told", event.notify_relaxed(rt, 1), 1);
+    check_woken(rt, &tasks.1, false);
+    end.make(rt, first);
+    check_woken(rt, &tasks.1, true);
+    end.make(rt, second);
+    check(rt, "listeners left", event.total_listeners(rt), 1);
+    let told = third.wait_timeout(Duration::ZERO).expect(rt, "an answer");
+    check(rt, "what the third is told", told, Some(()));
+}
+
 #[test]
-fn a_wait_drops_what_a_poll_left(rt: HostRuntime) {
-    let event = Event::new(new_id(&rt));
-    let notes = Notes::new();
-    let task = new_task(&rt);
-    let mut until = until_nth(&rt, &rt, &event, &notes, 4);
-    check(&rt, "the poll", task.poll(&mut until), Poll::Pending);
-    check(&rt, "the wait", until.wait(), Ok(4));
-    check(&rt, "listeners left", event.total_listeners(&rt), 0);
+fn who_is_told_and_gives_its_attempt_back_passes_on(rt: HostRuntime) {
+    passes_on(&rt, End::IntoAttempt);
+}
+
+#[test]
+fn who_is_told_and_then_blocks_passes_on(rt: HostRuntime) {
+    for end in [End::Wait, End::Timeout, End::Deadline] {
+        passes_on(&rt, end);
+    }
 }
 
 #[test]

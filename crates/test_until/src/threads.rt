@@ -1,16 +1,18 @@
 //! Threads that call at once, half of them by futures.
 ghost use Rattle.std.specs.Prelude.{◌≡◌};
 
-use crate::support::{check, new_id};
+use crate::support::{check, new_id, new_task};
 use event_listener::EventIds;
-use event_until::UntilError;
-use example_until::{Barrier, Mutex, Permit, ReadWriteLock, Semaphore, SetOnce};
+use event_until::{Attempt, UntilError};
+use example_until::{Barrier, Gate, Mutex, Permit, ReadWriteLock, Semaphore, SetOnce};
 use futures::Future;
 use futures::executor::block_on;
 use futures::task::{Context, Poll};
-use std::sync::atomic::{AtomicUsize, Ordering};
-use std::thread;
-use test_support::Runtime;
+use futures::test::MockTask;
+use std::sync::atomic::{AtomicBool, AtomicUsize, Ordering};
+use std::thread::{self, Threads};
+use std::time::Duration;
+use test_support::{Runtime, deadline_after};
 
 const THREADS: usize = 10;
 
@@ -208,4 +210,66 @@ fn readers_see_no_half_of_a_write(rt: HostRuntime) {
     check(&rt, "equal", seen.iter().all(|equal| *equal), true);
     let share = lock.read(&rt, rt.alloc()).wait().expect(&rt, "a share");
     check(&rt, "the writes", share.0, THREADS * CALLS / 10);
+}
+
+// How many tasks wait at the gate behind the one that looks.
+const BEHIND: usize = 100;
+
+// Looks at the gate as soon as the task is woken, and needs no lock for that.
+fn finds_it_open<R: Runtime>(
+    rt: &R,
+    gate: &Gate,
+    task: &MockTask,
+    is_looking: &AtomicBool,
+) -> bool {
+    let mut pass = gate.pass(rt, rt.alloc()).into_attempt();
+    is_looking.store(true, Ordering::SeqCst);
+    for _ in rt.forever() {
+        if task.is_woken() {
+            break;
+        }
+    }
+    pass.attempt().is_some()
+}
+
+fn opens<R: Runtime>(rt: &R, gate: &Gate, is_looking: &AtomicBool) {
+    for _ in rt.forever() {
+        if is_looking.load(Ordering::SeqCst) {
+            break;
+        }
+        thread::yield_now();
+    }
+    gate.open(rt);
+}
+
+fn opens_and_then_wakes<R: Runtime + Threads + Sync>(rt: &R) {
+    let gate = Gate::new(new_id(rt));
+    let tasks = (new_task(rt), new_task(rt));
+    let mut first = gate.pass(rt, rt.alloc());
+    check(rt, "the first", tasks.0.poll(&mut first).is_pending(), true);
+    let mut behind = Vec::new(rt.alloc());
+    for _ in 0..BEHIND {
+        let mut pass = gate.pass(rt, rt.alloc());
+        check(rt, "another", tasks.1.poll(&mut pass).is_pending(), true);
+        behind.push(pass).expect(rt, "room");
+    }
+    let is_looking = AtomicBool::new(false);
+    let (is_open, ()) = thread::join(
+        rt,
+        || finds_it_open(rt, &gate, &tasks.0, &is_looking),
+        || opens(rt, &gate, &is_looking),
+    );
+    check(rt, "whether it is open", is_open, true);
+}
+
+// The first is woken while those behind it are still to be notified.
+#[test]
+fn who_is_woken_finds_the_gate_open(rt: HostRuntime) {
+    let end = deadline_after(&rt, Duration::from_secs(2)).expect(&rt, "an end");
+    for _ in rt.forever() {
+        opens_and_then_wakes(&rt);
+        if deadline_after(&rt, Duration::ZERO).expect(&rt, "the time") >= end {
+            break;
+        }
+    }
 }
