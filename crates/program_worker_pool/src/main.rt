@@ -1,69 +1,32 @@
-//! Workers take numbers from one channel, in which a few wait at most, and add up their squares.
+//! Workers take numbers from one channel and add up their squares; then one thread takes numbers from two channels.
 #![tactic(auto)]
 
-use event_channel::{Receiver, RecvError, SendError, Sender, bounded};
-use event_listener::EventIds;
-use std::alloc::Global;
+mod two_channels;
+mod workers;
+
+use std::alloc::AllocGlobal;
+use std::io::Print;
 use std::process::ExitCode;
+use std::random::RandomSource;
 use std::sync::Wait;
-use std::thread::{self, Threads};
+use std::thread::Threads;
 use std::time::Clock;
+use two_channels::urgent_first;
+use workers::sum_of_squares;
 
-const WORKERS: usize = 4;
-
-const NUMBERS: u64 = 1000;
-
-// Sends all numbers. It owns the only sender, so the channel is closed when it ends, for whatever reason.
-fn send_all<R: Wait + Clock + Clone>(numbers: Sender<u64, R>) -> Result<(), SendError<u64>> {
-    for number in 1..=NUMBERS {
-        numbers.send_blocking(number)?;
-    }
+fn run<R>(rt: R) -> anyhow::Result<()>
+where
+    R: Threads + Wait + Clock + RandomSource + AllocGlobal + Print + Copy + Send + Sync + 'static,
+{
+    println!(rt; "{}", sum_of_squares(rt, rt.alloc())?)?;
+    let [first, second, third] = urgent_first(&rt)?;
+    println!(rt; "{first} {second} {third}")?;
     Ok(())
 }
 
-// Receives numbers until the channel is closed and empty. If all workers end early, the channel is closed as well.
-fn add_squares<R: Wait + Clock + Clone>(
-    rt: R,
-    numbers: Receiver<u64, R>,
-) -> Result<u64, RecvError> {
-    let mut sum = 0u64;
-    for _ in rt.forever() {
-        match numbers.recv_blocking() {
-            Ok(number) => sum = sum.saturating_add(number.saturating_mul(number)),
-            Err(RecvError::Closed) => return Ok(sum),
-            Err(error) => return Err(error),
-        }
-    }
-    unreachable!()
-}
-
-fn sum_of_squares<R>(rt: R, alloc: Global) -> anyhow::Result<u64>
-where
-    R: Threads + Wait + Clock + Copy + Send + Sync + 'static,
-{
-    let (sender, receiver) = bounded(&rt, alloc, &mut EventIds::new(), 8)?;
-    let mut workers = Vec::new(alloc);
-    for _ in 0..WORKERS {
-        workers.reserve(1)?;
-        let numbers = receiver.clone()?;
-        workers.push_reserved(thread::spawn(&rt, move || add_squares(rt, numbers))?);
-    }
-    drop(receiver);
-    let sent = send_all(sender);
-    let mut sum = 0u64;
-    for worker in workers {
-        sum = sum.saturating_add(worker.join(&rt)?);
-    }
-    sent?;
-    Ok(sum)
-}
-
 fn main(rt: HostRuntime) -> ExitCode {
-    match sum_of_squares(rt, rt.alloc()) {
-        Ok(sum) => {
-            let _ = rt.println(sum);
-            ExitCode::SUCCESS
-        }
+    match run(rt) {
+        Ok(()) => ExitCode::SUCCESS,
         Err(error) => {
             let _ = rt.eprintln(error);
             ExitCode::FAILURE
