@@ -1,5 +1,5 @@
 //! The loop of a task.
-ghost use Rattle.std.specs.Prelude.{◌≡◌, None, IsSomeAnd};
+ghost use Rattle.std.specs.Prelude.{◌≡◌, ◌⊎◌, None, IsSomeAnd};
 ghost use Rattle.futures.specs.Poll.{IfReady, OnPending};
 ghost use Rattle.futures.specs.Task.{Covers, Keeps};
 ghost use Rattle.event_until.specs.Attempts.{SomeFail, FailsAtLeast, SucceedsOrFails};
@@ -27,6 +27,9 @@ impl<'a, A: Attempt, R: Wait + Clock + Clone> Until<'a, A, R> {
 
         // Where no listener was left, a pending poll has attempted before it listened, and again after that.
         ensures attempted { self.old.listener ≡ None → OnPending result (FailsAtLeast A.fails 2 self.old.attempt self.new.attempt) }
+
+        // A pending poll leaves all as it was, the listener in its place, or has attempted twice or more.
+        ensures stays { OnPending result (((self.new.attempt ≡ self.old.attempt) × (self.new.listener ≡ self.old.listener)) ⊎ FailsAtLeast A.fails 2 self.old.attempt self.new.attempt) }
 
         // A poll that is pending has left a listener of the event, and registered at its source.
         ensures listens { OnPending result (IsSomeAnd self.new.listener (λ listener. listener.event_number ≡ self.new.event_number)) }

@@ -1,5 +1,5 @@
 //! Attempts while a listener is in the queue, and the loop of a task.
-ghost use Rattle.std.specs.Prelude.{◌≡◌, None, IfOk, IfSome, IsSome, IsSomeAnd, OnErr};
+ghost use Rattle.std.specs.Prelude.{◌≡◌, ◌⊎◌, None, IfOk, IfSome, IsSome, IsSomeAnd, OnErr};
 ghost use Rattle.futures.specs.Poll.{IfReady, OnPending};
 ghost use Rattle.futures.specs.Task.{Covers, Keeps};
 ghost use Rattle.event_until.specs.Attempts.{SomeFail, FailsAtLeast, SucceedsAfter};
@@ -65,6 +65,7 @@ where
     ensures pending { IfOk result (λ polled. OnPending polled (SomeFail A.fails attempt.old attempt.new)) }
     ensures failed { OnErr result (SomeFail A.fails attempt.old attempt.new) }
     ensures attempted { left.old ≡ None → IfOk result (λ polled. OnPending polled (FailsAtLeast A.fails 2 attempt.old attempt.new)) }
+    ensures stays { IfOk result (λ polled. OnPending polled (((attempt.new ≡ attempt.old) × (left.new ≡ left.old)) ⊎ FailsAtLeast A.fails 2 attempt.old attempt.new)) }
     ensures listens { IfOk result (λ polled. OnPending polled (IsSome left.new)) }
     ensures registered { IfOk result (λ polled. OnPending polled (IsSomeAnd left.new (λ listener. Covers cx.new (λ s. s ≡ listener.source)))) }
     ensures unlistened { IfOk result (λ polled. IfReady polled (λ _. left.new ≡ None)) }

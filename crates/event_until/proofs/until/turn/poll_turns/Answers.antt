@@ -1,4 +1,4 @@
-use Rattle.std.proofs.Common.{rules, refl}
+use Rattle.std.proofs.Common.{rules, refl, inr}
 use Rattle.std.proofs.lemmas.Result.{err_from_is_err_and}
 use Rattle.event_until.proofs.AttemptLemmas.{SomeFail-append}
 use Rattle.event_until.proofs.until.turn.poll_turns.Goals as goal
@@ -17,7 +17,7 @@ loop-preserved g c =
     let failed = rw c.in-Listens.is at c.in_ok-output.ensures.attempted in
     let event = rw c.in-Listens.is at c.in_ok-output.ensures.event in (
       SomeFail-append _ 2 _ _ _ c.loop.invariant.0 (c.attempt.new.self, (c.loop.attempt, refl, c.in_default-attempt.ensures.failed), failed),
-      (λ _. (c.loop.attempt, c.loop.invariant.0, (c.attempt.new.self, (c.loop.attempt, refl, c.in_default-attempt.ensures.failed), failed))),
+      inr (c.loop.attempt, c.loop.invariant.0, (c.attempt.new.self, (c.loop.attempt, refl, c.in_default-attempt.ensures.failed), failed)),
       (λ _. event),
       Prim.search (rules),
     )
