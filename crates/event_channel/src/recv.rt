@@ -60,6 +60,7 @@ pub(crate) fn received_in_time<T>(
 /// when the channel is closed and empty: what [`recv`](crate::Receiver::recv) returns.
 ///
 /// It may be polled again after it was ready, and then receives another message.
+#[must_use = "nothing is received before it is polled"]
 #[derive(Drop)]
 pub struct Recv<'a, T: Drop, R: Wait + Clock + Clone> {
     receiving: Until<'a, Receiving<'a, T, R>, R>,

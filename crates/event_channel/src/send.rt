@@ -77,6 +77,7 @@ pub(crate) fn unsent_message<'a, T: Drop, R: Wait + Clock + Clone>(
 /// A message that is sent once there is room: the future of [`send`](crate::Sender::send).
 ///
 /// It may be polled until it is ready.
+#[must_use = "nothing is sent before it is polled"]
 #[derive(Drop)]
 pub struct Send<'a, T: Drop, R: Wait + Clock + Clone> {
     // Gone once it was ready.

@@ -8,6 +8,7 @@ use std::marker::Model;
 /// A sink that keeps the first tasks woken, in order, and counts those that come after.
 ///
 /// It allocates when it is made, and a wake allocates nothing.
+#[must_use = "the tasks in it are still to be woken"]
 #[derive(Drop)]
 pub struct Woken<W> {
     tasks: Vec<W>,

@@ -31,6 +31,7 @@ pub(crate) use turn::Turn;
 ///
 /// It may be used again after an output or an error, by any of its calls. A contract sees it as the state of its attempts,
 /// the number of its event, and the listener that a pending poll left.
+#[must_use = "nothing is attempted before it is waited or polled"]
 #[derive(Drop)]
 pub struct Until<'a, A, R: Wait + Clock + Clone> {
     rt: &'a R,

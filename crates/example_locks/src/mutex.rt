@@ -49,6 +49,7 @@ impl<T> Mutex<T> {
     /// The lock, if it is free. A client that finds it held goes no further.
     ///
     /// The call neither allocates nor waits.
+    #[must_use = "the lock is free once its guard is dropped"]
     pub fn try_lock<'a, R: Wait>(&'a self, rt: &'a R) -> Option<MutexGuard<'a, T, R>> {
         let held = try_once(self)?;
         Some(MutexGuard::new(rt, held))

@@ -47,6 +47,7 @@ impl Semaphore {
     /// A permit, if one is free. A client that finds none goes no further.
     ///
     /// The call neither allocates nor waits.
+    #[must_use = "a permit is free once it is dropped"]
     pub fn try_acquire<'a, R: Wait>(&'a self, rt: &'a R) -> Option<Permit<'a, R>>
         ensures { IfSome result (λ permit. permit ≡ 1) }
     {

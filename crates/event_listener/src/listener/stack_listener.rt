@@ -18,6 +18,7 @@ use std::time::{Clock, Duration, Instant};
 ///
 /// It keeps a clone of the runtime value that it was made with and the allocator of its slot, for its own calls and its
 /// drop. What they do, allocate and wait for is said of every [`Listener`].
+#[must_use = "a listener that is dropped waits for nothing"]
 pub struct StackListener<'ev, T, R: Wait + Clock + Clone> {
     pub(super) shared: &'ev Shared<T>,
     pub(super) inner: InnerListener<R>,

@@ -18,6 +18,7 @@ use std::time::Clock;
 /// in the queue for a slot that is dropped.
 ///
 /// A contract sees a slot as the number of its event.
+#[must_use = "no listener stands in the queue before the slot listens"]
 #[derive(Drop)]
 pub struct StackSlot<'ev, T> {
     shared: &'ev Shared<T>,

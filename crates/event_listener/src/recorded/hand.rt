@@ -46,6 +46,7 @@ impl<T: Copy> Note<T> {
 /// A call takes its hand by a `&mut`, so the calls of one hand are made one after another, whatever thread makes them.
 /// A hand can't be cloned. Its notes grow by one with each step, and never shrink. A contract sees a hand as its
 /// number, the number of its event, and its notes.
+#[must_use = "an event is closed with all its hands"]
 #[derive(Drop)]
 pub struct Hand<T> {
     number: usize,

@@ -44,6 +44,7 @@ pub enum RecordedPollError {
 ///
 /// It is no [`Listener`](crate::Listener), since each call takes a hand. A contract sees it as its event, and the key
 /// by which it stands in the queue there.
+#[must_use = "a listener that is dropped waits for nothing"]
 pub struct RecordedListener<'ev, T: Copy + Eq, R: Wait + Clock + Clone> {
     pub(super) event: &'ev RecordedEvent<T>,
     pub(super) key: Key,

@@ -21,6 +21,7 @@ impl<'a, A: Attempt, R: Wait + Clock + Clone> Until<'a, A, R> {
     ///
     /// With the output, or an error, no listener is left. [`UntilError`] says what it allocates and what is left. The
     /// call may wait for the lock of the event.
+    #[must_use = "it may be the output"]
     pub fn poll_in(&mut self, cx: &mut Context<'_>) -> Poll<Result<A::Output, UntilError>>
         ensures ready { IfReady result (λ output. SucceedsOrFails A.fails A.succeeds self.old.attempt output self.new.attempt) }
         ensures pending { OnPending result (SomeFail A.fails self.old.attempt self.new.attempt) }

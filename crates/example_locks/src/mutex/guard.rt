@@ -6,6 +6,7 @@ use std::sync::{self, Wait};
 /// The lock, and by it the value. Dropping it frees the lock, and then notifies one listener, if none is told.
 ///
 /// It keeps the runtime value for its drop, which may wait for the lock of the event.
+#[must_use = "the lock is free once its guard is dropped"]
 pub struct MutexGuard<'a, T, R: Wait> {
     rt: &'a R,
     held: Held<'a, sync::MutexGuard<'a, T>>,

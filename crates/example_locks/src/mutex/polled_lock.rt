@@ -10,6 +10,7 @@ use std::sync::{self, Wait};
 use std::time::Clock;
 
 /// A lock that is polled until it gives its guard. Dropping it before that gives up: if it was told, another one is.
+#[must_use = "nothing is locked before it is polled"]
 #[derive(Drop)]
 pub struct PolledLock<'a, T, R: Wait + Clock + Clone> {
     mutex: &'a Mutex<T>,

@@ -11,6 +11,7 @@ use std::sync::Wait;
 ///
 /// It keeps the runtime value for its drop, which may wait for the lock of the event. A contract sees it as how many
 /// permits it holds.
+#[must_use = "a permit is free once it is dropped"]
 pub struct Permit<'a, R: Wait> {
     rt: &'a R,
     held: Held<'a, Permits<'a>>,
