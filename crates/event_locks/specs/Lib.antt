@@ -1,0 +1,9 @@
+pub mod Line
+pub mod Left
+pub mod Obtained
+pub mod Task
+pub mod Permits
+pub mod Slot
+pub mod Shares
+pub mod Rounds
+pub mod Once

@@ -1,0 +1,23 @@
+-- What a contract sees of the state under a cell's lock.
+use Rattle.std.specs.Prelude.{◌≡◌, ℕ, ◌+◌, ◌<◌, ◌≤◌, length, Bool, true, false}
+use Rattle.event_queue.specs.Queue.{Queue}
+
+-- how many make the value, whether it is set, those that would make it, and those that wait for it
+pub record State (W : Type 0) : Type 0 where
+  pub making : ℕ
+  pub is_set : Bool
+  pub makers : Queue (Unit {0}) W
+  pub readers : Queue (Unit {0}) W
+
+module _ {W : Type 0} where
+  -- those that make the value or were handed the turn to
+  abbrev pub turns : State W → ℕ
+  turns s = s.making + length s.makers.told
+
+  pub record NobodyWaitsInVain (s : State W) : Type 0 where
+    -- while it is not set, one at most makes it, and who waits to make it waits for one that does
+    pub one : s.is_set ≡ false → turns s ≤ 1
+    pub made : s.is_set ≡ false → 0 < length s.makers.waiting → 0 < turns s
+    -- once it is set, nobody waits
+    pub over : s.is_set ≡ true → length s.makers.waiting ≡ 0
+    pub seen : s.is_set ≡ true → length s.readers.waiting ≡ 0

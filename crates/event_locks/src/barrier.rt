@@ -1,0 +1,37 @@
+//! A barrier.
+
+mod rounds;
+
+pub use self::rounds::{Ended, Rounds};
+use crate::lock::{Borrowed, Guard, Hold, Lock, Obtaining, Task};
+use std::alloc::Global;
+use std::sync::Wait;
+use std::time::Clock;
+
+/// Where so many threads and tasks have to arrive before any goes on, round after round.
+pub type Barrier = Lock<Rounds<Task>>;
+
+/// A wait for the others. Dropped before its round has ended, it has not arrived.
+pub type BarrierWait<'a, R> = Obtaining<Rounds<Task>, Borrowed<'a, Rounds<Task>, R>>;
+
+/// A round has ended.
+pub type BarrierWaitResult<'a, R> = Guard<Rounds<Task>, Borrowed<'a, Rounds<Task>, R>>;
+
+impl Lock<Rounds<Task>> {
+    /// A barrier for so many. One for none is one for one. It takes no memory until somebody waits.
+    pub fn new(alloc: Global, parties: usize) -> Self {
+        Lock::of(Rounds::new(alloc, parties))
+    }
+
+    /// Arrives, and waits until all have.
+    pub fn wait<'a, R: Wait + Clock>(&'a self, rt: &'a R, alloc: Global) -> BarrierWait<'a, R> {
+        Obtaining::new(Borrowed { lock: self, rt }, alloc, ())
+    }
+}
+
+impl<H: Hold<Rounds<Task>>> Guard<Rounds<Task>, H> {
+    /// Whether this one was the last to arrive. In each round one is.
+    pub fn is_leader(&self) -> bool {
+        self.grant.is_leader
+    }
+}

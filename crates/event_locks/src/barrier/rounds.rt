@@ -1,0 +1,157 @@
+//! The state of a barrier.
+ghost use Rattle.std.specs.Prelude.{◌≡◌, ◌+◌, ◌≤◌, max, [], length, Some, None, MatchOption, IfOk, IfSome, OnErr, IsTrue};
+ghost use Rattle.event_queue.specs.Exchange.{RegistersWith};
+ghost use Rattle.event_queue.specs.Insert.{Inserts};
+ghost use Rattle.event_queue.specs.Key.{without};
+ghost use Rattle.event_queue.specs.Queue.{order_of};
+ghost use Rattle.event_locks.specs.Line.{HandsOut, Looked, left_by};
+ghost use Rattle.event_locks.specs.Rounds.{NobodyWaitsInVain};
+
+use crate::line::waiters::{Left, hand_all, join_line, leave_line, look_for};
+use crate::line::{Came, Line};
+use event_queue::{Key, List, ListenError, RegisterResult, TaskExchange, WakeSink};
+use std::alloc::Global;
+use std::marker::Model;
+
+/// A round has ended. Whether this one was the last to arrive.
+#[derive(Clone, Copy)]
+pub struct Ended {
+    pub(crate) is_leader: bool,
+}
+
+/// For how many the barrier is, how many have arrived in this round, and their queue.
+#[derive(Drop)]
+pub struct Rounds<W> {
+    parties: usize,
+    arrived: usize,
+    line: List<(), W>,
+}
+
+impl<W> Model for Rounds<W> {
+    ghost use Rattle.event_locks.specs.Rounds.{State, NobodyWaitsInVain};
+
+    ghost Value = { State W };
+
+    ghost view = { λ s. record { parties = s.parties; arrived = s.arrived; line = s.line } };
+
+    ghost invariant = { λ s. NobodyWaitsInVain (record { parties = s.parties; arrived = s.arrived; line = s.line }) };
+}
+
+impl<W> Rounds<W> {
+    /// Nobody has arrived.
+    pub fn new(alloc: Global, parties: usize) -> Self
+        ensures parties { result.parties ≡ parties }
+        ensures arrived { result.arrived ≡ 0 }
+    {
+        Rounds {
+            parties,
+            arrived: 0,
+            line: List::new(alloc),
+        }
+    }
+
+    /// Arrives: the last one ends the round, and wakes all; the others wait.
+    pub fn arrive<S: WakeSink<W>>(&mut self, sink: &mut S) -> Result<Option<Key>, ListenError>
+        ensures arrives { IfOk result (λ ticket. MatchOption ticket ((self.new.arrived ≡ 0) × (self.old.parties ≤ self.old.arrived + 1)) (λ _. self.new.arrived ≡ self.old.arrived + 1)) }
+        ensures parties { self.new.parties ≡ self.old.parties }
+        ensures ends { result ≡ Ok None → HandsOut S.woke (length self.old.line.waiting) self.old.line self.new.line sink.old sink.new }
+        ensures joins { IfOk result (λ ticket. IfSome ticket (λ key. Inserts self.old.line (Ok key) self.new.line)) }
+        ensures refused { OnErr result ((self.new ≡ self.old) × (sink.new ≡ sink.old)) }
+    {
+        if self.arrived + 1 >= self.parties {
+            hand_all(&mut self.line, sink);
+            self.arrived = 0;
+            return Ok(None);
+        }
+        let ticket = join_line(&mut self.line)?;
+        self.arrived += 1;
+        Ok(Some(ticket))
+    }
+
+    /// Whether the round of this one has ended: then it leaves the queue.
+    pub fn look<C, X: TaskExchange<W, C>>(
+        &mut self,
+        key: Key,
+        exchange: &X,
+        on: &mut C,
+    ) -> RegisterResult<()>
+        ensures looked { Looked (X.exchanged exchange.now) on.old result on.new }
+        ensures arrived { self.new.arrived ≡ self.old.arrived }
+        ensures told { length self.new.line.told + left_by result ≡ length self.old.line.told }
+        ensures step { RegistersWith (X.exchanged exchange.now) self.old.line key on.old result self.new.line on.new }
+    {
+        look_for(&mut self.line, key, exchange, on)
+    }
+
+    /// Takes this one out of the queue. Whether its round had ended; else it has not arrived.
+    pub fn leave(&mut self, key: Key) -> bool
+    where
+        W: Drop,
+        ensures told { IsTrue result → self.new.arrived ≡ self.old.arrived }
+        ensures untold { self.old.arrived ≤ self.new.arrived + 1 }
+        ensures others { order_of self.new.line ≡ without key (order_of self.old.line) }
+    {
+        match leave_line(&mut self.line, key) {
+            Left::Told => true,
+            Left::Waited => {
+                self.arrived -= 1;
+                false
+            }
+            Left::Absent => false,
+        }
+    }
+
+    /// Nobody waits in vain: just those wait that have arrived in this round, and one at least has not.
+    pub fn nobody_waits_in_vain(&self)
+        ensures { NobodyWaitsInVain self.now }
+    {
+        let _ = &self.parties;
+    }
+}
+
+impl<W: Drop> Line<W> for Rounds<W> {
+    type Ask = ();
+
+    type Ticket = Key;
+
+    type Grant = Ended;
+
+    fn come<S: WakeSink<W>>(
+        &mut self,
+        _ask: (),
+        sink: &mut S,
+    ) -> Result<Came<Ended, Key>, ListenError> {
+        match self.arrive(sink)? {
+            None => Ok(Came::Granted(Ended { is_leader: true })),
+            Some(key) => Ok(Came::Waits(key)),
+        }
+    }
+
+    fn try_come(&mut self, _ask: ()) -> Option<Ended> {
+        None
+    }
+
+    fn look<C, X: TaskExchange<W, C>>(
+        &mut self,
+        ticket: Key,
+        exchange: &X,
+        on: &mut C,
+    ) -> RegisterResult<Ended>
+        ensures { Looked (X.exchanged exchange.now) on.old result on.new }
+    {
+        match Rounds::look(self, ticket, exchange, on) {
+            RegisterResult::Notified(()) => RegisterResult::Notified(Ended { is_leader: false }),
+            RegisterResult::Registered => RegisterResult::Registered,
+            RegisterResult::NeverInserted => RegisterResult::NeverInserted,
+        }
+    }
+
+    fn leave<S: WakeSink<W>>(&mut self, ticket: Key, _sink: &mut S) -> Option<Ended> {
+        if Rounds::leave(self, ticket) {
+            return Some(Ended { is_leader: false });
+        }
+        None
+    }
+
+    fn give_back<S: WakeSink<W>>(&mut self, _grant: Ended, _sink: &mut S) {}
+}

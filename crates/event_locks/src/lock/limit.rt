@@ -1,0 +1,41 @@
+//! Until when a thread waits.
+ghost use Rattle.std.specs.Prelude.{◌≡◌, None};
+ghost use Rattle.event_locks.specs.declared.lock.limit.Limit.TheVariants.{Never};
+
+use std::time::{Clock, Duration, Instant};
+
+/// Until when a thread waits.
+#[derive(Clone, Copy)]
+pub(crate) enum Limit {
+    Never,
+    At(Instant),
+    Past,
+}
+
+impl Limit {
+    /// The moment so long from now. One that can't be represented never comes, and a clock that can't be read counts as
+    /// one that shows a later time.
+    pub(crate) fn after<R: Clock>(clock: &R, timeout: Duration) -> Self {
+        match Instant::now(clock) {
+            Ok(now) => match now.checked_add(timeout) {
+                Some(moment) => Limit::At(moment),
+                None => Limit::Never,
+            },
+            Err(_) => Limit::Past,
+        }
+    }
+
+    /// How long until then, and `None` where it never comes.
+    pub(crate) fn left<R: Clock>(self, clock: &R) -> Option<Duration>
+        ensures never { self ≡ Never → result ≡ None }
+    {
+        match self {
+            Limit::Never => None,
+            Limit::Past => Some(Duration::ZERO),
+            Limit::At(moment) => Some(match Instant::now(clock) {
+                Ok(now) => moment.saturating_duration_since(now),
+                Err(_) => Duration::ZERO,
+            }),
+        }
+    }
+}

@@ -1,0 +1,83 @@
+//! A mutex.
+
+mod slot;
+
+pub use self::slot::Slot;
+use crate::lock::{Borrowed, Guard, Hold, Lock, Obtaining, Shared, Task};
+use std::alloc::{AllocError, Global};
+use std::ops::{Deref, DerefMut};
+use std::sync::{Arc, Wait};
+use std::time::Clock;
+
+/// A value that one thread or task at a time can use. Those that wait get it first come, first served.
+///
+/// The value stands in the lock while nobody has it, and in the guard of the one that has it: a large one is better boxed.
+pub type Mutex<T> = Lock<Slot<T, Task>>;
+
+/// The value of a mutex. Dropping the guard gives it back.
+pub type MutexGuard<'a, T, R> = Guard<Slot<T, Task>, Borrowed<'a, Slot<T, Task>, R>>;
+
+/// The value of a mutex, by a guard that shares the mutex, and so may go to another thread. Dropping it gives the value
+/// back.
+pub type MutexGuardArc<T, R> = Guard<Slot<T, Task>, Shared<Slot<T, Task>, R>>;
+
+/// A wait for the value of a mutex.
+pub type Locking<'a, T, R> = Obtaining<Slot<T, Task>, Borrowed<'a, Slot<T, Task>, R>>;
+
+/// A wait for the value of a mutex that shares the mutex.
+pub type LockingArc<T, R> = Obtaining<Slot<T, Task>, Shared<Slot<T, Task>, R>>;
+
+impl<T: Drop> Lock<Slot<T, Task>> {
+    /// A mutex round this value, which nobody has. It takes no memory until somebody waits.
+    pub fn new(alloc: Global, value: T) -> Self {
+        Lock::of(Slot::new(alloc, value))
+    }
+
+    /// The value, if nobody has it.
+    pub fn try_lock<'a, R: Wait + Clock>(&'a self, rt: &'a R) -> Option<MutexGuard<'a, T, R>> {
+        let value = self.try_obtain(rt, ())?;
+        Some(Guard::new(Borrowed { lock: self, rt }, value))
+    }
+
+    /// A wait for the value.
+    pub fn lock<'a, R: Wait + Clock>(&'a self, rt: &'a R, alloc: Global) -> Locking<'a, T, R> {
+        Obtaining::new(Borrowed { lock: self, rt }, alloc, ())
+    }
+
+    /// A wait for the value by a guard that may go to another thread. It returns an error if no share of the mutex can be
+    /// made.
+    pub fn lock_arc<R: Wait + Clock + Drop>(
+        this: &Arc<Self, Global>,
+        rt: R,
+        alloc: Global,
+    ) -> Result<LockingArc<T, R>, AllocError> {
+        let lock = Arc::try_clone(this)?;
+        Ok(Obtaining::new(Shared { lock, rt }, alloc, ()))
+    }
+
+    /// The value, without a lock. `None` says that a guard was forgotten, and the value with it.
+    pub fn get_mut(&mut self) -> Option<&mut T> {
+        self.state_mut().get_mut()
+    }
+
+    /// The value. `None` says that a guard was forgotten, and the value with it.
+    pub fn into_inner(self) -> Option<T> {
+        self.into_state().into_inner()
+    }
+}
+
+impl<T: Drop, H: Hold<Slot<T, Task>>> Deref for Guard<Slot<T, Task>, H> {
+    type Target = T;
+
+    #[inline(always)]
+    fn deref(&self) -> &T {
+        &self.grant
+    }
+}
+
+impl<T: Drop, H: Hold<Slot<T, Task>>> DerefMut for Guard<Slot<T, Task>, H> {
+    #[inline(always)]
+    fn deref_mut(&mut self) -> &mut T {
+        &mut self.grant
+    }
+}

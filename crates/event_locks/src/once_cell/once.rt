@@ -1,0 +1,265 @@
+//! The state of a cell that is set once.
+ghost use Rattle.std.specs.Prelude.{◌≡◌, ◌+◌, ◌<◌, ◌≤◌, ◌++◌, true, false, [], length};
+ghost use Rattle.std.specs.List.{FoldsTo};
+ghost use Rattle.event_queue.specs.Queue.{tasks_of};
+ghost use Rattle.event_locks.specs.Line.{HandsOut, Looked, left_by};
+ghost use Rattle.event_locks.specs.Once.{NobodyWaitsInVain};
+
+use crate::line::waiters::{Left, hand_all, hand_out, join_line, leave_line, look_for};
+use crate::line::{Came, Line};
+use event_queue::{Key, List, ListenError, RegisterResult, TaskExchange, WakeSink};
+use std::alloc::Global;
+use std::marker::Model;
+
+/// What one asks a cell for.
+#[derive(Clone, Copy, Debug, PartialEq, Eq)]
+pub enum Want {
+    /// The value, or the turn to make it.
+    Make,
+    /// The value.
+    Use,
+}
+
+/// Where one waits.
+#[derive(Clone, Copy)]
+pub struct Seat {
+    want: Want,
+    key: Key,
+}
+
+/// What one is to do that was granted something.
+#[derive(Clone, Copy)]
+pub enum Turn {
+    /// Make the value.
+    Make,
+    /// It has made the value.
+    Made,
+    /// Use the value: it is set.
+    Use,
+}
+
+/// Whether somebody makes the value, whether it is set, those that would make it, and those that wait for it.
+#[derive(Drop)]
+pub struct Once<W> {
+    making: usize,
+    is_set: bool,
+    makers: List<(), W>,
+    readers: List<(), W>,
+}
+
+impl<W> Model for Once<W> {
+    ghost use Rattle.event_locks.specs.Once.{State, NobodyWaitsInVain};
+
+    ghost Value = { State W };
+
+    ghost view = { λ s. record { making = s.making; is_set = s.is_set; makers = s.makers; readers = s.readers } };
+
+    ghost invariant = { λ s. NobodyWaitsInVain (record { making = s.making; is_set = s.is_set; makers = s.makers; readers = s.readers }) };
+}
+
+impl<W> Once<W> {
+    /// Nobody makes the value.
+    pub fn new(alloc: Global) -> Self
+        ensures unset { result.is_set ≡ false }
+        ensures idle { result.making ≡ 0 }
+    {
+        Once {
+            making: 0,
+            is_set: false,
+            makers: List::new(alloc),
+            readers: List::new(alloc),
+        }
+    }
+
+    /// The turn of one that would make the value, or its key: it waits while another one makes it.
+    pub fn come_to_make(&mut self) -> Result<Result<Turn, Key>, ListenError>
+        ensures kept { self.new.is_set ≡ self.old.is_set }
+    {
+        if self.is_set {
+            return Ok(Ok(Turn::Use));
+        }
+        if self.making > 0 || self.makers.is_notified() {
+            return Ok(Err(join_line(&mut self.makers)?));
+        }
+        self.making = 1;
+        Ok(Ok(Turn::Make))
+    }
+
+    /// The turn of one that would use the value, or its key: it waits until the value is set.
+    pub fn come_to_use(&mut self) -> Result<Result<Turn, Key>, ListenError>
+        ensures kept { self.new.is_set ≡ self.old.is_set }
+    {
+        if self.is_set {
+            return Ok(Ok(Turn::Use));
+        }
+        Ok(Err(join_line(&mut self.readers)?))
+    }
+
+    /// What this one is to do, if it is its turn: then it leaves the queue.
+    pub fn look_to_make<C, X: TaskExchange<W, C>>(
+        &mut self,
+        key: Key,
+        exchange: &X,
+        on: &mut C,
+    ) -> RegisterResult<Turn>
+        ensures looked { Looked (X.exchanged exchange.now) on.old result on.new }
+        ensures kept { self.new.is_set ≡ self.old.is_set }
+    {
+        match look_for(&mut self.makers, key, exchange, on) {
+            RegisterResult::Notified(()) => {
+                if self.is_set {
+                    return RegisterResult::Notified(Turn::Use);
+                }
+                self.making = 1;
+                RegisterResult::Notified(Turn::Make)
+            }
+            RegisterResult::Registered => RegisterResult::Registered,
+            RegisterResult::NeverInserted => RegisterResult::NeverInserted,
+        }
+    }
+
+    /// Whether the value is set, for one that waits for it: then it leaves the queue.
+    pub fn look_to_use<C, X: TaskExchange<W, C>>(
+        &mut self,
+        key: Key,
+        exchange: &X,
+        on: &mut C,
+    ) -> RegisterResult<Turn>
+        ensures looked { Looked (X.exchanged exchange.now) on.old result on.new }
+        ensures kept { self.new.is_set ≡ self.old.is_set }
+    {
+        match look_for(&mut self.readers, key, exchange, on) {
+            RegisterResult::Notified(()) => RegisterResult::Notified(Turn::Use),
+            RegisterResult::Registered => RegisterResult::Registered,
+            RegisterResult::NeverInserted => RegisterResult::NeverInserted,
+        }
+    }
+
+    /// Takes one out of the queue that would make the value, with its turn if it came up.
+    pub fn leave_making(&mut self, key: Key) -> Option<Turn>
+    where
+        W: Drop,
+        ensures kept { self.new.is_set ≡ self.old.is_set }
+    {
+        match leave_line(&mut self.makers, key) {
+            Left::Told => {
+                if self.is_set {
+                    return Some(Turn::Use);
+                }
+                self.making = 1;
+                Some(Turn::Make)
+            }
+            Left::Waited => None,
+            Left::Absent => None,
+        }
+    }
+
+    /// Takes one out of the queue that waits for the value.
+    pub fn leave_using(&mut self, key: Key) -> Option<Turn>
+    where
+        W: Drop,
+        ensures kept { self.new.is_set ≡ self.old.is_set }
+    {
+        match leave_line(&mut self.readers, key) {
+            Left::Told => Some(Turn::Use),
+            Left::Waited => None,
+            Left::Absent => None,
+        }
+    }
+
+    /// Whoever gives its turn up hands it to the next.
+    pub fn give_up<S: WakeSink<W>>(&mut self, sink: &mut S)
+        ensures kept { self.new.is_set ≡ self.old.is_set }
+        ensures next { 0 < self.old.making → (self.new.making ≡ 0) × HandsOut S.woke 1 self.old.makers self.new.makers sink.old sink.new }
+        ensures others { self.new.readers ≡ self.old.readers }
+    {
+        if self.making == 0 {
+            return;
+        }
+        self.making = 0;
+        hand_out(&mut self.makers, 1, sink);
+    }
+
+    /// The value is set, and nobody waits any more.
+    pub fn set<S: WakeSink<W>>(&mut self, sink: &mut S)
+        ensures set { (self.new.is_set ≡ true) × (self.new.making ≡ 0) }
+        ensures makers { length self.new.makers.told ≡ length self.old.makers.told + length self.old.makers.waiting }
+        ensures readers { length self.new.readers.told ≡ length self.old.readers.told + length self.old.readers.waiting }
+        ensures wakes { FoldsTo S.woke sink.old (tasks_of (length self.old.makers.waiting) self.old.makers ++ tasks_of (length self.old.readers.waiting) self.old.readers) sink.new }
+    {
+        self.making = 0;
+        self.is_set = true;
+        hand_all(&mut self.makers, sink);
+        hand_all(&mut self.readers, sink);
+    }
+
+    /// Nobody waits in vain: while the value is not set, one makes it or nobody waits to; once it is set, nobody waits.
+    pub fn nobody_waits_in_vain(&self)
+        ensures { NobodyWaitsInVain self.now }
+    {
+        let _ = &self.making;
+    }
+}
+
+// What came of asking.
+fn came(want: Want, turn: Result<Turn, Key>) -> Came<Turn, Seat> {
+    match turn {
+        Ok(turn) => Came::Granted(turn),
+        Err(key) => Came::Waits(Seat { want, key }),
+    }
+}
+
+impl<W: Drop> Line<W> for Once<W> {
+    type Ask = Want;
+
+    type Ticket = Seat;
+
+    type Grant = Turn;
+
+    fn come<S: WakeSink<W>>(
+        &mut self,
+        ask: Want,
+        _sink: &mut S,
+    ) -> Result<Came<Turn, Seat>, ListenError> {
+        match ask {
+            Want::Make => Ok(came(ask, self.come_to_make()?)),
+            Want::Use => Ok(came(ask, self.come_to_use()?)),
+        }
+    }
+
+    fn try_come(&mut self, _ask: Want) -> Option<Turn> {
+        if self.is_set {
+            return Some(Turn::Use);
+        }
+        None
+    }
+
+    fn look<C, X: TaskExchange<W, C>>(
+        &mut self,
+        ticket: Seat,
+        exchange: &X,
+        on: &mut C,
+    ) -> RegisterResult<Turn>
+        ensures { Looked (X.exchanged exchange.now) on.old result on.new }
+    {
+        match ticket.want {
+            Want::Make => self.look_to_make(ticket.key, exchange, on),
+            Want::Use => self.look_to_use(ticket.key, exchange, on),
+        }
+    }
+
+    fn leave<S: WakeSink<W>>(&mut self, ticket: Seat, _sink: &mut S) -> Option<Turn> {
+        match ticket.want {
+            Want::Make => self.leave_making(ticket.key),
+            Want::Use => self.leave_using(ticket.key),
+        }
+    }
+
+    fn give_back<S: WakeSink<W>>(&mut self, grant: Turn, sink: &mut S) {
+        match grant {
+            Turn::Make => self.give_up(sink),
+            Turn::Made => self.set(sink),
+            Turn::Use => {}
+        }
+    }
+}

@@ -1,0 +1,394 @@
+//! The state of a read-write lock.
+ghost use Rattle.std.specs.Prelude.{◌≡◌, ◌+◌, ◌-◌, ◌<◌, ◌≤◌, ◌^◌, ◌↔◌, [], None, length, IsTrue, IsFalse, IsOk, IfOk, IfSome, OnErr};
+ghost use Rattle.event_queue.specs.Exchange.{RegistersWith};
+ghost use Rattle.event_queue.specs.Insert.{Inserts};
+ghost use Rattle.event_queue.specs.Key.{without};
+ghost use Rattle.event_queue.specs.Queue.{order_of};
+ghost use Rattle.event_locks.specs.Line.{HandsOut, Looked, left_by};
+ghost use Rattle.event_locks.specs.Shares.{IsAWriterThere, NobodyWaitsInVain, NoWriterIsThere, NobodyIsIn, reading, writing};
+
+use crate::line::waiters::{Left, hand_all, hand_out, join_line, leave_line, look_for};
+use crate::line::{Came, Line};
+use event_queue::{Key, List, ListenError, RegisterResult, TaskExchange, WakeSink};
+use std::alloc::Global;
+use std::marker::Model;
+
+/// What one asks for.
+#[derive(Clone, Copy, Debug, PartialEq, Eq)]
+pub enum Access {
+    Read,
+    Write,
+}
+
+/// Where one stands.
+#[derive(Clone, Copy)]
+pub struct Place {
+    access: Access,
+    key: Key,
+}
+
+/// The right to read or to write. It is no `Drop`.
+pub struct Share(Access);
+
+/// How many readers and writers have the value, and the queues of both.
+///
+/// No reader comes in while a writer waits, and a writer that leaves lets all readers in that wait: nobody starves.
+#[derive(Drop)]
+pub struct Shares<W> {
+    readers: usize,
+    writers: usize,
+    read_line: List<(), W>,
+    write_line: List<(), W>,
+}
+
+impl<W> Model for Shares<W> {
+    ghost use Rattle.event_locks.specs.Shares.{State, NobodyWaitsInVain};
+
+    ghost Value = { State W };
+
+    ghost view = { λ s. record { readers = s.readers; writers = s.writers; read_line = s.read_line; write_line = s.write_line } };
+
+    ghost invariant = { λ s. NobodyWaitsInVain (record { readers = s.readers; writers = s.writers; read_line = s.read_line; write_line = s.write_line }) };
+}
+
+impl<W> Shares<W> {
+    /// Nobody has the value.
+    pub fn new(alloc: Global) -> Self
+        ensures reading { reading result ≡ 0 }
+        ensures writing { writing result ≡ 0 }
+    {
+        Shares {
+            readers: 0,
+            writers: 0,
+            read_line: List::new(alloc),
+            write_line: List::new(alloc),
+        }
+    }
+
+    // Whether one reader more can be counted.
+    fn has_room(&self) -> bool
+        ensures { IsTrue result ↔ (reading self.now + length self.now.read_line.waiting + 2 < 2 ^ 64) }
+    {
+        match self.readers.checked_add(self.read_line.total_listeners()) {
+            Some(all) => all < usize::MAX - 1,
+            None => false,
+        }
+    }
+
+    // Whether a writer writes or waits.
+    fn is_wanted(&self) -> bool
+        ensures wanted { IsTrue result → 0 < writing self.now + length self.now.write_line.waiting }
+        ensures unwanted { IsFalse result → writing self.now + length self.now.write_line.waiting ≡ 0 }
+    {
+        if self.writers > 0 {
+            return true;
+        }
+        self.write_line.total_listeners() > 0
+    }
+
+    // Whether somebody has the value or was handed it.
+    fn is_used(&self) -> bool
+        ensures used { IsTrue result → 0 < reading self.now + writing self.now }
+        ensures unused { IsFalse result → reading self.now + writing self.now ≡ 0 }
+    {
+        if self.readers > 0 {
+            return true;
+        }
+        if self.writers > 0 {
+            return true;
+        }
+        if self.read_line.is_notified() {
+            return true;
+        }
+        self.write_line.is_notified()
+    }
+
+    /// Counts a reader, or puts it into its queue.
+    pub fn read(&mut self) -> Result<Option<Key>, ListenError>
+        ensures let_in { result ≡ Ok None → (self.new ≡ record self.old { readers = self.old.readers + 1 }) × NoWriterIsThere self.old }
+        ensures waits { IfOk result (λ key. IfSome key (λ key. Inserts self.old.read_line (Ok key) self.new.read_line × IsAWriterThere self.old)) }
+        ensures others { (self.new.writers ≡ self.old.writers) × (self.new.write_line ≡ self.old.write_line) }
+        ensures refused { OnErr result (self.new.readers ≡ self.old.readers) }
+    {
+        if !self.has_room() {
+            return Err(ListenError::SerialsUsedUp);
+        }
+        if self.is_wanted() {
+            return Ok(Some(join_line(&mut self.read_line)?));
+        }
+        self.readers += 1;
+        Ok(None)
+    }
+
+    /// Counts the writer, or puts it into its queue.
+    pub fn write(&mut self) -> Result<Option<Key>, ListenError>
+        ensures let_in { result ≡ Ok None → (self.new ≡ record self.old { writers = 1 }) × NobodyIsIn self.old }
+        ensures waits { IfOk result (λ key. IfSome key (λ key. Inserts self.old.write_line (Ok key) self.new.write_line × (0 < reading self.old + writing self.old))) }
+        ensures others { (self.new.readers ≡ self.old.readers) × (self.new.read_line ≡ self.old.read_line) }
+        ensures refused { OnErr result (self.new.writers ≡ self.old.writers) }
+    {
+        if self.is_used() {
+            return Ok(Some(join_line(&mut self.write_line)?));
+        }
+        self.writers = 1;
+        Ok(None)
+    }
+
+    /// Counts a reader, if no writer writes or waits.
+    pub fn try_read(&mut self) -> bool
+        ensures let_in { IsTrue result → (self.new ≡ record self.old { readers = self.old.readers + 1 }) × NoWriterIsThere self.old }
+        ensures refused { IsFalse result → self.new ≡ self.old }
+        ensures reason { IsFalse result → NoWriterIsThere self.old → 2 ^ 64 ≤ reading self.old + length self.old.read_line.waiting + 2 }
+    {
+        if !self.has_room() || self.is_wanted() {
+            return false;
+        }
+        self.readers += 1;
+        true
+    }
+
+    /// Counts the writer, if nobody has the value.
+    pub fn try_write(&mut self) -> bool
+        ensures let_in { IsTrue result → (self.new ≡ record self.old { writers = 1 }) × NobodyIsIn self.old }
+        ensures refused { IsFalse result → (self.new ≡ self.old) × (0 < reading self.old + writing self.old) }
+    {
+        if self.is_used() {
+            return false;
+        }
+        self.writers = 1;
+        true
+    }
+
+    /// Whether this reader was let in: then it leaves its queue.
+    pub fn look_read<C, X: TaskExchange<W, C>>(
+        &mut self,
+        key: Key,
+        exchange: &X,
+        on: &mut C,
+    ) -> RegisterResult<()>
+        ensures looked { Looked (X.exchanged exchange.now) on.old result on.new }
+        ensures reading { reading self.new ≡ reading self.old }
+        ensures readers { self.new.readers ≡ self.old.readers + left_by result }
+    {
+        match look_for(&mut self.read_line, key, exchange, on) {
+            RegisterResult::Notified(()) => {
+                self.readers += 1;
+                RegisterResult::Notified(())
+            }
+            RegisterResult::Registered => RegisterResult::Registered,
+            RegisterResult::NeverInserted => RegisterResult::NeverInserted,
+        }
+    }
+
+    /// Whether this writer was let in: then it leaves its queue.
+    pub fn look_write<C, X: TaskExchange<W, C>>(
+        &mut self,
+        key: Key,
+        exchange: &X,
+        on: &mut C,
+    ) -> RegisterResult<()>
+        ensures looked { Looked (X.exchanged exchange.now) on.old result on.new }
+        ensures writing { writing self.new ≡ writing self.old }
+        ensures writers { self.new.writers ≡ self.old.writers + left_by result }
+    {
+        match look_for(&mut self.write_line, key, exchange, on) {
+            RegisterResult::Notified(()) => {
+                self.writers = 1;
+                RegisterResult::Notified(())
+            }
+            RegisterResult::Registered => RegisterResult::Registered,
+            RegisterResult::NeverInserted => RegisterResult::NeverInserted,
+        }
+    }
+
+    /// Takes this reader out of its queue. Whether it was let in.
+    pub fn leave_read(&mut self, key: Key) -> bool
+    where
+        W: Drop,
+        ensures reading { reading self.new ≡ reading self.old }
+        ensures others { order_of self.new.read_line ≡ without key (order_of self.old.read_line) }
+    {
+        match leave_line(&mut self.read_line, key) {
+            Left::Told => {
+                self.readers += 1;
+                true
+            }
+            Left::Waited => false,
+            Left::Absent => false,
+        }
+    }
+
+    /// Takes this writer out of its queue. Whether it was let in. If no other one waits, the readers are let in.
+    pub fn leave_write<S: WakeSink<W>>(&mut self, key: Key, sink: &mut S) -> bool
+    where
+        W: Drop,
+        ensures writing { writing self.new ≡ writing self.old }
+        ensures others { order_of self.new.write_line ≡ without key (order_of self.old.write_line) }
+    {
+        match leave_line(&mut self.write_line, key) {
+            Left::Told => {
+                self.writers = 1;
+                true
+            }
+            Left::Waited => {
+                if self.writers == 0 && self.write_line.total_listeners() == 0 {
+                    hand_all(&mut self.read_line, sink);
+                }
+                false
+            }
+            Left::Absent => false,
+        }
+    }
+
+    /// A reader goes. The first writer is let in if it was the last.
+    pub fn unread<S: WakeSink<W>>(&mut self, sink: &mut S)
+        ensures readers { self.new.readers ≡ self.old.readers - 1 }
+        ensures last { self.old.readers ≡ 1 → length self.old.read_line.told ≡ 0 → HandsOut S.woke 1 self.old.write_line self.new.write_line sink.old sink.new }
+        ensures others { 1 < reading self.old → (self.new.write_line ≡ self.old.write_line) × (sink.new ≡ sink.old) }
+        ensures queue { self.new.read_line ≡ self.old.read_line }
+    {
+        if self.readers == 0 {
+            return;
+        }
+        self.readers -= 1;
+        if self.readers == 0 && !self.read_line.is_notified() {
+            hand_out(&mut self.write_line, 1, sink);
+        }
+    }
+
+    /// The writer goes. All readers are let in that wait, or else the first writer.
+    pub fn unwrite<S: WakeSink<W>>(&mut self, sink: &mut S)
+        ensures writers { self.new.writers ≡ 0 }
+        ensures readers_first { 0 < self.old.writers → 0 < length self.old.read_line.waiting → HandsOut S.woke (length self.old.read_line.waiting) self.old.read_line self.new.read_line sink.old sink.new × (self.new.write_line ≡ self.old.write_line) }
+        ensures else_a_writer { 0 < self.old.writers → length self.old.read_line.waiting ≡ 0 → HandsOut S.woke 1 self.old.write_line self.new.write_line sink.old sink.new }
+        ensures unchanged { self.old.writers ≡ 0 → (self.new ≡ self.old) × (sink.new ≡ sink.old) }
+    {
+        if self.writers == 0 {
+            return;
+        }
+        self.writers = 0;
+        if self.read_line.total_listeners() > self.read_line.listeners_notified() {
+            hand_all(&mut self.read_line, sink);
+        } else {
+            hand_out(&mut self.write_line, 1, sink);
+        }
+    }
+
+    /// The writer reads from here on, and all readers are let in that wait.
+    pub fn downgrade<S: WakeSink<W>>(&mut self, share: Share, sink: &mut S) -> Share
+        ensures reads { 0 < self.old.writers → (self.new.readers ≡ 1) × (self.new.writers ≡ 0) }
+        ensures step { 0 < self.old.writers → HandsOut S.woke (length self.old.read_line.waiting) self.old.read_line self.new.read_line sink.old sink.new }
+        ensures unchanged { self.old.writers ≡ 0 → (self.new ≡ self.old) × (sink.new ≡ sink.old) }
+        ensures queue { self.new.write_line ≡ self.old.write_line }
+    {
+        if self.writers == 0 {
+            return share;
+        }
+        let Share(_) = share;
+        self.writers = 0;
+        self.readers = 1;
+        hand_all(&mut self.read_line, sink);
+        Share(Access::Read)
+    }
+
+    /// The reader writes from here on, if it is the only one.
+    pub fn try_upgrade(&mut self, share: Share) -> Result<Share, Share>
+        ensures alone { IsOk result → (reading self.old ≡ 1) × (self.new ≡ record self.old { readers = 0; writers = 1 }) }
+        ensures refused { OnErr result ((self.new ≡ self.old) × ((self.old.readers ≡ 1) → 0 < length self.old.read_line.told)) }
+    {
+        if self.readers != 1 || self.read_line.is_notified() {
+            return Err(share);
+        }
+        let Share(_) = share;
+        self.readers = 0;
+        self.writers = 1;
+        Ok(Share(Access::Write))
+    }
+
+    /// Nobody waits in vain, and who writes is alone.
+    pub fn nobody_waits_in_vain(&self)
+        ensures { NobodyWaitsInVain self.now }
+    {
+        let _ = &self.readers;
+    }
+}
+
+// What came of asking for it.
+fn came(access: Access, key: Option<Key>) -> Came<Share, Place> {
+    match key {
+        None => Came::Granted(Share(access)),
+        Some(key) => Came::Waits(Place { access, key }),
+    }
+}
+
+// The right, if it was granted.
+fn granted(access: Access, is_told: bool) -> Option<Share> {
+    if is_told {
+        return Some(Share(access));
+    }
+    None
+}
+
+impl<W: Drop> Line<W> for Shares<W> {
+    type Ask = Access;
+
+    type Ticket = Place;
+
+    type Grant = Share;
+
+    fn come<S: WakeSink<W>>(
+        &mut self,
+        ask: Access,
+        _sink: &mut S,
+    ) -> Result<Came<Share, Place>, ListenError> {
+        match ask {
+            Access::Read => Ok(came(ask, self.read()?)),
+            Access::Write => Ok(came(ask, self.write()?)),
+        }
+    }
+
+    fn try_come(&mut self, ask: Access) -> Option<Share> {
+        match ask {
+            Access::Read => granted(ask, self.try_read()),
+            Access::Write => granted(ask, self.try_write()),
+        }
+    }
+
+    fn look<C, X: TaskExchange<W, C>>(
+        &mut self,
+        ticket: Place,
+        exchange: &X,
+        on: &mut C,
+    ) -> RegisterResult<Share>
+        ensures { Looked (X.exchanged exchange.now) on.old result on.new }
+    {
+        match ticket.access {
+            Access::Read => match self.look_read(ticket.key, exchange, on) {
+                RegisterResult::Notified(()) => RegisterResult::Notified(Share(Access::Read)),
+                RegisterResult::Registered => RegisterResult::Registered,
+                RegisterResult::NeverInserted => RegisterResult::NeverInserted,
+            },
+            Access::Write => match self.look_write(ticket.key, exchange, on) {
+                RegisterResult::Notified(()) => RegisterResult::Notified(Share(Access::Write)),
+                RegisterResult::Registered => RegisterResult::Registered,
+                RegisterResult::NeverInserted => RegisterResult::NeverInserted,
+            },
+        }
+    }
+
+    fn leave<S: WakeSink<W>>(&mut self, ticket: Place, sink: &mut S) -> Option<Share> {
+        let is_told = match ticket.access {
+            Access::Read => self.leave_read(ticket.key),
+            Access::Write => self.leave_write(ticket.key, sink),
+        };
+        granted(ticket.access, is_told)
+    }
+
+    fn give_back<S: WakeSink<W>>(&mut self, grant: Share, sink: &mut S) {
+        let Share(access) = grant;
+        match access {
+            Access::Read => self.unread(sink),
+            Access::Write => self.unwrite(sink),
+        }
+    }
+}

@@ -1,0 +1,68 @@
+//! A semaphore.
+
+mod permits;
+
+pub use self::permits::{Permit, Permits};
+use crate::lock::{Borrowed, Guard, Lock, Obtaining, Shared, Task, Waking};
+use std::alloc::{AllocError, Global};
+use std::sync::{Arc, Wait};
+use std::time::Clock;
+
+/// Permits that threads and tasks share. Those that wait get them first come, first served.
+pub type Semaphore = Lock<Permits<Task>>;
+
+/// A permit. Dropping it gives the permit back.
+pub type SemaphoreGuard<'a, R> = Guard<Permits<Task>, Borrowed<'a, Permits<Task>, R>>;
+
+/// A permit that shares its semaphore, and so may go to another thread. Dropping it gives the permit back.
+pub type SemaphoreGuardArc<R> = Guard<Permits<Task>, Shared<Permits<Task>, R>>;
+
+/// A wait for a permit.
+pub type Acquire<'a, R> = Obtaining<Permits<Task>, Borrowed<'a, Permits<Task>, R>>;
+
+/// A wait for a permit that shares its semaphore.
+pub type AcquireArc<R> = Obtaining<Permits<Task>, Shared<Permits<Task>, R>>;
+
+impl Lock<Permits<Task>> {
+    /// A semaphore with so many permits, all free. It takes no memory until somebody waits.
+    pub fn new(alloc: Global, permits: usize) -> Self {
+        Lock::of(Permits::new(alloc, permits))
+    }
+
+    /// How many permits are free. Another thread may take one at once.
+    pub fn available<R: Wait>(&self, rt: &R) -> usize {
+        self.state(rt).free()
+    }
+
+    /// A permit, if one is free.
+    pub fn try_acquire<'a, R: Wait + Clock>(&'a self, rt: &'a R) -> Option<SemaphoreGuard<'a, R>> {
+        let permit = self.try_obtain(rt, ())?;
+        Some(Guard::new(Borrowed { lock: self, rt }, permit))
+    }
+
+    /// A wait for a permit.
+    pub fn acquire<'a, R: Wait + Clock>(&'a self, rt: &'a R, alloc: Global) -> Acquire<'a, R> {
+        Obtaining::new(Borrowed { lock: self, rt }, alloc, ())
+    }
+
+    /// A wait for a permit that may go to another thread. It returns an error if no share of the semaphore can be made.
+    pub fn acquire_arc<R: Wait + Clock>(
+        this: &Arc<Self, Global>,
+        rt: R,
+        alloc: Global,
+    ) -> Result<AcquireArc<R>, AllocError>
+    where
+        R: Drop,
+    {
+        let lock = Arc::try_clone(this)?;
+        Ok(Obtaining::new(Shared { lock, rt }, alloc, ()))
+    }
+
+    /// Adds permits. They go to the first that wait, who are woken, and the others are free. As many as a `usize` holds
+    /// are free at most.
+    pub fn add_permits<R: Wait>(&self, rt: &R, n: usize) {
+        let mut waking = Waking::new();
+        self.state(rt).release(n, &mut waking);
+        waking.finish();
+    }
+}
