@@ -34,6 +34,7 @@ impl<T: Drop> Lock<Slot<T, Task>> {
     }
 
     /// The value, if nobody has it.
+    #[must_use = "a guard that is dropped at once gives back what it holds"]
     pub fn try_lock<'a, R: Wait + Clock>(&'a self, rt: &'a R) -> Option<MutexGuard<'a, T, R>> {
         let value = self.try_obtain(rt, ())?;
         Some(Guard::new(Borrowed { lock: self, rt }, value))

@@ -54,12 +54,14 @@ impl<T> RwLock<T> {
     }
 
     /// The value to be read, if no writer has it or waits for it.
+    #[must_use = "a guard that is dropped at once gives back what it holds"]
     pub fn try_read<'a, R: Wait + Clock>(&'a self, rt: &'a R) -> Option<RwLockReadGuard<'a, T, R>> {
         let share = self.shares.try_obtain(rt, Access::Read)?;
         Some(self.reader(rt, Guard::new(self.borrowed(rt), share)))
     }
 
     /// The value to be written, if nobody has it.
+    #[must_use = "a guard that is dropped at once gives back what it holds"]
     pub fn try_write<'a, R: Wait + Clock>(
         &'a self,
         rt: &'a R,

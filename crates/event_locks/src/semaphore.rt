@@ -35,6 +35,7 @@ impl Lock<Permits<Task>> {
     }
 
     /// A permit, if one is free.
+    #[must_use = "a guard that is dropped at once gives back what it holds"]
     pub fn try_acquire<'a, R: Wait + Clock>(&'a self, rt: &'a R) -> Option<SemaphoreGuard<'a, R>> {
         let permit = self.try_obtain(rt, ())?;
         Some(Guard::new(Borrowed { lock: self, rt }, permit))
