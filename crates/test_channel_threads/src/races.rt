@@ -1,13 +1,16 @@
 //! One thread makes a change and another, which is woken, looks at once: the change comes before the notification. A third
-//! takes the lock of the channel again and again, so that who makes a change may have to wait between its steps.
+//! takes the lock of the channel again and again, so that who makes a change may have to wait between its steps. In the
+//! last test one thread looks while another sends and closes.
 use crate::support::{SharedRuntime, check};
 use event_channel::{Receiver, Sender};
 use std::sync::Wait;
 use std::sync::atomic::{AtomicBool, AtomicUsize, Ordering};
 use std::thread;
 use std::time::Duration;
-use test_channel_support::{Received, Receiving, Sending, Sent, WAYS, full_channel, new_channel};
-use test_support::Runtime;
+use test_channel_support::{
+    Received, Receiving, Sending, Sent, WAYS, full_channel, new_channel, next_of,
+};
+use test_support::{Runtime, deadline_after};
 
 const ROUNDS: usize = 4_000;
 
@@ -150,5 +153,40 @@ fn the_end_is_there<R: SharedRuntime>(rt: &R) {
 fn who_is_woken_finds_the_channel_closed(rt: HostRuntime) {
     for _ in 0..CLOSES {
         the_end_is_there(&rt);
+    }
+}
+
+// What a receiver finds that looks until there is something.
+fn finds<R: Runtime>(rt: &R, receiver: &Receiver<usize, R>, looking: &AtomicUsize) -> Received {
+    looking.fetch_add(1, Ordering::SeqCst);
+    for _ in rt.forever() {
+        let received = next_of(receiver);
+        if received != Received::Empty {
+            return received;
+        }
+    }
+    unreachable!()
+}
+
+fn the_message_is_first<R: SharedRuntime>(rt: &R) {
+    let (sender, receiver) = new_channel(rt, Some(1)).expect(rt, "a channel");
+    let looking = AtomicUsize::new(0);
+    let sends = || {
+        until(rt, &looking, 1);
+        check(rt, "a send", sender.try_send(7).is_ok(), true);
+        check(rt, "whether it was open", sender.close(), true);
+    };
+    let (found, ()) = thread::join(rt, || finds(rt, &receiver, &looking), sends);
+    check(rt, "what is found", found, Received::Message(7));
+}
+
+#[test]
+fn who_looks_finds_the_message_before_the_end(rt: HostRuntime) {
+    let end = deadline_after(&rt, Duration::from_secs(2)).expect(&rt, "an end");
+    for _ in rt.forever() {
+        the_message_is_first(&rt);
+        if deadline_after(&rt, Duration::ZERO).expect(&rt, "the time") >= end {
+            break;
+        }
     }
 }

@@ -40,7 +40,7 @@ fn who_is_told_and_fails_listens_anew(rt: HostRuntime) {
     check(&rt, "listeners left", event.total_listeners(&rt), 0);
 }
 
-// What is made of an `Until` that a poll left pending, after two attempts of three.
+// What is called on an `Until` that a poll left pending. Its third attempt succeeds.
 #[derive(Clone, Copy)]
 enum End {
     IntoAttempt,
@@ -66,7 +66,7 @@ impl End {
     }
 }
 
-// Of two tasks and a thread that wait the first is told, and tells the next as it ends, as does the second.
+// Two tasks and a thread wait. The first task is told; as it ends, the second is; as that ends, the thread is.
 fn passes_on<R: Runtime>(rt: &R, end: End) {
     let event = Event::new(new_id(rt));
     let notes = (Notes::new(), Notes::new());
