@@ -1,7 +1,7 @@
 # help      prints these lines. Times are those of an idle machine with four processors, from nothing. What a check proves is
 #           kept, so the next one of the same sources takes seconds
 # run       compiles and runs the worked rows, with every check at run time, and proves nothing: under a minute
-# test      proves the libraries, and runs all tests and programs, and the programs that must not compile: half an hour at most
+# test      proves the libraries, and runs all tests and programs, and the programs that must not compile: a quarter of an hour
 # gate      proves every crate with its tests, and tries the wrong bodies that the prover must refuse: an hour. A merge
 #           asks for `make test` and `make gate`, as .ci/run runs them
 # prove     proves every crate and its tests, and runs tests and programs, but tries no wrong bodies; `make prove JOBS=4`
