@@ -1,6 +1,8 @@
 -- What a contract sees of the state under a cell's lock.
-use Rattle.std.specs.Prelude.{◌≡◌, ℕ, ◌+◌, ◌<◌, ◌≤◌, length, Bool, true, false}
+use Rattle.std.specs.Prelude.{◌≡◌, ℕ, ◌+◌, ◌<◌, ◌≤◌, length, Bool, true, false, if◌then◌else◌}
 use Rattle.event_queue.specs.Queue.{Queue}
+use Rattle.event_locks.specs.declared.once_cell.once.Turn.{Turn}
+use Rattle.event_locks.specs.declared.once_cell.once.Turn.TheVariants.{Make, Use}
 
 -- how many make the value, whether it is set, those that would make it, and those that wait for it
 pub record State (W : Type 0) : Type 0 where
@@ -13,6 +15,10 @@ module _ {W : Type 0} where
   -- those that make the value or were handed the turn to
   abbrev pub turns : State W → ℕ
   turns s = s.making + length s.makers.told
+
+  -- what one is to do whose turn it is
+  abbrev pub turn_at : State W → Turn
+  turn_at s = (if s.is_set then Use else Make)
 
   pub record NobodyWaitsInVain (s : State W) : Type 0 where
     -- while it is not set, one at most makes it, and who waits to make it waits for one that does

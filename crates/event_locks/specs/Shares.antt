@@ -24,6 +24,10 @@ module _ {W : Type 0} where
   abbrev pub NoWriterIsThere : State W → Type 0
   NoWriterIsThere s = writing s + length s.write_line.waiting ≡ 0
 
+  -- all that read or wait to read are as many as can be counted, with one more and a writer
+  abbrev pub HasNoRoom : State W → Type 0
+  HasNoRoom s = 2 ^ 64 ≤ reading s + length s.read_line.waiting + 2
+
   -- nobody has the value or was handed it
   abbrev pub NobodyIsIn : State W → Type 0
   NobodyIsIn s = reading s + writing s ≡ 0

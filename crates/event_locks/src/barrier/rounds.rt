@@ -1,5 +1,5 @@
 //! The state of a barrier.
-ghost use Rattle.std.specs.Prelude.{◌≡◌, ◌+◌, ◌≤◌, max, [], length, Some, None, MatchOption, IfOk, IfSome, OnErr, IsTrue};
+ghost use Rattle.std.specs.Prelude.{◌≡◌, ◌+◌, ◌<◌, ◌≤◌, max, [], length, Some, None, MatchOption, IfOk, IfErr, IfSome, OnErr, IsTrue};
 ghost use Rattle.event_queue.specs.Exchange.{RegistersWith};
 ghost use Rattle.event_queue.specs.Insert.{Inserts};
 ghost use Rattle.event_queue.specs.Key.{without};
@@ -57,6 +57,7 @@ impl<W> Rounds<W> {
         ensures ends { result ≡ Ok None → HandsOut S.woke (length self.old.line.waiting) self.old.line self.new.line sink.old sink.new }
         ensures joins { IfOk result (λ ticket. IfSome ticket (λ key. Inserts self.old.line (Ok key) self.new.line)) }
         ensures refused { OnErr result ((self.new ≡ self.old) × (sink.new ≡ sink.old)) }
+        ensures reason { IfErr result (λ error. Inserts self.old.line (Err error) self.new.line × (self.old.arrived + 1 < self.old.parties)) }
     {
         if self.arrived + 1 >= self.parties {
             hand_all(&mut self.line, sink);

@@ -1,9 +1,13 @@
 //! The state of a cell that is set once.
-ghost use Rattle.std.specs.Prelude.{◌≡◌, ◌+◌, ◌<◌, ◌≤◌, ◌++◌, true, false, [], length};
+ghost use Rattle.std.specs.Prelude.{◌≡◌, ◌+◌, ◌<◌, ◌≤◌, ◌++◌, true, false, [], length, IfOk, IfErr, IfSome, MatchOption};
 ghost use Rattle.std.specs.List.{FoldsTo};
 ghost use Rattle.event_queue.specs.Queue.{tasks_of};
-ghost use Rattle.event_locks.specs.Line.{HandsOut, Looked, left_by};
-ghost use Rattle.event_locks.specs.Once.{NobodyWaitsInVain};
+ghost use Rattle.event_queue.specs.Exchange.{RegistersWith};
+ghost use Rattle.event_queue.specs.Insert.{Inserts};
+ghost use Rattle.event_queue.specs.Key.{without};
+ghost use Rattle.event_queue.specs.Queue.{order_of};
+ghost use Rattle.event_locks.specs.Line.{HandsOut, Looked, OnGranted, as_told, left_by};
+ghost use Rattle.event_locks.specs.Once.{NobodyWaitsInVain, turn_at, turns};
 
 use crate::line::waiters::{Left, hand_all, hand_out, join_line, leave_line, look_for};
 use crate::line::{Came, Line};
@@ -74,6 +78,10 @@ impl<W> Once<W> {
     /// The turn of one that would make the value, or its key: it waits while another one makes it.
     pub fn come_to_make(&mut self) -> Result<Result<Turn, Key>, ListenError>
         ensures kept { self.new.is_set ≡ self.old.is_set }
+        ensures turn { IfOk result (λ came. IfOk came (λ turn. turn ≡ turn_at self.old)) }
+        ensures waits { IfOk result (λ came. IfErr came (λ key. Inserts self.old.makers (Ok key) self.new.makers × (0 < turns self.old))) }
+        ensures reason { IfErr result (λ error. Inserts self.old.makers (Err error) self.new.makers × (0 < turns self.old)) }
+        ensures readers { self.new.readers ≡ self.old.readers }
     {
         if self.is_set {
             return Ok(Ok(Turn::Use));
@@ -88,6 +96,10 @@ impl<W> Once<W> {
     /// The turn of one that would use the value, or its key: it waits until the value is set.
     pub fn come_to_use(&mut self) -> Result<Result<Turn, Key>, ListenError>
         ensures kept { self.new.is_set ≡ self.old.is_set }
+        ensures turn { IfOk result (λ came. IfOk came (λ turn. (turn ≡ Turn.Use) × (self.old.is_set ≡ true))) }
+        ensures waits { IfOk result (λ came. IfErr came (λ key. Inserts self.old.readers (Ok key) self.new.readers × (self.old.is_set ≡ false))) }
+        ensures reason { IfErr result (λ error. Inserts self.old.readers (Err error) self.new.readers × (self.old.is_set ≡ false)) }
+        ensures makers { (self.new.making ≡ self.old.making) × (self.new.makers ≡ self.old.makers) }
     {
         if self.is_set {
             return Ok(Ok(Turn::Use));
@@ -102,7 +114,9 @@ impl<W> Once<W> {
         exchange: &X,
         on: &mut C,
     ) -> RegisterResult<Turn>
+        ensures step { RegistersWith (X.exchanged exchange.now) self.old.makers key on.old (as_told result) self.new.makers on.new }
         ensures looked { Looked (X.exchanged exchange.now) on.old result on.new }
+        ensures turn { OnGranted result (λ turn. turn ≡ turn_at self.old) }
         ensures kept { self.new.is_set ≡ self.old.is_set }
     {
         match look_for(&mut self.makers, key, exchange, on) {
@@ -125,7 +139,9 @@ impl<W> Once<W> {
         exchange: &X,
         on: &mut C,
     ) -> RegisterResult<Turn>
+        ensures step { RegistersWith (X.exchanged exchange.now) self.old.readers key on.old (as_told result) self.new.readers on.new }
         ensures looked { Looked (X.exchanged exchange.now) on.old result on.new }
+        ensures turn { OnGranted result (λ turn. turn ≡ Turn.Use) }
         ensures kept { self.new.is_set ≡ self.old.is_set }
     {
         match look_for(&mut self.readers, key, exchange, on) {
@@ -139,7 +155,10 @@ impl<W> Once<W> {
     pub fn leave_making(&mut self, key: Key) -> Option<Turn>
     where
         W: Drop,
+        ensures has { MatchOption result (length self.new.makers.told ≡ length self.old.makers.told) (λ _. length self.new.makers.told + 1 ≡ length self.old.makers.told) }
+        ensures turn { IfSome result (λ turn. turn ≡ turn_at self.old) }
         ensures kept { self.new.is_set ≡ self.old.is_set }
+        ensures others { order_of self.new.makers ≡ without key (order_of self.old.makers) }
     {
         match leave_line(&mut self.makers, key) {
             Left::Told => {
@@ -158,7 +177,10 @@ impl<W> Once<W> {
     pub fn leave_using(&mut self, key: Key) -> Option<Turn>
     where
         W: Drop,
+        ensures has { MatchOption result (length self.new.readers.told ≡ length self.old.readers.told) (λ _. length self.new.readers.told + 1 ≡ length self.old.readers.told) }
+        ensures turn { IfSome result (λ turn. turn ≡ Turn.Use) }
         ensures kept { self.new.is_set ≡ self.old.is_set }
+        ensures others { order_of self.new.readers ≡ without key (order_of self.old.readers) }
     {
         match leave_line(&mut self.readers, key) {
             Left::Told => Some(Turn::Use),

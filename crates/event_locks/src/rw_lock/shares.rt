@@ -1,11 +1,11 @@
 //! The state of a read-write lock.
-ghost use Rattle.std.specs.Prelude.{◌≡◌, ◌+◌, ◌-◌, ◌<◌, ◌≤◌, ◌^◌, ◌↔◌, [], None, length, IsTrue, IsFalse, IsOk, IfOk, IfSome, OnErr};
+ghost use Rattle.std.specs.Prelude.{◌≡◌, ◌+◌, ◌-◌, ◌<◌, ◌≤◌, ◌^◌, ◌↔◌, [], None, length, IsTrue, IsFalse, IsOk, IfOk, IfErr, IfSome, OnErr, ◌⊎◌};
 ghost use Rattle.event_queue.specs.Exchange.{RegistersWith};
 ghost use Rattle.event_queue.specs.Insert.{Inserts};
 ghost use Rattle.event_queue.specs.Key.{without};
 ghost use Rattle.event_queue.specs.Queue.{order_of};
 ghost use Rattle.event_locks.specs.Line.{HandsOut, Looked, left_by};
-ghost use Rattle.event_locks.specs.Shares.{IsAWriterThere, NobodyWaitsInVain, NoWriterIsThere, NobodyIsIn, reading, writing};
+ghost use Rattle.event_locks.specs.Shares.{HasNoRoom, IsAWriterThere, NobodyWaitsInVain, NoWriterIsThere, NobodyIsIn, reading, writing};
 
 use crate::line::waiters::{Left, hand_all, hand_out, join_line, leave_line, look_for};
 use crate::line::{Came, Line};
@@ -67,7 +67,8 @@ impl<W> Shares<W> {
 
     // Whether one reader more can be counted.
     fn has_room(&self) -> bool
-        ensures { IsTrue result ↔ (reading self.now + length self.now.read_line.waiting + 2 < 2 ^ 64) }
+        ensures room { IsTrue result → reading self.now + length self.now.read_line.waiting + 2 < 2 ^ 64 }
+        ensures none { IsFalse result → HasNoRoom self.now }
     {
         match self.readers.checked_add(self.read_line.total_listeners()) {
             Some(all) => all < usize::MAX - 1,
@@ -109,6 +110,7 @@ impl<W> Shares<W> {
         ensures waits { IfOk result (λ key. IfSome key (λ key. Inserts self.old.read_line (Ok key) self.new.read_line × IsAWriterThere self.old)) }
         ensures others { (self.new.writers ≡ self.old.writers) × (self.new.write_line ≡ self.old.write_line) }
         ensures refused { OnErr result (self.new.readers ≡ self.old.readers) }
+        ensures reason { IfErr result (λ error. Inserts self.old.read_line (Err error) self.new.read_line ⊎ HasNoRoom self.old) }
     {
         if !self.has_room() {
             return Err(ListenError::SerialsUsedUp);
@@ -126,6 +128,7 @@ impl<W> Shares<W> {
         ensures waits { IfOk result (λ key. IfSome key (λ key. Inserts self.old.write_line (Ok key) self.new.write_line × (0 < reading self.old + writing self.old))) }
         ensures others { (self.new.readers ≡ self.old.readers) × (self.new.read_line ≡ self.old.read_line) }
         ensures refused { OnErr result (self.new.writers ≡ self.old.writers) }
+        ensures reason { IfErr result (λ error. Inserts self.old.write_line (Err error) self.new.write_line × (0 < reading self.old + writing self.old)) }
     {
         if self.is_used() {
             return Ok(Some(join_line(&mut self.write_line)?));
@@ -138,7 +141,7 @@ impl<W> Shares<W> {
     pub fn try_read(&mut self) -> bool
         ensures let_in { IsTrue result → (self.new ≡ record self.old { readers = self.old.readers + 1 }) × NoWriterIsThere self.old }
         ensures refused { IsFalse result → self.new ≡ self.old }
-        ensures reason { IsFalse result → NoWriterIsThere self.old → 2 ^ 64 ≤ reading self.old + length self.old.read_line.waiting + 2 }
+        ensures reason { IsFalse result → NoWriterIsThere self.old → HasNoRoom self.old }
     {
         if !self.has_room() || self.is_wanted() {
             return false;
@@ -167,6 +170,7 @@ impl<W> Shares<W> {
         on: &mut C,
     ) -> RegisterResult<()>
         ensures looked { Looked (X.exchanged exchange.now) on.old result on.new }
+        ensures step { RegistersWith (X.exchanged exchange.now) self.old.read_line key on.old result self.new.read_line on.new }
         ensures reading { reading self.new ≡ reading self.old }
         ensures readers { self.new.readers ≡ self.old.readers + left_by result }
     {
@@ -188,6 +192,7 @@ impl<W> Shares<W> {
         on: &mut C,
     ) -> RegisterResult<()>
         ensures looked { Looked (X.exchanged exchange.now) on.old result on.new }
+        ensures step { RegistersWith (X.exchanged exchange.now) self.old.write_line key on.old result self.new.write_line on.new }
         ensures writing { writing self.new ≡ writing self.old }
         ensures writers { self.new.writers ≡ self.old.writers + left_by result }
     {
@@ -206,6 +211,8 @@ impl<W> Shares<W> {
     where
         W: Drop,
         ensures reading { reading self.new ≡ reading self.old }
+        ensures let_in { IsTrue result → self.new.readers ≡ self.old.readers + 1 }
+        ensures not_yet { IsFalse result → self.new.readers ≡ self.old.readers }
         ensures others { order_of self.new.read_line ≡ without key (order_of self.old.read_line) }
     {
         match leave_line(&mut self.read_line, key) {
@@ -223,6 +230,8 @@ impl<W> Shares<W> {
     where
         W: Drop,
         ensures writing { writing self.new ≡ writing self.old }
+        ensures let_in { IsTrue result → self.new.writers ≡ self.old.writers + 1 }
+        ensures not_yet { IsFalse result → self.new.writers ≡ self.old.writers }
         ensures others { order_of self.new.write_line ≡ without key (order_of self.old.write_line) }
     {
         match leave_line(&mut self.write_line, key) {
