@@ -29,11 +29,6 @@ module _ {X : Type 0} where
   last_from a [] = a
   last_from a (x ∷ xs) = last_from x xs
 
-  -- a list with an end has a first element
-  pub first_of_push : (xs : List X) (t : X) → (y : X) × (ys : List X) × (xs ++ t ∷ [] ≡ y ∷ ys)
-  first_of_push [] t = (t, [], refl)
-  first_of_push (x ∷ xs) t = (x, xs ++ t ∷ [], refl)
-
 true_from_T : (b : Bool) → T b → b ≡ true
 true_from_T true t = refl
 true_from_T false t = absurd t

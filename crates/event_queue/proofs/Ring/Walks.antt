@@ -1,6 +1,6 @@
 -- What the walks of a ring share. Assumes `Logic`.
 --     heap_val, ring_val      the machine values of the heap's handle and of a ring that stands at a pointer
---     Fields, fields_stored, fields_made, fields_open      the ring's own fields: their row, how it is stored, that it is made of nothing, and that it opens behind a `&`
+--     Fields, fields_stored, fields_made      the ring's own fields: their row, how it is stored, and that it is made of nothing
 --     word_stored, word_made      a value of one pointer
 --     edge_out, edge_in, path_cut, path_glue, nodes_cut, nodes_glue      the links and the nodes are taken apart and put together
 --     none_of_path      a node whose links are room is none of a path's
@@ -22,15 +22,15 @@ use types.Kit.{Item, Goal, Seq, Step, Soaks, step, mean, prop, ‵, raw, some, �
 use types.Kit.{fpick, fpack, feq_i, feq_l, rewrite, done}
 use denote.RattleType.{RattleType, Valss}
 use denote.Laws.{Typed, Is, shows}
-use denote.Opens.{Opens, Shut}
-use denote.Copied.{Struct-Copied, plain_Copied}
+use denote.Opens.{Shut}
+use denote.Copied.{plain_Copied}
 use denote.Param.{param, layout}
 use denote.Param.Laws.{Laws, param_laws}
 use denote.Memory.{cell_at, part_at, hidden_shr}
 use denote.RawPtr.{Ptr, RawPtr, block_ptr, null_ptr, ptr_val, coded_ptr, ptr_own, rawptr_pure, lies_at, room_for}
 use denote.Shadow.{makes_shadow}
 use denote.Steps.{nothing, only, peeks, looks, shuts}
-use denote.Struct.Laws.{RawPtr-laws, RawPtr-copy, field_copy}
+use denote.Struct.Laws.{RawPtr-laws}
 use denote.Struct.Struct.{Shape, Struct, within, as_fields}
 use denote.Struct.Owning.{shape}
 use denote.Struct.Declared as Declared
@@ -79,9 +79,6 @@ module _ (R : RattleType) where
   pub fields_made : {M : Type 1} {𝓤 : Ura M} (𝓛 : Logic 𝓤) (p : Ptr) → ent 𝓤 (emp 𝓤) (sem 𝓛 (Fields.own_val (p, (handle, tt)) (ring_val p ∷ [])))
   fields_made 𝓛 p = makes_shadow 𝓛 (Fields.own_val (p, (handle, tt)) (ring_val p ∷ [])) (λ vss. (tt, (tt, ((λ us. (tt, ((λ ws. (tt, (tt, tt))), tt))), tt))))
       ((ptr_val p ∷ [], (heap_val ∷ [], tt)), (refl, (refl, (((vstruct (vcons vunit vnil) ∷ [], tt), (refl, (((vunit ∷ [], tt), (refl, (refl, tt))), tt))), tt))))
-
-  pub fields_open : {M : Type 1} {𝓤 : Ura M} (𝓛 : Logic 𝓤) → Opens 𝓛 Fields
-  fields_open {M} {𝓤 = 𝓤} 𝓛 = (Struct-Copied 𝓛 (shape (ring.the_type R)) (refl, (refl, tt)) (RawPtr-copy.copied M 𝓤 𝓛, ((field_copy Heap.the_type Heap'.the_copy).copied M 𝓤 𝓛, tt))).opens
 
 abbrev one_field : Shape
 one_field = record { name = []; args = []; types = []; fields = RawPtr ∷ [] }
