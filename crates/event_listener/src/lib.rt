@@ -31,7 +31,7 @@
 //! #[derive(Drop)]
 //! pub struct Flag {
 //!     is_set: AtomicBool,
-//!     set: Event<()>,
+//!     set: Event,
 //! }
 //!
 //! impl Flag {

@@ -13,7 +13,7 @@ use thiserror::Error;
 #[derive(Drop)]
 pub struct Desk {
     is_taken: AtomicBool,
-    left: Event<()>,
+    left: Event,
 }
 
 impl Desk {

@@ -13,7 +13,7 @@ use thiserror::Error;
 #[derive(Drop)]
 pub struct Flag {
     is_set: AtomicBool,
-    set: Event<()>,
+    set: Event,
 }
 
 impl Flag {

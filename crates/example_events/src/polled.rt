@@ -54,7 +54,7 @@ impl<R: Wait + Clock + Clone> NextOrder<R> {
     pub fn new(
         rt: &R,
         alloc: Global,
-        stop: &Event<()>,
+        stop: &Event,
         work: &Event<u32>,
     ) -> Result<Self, ListenError> {
         Ok(NextOrder {

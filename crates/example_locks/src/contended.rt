@@ -46,7 +46,7 @@ pub trait Contended<'a>: Copy {
 /// A contract sees it as the number of the event.
 #[derive(Drop)]
 pub struct Clients {
-    freed: Event<()>,
+    freed: Event,
 }
 
 impl Model for Clients {

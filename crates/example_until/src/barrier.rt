@@ -12,7 +12,7 @@ use std::time::Clock;
 pub struct Barrier {
     parties: usize,
     round: Mutex<Round>,
-    ended: Event<()>,
+    ended: Event,
 }
 
 #[derive(Clone, Copy)]

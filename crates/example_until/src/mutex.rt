@@ -11,13 +11,13 @@ use std::time::Clock;
 pub struct Mutex<T> {
     // Nobody waits for this lock: it is only tried.
     value: sync::Mutex<T>,
-    freed: Event<()>,
+    freed: Event,
 }
 
 /// The lock, and by it the value. Dropping it frees the lock, and then notifies one listener, if none is told.
 pub struct MutexGuard<'a, T, R: Wait> {
     value: sync::MutexGuard<'a, T>,
-    freed: &'a Event<()>,
+    freed: &'a Event,
     rt: &'a R,
 }
 

@@ -17,8 +17,8 @@ pub struct ReadWriteLock<T> {
     // Nobody waits for this lock: it is only tried.
     value: RwLock<T>,
     writers_waiting: AtomicUsize,
-    readable: Event<()>,
-    writable: Event<()>,
+    readable: Event,
+    writable: Event,
 }
 
 impl<T> ReadWriteLock<T> {

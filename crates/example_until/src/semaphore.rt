@@ -10,7 +10,7 @@ use std::time::Clock;
 #[derive(Drop)]
 pub struct Semaphore {
     free: AtomicUsize,
-    freed: Event<()>,
+    freed: Event,
 }
 
 /// One permit. Dropping it frees it, and then notifies one listener more.

@@ -9,7 +9,7 @@ use std::time::Clock;
 #[derive(Drop)]
 pub struct SetOnce<T> {
     value: OnceLock<T>,
-    set: Event<()>,
+    set: Event,
 }
 
 /// What waits for the value.
