@@ -1,5 +1,6 @@
 //! Why there is no output.
 use event_listener::{ListenError, NeverInserted, WaitError, WaitReason};
+use std::alloc::AllocError;
 use thiserror::Error;
 
 /// Why [`Until`](crate::Until) gave no output. No listener is left, and it may be waited or polled again.
@@ -15,6 +16,21 @@ pub enum UntilError {
     /// this.
     #[error("{0}")]
     NeverInserted(#[from] NeverInserted),
+    /// There was no memory for what an attempt makes, as a guard's clone of the runtime value. `Until` itself does not
+    /// return this.
+    #[error("no memory for an attempt")]
+    Memory,
+}
+
+impl From<AllocError> for UntilError {
+    ghost use Rattle.std.specs.Prelude.{◌≡◌};
+    ghost use Rattle.event_until.specs.declared.error.UntilError.TheVariants.{Memory};
+
+    ghost from_gives = { λ _ error. error ≡ Memory };
+
+    fn from(_refused: AllocError) -> UntilError {
+        UntilError::Memory
+    }
 }
 
 impl From<WaitReason> for UntilError {

@@ -6,6 +6,7 @@
 //! | `polls` | polls by hand: a poll that is not due attempts nothing and wakes nobody; told and dropped, or blocking from then on, or giving its attempt back; told and too late |
 //! | `deadlines` | who is told at its deadline; limits whose moment can't be represented |
 //! | `locks` | the locks, one call after another: permits, a lock, readers that wait for writers, a barrier, a cell and a gate |
+//! | `shared` | the watch and the baton, one call after another |
 //! | `threads` | 10 threads that make 1,000 calls each, half of them as futures; how often their tasks are polled; who is woken finds the gate open |
 //!
 //! `support` has what they share.
@@ -19,6 +20,8 @@ mod deadlines;
 mod locks;
 #[cfg(test)]
 mod polls;
+#[cfg(test)]
+mod shared;
 #[cfg(test)]
 mod support;
 #[cfg(test)]

@@ -24,6 +24,22 @@ fn a_poll_that_is_not_due_attempts_nothing(rt: HostRuntime) {
 }
 
 #[test]
+fn a_poll_that_is_not_due_keeps_its_place(rt: HostRuntime) {
+    let event = Event::new(new_id(&rt));
+    let notes = Notes::new();
+    let first = new_task(&rt);
+    let second = new_task(&rt);
+    let mut one = until_nth(&rt, &rt, &event, &notes, 9);
+    let mut other = until_nth(&rt, &rt, &event, &notes, 9);
+    check(&rt, "the first", first.poll(&mut one), Poll::Pending);
+    check(&rt, "the second", second.poll(&mut other), Poll::Pending);
+    check(&rt, "not due", first.poll(&mut one), Poll::Pending);
+    check(&rt, "told", event.notify_relaxed(&rt, 1), 1);
+    check_woken(&rt, &first, true);
+    check_woken(&rt, &second, false);
+}
+
+#[test]
 fn who_is_told_and_fails_listens_anew(rt: HostRuntime) {
     let event = Event::new(new_id(&rt));
     let notes = Notes::new();
