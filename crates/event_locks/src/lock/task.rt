@@ -90,7 +90,7 @@ impl WakeSink<Task> for Waking {
     }
 }
 
-/// Stores the task that it is given, if none is stored.
+/// Stores the task that it is given, in the place of any that is stored: that may be of a task that polled before.
 pub(crate) struct Parks {}
 
 impl TaskExchange<Task, Option<Task>> for Parks {
@@ -99,9 +99,9 @@ impl TaskExchange<Task, Option<Task>> for Parks {
     fn exchange(&self, on: &mut Option<Task>, stored: Option<Task>) -> Task
         ensures { ⊤ }
     {
-        match stored {
+        match on.take() {
             Some(task) => task,
-            None => match on.take() {
+            None => match stored {
                 Some(task) => task,
                 None => Task(TaskKind::Nobody),
             },
