@@ -2,9 +2,8 @@
 ghost use Rattle.std.specs.Prelude.{◌≡◌};
 
 use crate::support::{check, new_id, new_task};
-use event_listener::EventIds;
 use event_until::{Attempt, UntilError};
-use example_until::{Barrier, Gate, Mutex, Permit, ReadWriteLock, Semaphore, SetOnce};
+use example_until::{Gate, Permit, Semaphore};
 use futures::Future;
 use futures::executor::block_on;
 use futures::task::{Context, Poll};
@@ -48,45 +47,17 @@ impl<F: Future> Future for Counted<'_, F> {
     }
 }
 
-fn add<'a, R: Runtime>(rt: &'a R, mutex: &'a Mutex<usize>, polls: &AtomicUsize, thread: usize) {
-    for _ in 0..CALLS {
-        let mut count = if thread % 2 == 0 {
-            mutex.lock(rt, rt.alloc()).wait().expect(rt, "the lock")
-        } else {
-            let locking = Counted::new(mutex.lock(rt, rt.alloc()), polls);
-            let locked = block_on(rt, locking).expect(rt, "an executor");
-            locked.expect(rt, "the lock")
-        };
-        *count = count.saturating_add(1);
-    }
-}
-
-// A poll is either the first of its task or due to a notification, of which each guard makes one. That leaves room for one
-// more each task.
-#[test]
-fn a_lock_counts_and_its_tasks_rest(rt: HostRuntime) {
-    let mutex = Mutex::new(new_id(&rt), 0);
-    let polls = AtomicUsize::new(0);
-    let adds = |thread| add(&rt, &mutex, &polls, thread);
-    let done = thread::map_indices(&rt, rt.alloc(), THREADS, &adds);
-    check(&rt, "the threads", done.is_ok(), true);
-    let count = mutex.lock(&rt, rt.alloc()).wait().expect(&rt, "the lock");
-    check(&rt, "the count", *count, THREADS * CALLS);
-    let polls = polls.load(Ordering::SeqCst);
-    let most = 2 * (THREADS / 2) * CALLS + THREADS * CALLS;
-    check(&rt, "at most so many polls", polls.max(most), most);
-}
-
 fn acquire<'a, R: Runtime>(
     rt: &'a R,
     semaphore: &'a Semaphore,
+    polls: &AtomicUsize,
     thread: usize,
 ) -> Result<Permit<'a, R>, UntilError> {
     let mut acquiring = semaphore.acquire(rt, rt.alloc());
     if thread % 2 == 0 {
         acquiring.wait()
     } else {
-        block_on(rt, acquiring).expect(rt, "an executor")
+        block_on(rt, Counted::new(acquiring, polls)).expect(rt, "an executor")
     }
 }
 
@@ -95,11 +66,12 @@ fn take_turns<R: Runtime>(
     rt: &R,
     semaphore: &Semaphore,
     out: &AtomicUsize,
+    polls: &AtomicUsize,
     thread: usize,
 ) -> usize {
     let mut most = 0usize;
     for _ in 0..CALLS {
-        let permit = acquire(rt, semaphore, thread).expect(rt, "a permit");
+        let permit = acquire(rt, semaphore, polls, thread).expect(rt, "a permit");
         let before = out.fetch_add(1, Ordering::SeqCst);
         most = most.max(before.saturating_add(1));
         out.fetch_sub(1, Ordering::SeqCst);
@@ -108,11 +80,14 @@ fn take_turns<R: Runtime>(
     most
 }
 
+// A poll is either the first of its task or due to a notification, of which each permit makes one. That leaves room for one
+// more each task.
 #[test]
-fn no_more_permits_are_out_than_there_are(rt: HostRuntime) {
+fn no_more_permits_are_out_than_there_are_and_tasks_rest(rt: HostRuntime) {
     let semaphore = Semaphore::new(new_id(&rt), 3);
     let out = AtomicUsize::new(0);
-    let turns = |thread| take_turns(&rt, &semaphore, &out, thread);
+    let polls = AtomicUsize::new(0);
+    let turns = |thread| take_turns(&rt, &semaphore, &out, &polls, thread);
     let seen = thread::map_indices(&rt, rt.alloc(), THREADS, &turns);
     let seen = seen.expect(&rt, "the threads");
     let most = seen.iter().copied().max().unwrap_or(0);
@@ -122,94 +97,9 @@ fn no_more_permits_are_out_than_there_are(rt: HostRuntime) {
         semaphore.try_acquire(&rt).is_some(),
     );
     check(&rt, "permits at the end", permits, (true, true));
-}
-
-// How many rounds this thread was the last to arrive in.
-fn arrive<'a, R: Runtime>(rt: &'a R, barrier: &'a Barrier, thread: usize) -> usize {
-    let mut ended = 0usize;
-    for _ in 0..CALLS {
-        let mut arriving = barrier.arrive(rt, rt.alloc());
-        let is_last = if thread % 2 == 0 {
-            arriving.wait().expect(rt, "the others")
-        } else {
-            let arrived = block_on(rt, arriving).expect(rt, "an executor");
-            arrived.expect(rt, "the others")
-        };
-        ended = ended.saturating_add(usize::from(is_last));
-    }
-    ended
-}
-
-#[test]
-fn each_round_of_a_barrier_has_one_last(rt: HostRuntime) {
-    let barrier = Barrier::new(new_id(&rt), THREADS);
-    let rounds = |thread| arrive(&rt, &barrier, thread);
-    let ended = thread::map_indices(&rt, rt.alloc(), THREADS, &rounds);
-    let ended = ended.expect(&rt, "the threads");
-    let rounds = ended.iter().fold(0usize, |sum, n| sum.saturating_add(*n));
-    check(&rt, "the rounds", rounds, CALLS);
-}
-
-fn get_or_set<'a, R: Runtime>(rt: &'a R, cell: &'a SetOnce<usize>, thread: usize) -> usize {
-    if thread == 0 {
-        let _ = cell.set(rt, 7);
-    }
-    let mut get = cell.get(rt, rt.alloc());
-    if thread % 2 == 0 {
-        *get.wait().expect(rt, "the value")
-    } else {
-        let got = block_on(rt, get).expect(rt, "an executor");
-        *got.expect(rt, "the value")
-    }
-}
-
-#[test]
-fn all_get_what_one_sets(rt: HostRuntime) {
-    let cell = SetOnce::new(new_id(&rt));
-    let gets = |thread| get_or_set(&rt, &cell, thread);
-    let values = thread::map_indices(&rt, rt.alloc(), THREADS, &gets);
-    let values = values.expect(&rt, "the threads");
-    check(&rt, "all", values.iter().all(|value| *value == 7), true);
-}
-
-// Of each ten calls one writes. Answers whether every reader saw two equal numbers.
-fn read_or_write<'a, R: Runtime>(
-    rt: &'a R,
-    lock: &'a ReadWriteLock<(usize, usize)>,
-    thread: usize,
-) -> bool {
-    let mut equal = true;
-    for call in 0..CALLS {
-        if call % 10 == thread {
-            let mut write = lock.write(rt, rt.alloc());
-            let mut value = if thread % 2 == 0 {
-                write.wait().expect(rt, "the value")
-            } else {
-                let written = block_on(rt, write).expect(rt, "an executor");
-                written.expect(rt, "the value")
-            };
-            value.0 = value.0.saturating_add(1);
-            value.1 = value.1.saturating_add(1);
-        } else {
-            let share = lock.read(rt, rt.alloc()).wait().expect(rt, "a share");
-            equal = equal && share.0 == share.1;
-        }
-    }
-    equal
-}
-
-#[test]
-fn readers_see_no_half_of_a_write(rt: HostRuntime) {
-    let mut ids = EventIds::new();
-    let readable = ids.next().expect(&rt, "an identity");
-    let writable = ids.next().expect(&rt, "a second identity");
-    let lock = ReadWriteLock::new(readable, writable, (0, 0));
-    let turns = |thread| read_or_write(&rt, &lock, thread);
-    let seen = thread::map_indices(&rt, rt.alloc(), THREADS, &turns);
-    let seen = seen.expect(&rt, "the threads");
-    check(&rt, "equal", seen.iter().all(|equal| *equal), true);
-    let share = lock.read(&rt, rt.alloc()).wait().expect(&rt, "a share");
-    check(&rt, "the writes", share.0, THREADS * CALLS / 10);
+    let polls = polls.load(Ordering::SeqCst);
+    let most = 2 * (THREADS / 2) * CALLS + THREADS * CALLS;
+    check(&rt, "at most so many polls", polls.max(most), most);
 }
 
 // How many tasks wait at the gate behind the one that looks.
