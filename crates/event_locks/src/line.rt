@@ -33,8 +33,8 @@ pub trait Line<W> {
         sink: &mut S,
     ) -> Result<Came<Self::Grant, Self::Ticket>, ListenError>;
 
-    /// Grants it at once, if nothing is in the way.
-    fn try_come(&mut self, ask: Self::Ask) -> Option<Self::Grant>;
+    /// Grants it at once, if nothing is in the way; else nothing changes.
+    fn try_come<S: WakeSink<W>>(&mut self, ask: Self::Ask, sink: &mut S) -> Option<Self::Grant>;
 
     /// What the asker was handed, which then leaves the queue; else it waits on, with the task that the exchange makes.
     fn look<C, X: TaskExchange<W, C>>(

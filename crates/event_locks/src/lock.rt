@@ -99,7 +99,10 @@ impl<S> Lock<S> {
 impl<S: Line<Task>> Lock<S> {
     #[inline(always)]
     pub(crate) fn try_obtain<R: Wait>(&self, rt: &R, ask: S::Ask) -> Option<S::Grant> {
-        self.state.lock(rt).try_come(ask)
+        let mut waking = Waking::new();
+        let grant = self.state.lock(rt).try_come(ask, &mut waking);
+        waking.finish();
+        grant
     }
 
     // A thread asks or looks, and stores its task if it waits on. What that handed out is woken once the lock is given

@@ -1,5 +1,5 @@
 //! The state of a barrier.
-ghost use Rattle.std.specs.Prelude.{◌≡◌, ◌+◌, ◌<◌, ◌≤◌, max, [], length, Some, None, MatchOption, IfOk, IfErr, IfSome, OnErr, IsTrue};
+ghost use Rattle.std.specs.Prelude.{◌≡◌, ◌+◌, ◌<◌, ◌≤◌, max, [], length, Some, None, MatchOption, IfOk, IfErr, IfSome, OnErr, IsTrue, IsFalse};
 ghost use Rattle.event_queue.specs.Exchange.{RegistersWith};
 ghost use Rattle.event_queue.specs.Insert.{Inserts};
 ghost use Rattle.event_queue.specs.Key.{without};
@@ -50,6 +50,20 @@ impl<W> Rounds<W> {
         }
     }
 
+    /// Ends the round if all others have arrived, and wakes them.
+    pub fn try_end<S: WakeSink<W>>(&mut self, sink: &mut S) -> bool
+        ensures ends { IsTrue result → (self.old.parties ≤ self.old.arrived + 1) × (self.new.arrived ≡ 0) × HandsOut S.woke (length self.old.line.waiting) self.old.line self.new.line sink.old sink.new }
+        ensures early { IsFalse result → (self.old.arrived + 1 < self.old.parties) × (self.new ≡ self.old) × (sink.new ≡ sink.old) }
+        ensures parties { self.new.parties ≡ self.old.parties }
+    {
+        if self.arrived + 1 < self.parties {
+            return false;
+        }
+        hand_all(&mut self.line, sink);
+        self.arrived = 0;
+        true
+    }
+
     /// Arrives: the last one ends the round, and wakes all; the others wait.
     pub fn arrive<S: WakeSink<W>>(&mut self, sink: &mut S) -> Result<Option<Key>, ListenError>
         ensures arrives { IfOk result (λ ticket. MatchOption ticket ((self.new.arrived ≡ 0) × (self.old.parties ≤ self.old.arrived + 1)) (λ _. self.new.arrived ≡ self.old.arrived + 1)) }
@@ -59,9 +73,7 @@ impl<W> Rounds<W> {
         ensures refused { OnErr result ((self.new ≡ self.old) × (sink.new ≡ sink.old)) }
         ensures reason { IfErr result (λ error. Inserts self.old.line (Err error) self.new.line × (self.old.arrived + 1 < self.old.parties)) }
     {
-        if self.arrived + 1 >= self.parties {
-            hand_all(&mut self.line, sink);
-            self.arrived = 0;
+        if self.try_end(sink) {
             return Ok(None);
         }
         let ticket = join_line(&mut self.line)?;
@@ -128,8 +140,11 @@ impl<W: Drop> Line<W> for Rounds<W> {
         }
     }
 
-    fn try_come(&mut self, _ask: ()) -> Option<Ended> {
-        None
+    fn try_come<S: WakeSink<W>>(&mut self, _ask: (), sink: &mut S) -> Option<Ended> {
+        if !self.try_end(sink) {
+            return None;
+        }
+        Some(Ended { is_leader: true })
     }
 
     fn look<C, X: TaskExchange<W, C>>(

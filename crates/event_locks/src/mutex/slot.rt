@@ -159,7 +159,7 @@ impl<T: Drop, W: Drop> Line<W> for Slot<T, W> {
         Ok(Came::Waits(self.join()?))
     }
 
-    fn try_come(&mut self, _ask: ()) -> Option<T> {
+    fn try_come<S: WakeSink<W>>(&mut self, _ask: (), _sink: &mut S) -> Option<T> {
         self.try_take()
     }
 

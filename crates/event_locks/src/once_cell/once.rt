@@ -1,5 +1,5 @@
 //! The state of a cell that is set once.
-ghost use Rattle.std.specs.Prelude.{◌≡◌, ◌+◌, ◌<◌, ◌≤◌, ◌++◌, true, false, [], length, IfOk, IfErr, IfSome, MatchOption};
+ghost use Rattle.std.specs.Prelude.{◌≡◌, ◌+◌, ◌<◌, ◌≤◌, ◌++◌, true, false, [], length, None, IfOk, IfErr, IfSome, MatchOption};
 ghost use Rattle.std.specs.List.{FoldsTo};
 ghost use Rattle.event_queue.specs.Queue.{tasks_of};
 ghost use Rattle.event_queue.specs.Exchange.{RegistersWith};
@@ -75,6 +75,33 @@ impl<W> Once<W> {
         }
     }
 
+    /// The turn of one that would make the value, unless another one makes it.
+    pub fn try_make(&mut self) -> Option<Turn>
+        ensures kept { self.new.is_set ≡ self.old.is_set }
+        ensures turn { IfSome result (λ turn. turn ≡ turn_at self.old) }
+        ensures none { result ≡ None → (self.new ≡ self.old) × (self.old.is_set ≡ false) × (0 < turns self.old) }
+        ensures queues { (self.new.makers ≡ self.old.makers) × (self.new.readers ≡ self.old.readers) }
+    {
+        if self.is_set {
+            return Some(Turn::Use);
+        }
+        if self.making > 0 || self.makers.is_notified() {
+            return None;
+        }
+        self.making = 1;
+        Some(Turn::Make)
+    }
+
+    /// The turn of one that would use the value, if it is set.
+    pub fn try_use(&self) -> Option<Turn>
+        ensures { MatchOption result (self.now.is_set ≡ false) (λ turn. (turn ≡ Turn.Use) × (self.now.is_set ≡ true)) }
+    {
+        if self.is_set {
+            return Some(Turn::Use);
+        }
+        None
+    }
+
     /// The turn of one that would make the value, or its key: it waits while another one makes it.
     pub fn come_to_make(&mut self) -> Result<Result<Turn, Key>, ListenError>
         ensures kept { self.new.is_set ≡ self.old.is_set }
@@ -83,14 +110,10 @@ impl<W> Once<W> {
         ensures reason { IfErr result (λ error. Inserts self.old.makers (Err error) self.new.makers × (0 < turns self.old)) }
         ensures readers { self.new.readers ≡ self.old.readers }
     {
-        if self.is_set {
-            return Ok(Ok(Turn::Use));
+        if let Some(turn) = self.try_make() {
+            return Ok(Ok(turn));
         }
-        if self.making > 0 || self.makers.is_notified() {
-            return Ok(Err(join_line(&mut self.makers)?));
-        }
-        self.making = 1;
-        Ok(Ok(Turn::Make))
+        Ok(Err(join_line(&mut self.makers)?))
     }
 
     /// The turn of one that would use the value, or its key: it waits until the value is set.
@@ -249,11 +272,11 @@ impl<W: Drop> Line<W> for Once<W> {
         }
     }
 
-    fn try_come(&mut self, _ask: Want) -> Option<Turn> {
-        if self.is_set {
-            return Some(Turn::Use);
+    fn try_come<S: WakeSink<W>>(&mut self, ask: Want, _sink: &mut S) -> Option<Turn> {
+        match ask {
+            Want::Make => self.try_make(),
+            Want::Use => self.try_use(),
         }
-        None
     }
 
     fn look<C, X: TaskExchange<W, C>>(

@@ -356,7 +356,7 @@ impl<W: Drop> Line<W> for Shares<W> {
         }
     }
 
-    fn try_come(&mut self, ask: Access) -> Option<Share> {
+    fn try_come<S: WakeSink<W>>(&mut self, ask: Access, _sink: &mut S) -> Option<Share> {
         match ask {
             Access::Read => granted(ask, self.try_read()),
             Access::Write => granted(ask, self.try_write()),

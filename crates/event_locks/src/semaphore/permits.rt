@@ -143,7 +143,7 @@ impl<W: Drop> Line<W> for Permits<W> {
         Ok(Came::Waits(self.join()?))
     }
 
-    fn try_come(&mut self, _ask: ()) -> Option<Permit> {
+    fn try_come<S: WakeSink<W>>(&mut self, _ask: (), _sink: &mut S) -> Option<Permit> {
         self.try_take()
     }
 
