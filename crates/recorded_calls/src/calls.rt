@@ -5,7 +5,7 @@ ghost use Rattle.std.specs.Prelude.{◌≡◌};
 
 use crate::refusal::Refusal;
 use event_listener::{Hand, RecordedEvent, RecordedListener, WaitError};
-use futures::task::{Poll, Waker};
+use futures::task::{Context, Poll, Waker};
 use std::sync::Wait;
 use std::time::{Clock, Duration};
 
@@ -38,6 +38,14 @@ pub trait Calls {
         hand: &mut Hand<u32>,
         listener: &mut Self::Listener,
         waker: Waker,
+    ) -> Result<Poll<u32>, Refusal>;
+
+    /// Polls a listener in a task.
+    fn poll_in(
+        &self,
+        hand: &mut Hand<u32>,
+        listener: &mut Self::Listener,
+        cx: &mut Context<'_>,
     ) -> Result<Poll<u32>, Refusal>;
 
     /// Discards a listener, and answers whether it was told. A refusal hands the listener back, if it is in the queue.
@@ -130,6 +138,18 @@ impl<'ev, R: Wait + Clock + Clone> Calls for On<'ev, R> {
             return Err(Refusal::NotItsHand);
         }
         Ok(own.listener.poll(hand, waker)?)
+    }
+
+    fn poll_in(
+        &self,
+        hand: &mut Hand<u32>,
+        own: &mut OwnListener<'ev, R>,
+        cx: &mut Context<'_>,
+    ) -> Result<Poll<u32>, Refusal> {
+        if !own.event.owns(hand) {
+            return Err(Refusal::NotItsHand);
+        }
+        Ok(own.listener.poll_in(hand, cx)?)
     }
 
     fn discard(

@@ -1,6 +1,6 @@
 //! Calls on recorded events that are refused memory for the note or for the entry, and each request of a wait. Afterwards
 //! the record agrees with the notes.
-use crate::support::{Runtime, Starved, all_memory, check, count_refused, leave};
+use crate::support::{Runtime, Starved, all_memory, check, count_refused, leave, new_task};
 use event_listener::Hand;
 use futures::task::Poll;
 use recorded_calls::{Calls, On, Refusal, answered, close_and_count, new_event};
@@ -46,12 +46,15 @@ fn have_no_room<C: Calls, R: Runtime>(rt: &R, on: &C, on_new: &C, hands: &mut [H
     ask(rt, on, hand, SOME);
     let waker = any_waker(rt).expect(rt, "a waker");
     let last_waker = any_waker(rt).expect(rt, "a waker");
+    let task = new_task(rt);
 
     let hog = all_memory(rt);
     are_refused(rt, on_new, hand, MEMORY);
     are_refused(rt, on, other, MEMORY);
     let polled = on.poll(other, &mut waiting, waker).err();
     check(rt, "a poll", polled, MEMORY);
+    let polled = task.enter(|cx| on.poll_in(other, &mut waiting, cx)).err();
+    check(rt, "a poll in a task", polled, MEMORY);
     let (discarded, waiting) = on.discard(other, waiting);
     check(rt, "a discard", discarded.err(), MEMORY);
     let (waited, told) = on.wait(other, told);
