@@ -1,0 +1,47 @@
+//! One that gives up: what it was handed goes to the next.
+use super::Host;
+use crate::support::{check, new_task};
+use event_locks::{Grants, Line, Mutex, Obtaining, RwLock, Semaphore, Task};
+
+// Both wait, and the first is dropped once it is told.
+fn passes_on<R, S, H, I, G>(rt: &R, first: Obtaining<S, H>, second: Obtaining<S, I>, held: G)
+where
+    R: Host,
+    S: Line<Task>,
+    H: Grants<S, Output: Drop> + Drop,
+    I: Grants<S, Output: Drop> + Drop,
+    G: Drop,
+{
+    let (mut first, mut second) = (first, second);
+    let tasks = (new_task(rt), new_task(rt));
+    let pending = tasks.0.poll(&mut first).is_pending();
+    check(rt, "whether the first waits", pending, true);
+    let pending = tasks.1.poll(&mut second).is_pending();
+    check(rt, "whether the second waits", pending, true);
+    drop(held);
+    let woken = (tasks.0.is_woken(), tasks.1.is_woken());
+    check(rt, "which one is woken", woken, (true, false));
+    drop(first);
+    check(rt, "whether the second is woken", tasks.1.is_woken(), true);
+    let ready = tasks.1.poll(&mut second).is_ready();
+    check(rt, "whether the second is given it", ready, true);
+}
+
+#[test]
+fn told_and_dropped_gives_it_to_the_next(rt: HostRuntime) {
+    let (rt, alloc) = (&rt, rt.alloc());
+    let semaphore = Semaphore::new(alloc, 1);
+    let permit = semaphore.try_acquire(rt).expect(rt, "a permit");
+    let first = semaphore.acquire(rt, alloc);
+    passes_on(rt, first, semaphore.acquire(rt, alloc), permit);
+    let mutex = Mutex::new(alloc, 7u64);
+    let guard = mutex.try_lock(rt).expect(rt, "the value");
+    passes_on(rt, mutex.lock(rt, alloc), mutex.lock(rt, alloc), guard);
+    let shared = RwLock::new(alloc, 7u64);
+    let writer = shared.try_write(rt).expect(rt, "the value");
+    let first = shared.read(rt, alloc);
+    passes_on(rt, first, shared.write(rt, alloc), writer);
+    let reader = shared.try_read(rt).expect(rt, "the value");
+    let first = shared.write(rt, alloc);
+    passes_on(rt, first, shared.read(rt, alloc), reader);
+}
