@@ -10,10 +10,6 @@
 //! | `deadlines` | clients that are told again and again and come too late each time: they give up at the deadline that they began with |
 //! | `orders` | what the types of a client's way leave open: that the notification that is owed is the one that is made, and that a told client whose second try succeeds tells another one |
 //! | `refusals` | locks and semaphores whose listening is refused |
-//! | `library::waits` | each lock of `event_locks`: a thread that waits is unparked, a task that polls is woken, and a wait ends at its limit |
-//! | `library::told` | one that is told and dropped, which gives on what it was handed, and one that is told at its limit |
-//! | `library::stress` | threads and tasks at all these locks, which give up at times |
-//! | `library::behaviours` | readers and writers, leaders of a barrier, a cell that is set once, and guards that go to another thread |
 //!
 //! `orders` uses a lock of its own over the way of a client, so that it can free something between a client's listening
 //! and its second try.
@@ -21,8 +17,6 @@
 
 #[cfg(test)]
 mod deadlines;
-#[cfg(test)]
-mod library;
 #[cfg(test)]
 mod locks;
 #[cfg(test)]

@@ -1,7 +1,6 @@
 //! What a lock does with its value, and who leads at a barrier.
-use super::Host;
-use super::waits::turn_of;
-use crate::support::check;
+use crate::support::{Host, check};
+use crate::waits::turn_of;
 use event_locks::{Barrier, LockError, Mutex, OnceCell, RwLock, Semaphore};
 use std::sync::Arc;
 use std::thread;

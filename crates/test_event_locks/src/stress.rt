@@ -1,6 +1,5 @@
 //! Threads and tasks that wait at once, and give up at times.
-use super::Host;
-use crate::support::{check, new_task};
+use crate::support::{Host, check, new_task};
 use event_locks::{Grants, Line, Mutex, Obtaining, RwLock, Semaphore, Task};
 use futures::executor::block_on;
 use std::thread;

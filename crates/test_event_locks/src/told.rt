@@ -1,6 +1,5 @@
 //! One that gives up: what it was handed goes to the next.
-use super::Host;
-use crate::support::{check, new_task};
+use crate::support::{Host, check, new_task};
 use event_locks::{Grants, Line, Mutex, Obtaining, RwLock, Semaphore, Task};
 
 // Both wait, and the first is dropped once it is told.

@@ -1,6 +1,5 @@
 //! Waits that end because they are granted, and waits that end at their limit.
-use super::Host;
-use crate::support::{check, check_woken, new_task};
+use crate::support::{Host, check, check_woken, new_task};
 use event_locks::{
     Barrier, Claim, Grants, Line, Mutex, Obtaining, OnceCell, RwLock, Semaphore, Task, Vacant,
 };
