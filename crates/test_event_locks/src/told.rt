@@ -27,20 +27,33 @@ where
 }
 
 #[test]
-fn told_and_dropped_gives_it_to_the_next(rt: HostRuntime) {
-    let (rt, alloc) = (&rt, rt.alloc());
-    let semaphore = Semaphore::new(alloc, 1);
-    let permit = semaphore.try_acquire(rt).expect(rt, "a permit");
-    let first = semaphore.acquire(rt, alloc);
-    passes_on(rt, first, semaphore.acquire(rt, alloc), permit);
-    let mutex = Mutex::new(alloc, 7u64);
-    let guard = mutex.try_lock(rt).expect(rt, "the value");
-    passes_on(rt, mutex.lock(rt, alloc), mutex.lock(rt, alloc), guard);
-    let shared = RwLock::new(alloc, 7u64);
-    let writer = shared.try_write(rt).expect(rt, "the value");
-    let first = shared.read(rt, alloc);
-    passes_on(rt, first, shared.write(rt, alloc), writer);
-    let reader = shared.try_read(rt).expect(rt, "the value");
-    let first = shared.write(rt, alloc);
-    passes_on(rt, first, shared.read(rt, alloc), reader);
+fn a_permit_goes_to_the_next(rt: HostRuntime) {
+    let semaphore = Semaphore::new(rt.alloc(), 1);
+    let permit = semaphore.try_acquire(&rt).expect(&rt, "a permit");
+    let first = semaphore.acquire(&rt, rt.alloc());
+    passes_on(&rt, first, semaphore.acquire(&rt, rt.alloc()), permit);
+}
+
+#[test]
+fn a_value_goes_to_the_next(rt: HostRuntime) {
+    let mutex = Mutex::new(rt.alloc(), 7u64);
+    let guard = mutex.try_lock(&rt).expect(&rt, "the value");
+    let first = mutex.lock(&rt, rt.alloc());
+    passes_on(&rt, first, mutex.lock(&rt, rt.alloc()), guard);
+}
+
+#[test]
+fn a_reader_gives_way_to_a_writer(rt: HostRuntime) {
+    let shared = RwLock::new(rt.alloc(), 7u64);
+    let writer = shared.try_write(&rt).expect(&rt, "the value");
+    let first = shared.read(&rt, rt.alloc());
+    passes_on(&rt, first, shared.write(&rt, rt.alloc()), writer);
+}
+
+#[test]
+fn a_writer_gives_way_to_a_reader(rt: HostRuntime) {
+    let shared = RwLock::new(rt.alloc(), 7u64);
+    let reader = shared.try_read(&rt).expect(&rt, "the value");
+    let first = shared.write(&rt, rt.alloc());
+    passes_on(&rt, first, shared.read(&rt, rt.alloc()), reader);
 }

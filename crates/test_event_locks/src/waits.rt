@@ -91,26 +91,42 @@ fn a_thread_that_waits_for_a_permit_is_unparked(rt: HostRuntime) {
 }
 
 #[test]
-fn a_task_that_polls_is_woken(rt: HostRuntime) {
-    let (rt, alloc) = (&rt, rt.alloc());
-    let semaphore = Semaphore::new(alloc, 1);
-    let permit = semaphore.try_acquire(rt).expect(rt, "a permit");
-    in_vain(rt, semaphore.acquire(rt, alloc));
-    polls(rt, semaphore.acquire(rt, alloc), permit);
-    let mutex = Mutex::new(alloc, 7u64);
-    let guard = mutex.try_lock(rt).expect(rt, "the value");
-    in_vain(rt, mutex.lock(rt, alloc));
-    polls(rt, mutex.lock(rt, alloc), guard);
-    let shared = RwLock::new(alloc, 7u64);
-    let writer = shared.try_write(rt).expect(rt, "the value");
-    in_vain(rt, shared.write(rt, alloc));
-    polls(rt, shared.read(rt, alloc), writer);
-    let reader = shared.try_read(rt).expect(rt, "the value");
-    in_vain(rt, shared.write(rt, alloc));
-    polls(rt, shared.write(rt, alloc), reader);
-    let cell = OnceCell::new(alloc);
-    let turn = turn_of(rt, &cell);
-    in_vain(rt, cell.wait(rt, alloc));
-    polls(rt, cell.claim(rt, alloc), turn);
-    in_vain(rt, Barrier::new(alloc, 2).wait(rt, alloc));
+fn a_task_that_polls_for_a_permit_is_woken(rt: HostRuntime) {
+    let semaphore = Semaphore::new(rt.alloc(), 1);
+    let permit = semaphore.try_acquire(&rt).expect(&rt, "a permit");
+    in_vain(&rt, semaphore.acquire(&rt, rt.alloc()));
+    polls(&rt, semaphore.acquire(&rt, rt.alloc()), permit);
+}
+
+#[test]
+fn a_task_that_polls_for_a_value_is_woken(rt: HostRuntime) {
+    let mutex = Mutex::new(rt.alloc(), 7u64);
+    let guard = mutex.try_lock(&rt).expect(&rt, "the value");
+    in_vain(&rt, mutex.lock(&rt, rt.alloc()));
+    polls(&rt, mutex.lock(&rt, rt.alloc()), guard);
+}
+
+#[test]
+fn a_task_that_polls_to_read_is_woken(rt: HostRuntime) {
+    let shared = RwLock::new(rt.alloc(), 7u64);
+    let writer = shared.try_write(&rt).expect(&rt, "the value");
+    in_vain(&rt, shared.read(&rt, rt.alloc()));
+    polls(&rt, shared.read(&rt, rt.alloc()), writer);
+}
+
+#[test]
+fn a_task_that_polls_to_write_is_woken(rt: HostRuntime) {
+    let shared = RwLock::new(rt.alloc(), 7u64);
+    let reader = shared.try_read(&rt).expect(&rt, "the value");
+    in_vain(&rt, shared.write(&rt, rt.alloc()));
+    polls(&rt, shared.write(&rt, rt.alloc()), reader);
+}
+
+#[test]
+fn a_task_that_polls_for_a_turn_is_woken(rt: HostRuntime) {
+    let cell = OnceCell::new(rt.alloc());
+    let turn = turn_of(&rt, &cell);
+    in_vain(&rt, cell.wait(&rt, rt.alloc()));
+    polls(&rt, cell.claim(&rt, rt.alloc()), turn);
+    in_vain(&rt, Barrier::new(rt.alloc(), 2).wait(&rt, rt.alloc()));
 }
