@@ -100,6 +100,8 @@ impl<W> Rounds<W> {
     pub fn leave(&mut self, key: Key) -> bool
     where
         W: Drop,
+        ensures ended { IsTrue result → length self.new.line.told + 1 ≡ length self.old.line.told }
+        ensures early { IsFalse result → length self.new.line.told ≡ length self.old.line.told }
         ensures told { IsTrue result → self.new.arrived ≡ self.old.arrived }
         ensures untold { self.old.arrived ≤ self.new.arrived + 1 }
         ensures others { order_of self.new.line ≡ without key (order_of self.old.line) }

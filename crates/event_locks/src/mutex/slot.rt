@@ -90,6 +90,7 @@ impl<T, W> Slot<T, W> {
     where
         W: Drop,
         ensures value { MatchOption result (self.new.kept ≡ self.old.kept) (λ value. (self.old.kept ≡ Some value) × (self.new.kept ≡ None)) }
+        ensures has { MatchOption result (length self.new.line.told ≡ length self.old.line.told) (λ _. length self.new.line.told + 1 ≡ length self.old.line.told) }
         ensures others { order_of self.new.line ≡ without key (order_of self.old.line) }
     {
         match leave_line(&mut self.line, key) {

@@ -79,6 +79,7 @@ impl<W> Once<W> {
     pub fn try_make(&mut self) -> Option<Turn>
         ensures kept { self.new.is_set ≡ self.old.is_set }
         ensures turn { IfSome result (λ turn. turn ≡ turn_at self.old) }
+        ensures one { IfSome result (λ _. self.old.is_set ≡ false → self.new.making ≡ 1) }
         ensures none { result ≡ None → (self.new ≡ self.old) × (self.old.is_set ≡ false) × (0 < turns self.old) }
         ensures queues { (self.new.makers ≡ self.old.makers) × (self.new.readers ≡ self.old.readers) }
     {
@@ -106,6 +107,7 @@ impl<W> Once<W> {
     pub fn come_to_make(&mut self) -> Result<Result<Turn, Key>, ListenError>
         ensures kept { self.new.is_set ≡ self.old.is_set }
         ensures turn { IfOk result (λ came. IfOk came (λ turn. turn ≡ turn_at self.old)) }
+        ensures one { IfOk result (λ came. IfOk came (λ _. self.old.is_set ≡ false → self.new.making ≡ 1)) }
         ensures waits { IfOk result (λ came. IfErr came (λ key. Inserts self.old.makers (Ok key) self.new.makers × (0 < turns self.old))) }
         ensures reason { IfErr result (λ error. Inserts self.old.makers (Err error) self.new.makers × (0 < turns self.old)) }
         ensures readers { self.new.readers ≡ self.old.readers }
@@ -140,6 +142,7 @@ impl<W> Once<W> {
         ensures step { RegistersWith (X.exchanged exchange.now) self.old.makers key on.old (as_told result) self.new.makers on.new }
         ensures looked { Looked (X.exchanged exchange.now) on.old result on.new }
         ensures turn { OnGranted result (λ turn. turn ≡ turn_at self.old) }
+        ensures one { OnGranted result (λ _. self.old.is_set ≡ false → self.new.making ≡ 1) }
         ensures kept { self.new.is_set ≡ self.old.is_set }
     {
         match look_for(&mut self.makers, key, exchange, on) {
@@ -180,6 +183,7 @@ impl<W> Once<W> {
         W: Drop,
         ensures has { MatchOption result (length self.new.makers.told ≡ length self.old.makers.told) (λ _. length self.new.makers.told + 1 ≡ length self.old.makers.told) }
         ensures turn { IfSome result (λ turn. turn ≡ turn_at self.old) }
+        ensures one { IfSome result (λ _. self.old.is_set ≡ false → self.new.making ≡ 1) }
         ensures kept { self.new.is_set ≡ self.old.is_set }
         ensures others { order_of self.new.makers ≡ without key (order_of self.old.makers) }
     {

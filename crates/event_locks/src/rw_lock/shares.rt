@@ -109,7 +109,7 @@ impl<W> Shares<W> {
         ensures let_in { result ≡ Ok None → (self.new ≡ record self.old { readers = self.old.readers + 1 }) × NoWriterIsThere self.old }
         ensures waits { IfOk result (λ key. IfSome key (λ key. Inserts self.old.read_line (Ok key) self.new.read_line × IsAWriterThere self.old)) }
         ensures others { (self.new.writers ≡ self.old.writers) × (self.new.write_line ≡ self.old.write_line) }
-        ensures refused { OnErr result (self.new.readers ≡ self.old.readers) }
+        ensures refused { OnErr result (self.new ≡ self.old) }
         ensures reason { IfErr result (λ error. Inserts self.old.read_line (Err error) self.new.read_line ⊎ HasNoRoom self.old) }
     {
         if !self.has_room() {
@@ -127,7 +127,7 @@ impl<W> Shares<W> {
         ensures let_in { result ≡ Ok None → (self.new ≡ record self.old { writers = 1 }) × NobodyIsIn self.old }
         ensures waits { IfOk result (λ key. IfSome key (λ key. Inserts self.old.write_line (Ok key) self.new.write_line × (0 < reading self.old + writing self.old))) }
         ensures others { (self.new.readers ≡ self.old.readers) × (self.new.read_line ≡ self.old.read_line) }
-        ensures refused { OnErr result (self.new.writers ≡ self.old.writers) }
+        ensures refused { OnErr result (self.new ≡ self.old) }
         ensures reason { IfErr result (λ error. Inserts self.old.write_line (Err error) self.new.write_line × (0 < reading self.old + writing self.old)) }
     {
         if self.is_used() {
@@ -233,6 +233,7 @@ impl<W> Shares<W> {
         ensures let_in { IsTrue result → self.new.writers ≡ self.old.writers + 1 }
         ensures not_yet { IsFalse result → self.new.writers ≡ self.old.writers }
         ensures others { order_of self.new.write_line ≡ without key (order_of self.old.write_line) }
+        ensures readers { ((self.new.read_line ≡ self.old.read_line) × (sink.new ≡ sink.old)) ⊎ HandsOut S.woke (length self.old.read_line.waiting) self.old.read_line self.new.read_line sink.old sink.new }
     {
         match leave_line(&mut self.write_line, key) {
             Left::Told => {
@@ -255,6 +256,7 @@ impl<W> Shares<W> {
         ensures last { self.old.readers ≡ 1 → length self.old.read_line.told ≡ 0 → HandsOut S.woke 1 self.old.write_line self.new.write_line sink.old sink.new }
         ensures others { 1 < reading self.old → (self.new.write_line ≡ self.old.write_line) × (sink.new ≡ sink.old) }
         ensures queue { self.new.read_line ≡ self.old.read_line }
+        ensures unchanged { self.old.readers ≡ 0 → (self.new ≡ self.old) × (sink.new ≡ sink.old) }
     {
         if self.readers == 0 {
             return;
