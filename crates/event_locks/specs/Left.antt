@@ -2,8 +2,8 @@
 use Rattle.std.specs.Prelude.{ℕ, Option, Some, None}
 use Rattle.event_queue.specs.declared.reply.State.{State}
 use Rattle.event_queue.specs.declared.reply.State.TheVariants.{Created, Notified, Task, Passed, Lost as WasLost}
-use Rattle.event_locks.specs.declared.line.waiters.Left.{Left}
-use Rattle.event_locks.specs.declared.line.waiters.Left.TheVariants.{Told, Waited, Absent}
+use Rattle.event_locks.specs.declared.waiters.Left.{Left}
+use Rattle.event_locks.specs.declared.waiters.Left.TheVariants.{Told, Waited, Absent}
 
 abbrev pub left_as : {T W : Type 0} → Option (State T W) → Left
 left_as None = Absent

@@ -1,6 +1,6 @@
 pub mod Line
 pub mod Left
-pub mod Obtained
+pub mod Attempted
 pub mod Task
 pub mod Permits
 pub mod Slot

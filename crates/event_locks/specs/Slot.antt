@@ -1,6 +1,11 @@
 -- What a contract sees of the state under a mutex's lock.
-use Rattle.std.specs.Prelude.{◌≡◌, ℕ, ◌<◌, ◌≤◌, length, Option, Some, None}
+use Rattle.std.specs.Prelude.{◌≡◌, ℕ, ◌<◌, length, Option, Some, None}
+use Rattle.event_queue.specs.declared.key.Key.{Key}
 use Rattle.event_queue.specs.Queue.{Queue}
+use Rattle.event_locks.specs.Attempted.{WaitsOn}
+use Rattle.event_locks.specs.Line.{HasLeft}
+use Rattle.event_locks.specs.declared.request.Attempted.{Attempted}
+use Rattle.event_locks.specs.declared.request.Attempted.TheVariants.{Done, Waits, Absent, Refused}
 
 -- the value, unless a guard has it, and the queue of those that wait for it
 pub record State (T W : Type 0) : Type 0 where
@@ -13,8 +18,26 @@ count None = 0
 count (Some x) = 1
 
 module _ {T W : Type 0} where
-  pub record NobodyWaitsInVain (s : State T W) : Type 0 where
-    -- while the value is there and kept for nobody, nobody waits
-    pub fair : length s.line.told < count s.kept → length s.line.waiting ≡ 0
-    -- the value is kept for one at most, and is there then
-    pub kept_for_one : length s.line.told ≤ count s.kept
+  -- while the value is there and nobody is notified of it, nobody waits
+  abbrev pub NobodyWaitsInVain : State T W → Type 0
+  NobodyWaitsInVain s = length s.line.told < count s.kept → length s.line.waiting ≡ 0
+
+  module _ {C : Type 0} (exchanged : C → Option W → W → C → Type 0) where
+    -- the value was there, and whoever took it is in the queue no more
+    pub record Takes (key : Option Key) (old : State T W) (before : C) (value : T) (new : State T W) (after : C) : Type 0 where
+      pub was : old.kept ≡ Some value
+      pub now : new.kept ≡ None
+      pub left : HasLeft key old.line new.line
+      pub task : after ≡ before
+
+    -- the value was not there, and one waits for it
+    pub record WaitsFor (key : Option Key) (old : State T W) (before : C) (reply : Attempted T) (new : State T W) (after : C) : Type 0 where
+      pub was : old.kept ≡ None
+      pub now : new.kept ≡ None
+      pub waits : WaitsOn exchanged key old.line before reply new.line after
+
+    abbrev pub Obtains : Option Key → State T W → C → Attempted T → State T W → C → Type 0
+    Obtains key old before (Done value) new after = Takes key old before value new after
+    Obtains key old before (Waits waits) new after = WaitsFor key old before (Waits waits) new after
+    Obtains key old before Absent new after = WaitsFor key old before Absent new after
+    Obtains key old before (Refused error) new after = WaitsFor key old before (Refused error) new after

@@ -4,6 +4,7 @@ mod rounds;
 
 pub use self::rounds::{Ended, Rounds};
 use crate::lock::{Borrowed, Guard, Hold, Lock, Obtaining, Task};
+use crate::place::Place;
 use std::alloc::Global;
 use std::sync::Wait;
 use std::time::Clock;
@@ -12,7 +13,7 @@ use std::time::Clock;
 pub type Barrier = Lock<Rounds<Task>>;
 
 /// A wait for the others. Dropped before its round has ended, it has not arrived.
-pub type BarrierWait<'a, R> = Obtaining<Rounds<Task>, Borrowed<'a, Rounds<Task>, R>>;
+pub type BarrierWait<'a, R> = Obtaining<Rounds<Task>, Place, Borrowed<'a, Rounds<Task>, R>>;
 
 /// A round has ended.
 pub type BarrierWaitResult<'a, R> = Guard<Rounds<Task>, Borrowed<'a, Rounds<Task>, R>>;
@@ -25,7 +26,7 @@ impl Lock<Rounds<Task>> {
 
     /// Arrives, and waits until all have.
     pub fn wait<'a, R: Wait + Clock>(&'a self, rt: &'a R, alloc: Global) -> BarrierWait<'a, R> {
-        Obtaining::new(Borrowed { lock: self, rt }, alloc, ())
+        Obtaining::new(Borrowed { lock: self, rt }, alloc, Place::new())
     }
 }
 

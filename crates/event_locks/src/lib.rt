@@ -3,22 +3,28 @@
 
 mod barrier;
 mod error;
-mod line;
 mod lock;
 mod mutex;
 mod once_cell;
+mod place;
+mod request;
 mod rw_lock;
 mod semaphore;
+mod waiters;
 
 pub use barrier::{Barrier, BarrierWait, BarrierWaitResult, Ended, Rounds};
 pub use error::LockError;
-pub use line::{Came, Line};
 pub use lock::{Borrowed, Grants, Guard, Hold, Lock, Obtaining, Shared, Task};
 pub use mutex::{Locking, LockingArc, Mutex, MutexGuard, MutexGuardArc, Slot};
-pub use once_cell::{Claim, Claiming, Maker, Once, OnceCell, Seat, Seeing, Turn, Vacant, Want};
+pub use once_cell::{
+    Asking, Claim, Claiming, Makes, Once, OnceCell, Seat, Seeing, Turn, Uses, Vacant, Want,
+};
+pub use place::Place;
+pub use request::{Attempted, Grantor, Request};
 pub use rw_lock::{
-    Access, Place, Read, Reader, RwLock, RwLockReadGuard, RwLockWriteGuard, Share, Shares, Write,
-    Writer,
+    Access, Entering, EnteringArc, Entry, Read, ReadArc, Reads, RwLock, RwLockReadGuard,
+    RwLockReadGuardArc, RwLockWriteGuard, RwLockWriteGuardArc, Share, Shares, Write, WriteArc,
+    Writes,
 };
 pub use semaphore::{
     Acquire, AcquireArc, Permit, Permits, Semaphore, SemaphoreGuard, SemaphoreGuardArc,

@@ -1,7 +1,7 @@
 //! A state under a lock.
-ghost use Rattle.std.specs.Prelude.{◌≡◌};
+ghost use Rattle.std.specs.Prelude.{◌≡◌, None, IfSome};
 ghost use Rattle.futures.specs.Task.{Covers, Keeps};
-ghost use Rattle.event_locks.specs.Obtained.{Obtains, OnWaits, found_by};
+ghost use Rattle.event_locks.specs.Attempted.{Attempts, OnDone, OnUndone, OnWaits};
 
 mod guard;
 mod hold;
@@ -16,8 +16,7 @@ pub use self::obtaining::Obtaining;
 pub use self::task::Task;
 pub(crate) use self::task::Waking;
 use self::task::{LineSource, Parks};
-use crate::line::{Came, Line};
-use event_queue::{ListenError, RegisterResult, TaskExchange};
+use crate::request::{Attempted, Grantor, Request};
 use futures::task::Context;
 use std::sync::{Mutex, MutexGuard, Wait};
 
@@ -28,52 +27,6 @@ pub struct Lock<S> {
     source: LineSource,
 }
 
-/// What a look at the state led to.
-pub(crate) enum Obtained<G, K> {
-    /// It is granted.
-    Granted(G),
-    /// The asker waits in the queue, by this ticket, with its task.
-    Waits(K),
-    /// The asker's ticket is in the queue no more.
-    Absent,
-    /// The asker could not be put into the queue.
-    Refused(ListenError),
-}
-
-// What a look found at this ticket.
-fn found<G, K: Copy>(ticket: K, looked: RegisterResult<G>) -> Obtained<G, K>
-    ensures { result ≡ found_by ticket looked }
-{
-    match looked {
-        RegisterResult::Notified(grant) => Obtained::Granted(grant),
-        RegisterResult::Registered => Obtained::Waits(ticket),
-        RegisterResult::NeverInserted => Obtained::Absent,
-    }
-}
-
-// Looks at this ticket's place; one with no ticket asks first.
-#[inline(always)]
-fn ask_or_look<S: Line<Task>, C, X: TaskExchange<Task, C>>(
-    state: &mut S,
-    ask: S::Ask,
-    ticket: Option<S::Ticket>,
-    exchange: &X,
-    on: &mut C,
-    waking: &mut Waking,
-) -> Obtained<S::Grant, S::Ticket>
-    ensures { Obtains (X.exchanged exchange.now) on.old result on.new }
-{
-    let ticket = match ticket {
-        Some(ticket) => ticket,
-        None => match state.come(ask, waking) {
-            Ok(Came::Granted(grant)) => return Obtained::Granted(grant),
-            Ok(Came::Waits(ticket)) => ticket,
-            Err(error) => return Obtained::Refused(error),
-        },
-    };
-    found(ticket, state.look(ticket, exchange, on))
-}
-
 impl<S> Lock<S> {
     pub(crate) fn of(state: S) -> Self {
         Lock {
@@ -82,6 +35,7 @@ impl<S> Lock<S> {
         }
     }
 
+    #[inline(always)]
     pub(crate) fn state<R: Wait>(&self, rt: &R) -> MutexGuard<'_, S> {
         self.state.lock(rt)
     }
@@ -94,76 +48,97 @@ impl<S> Lock<S> {
         let Lock { state, source: _ } = self;
         state.into_inner()
     }
-}
 
-impl<S: Line<Task>> Lock<S> {
     #[inline(always)]
-    pub(crate) fn try_obtain<R: Wait>(&self, rt: &R, ask: S::Ask) -> Option<S::Grant> {
-        let mut waking = Waking::new();
-        let grant = self.state.lock(rt).try_come(ask, &mut waking);
-        waking.finish();
-        grant
-    }
-
-    // A thread asks or looks, and stores its task if it waits on. What that handed out is woken once the lock is given
-    // back.
-    fn obtain<R: Wait>(
+    pub(crate) fn attempt<Q: Request<S>, R: Wait>(
         &self,
         rt: &R,
-        ask: S::Ask,
-        ticket: Option<S::Ticket>,
-        task: &mut Option<Task>,
-    ) -> Obtained<S::Grant, S::Ticket> {
+        request: &mut Q,
+    ) -> Option<Q::Output>
+        ensures gives { IfSome result (Q.gives request.old) }
+        ensures kept { result ≡ None → request.new ≡ request.old }
+    {
         let mut waking = Waking::new();
         let mut state = self.state.lock(rt);
-        let obtained = ask_or_look(&mut *state, ask, ticket, &Parks {}, task, &mut waking);
+        let output = request.attempt(&mut *state, &mut waking);
         drop(state);
         waking.finish();
-        obtained
+        output
     }
 
-    // A task that polls asks or looks, and is registered if it waits on.
-    fn obtain_in<R: Wait>(
+    // A thread attempts, and stores its task if it waits on. Whom that notified is woken once the lock is given back.
+    fn attempt_or_park<Q: Request<S>, R: Wait>(
         &self,
         rt: &R,
-        ask: S::Ask,
-        ticket: Option<S::Ticket>,
+        request: &mut Q,
+        task: &mut Option<Task>,
+    ) -> Attempted<Q::Output>
+        ensures gives { OnDone result (Q.gives request.old) }
+        ensures kept { OnUndone result (request.new ≡ request.old) }
+    {
+        let mut waking = Waking::new();
+        let mut state = self.state.lock(rt);
+        let attempted = request.attempt_or_wait(&mut *state, &Parks {}, task, &mut waking);
+        drop(state);
+        waking.finish();
+        attempted
+    }
+
+    // A task that polls attempts, and is registered if it waits on.
+    fn attempt_in<Q: Request<S>, R: Wait>(
+        &self,
+        rt: &R,
+        request: &mut Q,
         cx: &mut Context<'_>,
-    ) -> Obtained<S::Grant, S::Ticket>
+    ) -> Attempted<Q::Output>
+        ensures gives { OnDone result (Q.gives request.old) }
+        ensures undone { OnUndone result (request.new ≡ request.old) }
         ensures registered { OnWaits result (Covers cx.new (λ s. s ≡ self.now.source.source.id)) }
         ensures kept { Keeps cx.old cx.new }
     {
         let mut waking = Waking::new();
         let mut state = self.state.lock(rt);
-        let obtained = ask_or_look(&mut *state, ask, ticket, &self.source, cx, &mut waking);
+        let attempted = request.attempt_or_wait(&mut *state, &self.source, cx, &mut waking);
         drop(state);
         waking.finish();
-        obtained
+        attempted
     }
 
-    // Takes the asker out of the queue, with what it was handed.
-    fn leave<R: Wait>(&self, rt: &R, ticket: S::Ticket) -> Option<S::Grant> {
-        let mut waking = Waking::new();
-        let left = self.state.lock(rt).leave(ticket, &mut waking);
-        waking.finish();
-        left
-    }
-
-    // The asker gives up. What it was handed goes on, in the same step.
-    fn cancel<R: Wait>(&self, rt: &R, ticket: S::Ticket) {
+    // Leaves the queue, with what can still be had.
+    fn leave<Q: Request<S>, R: Wait>(&self, rt: &R, request: &mut Q) -> Option<Q::Output>
+        ensures gives { IfSome result (Q.gives request.old) }
+        ensures kept { result ≡ None → request.new ≡ request.old }
+    {
         let mut waking = Waking::new();
         let mut state = self.state.lock(rt);
-        if let Some(grant) = state.leave(ticket, &mut waking) {
-            state.give_back(grant, &mut waking);
+        let output = request.leave(&mut *state, &mut waking);
+        drop(state);
+        waking.finish();
+        output
+    }
+
+    // Leaves the queue. What it was notified of goes on, in the same step.
+    fn give_up<Q: Request<S>, R: Wait>(&self, rt: &R, request: &mut Q)
+        ensures { request.new ≡ request.old }
+    {
+        if !request.is_waiting() {
+            return;
         }
+        let mut waking = Waking::new();
+        let mut state = self.state.lock(rt);
+        request.give_up(&mut *state, &mut waking);
         drop(state);
         waking.finish();
     }
+}
 
+impl<S: Grantor> Lock<S> {
     #[inline(always)]
     pub(crate) fn give_back<R: Wait>(&self, rt: &R, grant: S::Grant) {
         let mut waking = Waking::new();
-        self.state.lock(rt).give_back(grant, &mut waking);
+        let mut state = self.state.lock(rt);
+        state.give_back(grant, &mut waking);
+        drop(state);
         waking.finish();
     }
 }

@@ -4,6 +4,7 @@ mod slot;
 
 pub use self::slot::Slot;
 use crate::lock::{Borrowed, Guard, Hold, Lock, Obtaining, Shared, Task};
+use crate::place::Place;
 use std::alloc::{AllocError, Global};
 use std::ops::{Deref, DerefMut};
 use std::sync::{Arc, Wait};
@@ -22,10 +23,10 @@ pub type MutexGuard<'a, T, R> = Guard<Slot<T, Task>, Borrowed<'a, Slot<T, Task>,
 pub type MutexGuardArc<T, R> = Guard<Slot<T, Task>, Shared<Slot<T, Task>, R>>;
 
 /// A wait for the value of a mutex.
-pub type Locking<'a, T, R> = Obtaining<Slot<T, Task>, Borrowed<'a, Slot<T, Task>, R>>;
+pub type Locking<'a, T, R> = Obtaining<Slot<T, Task>, Place, Borrowed<'a, Slot<T, Task>, R>>;
 
 /// A wait for the value of a mutex that shares the mutex.
-pub type LockingArc<T, R> = Obtaining<Slot<T, Task>, Shared<Slot<T, Task>, R>>;
+pub type LockingArc<T, R> = Obtaining<Slot<T, Task>, Place, Shared<Slot<T, Task>, R>>;
 
 impl<T: Drop> Lock<Slot<T, Task>> {
     /// A mutex round this value, which nobody has. It takes no memory until somebody waits.
@@ -36,13 +37,13 @@ impl<T: Drop> Lock<Slot<T, Task>> {
     /// The value, if nobody has it.
     #[must_use = "a guard that is dropped at once gives back what it holds"]
     pub fn try_lock<'a, R: Wait + Clock>(&'a self, rt: &'a R) -> Option<MutexGuard<'a, T, R>> {
-        let value = self.try_obtain(rt, ())?;
+        let value = self.attempt(rt, &mut Place::new())?;
         Some(Guard::new(Borrowed { lock: self, rt }, value))
     }
 
     /// A wait for the value.
     pub fn lock<'a, R: Wait + Clock>(&'a self, rt: &'a R, alloc: Global) -> Locking<'a, T, R> {
-        Obtaining::new(Borrowed { lock: self, rt }, alloc, ())
+        Obtaining::new(Borrowed { lock: self, rt }, alloc, Place::new())
     }
 
     /// A wait for the value by a guard that may go to another thread. It returns an error if no share of the mutex can be
@@ -53,7 +54,7 @@ impl<T: Drop> Lock<Slot<T, Task>> {
         alloc: Global,
     ) -> Result<LockingArc<T, R>, AllocError> {
         let lock = Arc::try_clone(this)?;
-        Ok(Obtaining::new(Shared { lock, rt }, alloc, ()))
+        Ok(Obtaining::new(Shared { lock, rt }, alloc, Place::new()))
     }
 
     /// The value, without a lock. `None` says that a guard was forgotten, and the value with it.

@@ -7,6 +7,7 @@ pub use self::once::{Once, Seat, Turn, Want};
 use crate::error::LockError;
 use crate::lock::{Borrowed, Grants, Guard, Hold, Lock, Obtaining, Task};
 use std::alloc::Global;
+use std::marker::PhantomData;
 use std::sync::{OnceLock, Wait};
 use std::time::Clock;
 
@@ -36,10 +37,10 @@ pub struct Vacant<'a, T, R: Wait + Clock> {
 }
 
 /// A wait for the value of a cell, or for the turn to make it.
-pub type Claiming<'a, T, R> = Obtaining<Once<Task>, Maker<'a, T, R>>;
+pub type Claiming<'a, T, R> = Obtaining<Once<Task>, Seat, Asking<'a, T, R, Makes>>;
 
 /// A wait for the value of a cell.
-pub type Seeing<'a, T, R> = Obtaining<Once<Task>, Reader<'a, T, R>>;
+pub type Seeing<'a, T, R> = Obtaining<Once<Task>, Seat, Asking<'a, T, R, Uses>>;
 
 impl<T> OnceCell<T> {
     /// A cell without a value. It takes no memory until somebody waits.
@@ -57,12 +58,20 @@ impl<T> OnceCell<T> {
 
     /// A wait for the value, or for the turn to make it: while another one makes it, this one waits.
     pub fn claim<'a, R: Wait + Clock>(&'a self, rt: &'a R, alloc: Global) -> Claiming<'a, T, R> {
-        Obtaining::new(Maker { cell: self, rt }, alloc, Want::Make)
+        Obtaining::new(self.asking(rt), alloc, Seat::new(Want::Make))
     }
 
     /// A wait until the value is set, by whoever sets it.
     pub fn wait<'a, R: Wait + Clock>(&'a self, rt: &'a R, alloc: Global) -> Seeing<'a, T, R> {
-        Obtaining::new(Reader { cell: self, rt }, alloc, Want::Use)
+        Obtaining::new(self.asking(rt), alloc, Seat::new(Want::Use))
+    }
+
+    fn asking<'a, R, A>(&'a self, rt: &'a R) -> Asking<'a, T, R, A> {
+        Asking {
+            cell: self,
+            rt,
+            want: PhantomData,
+        }
     }
 
     /// Sets the value. It blocks while another one makes it. The value comes back if the cell is set, or waiting was
@@ -123,21 +132,21 @@ impl<'a, T, R: Wait + Clock> Vacant<'a, T, R> {
     }
 }
 
-/// One that would make the value of a cell.
+/// For making the value.
+pub struct Makes;
+
+/// For using the value.
+pub struct Uses;
+
+/// Borrows a cell and the runtime, to make its value or to use it.
 #[derive(Drop)]
-pub struct Maker<'a, T, R> {
+pub struct Asking<'a, T, R, A> {
     cell: &'a OnceCell<T>,
     rt: &'a R,
+    want: PhantomData<A>,
 }
 
-/// One that waits for the value of a cell.
-#[derive(Drop)]
-pub struct Reader<'a, T, R> {
-    cell: &'a OnceCell<T>,
-    rt: &'a R,
-}
-
-impl<'a, T, R: Wait + Clock> Hold<Once<Task>> for Maker<'a, T, R> {
+impl<'a, T, R: Wait + Clock, A> Hold<Once<Task>> for Asking<'a, T, R, A> {
     ghost source = { λ it. it.cell.now.once.source.source.id };
 
     type Runtime = R;
@@ -151,25 +160,11 @@ impl<'a, T, R: Wait + Clock> Hold<Once<Task>> for Maker<'a, T, R> {
     }
 }
 
-impl<'a, T, R: Wait + Clock> Hold<Once<Task>> for Reader<'a, T, R> {
-    ghost source = { λ it. it.cell.now.once.source.source.id };
-
-    type Runtime = R;
-
-    fn lock(&self) -> &Lock<Once<Task>> {
-        &self.cell.once
-    }
-
-    fn rt(&self) -> &R {
-        self.rt
-    }
-}
-
-impl<'a, T, R: Wait + Clock> Grants<Once<Task>> for Maker<'a, T, R> {
+impl<'a, T, R: Wait + Clock> Grants<Once<Task>, Turn> for Asking<'a, T, R, Makes> {
     type Output = Claim<'a, T, R>;
 
     fn granted(self, turn: Turn) -> Claim<'a, T, R> {
-        let Maker { cell, rt } = self;
+        let Asking { cell, rt, want: _ } = self;
         let hold = Borrowed {
             lock: &cell.once,
             rt,
@@ -182,12 +177,17 @@ impl<'a, T, R: Wait + Clock> Grants<Once<Task>> for Maker<'a, T, R> {
     }
 }
 
-impl<'a, T, R: Wait + Clock> Grants<Once<Task>> for Reader<'a, T, R> {
-    /// `None` is not known to come: the value is set before the wait ends.
-    type Output = Option<&'a T>;
+impl<'a, T, R: Wait + Clock> Grants<Once<Task>, Turn> for Asking<'a, T, R, Uses> {
+    type Output = &'a T;
 
-    fn granted(self, _turn: Turn) -> Option<&'a T> {
-        let Reader { cell, rt: _ } = self;
-        cell.value.get()
+    // The value is set before the state says so: the first look finds it.
+    fn granted(self, _turn: Turn) -> &'a T {
+        let Asking { cell, rt, want: _ } = self;
+        for _ in rt.forever() {
+            if let Some(value) = cell.value.get() {
+                return value;
+            }
+        }
+        unreachable!()
     }
 }

@@ -1,12 +1,15 @@
 //! A read-write lock.
+ghost use Rattle.std.specs.Prelude.{◌≡◌};
+ghost use Rattle.std.specs.Arc.{arc_value};
 
 mod shares;
 
-pub use self::shares::{Access, Place, Share, Shares};
+pub use self::shares::{Access, Entry, Share, Shares};
 use crate::lock::{Borrowed, Grants, Guard, Hold, Lock, Obtaining, Task, Waking};
-use std::alloc::Global;
+use std::alloc::{AllocError, Global};
+use std::marker::PhantomData;
 use std::ops::{Deref, DerefMut};
-use std::sync::{self, Wait};
+use std::sync::{self, Arc, Wait};
 use std::time::Clock;
 
 // A reader or a writer that has its place.
@@ -56,7 +59,7 @@ impl<T> RwLock<T> {
     /// The value to be read, if no writer has it or waits for it.
     #[must_use = "a guard that is dropped at once gives back what it holds"]
     pub fn try_read<'a, R: Wait + Clock>(&'a self, rt: &'a R) -> Option<RwLockReadGuard<'a, T, R>> {
-        let share = self.shares.try_obtain(rt, Access::Read)?;
+        let share = self.shares.attempt(rt, &mut Entry::new(Access::Read))?;
         Some(self.reader(rt, Guard::new(self.borrowed(rt), share)))
     }
 
@@ -66,18 +69,46 @@ impl<T> RwLock<T> {
         &'a self,
         rt: &'a R,
     ) -> Option<RwLockWriteGuard<'a, T, R>> {
-        let share = self.shares.try_obtain(rt, Access::Write)?;
+        let share = self.shares.attempt(rt, &mut Entry::new(Access::Write))?;
         Some(self.writer(rt, Guard::new(self.borrowed(rt), share)))
     }
 
     /// A wait for the value to be read, until no writer has it or has come before.
     pub fn read<'a, R: Wait + Clock>(&'a self, rt: &'a R, alloc: Global) -> Read<'a, T, R> {
-        Obtaining::new(Reader { lock: self, rt }, alloc, Access::Read)
+        Obtaining::new(self.entering(rt), alloc, Entry::new(Access::Read))
     }
 
     /// A wait for the value to be written, until nobody else has it.
     pub fn write<'a, R: Wait + Clock>(&'a self, rt: &'a R, alloc: Global) -> Write<'a, T, R> {
-        Obtaining::new(Writer { lock: self, rt }, alloc, Access::Write)
+        Obtaining::new(self.entering(rt), alloc, Entry::new(Access::Write))
+    }
+
+    /// A wait for the value to be read, by a guard that may go to another thread. It returns an error if no share of the
+    /// lock can be made.
+    pub fn read_arc<R: Wait + Clock + Drop>(
+        this: &Arc<Self, Global>,
+        rt: R,
+        alloc: Global,
+    ) -> Result<ReadArc<T, R>, AllocError>
+    where
+        T: Drop,
+    {
+        let hold = entering_arc(this, rt)?;
+        Ok(Obtaining::new(hold, alloc, Entry::new(Access::Read)))
+    }
+
+    /// A wait for the value to be written, by a guard that may go to another thread. It returns an error if no share of the
+    /// lock can be made.
+    pub fn write_arc<R: Wait + Clock + Drop>(
+        this: &Arc<Self, Global>,
+        rt: R,
+        alloc: Global,
+    ) -> Result<WriteArc<T, R>, AllocError>
+    where
+        T: Drop,
+    {
+        let hold = entering_arc(this, rt)?;
+        Ok(Obtaining::new(hold, alloc, Entry::new(Access::Write)))
     }
 
     /// The value, without a lock.
@@ -89,6 +120,14 @@ impl<T> RwLock<T> {
     pub fn into_inner(self) -> T {
         let RwLock { shares: _, value } = self;
         value.into_inner()
+    }
+
+    fn entering<'a, R, A>(&'a self, rt: &'a R) -> Entering<'a, T, R, A> {
+        Entering {
+            lock: self,
+            rt,
+            access: PhantomData,
+        }
     }
 
     fn borrowed<'a, R>(&'a self, rt: &'a R) -> Borrowed<'a, Shares<Task>, R> {
@@ -123,6 +162,19 @@ impl<T> RwLock<T> {
             holder,
         }
     }
+}
+
+// Shares the lock.
+fn entering_arc<T: Drop, R: Drop, A>(
+    lock: &Arc<RwLock<T>, Global>,
+    rt: R,
+) -> Result<EnteringArc<T, R, A>, AllocError> {
+    let lock = Arc::try_clone(lock)?;
+    Ok(EnteringArc {
+        lock,
+        rt,
+        access: PhantomData,
+    })
 }
 
 impl<'a, T, R: Wait + Clock> RwLockReadGuard<'a, T, R> {
@@ -185,19 +237,48 @@ impl<T, R: Wait + Clock> DerefMut for RwLockWriteGuard<'_, T, R> {
 }
 
 /// A wait for the value of a read-write lock, to be read.
-pub type Read<'a, T, R> = Obtaining<Shares<Task>, Reader<'a, T, R>>;
+pub type Read<'a, T, R> = Obtaining<Shares<Task>, Entry, Entering<'a, T, R, Reads>>;
 
 /// A wait for the value of a read-write lock, to be written.
-pub type Write<'a, T, R> = Obtaining<Shares<Task>, Writer<'a, T, R>>;
+pub type Write<'a, T, R> = Obtaining<Shares<Task>, Entry, Entering<'a, T, R, Writes>>;
 
-/// One that waits to read.
+/// A wait for the value of a read-write lock, to be read by a guard that shares the lock.
+pub type ReadArc<T, R> = Obtaining<Shares<Task>, Entry, EnteringArc<T, R, Reads>>;
+
+/// A wait for the value of a read-write lock, to be written by a guard that shares the lock.
+pub type WriteArc<T, R> = Obtaining<Shares<Task>, Entry, EnteringArc<T, R, Writes>>;
+
+/// The right to read the value of a read-write lock, which shares the lock and so may go to another thread. Dropping it
+/// ends the reading.
+pub type RwLockReadGuardArc<T, R> = Guard<Shares<Task>, EnteringArc<T, R, Reads>>;
+
+/// The right to write the value of a read-write lock, which shares the lock and so may go to another thread. Dropping it
+/// ends the writing.
+pub type RwLockWriteGuardArc<T, R> = Guard<Shares<Task>, EnteringArc<T, R, Writes>>;
+
+/// For reading.
+pub struct Reads;
+
+/// For writing.
+pub struct Writes;
+
+/// Borrows a read-write lock and the runtime, for reading or for writing.
 #[derive(Drop)]
-pub struct Reader<'a, T, R> {
+pub struct Entering<'a, T, R, A> {
     lock: &'a RwLock<T>,
     rt: &'a R,
+    access: PhantomData<A>,
 }
 
-impl<'a, T, R: Wait + Clock> Hold<Shares<Task>> for Reader<'a, T, R> {
+/// Shares a read-write lock, for reading or for writing.
+#[derive(Drop)]
+pub struct EnteringArc<T, R, A> {
+    lock: Arc<RwLock<T>, Global>,
+    rt: R,
+    access: PhantomData<A>,
+}
+
+impl<'a, T, R: Wait + Clock, A> Hold<Shares<Task>> for Entering<'a, T, R, A> {
     ghost source = { λ it. it.lock.now.shares.source.source.id };
 
     type Runtime = R;
@@ -211,41 +292,64 @@ impl<'a, T, R: Wait + Clock> Hold<Shares<Task>> for Reader<'a, T, R> {
     }
 }
 
-impl<'a, T, R: Wait + Clock> Grants<Shares<Task>> for Reader<'a, T, R> {
+impl<T, R: Wait + Clock, A> Hold<Shares<Task>> for EnteringArc<T, R, A> {
+    ghost source = { λ it. (arc_value it.lock).shares.source.source.id };
+
+    type Runtime = R;
+
+    fn lock(&self) -> &Lock<Shares<Task>> {
+        &self.lock.shares
+    }
+
+    fn rt(&self) -> &R {
+        &self.rt
+    }
+}
+
+impl<'a, T, R: Wait + Clock> Grants<Shares<Task>, Share> for Entering<'a, T, R, Reads> {
     type Output = RwLockReadGuard<'a, T, R>;
 
     fn granted(self, share: Share) -> RwLockReadGuard<'a, T, R> {
-        let Reader { lock, rt } = self;
+        let Entering {
+            lock,
+            rt,
+            access: _,
+        } = self;
         lock.reader(rt, Guard::new(lock.borrowed(rt), share))
     }
 }
 
-/// One that waits to write.
-#[derive(Drop)]
-pub struct Writer<'a, T, R> {
-    lock: &'a RwLock<T>,
-    rt: &'a R,
-}
-
-impl<'a, T, R: Wait + Clock> Hold<Shares<Task>> for Writer<'a, T, R> {
-    ghost source = { λ it. it.lock.now.shares.source.source.id };
-
-    type Runtime = R;
-
-    fn lock(&self) -> &Lock<Shares<Task>> {
-        &self.lock.shares
-    }
-
-    fn rt(&self) -> &R {
-        self.rt
-    }
-}
-
-impl<'a, T, R: Wait + Clock> Grants<Shares<Task>> for Writer<'a, T, R> {
+impl<'a, T, R: Wait + Clock> Grants<Shares<Task>, Share> for Entering<'a, T, R, Writes> {
     type Output = RwLockWriteGuard<'a, T, R>;
 
     fn granted(self, share: Share) -> RwLockWriteGuard<'a, T, R> {
-        let Writer { lock, rt } = self;
+        let Entering {
+            lock,
+            rt,
+            access: _,
+        } = self;
         lock.writer(rt, Guard::new(lock.borrowed(rt), share))
+    }
+}
+
+impl<T, R: Wait + Clock, A> Grants<Shares<Task>, Share> for EnteringArc<T, R, A> {
+    type Output = Guard<Shares<Task>, EnteringArc<T, R, A>>;
+
+    fn granted(self, share: Share) -> Guard<Shares<Task>, EnteringArc<T, R, A>> {
+        Guard::new(self, share)
+    }
+}
+
+impl<T, R: Wait + Clock> Guard<Shares<Task>, EnteringArc<T, R, Reads>> {
+    /// The value. It waits for nobody: who may read has been settled before.
+    pub fn value(&self) -> sync::RwLockReadGuard<'_, T> {
+        self.hold.lock.value.read(&self.hold.rt)
+    }
+}
+
+impl<T, R: Wait + Clock> Guard<Shares<Task>, EnteringArc<T, R, Writes>> {
+    /// The value. It waits for nobody: who may write has been settled before.
+    pub fn value(&mut self) -> sync::RwLockWriteGuard<'_, T> {
+        self.hold.lock.value.write(&self.hold.rt)
     }
 }

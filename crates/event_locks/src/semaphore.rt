@@ -3,7 +3,8 @@
 mod permits;
 
 pub use self::permits::{Permit, Permits};
-use crate::lock::{Borrowed, Guard, Lock, Obtaining, Shared, Task, Waking};
+use crate::lock::{Borrowed, Guard, Hold, Lock, Obtaining, Shared, Task, Waking};
+use crate::place::Place;
 use std::alloc::{AllocError, Global};
 use std::sync::{Arc, Wait};
 use std::time::Clock;
@@ -18,10 +19,10 @@ pub type SemaphoreGuard<'a, R> = Guard<Permits<Task>, Borrowed<'a, Permits<Task>
 pub type SemaphoreGuardArc<R> = Guard<Permits<Task>, Shared<Permits<Task>, R>>;
 
 /// A wait for a permit.
-pub type Acquire<'a, R> = Obtaining<Permits<Task>, Borrowed<'a, Permits<Task>, R>>;
+pub type Acquire<'a, R> = Obtaining<Permits<Task>, Place, Borrowed<'a, Permits<Task>, R>>;
 
 /// A wait for a permit that shares its semaphore.
-pub type AcquireArc<R> = Obtaining<Permits<Task>, Shared<Permits<Task>, R>>;
+pub type AcquireArc<R> = Obtaining<Permits<Task>, Place, Shared<Permits<Task>, R>>;
 
 impl Lock<Permits<Task>> {
     /// A semaphore with so many permits, all free. It takes no memory until somebody waits.
@@ -37,13 +38,13 @@ impl Lock<Permits<Task>> {
     /// A permit, if one is free.
     #[must_use = "a guard that is dropped at once gives back what it holds"]
     pub fn try_acquire<'a, R: Wait + Clock>(&'a self, rt: &'a R) -> Option<SemaphoreGuard<'a, R>> {
-        let permit = self.try_obtain(rt, ())?;
+        let permit = self.attempt(rt, &mut Place::new())?;
         Some(Guard::new(Borrowed { lock: self, rt }, permit))
     }
 
     /// A wait for a permit.
     pub fn acquire<'a, R: Wait + Clock>(&'a self, rt: &'a R, alloc: Global) -> Acquire<'a, R> {
-        Obtaining::new(Borrowed { lock: self, rt }, alloc, ())
+        Obtaining::new(Borrowed { lock: self, rt }, alloc, Place::new())
     }
 
     /// A wait for a permit that may go to another thread. It returns an error if no share of the semaphore can be made.
@@ -56,7 +57,7 @@ impl Lock<Permits<Task>> {
         R: Drop,
     {
         let lock = Arc::try_clone(this)?;
-        Ok(Obtaining::new(Shared { lock, rt }, alloc, ()))
+        Ok(Obtaining::new(Shared { lock, rt }, alloc, Place::new()))
     }
 
     /// Adds permits. They go to the first that wait, who are woken, and the others are free. As many as a `usize` holds
@@ -65,5 +66,13 @@ impl Lock<Permits<Task>> {
         let mut waking = Waking::new();
         self.state(rt).release(n, &mut waking);
         waking.finish();
+    }
+}
+
+impl<H: Hold<Permits<Task>> + Drop> Guard<Permits<Task>, H> {
+    /// Keeps the permit from coming back: there is one less from here on.
+    pub fn forget(self) {
+        let (_, permit) = self.into_parts();
+        permit.forget();
     }
 }

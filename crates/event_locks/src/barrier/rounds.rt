@@ -4,11 +4,13 @@ ghost use Rattle.event_queue.specs.Exchange.{RegistersWith};
 ghost use Rattle.event_queue.specs.Insert.{Inserts};
 ghost use Rattle.event_queue.specs.Key.{without};
 ghost use Rattle.event_queue.specs.Queue.{order_of};
-ghost use Rattle.event_locks.specs.Line.{HandsOut, Looked, left_by};
+ghost use Rattle.event_locks.specs.Line.{HandsOut, Looked, as_told, left_by};
 ghost use Rattle.event_locks.specs.Rounds.{NobodyWaitsInVain};
 
-use crate::line::waiters::{Left, hand_all, join_line, leave_line, look_for};
-use crate::line::{Came, Line};
+use crate::lock::Task;
+use crate::place::Place;
+use crate::request::{Attempted, Grantor, Request};
+use crate::waiters::{Left, found, hand_all, join_line, leave_line, look_for};
 use event_queue::{Key, List, ListenError, RegisterResult, TaskExchange, WakeSink};
 use std::alloc::Global;
 use std::marker::Model;
@@ -87,13 +89,17 @@ impl<W> Rounds<W> {
         key: Key,
         exchange: &X,
         on: &mut C,
-    ) -> RegisterResult<()>
+    ) -> RegisterResult<Ended>
         ensures looked { Looked (X.exchanged exchange.now) on.old result on.new }
         ensures arrived { self.new.arrived ≡ self.old.arrived }
         ensures told { length self.new.line.told + left_by result ≡ length self.old.line.told }
-        ensures step { RegistersWith (X.exchanged exchange.now) self.old.line key on.old result self.new.line on.new }
+        ensures step { RegistersWith (X.exchanged exchange.now) self.old.line key on.old (as_told result) self.new.line on.new }
     {
-        look_for(&mut self.line, key, exchange, on)
+        match look_for(&mut self.line, key, exchange, on) {
+            RegisterResult::Notified(()) => RegisterResult::Notified(Ended { is_leader: false }),
+            RegisterResult::Registered => RegisterResult::Registered,
+            RegisterResult::NeverInserted => RegisterResult::NeverInserted,
+        }
     }
 
     /// Takes this one out of the queue. Whether its round had ended; else it has not arrived.
@@ -124,52 +130,66 @@ impl<W> Rounds<W> {
     }
 }
 
-impl<W: Drop> Line<W> for Rounds<W> {
-    type Ask = ();
+impl Request<Rounds<Task>> for Place {
+    type Output = Ended;
 
-    type Ticket = Key;
+    ghost gives = { λ _ _. Unit {0} };
 
-    type Grant = Ended;
-
-    fn come<S: WakeSink<W>>(
-        &mut self,
-        _ask: (),
-        sink: &mut S,
-    ) -> Result<Came<Ended, Key>, ListenError> {
-        match self.arrive(sink)? {
-            None => Ok(Came::Granted(Ended { is_leader: true })),
-            Some(key) => Ok(Came::Waits(key)),
-        }
+    fn is_waiting(&self) -> bool {
+        self.key.is_some()
     }
 
-    fn try_come<S: WakeSink<W>>(&mut self, _ask: (), sink: &mut S) -> Option<Ended> {
-        if !self.try_end(sink) {
+    fn attempt<K: WakeSink<Task>>(
+        &mut self,
+        state: &mut Rounds<Task>,
+        sink: &mut K,
+    ) -> Option<Ended> {
+        if !state.try_end(sink) {
             return None;
         }
         Some(Ended { is_leader: true })
     }
 
-    fn look<C, X: TaskExchange<W, C>>(
+    fn attempt_or_wait<C, X: TaskExchange<Task, C>, K: WakeSink<Task>>(
         &mut self,
-        ticket: Key,
+        state: &mut Rounds<Task>,
         exchange: &X,
         on: &mut C,
-    ) -> RegisterResult<Ended>
-        ensures { Looked (X.exchanged exchange.now) on.old result on.new }
-    {
-        match Rounds::look(self, ticket, exchange, on) {
-            RegisterResult::Notified(()) => RegisterResult::Notified(Ended { is_leader: false }),
-            RegisterResult::Registered => RegisterResult::Registered,
-            RegisterResult::NeverInserted => RegisterResult::NeverInserted,
-        }
+        sink: &mut K,
+    ) -> Attempted<Ended> {
+        let key = match self.key.take() {
+            Some(key) => key,
+            None => match state.arrive(sink) {
+                Ok(Some(key)) => key,
+                Ok(None) => return Attempted::Done(Ended { is_leader: true }),
+                Err(error) => return Attempted::Refused(error),
+            },
+        };
+        let attempted = found(key, state.look(key, exchange, on));
+        self.key = attempted.key();
+        attempted
     }
 
-    fn leave<S: WakeSink<W>>(&mut self, ticket: Key, _sink: &mut S) -> Option<Ended> {
-        if Rounds::leave(self, ticket) {
-            return Some(Ended { is_leader: false });
+    fn leave<K: WakeSink<Task>>(
+        &mut self,
+        state: &mut Rounds<Task>,
+        _sink: &mut K,
+    ) -> Option<Ended> {
+        if !state.leave(self.key.take()?) {
+            return None;
         }
-        None
+        Some(Ended { is_leader: false })
     }
 
-    fn give_back<S: WakeSink<W>>(&mut self, _grant: Ended, _sink: &mut S) {}
+    fn give_up<K: WakeSink<Task>>(&mut self, state: &mut Rounds<Task>, _sink: &mut K) {
+        if let Some(key) = self.key.take() {
+            state.leave(key);
+        }
+    }
+}
+
+impl Grantor for Rounds<Task> {
+    type Grant = Ended;
+
+    fn give_back<K: WakeSink<Task>>(&mut self, _grant: Ended, _sink: &mut K) {}
 }

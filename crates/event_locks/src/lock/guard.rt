@@ -1,15 +1,15 @@
 //! What was granted.
-use super::{Hold, Task};
-use crate::line::Line;
+use super::Hold;
+use crate::request::Grantor;
 
 /// What was granted, with a hold of its lock. Dropping it gives the grant back.
 #[must_use = "a guard that is dropped at once gives back what it was granted"]
-pub struct Guard<S: Line<Task>, H: Hold<S>> {
-    hold: H,
+pub struct Guard<S: Grantor, H: Hold<S>> {
+    pub(crate) hold: H,
     pub(crate) grant: S::Grant,
 }
 
-impl<S: Line<Task>, H: Hold<S>> Guard<S, H> {
+impl<S: Grantor, H: Hold<S>> Guard<S, H> {
     #[inline(always)]
     pub(crate) fn new(hold: H, grant: S::Grant) -> Self {
         Guard { hold, grant }
@@ -22,7 +22,7 @@ impl<S: Line<Task>, H: Hold<S>> Guard<S, H> {
     }
 }
 
-impl<S: Line<Task>, H: Hold<S> + Drop> Drop for Guard<S, H> {
+impl<S: Grantor, H: Hold<S> + Drop> Drop for Guard<S, H> {
     #[inline(always)]
     fn drop(self) {
         let Guard { hold, grant } = self;

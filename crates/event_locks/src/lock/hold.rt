@@ -2,15 +2,15 @@
 ghost use Rattle.std.specs.Prelude.{◌≡◌, ℕ};
 ghost use Rattle.std.specs.Arc.{arc_value};
 
-use super::{Guard, Lock, Task};
-use crate::line::Line;
+use super::{Guard, Lock};
+use crate::request::Grantor;
 use std::alloc::Global;
 use std::sync::{Arc, Wait};
 use std::time::Clock;
 
 /// How a wait or a guard holds its lock and the runtime: by borrowing both, or by a share of the lock and a runtime of its
 /// own.
-pub trait Hold<S: Line<Task>> {
+pub trait Hold<S> {
     ghost source: { Self → ℕ };
 
     /// The runtime.
@@ -25,12 +25,12 @@ pub trait Hold<S: Line<Task>> {
 }
 
 /// A hold that makes what a wait gives of a grant.
-pub trait Grants<S: Line<Task>>: Hold<S> + Sized {
+pub trait Grants<S, G>: Hold<S> + Sized {
     /// What a wait gives.
     type Output;
 
     /// What a wait gives of this grant, which goes back once that is dropped.
-    fn granted(self, grant: S::Grant) -> Self::Output;
+    fn granted(self, grant: G) -> Self::Output;
 }
 
 /// Borrows the lock and the runtime.
@@ -47,7 +47,7 @@ pub struct Shared<S, R> {
     pub(crate) rt: R,
 }
 
-impl<'a, S: Line<Task>, R: Wait + Clock> Hold<S> for Borrowed<'a, S, R> {
+impl<'a, S, R: Wait + Clock> Hold<S> for Borrowed<'a, S, R> {
     ghost source = { λ hold. hold.lock.now.source.source.id };
 
     type Runtime = R;
@@ -63,7 +63,7 @@ impl<'a, S: Line<Task>, R: Wait + Clock> Hold<S> for Borrowed<'a, S, R> {
     }
 }
 
-impl<S: Line<Task>, R: Wait + Clock> Hold<S> for Shared<S, R> {
+impl<S, R: Wait + Clock> Hold<S> for Shared<S, R> {
     ghost source = { λ hold. (arc_value hold.lock).source.source.id };
 
     type Runtime = R;
@@ -79,7 +79,7 @@ impl<S: Line<Task>, R: Wait + Clock> Hold<S> for Shared<S, R> {
     }
 }
 
-impl<'a, S: Line<Task>, R: Wait + Clock> Grants<S> for Borrowed<'a, S, R> {
+impl<'a, S: Grantor, R: Wait + Clock> Grants<S, S::Grant> for Borrowed<'a, S, R> {
     type Output = Guard<S, Borrowed<'a, S, R>>;
 
     #[inline(always)]
@@ -88,7 +88,7 @@ impl<'a, S: Line<Task>, R: Wait + Clock> Grants<S> for Borrowed<'a, S, R> {
     }
 }
 
-impl<S: Line<Task>, R: Wait + Clock> Grants<S> for Shared<S, R> {
+impl<S: Grantor, R: Wait + Clock> Grants<S, S::Grant> for Shared<S, R> {
     type Output = Guard<S, Shared<S, R>>;
 
     #[inline(always)]

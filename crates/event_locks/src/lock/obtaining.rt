@@ -5,12 +5,13 @@ ghost use Rattle.futures.specs.Task.{Covers, Keeps};
 
 use super::limit::Limit;
 use super::wait::wait;
-use super::{Grants, Hold, Obtained, Task};
+use super::{Grants, Hold};
 use crate::error::LockError;
-use crate::line::Line;
+use crate::request::{Attempted, Request};
 use futures::Future;
 use futures::task::{Context, Poll};
 use std::alloc::Global;
+use std::marker::PhantomData;
 use std::sync::Wait;
 use std::time::{Clock, Duration, Instant};
 
@@ -19,28 +20,30 @@ use std::time::{Clock, Duration, Instant};
 /// A thread blocks by [`wait`](Obtaining::wait), [`wait_timeout`](Obtaining::wait_timeout) or
 /// [`wait_deadline`](Obtaining::wait_deadline). A task awaits it: it is a future. Threads and tasks stand in one queue, and
 /// a thread that waits on a future which was polled before keeps its place. Dropped while it waits, it leaves the queue,
-/// and what it was handed goes to the next.
+/// and what it was notified of goes to the next.
 #[must_use = "nothing is asked for until it is waited on or polled"]
-pub struct Obtaining<S: Line<Task>, H: Grants<S>> {
+pub struct Obtaining<S, Q: Request<S>, H: Grants<S, Q::Output>> {
     hold: Option<H>,
     alloc: Global,
-    ask: S::Ask,
-    ticket: Option<S::Ticket>,
+    request: Q,
+    state: PhantomData<S>,
 }
 
-impl<S: Line<Task>, H: Grants<S>> Obtaining<S, H> {
-    pub(crate) fn new(hold: H, alloc: Global, ask: S::Ask) -> Self {
+impl<S, Q: Request<S>, H: Grants<S, Q::Output>> Obtaining<S, Q, H> {
+    #[inline(always)]
+    pub(crate) fn new(hold: H, alloc: Global, request: Q) -> Self {
         Obtaining {
             hold: Some(hold),
             alloc,
-            ask,
-            ticket: None,
+            request,
+            state: PhantomData,
         }
     }
 }
 
-impl<S: Line<Task>, H: Grants<S> + Drop> Obtaining<S, H> {
+impl<S, Q: Request<S> + Drop, H: Grants<S, Q::Output> + Drop> Obtaining<S, Q, H> {
     /// Blocks the thread until it is granted. It allocates what the thread parks on, if it has to wait.
+    #[inline(always)]
     pub fn wait(self) -> Result<H::Output, LockError> {
         match self.wait_until(Limit::Never)? {
             Some(output) => Ok(output),
@@ -64,41 +67,42 @@ impl<S: Line<Task>, H: Grants<S> + Drop> Obtaining<S, H> {
         self.wait_until(Limit::At(deadline))
     }
 
+    #[inline(always)]
     fn wait_until(self, limit: Limit) -> Result<Option<H::Output>, LockError> {
         let Obtaining {
             hold,
             alloc,
-            ask,
-            ticket,
+            request,
+            state: _,
         } = self;
         let Some(hold) = hold else {
             return Err(LockError::Finished);
         };
-        match wait(hold.lock(), hold.rt(), alloc, ask, ticket, limit)? {
+        let mut request = request;
+        match wait(hold.lock(), hold.rt(), alloc, &mut request, limit)? {
             Some(grant) => Ok(Some(hold.granted(grant))),
             None => Ok(None),
         }
     }
 }
 
-impl<S: Line<Task>, H: Grants<S> + Drop> Drop for Obtaining<S, H> {
+impl<S, Q: Request<S> + Drop, H: Grants<S, Q::Output> + Drop> Drop for Obtaining<S, Q, H> {
     fn drop(self) {
         let Obtaining {
             hold,
             alloc: _,
-            ask: _,
-            ticket,
+            request,
+            state: _,
         } = self;
+        let mut request = request;
         if let Some(hold) = hold {
-            if let Some(ticket) = ticket {
-                hold.lock().cancel(hold.rt(), ticket);
-            }
+            hold.lock().give_up(hold.rt(), &mut request);
         }
     }
 }
 
 /// Gives what was asked for once it is granted. A poll after that, or after an error, gives [`LockError::Finished`].
-impl<S: Line<Task>, H: Grants<S> + Drop> Future for Obtaining<S, H> {
+impl<S, Q: Request<S> + Drop, H: Grants<S, Q::Output> + Drop> Future for Obtaining<S, Q, H> {
     type Output = Result<H::Output, LockError>;
 
     ghost needs = { λ obtaining s. IsSomeAnd obtaining.hold (λ hold. s ≡ H.source hold) };
@@ -107,22 +111,17 @@ impl<S: Line<Task>, H: Grants<S> + Drop> Future for Obtaining<S, H> {
         let Some(hold) = self.hold.take() else {
             return Poll::Ready(Err(LockError::Finished));
         };
-        match hold.lock().obtain_in(hold.rt(), self.ask, self.ticket, cx) {
-            Obtained::Granted(grant) => {
-                self.ticket = None;
-                Poll::Ready(Ok(hold.granted(grant)))
-            }
-            Obtained::Waits(ticket) => {
-                self.ticket = Some(ticket);
+        match hold.lock().attempt_in(hold.rt(), &mut self.request, cx) {
+            Attempted::Done(grant) => Poll::Ready(Ok(hold.granted(grant))),
+            Attempted::Waits(_) => {
                 self.hold = Some(hold);
                 Poll::Pending
             }
-            Obtained::Absent => {
-                self.ticket = None;
+            Attempted::Absent => {
                 self.hold = Some(hold);
                 cx.yield_now()
             }
-            Obtained::Refused(error) => Poll::Ready(Err(LockError::Listen(error))),
+            Attempted::Refused(error) => Poll::Ready(Err(LockError::Listen(error))),
         }
     }
 }

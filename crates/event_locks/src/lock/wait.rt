@@ -1,26 +1,85 @@
 //! The wait of a thread.
-ghost use Rattle.std.specs.Prelude.{◌≡◌, IfOk, IsSome};
+ghost use Rattle.std.specs.Prelude.{◌≡◌, Ok, None, IfOk, IfSome, OnErr, IsSome};
 ghost use Rattle.event_locks.specs.declared.lock.limit.Limit.TheVariants.{Never};
 
 use super::limit::Limit;
-use super::{Lock, Obtained, Task};
+use super::{Lock, Task};
 use crate::error::LockError;
-use crate::line::Line;
+use crate::request::{Attempted, Request};
 use std::alloc::{AllocError, Global};
 use std::sync::{Arc, Wait};
 use std::thread::{self, Parker};
 use std::time::Clock;
 
-// How often a thread that finds the lock taken yields and tries again before it waits in the queue.
+// How often a thread yields and tries again before it waits in the queue.
 const TRIES: u32 = 4;
 
-// A few tries with a yield between them. Whoever waits in the queue is not overtaken by one.
-fn try_a_while<S: Line<Task>, R: Wait>(lock: &Lock<S>, rt: &R, ask: S::Ask) -> Option<S::Grant> {
+/// Blocks the thread until it has what it requests or the limit has passed. It goes on at its place in the queue, if it has
+/// one.
+#[inline(always)]
+pub(crate) fn wait<S, Q: Request<S>, R: Wait + Clock>(
+    lock: &Lock<S>,
+    rt: &R,
+    alloc: Global,
+    request: &mut Q,
+    limit: Limit,
+) -> Result<Option<Q::Output>, LockError>
+    ensures never { limit ≡ Never → IfOk result IsSome }
+    ensures gives { IfOk result (λ output. IfSome output (Q.gives request.old)) }
+    ensures kept { OnErr result (request.new ≡ request.old) }
+    ensures in_time { result ≡ Ok None → request.new ≡ request.old }
+{
+    if !request.is_waiting() {
+        if let Some(output) = lock.attempt(rt, request) {
+            return Ok(Some(output));
+        }
+    }
+    try_then_park(lock, rt, alloc, request, limit)
+}
+
+// A few tries with a yield between them, and then in the queue.
+#[inline(never)]
+fn try_then_park<S, Q: Request<S>, R: Wait + Clock>(
+    lock: &Lock<S>,
+    rt: &R,
+    alloc: Global,
+    request: &mut Q,
+    limit: Limit,
+) -> Result<Option<Q::Output>, LockError>
+    ensures never { limit ≡ Never → IfOk result IsSome }
+    ensures gives { IfOk result (λ output. IfSome output (Q.gives request.old)) }
+    ensures kept { OnErr result (request.new ≡ request.old) }
+    ensures in_time { result ≡ Ok None → request.new ≡ request.old }
+{
+    if let Some(output) = try_a_while(lock, rt, request) {
+        return Ok(Some(output));
+    }
+    match Arc::new(alloc, Parker::new()) {
+        Ok(parker) => park(lock, rt, request, &parker, limit),
+        Err(_) => {
+            lock.give_up(rt, request);
+            Err(LockError::Memory(AllocError))
+        }
+    }
+}
+
+// Whoever has a place in the queue tries nothing: its place is where it attempts.
+fn try_a_while<S, Q: Request<S>, R: Wait>(
+    lock: &Lock<S>,
+    rt: &R,
+    request: &mut Q,
+) -> Option<Q::Output>
+    ensures gives { IfSome result (Q.gives request.old) }
+    ensures kept { result ≡ None → request.new ≡ request.old }
+{
     for _ in 0..TRIES {
-        if let Some(grant) = lock.try_obtain(rt, ask) {
-            return Some(grant);
+        if request.is_waiting() {
+            return None;
         }
         thread::yield_now();
+        if let Some(output) = lock.attempt(rt, request) {
+            return Some(output);
+        }
     }
     None
 }
@@ -30,79 +89,38 @@ fn task_of(parker: &Arc<Parker, Global>) -> Result<Option<Task>, AllocError> {
     Ok(Some(Task::parked(Arc::try_clone(parker)?)))
 }
 
-/// Blocks the thread until there is a grant or the limit has passed. It goes on at this ticket's place in the queue, if
-/// there is one.
-pub(super) fn wait<S: Line<Task>, R: Wait + Clock>(
+fn park<S, Q: Request<S>, R: Wait + Clock>(
     lock: &Lock<S>,
     rt: &R,
-    alloc: Global,
-    ask: S::Ask,
-    ticket: Option<S::Ticket>,
-    limit: Limit,
-) -> Result<Option<S::Grant>, LockError>
-    ensures never { limit ≡ Never → IfOk result IsSome }
-{
-    if ticket.is_none() {
-        if let Some(grant) = try_a_while(lock, rt, ask) {
-            return Ok(Some(grant));
-        }
-    }
-    match Arc::new(alloc, Parker::new()) {
-        Ok(parker) => park(lock, rt, ask, ticket, &parker, limit),
-        Err(_) => {
-            give_up(lock, rt, ticket);
-            Err(LockError::Memory(AllocError))
-        }
-    }
-}
-
-// Leaves the queue, if it is there. What it was handed goes on.
-fn give_up<S: Line<Task>, R: Wait>(lock: &Lock<S>, rt: &R, ticket: Option<S::Ticket>) {
-    if let Some(ticket) = ticket {
-        lock.cancel(rt, ticket);
-    }
-}
-
-fn park<S: Line<Task>, R: Wait + Clock>(
-    lock: &Lock<S>,
-    rt: &R,
-    ask: S::Ask,
-    ticket: Option<S::Ticket>,
+    request: &mut Q,
     parker: &Arc<Parker, Global>,
     limit: Limit,
-) -> Result<Option<S::Grant>, LockError>
+) -> Result<Option<Q::Output>, LockError>
     ensures never { limit ≡ Never → IfOk result IsSome }
+    ensures gives { IfOk result (λ output. IfSome output (Q.gives request.old)) }
+    ensures kept { OnErr result (request.new ≡ request.old) }
+    ensures in_time { result ≡ Ok None → request.new ≡ request.old }
 {
-    let mut ticket = ticket;
     let mut task = None;
     for _ in rt.forever() {
         if task.is_none() {
             let Ok(new) = task_of(parker) else {
-                give_up(lock, rt, ticket);
+                lock.give_up(rt, request);
                 return Err(LockError::Memory(AllocError));
             };
             task = new;
         }
-        match lock.obtain(rt, ask, ticket, &mut task) {
-            Obtained::Granted(grant) => return Ok(Some(grant)),
-            Obtained::Waits(place) => ticket = Some(place),
-            Obtained::Absent => ticket = None,
-            Obtained::Refused(error) => return Err(LockError::Listen(error)),
+        match lock.attempt_or_park(rt, request, &mut task) {
+            Attempted::Done(output) => return Ok(Some(output)),
+            Attempted::Waits(_) => {}
+            Attempted::Absent => continue,
+            Attempted::Refused(error) => return Err(LockError::Listen(error)),
         }
         match limit.left(rt) {
             None => parker.park(rt),
-            Some(left) if left.is_zero() => return Ok(at_limit(lock, rt, ticket)),
+            Some(left) if left.is_zero() => return Ok(lock.leave(rt, request)),
             Some(left) => parker.park_timeout(rt, left),
         }
     }
     unreachable!()
-}
-
-// Leaves the queue at the limit, with what it was handed.
-fn at_limit<S: Line<Task>, R: Wait>(
-    lock: &Lock<S>,
-    rt: &R,
-    ticket: Option<S::Ticket>,
-) -> Option<S::Grant> {
-    lock.leave(rt, ticket?)
 }

@@ -1,15 +1,13 @@
 //! The state of a mutex.
-ghost use Rattle.std.specs.Prelude.{◌≡◌, ◌+◌, ◌<◌, ◌≤◌, [], length, None, Some, IsSome, MatchOption};
-ghost use Rattle.event_queue.specs.Exchange.{RegistersWith};
-ghost use Rattle.event_queue.specs.Insert.{Inserts};
-ghost use Rattle.event_queue.specs.Key.{without};
-ghost use Rattle.event_queue.specs.Queue.{order_of};
-ghost use Rattle.event_locks.specs.Line.{HandsOut, Looked, OnGranted, as_told, left_by};
-ghost use Rattle.event_locks.specs.Slot.{NobodyWaitsInVain, count};
+ghost use Rattle.std.specs.Prelude.{◌≡◌, ◌-◌, [], length, None, Some, IsSome, MatchOption};
+ghost use Rattle.event_locks.specs.Line.{HasLeft, LeavesThenTells, TellsUpTo};
+ghost use Rattle.event_locks.specs.Slot.{NobodyWaitsInVain, Obtains, count};
 
-use crate::line::waiters::{Left, hand_out, join_line, leave_line, look_for};
-use crate::line::{Came, Line};
-use event_queue::{Key, List, ListenError, RegisterResult, TaskExchange, WakeSink};
+use crate::lock::Task;
+use crate::place::Place;
+use crate::request::{Attempted, Grantor, Request};
+use crate::waiters::{leave_any, leave_then_tell, tell, wait_in_line};
+use event_queue::{Key, List, TaskExchange, WakeSink};
 use std::alloc::Global;
 use std::marker::Model;
 
@@ -42,78 +40,57 @@ impl<T, W> Slot<T, W> {
         }
     }
 
-    /// Takes the value, if it is there and nobody was handed it: then nobody waits.
+    /// Takes the value, if it is there.
     #[inline(always)]
     pub fn try_take(&mut self) -> Option<T>
-        ensures { MatchOption result ((self.new ≡ self.old) × (count self.old.kept ≤ length self.old.line.told)) (λ value. (self.old.kept ≡ Some value) × (self.new.kept ≡ None) × (self.new.line ≡ self.old.line)) }
+        ensures taken { MatchOption result (self.old.kept ≡ None) (λ value. self.old.kept ≡ Some value) }
+        ensures left { self.new ≡ record self.old { kept = None } }
     {
-        if self.line.is_notified() {
-            return None;
-        }
         self.kept.take()
     }
 
-    /// Puts one at the end of the queue.
-    pub fn join(&mut self) -> Result<Key, ListenError>
-        requires { count self.old.kept ≤ length self.old.line.told }
-        ensures step { Inserts self.old.line result self.new.line }
-        ensures kept { self.new.kept ≡ self.old.kept }
-    {
-        join_line(&mut self.line)
-    }
-
-    /// The value that this one was handed, which then leaves the queue; else it waits on, with its task.
-    pub fn look<C, X: TaskExchange<W, C>>(
+    /// Takes the value, if it is there, and leaves the queue; else waits, with the task that the exchange makes, at its
+    /// place, or at the end where it was notified or is new.
+    pub fn take_or_wait<C, X: TaskExchange<W, C>>(
         &mut self,
-        key: Key,
+        key: Option<Key>,
         exchange: &X,
         on: &mut C,
-    ) -> RegisterResult<T>
-        ensures looked { Looked (X.exchanged exchange.now) on.old result on.new }
-        ensures step { RegistersWith (X.exchanged exchange.now) self.old.line key on.old (as_told result) self.new.line on.new }
-        ensures told { length self.new.line.told + left_by result ≡ length self.old.line.told }
-        ensures value { OnGranted result (λ value. (self.old.kept ≡ Some value) × (self.new.kept ≡ None)) }
-        ensures kept { left_by result ≡ 0 → self.new.kept ≡ self.old.kept }
-    {
-        match look_for(&mut self.line, key, exchange, on) {
-            RegisterResult::Notified(()) => match self.kept.take() {
-                Some(value) => RegisterResult::Notified(value),
-                None => unreachable!(),
-            },
-            RegisterResult::Registered => RegisterResult::Registered,
-            RegisterResult::NeverInserted => RegisterResult::NeverInserted,
-        }
-    }
-
-    /// Takes this one out of the queue, with the value if it was handed it.
-    pub fn leave(&mut self, key: Key) -> Option<T>
+    ) -> Attempted<T>
     where
         W: Drop,
-        ensures value { MatchOption result (self.new.kept ≡ self.old.kept) (λ value. (self.old.kept ≡ Some value) × (self.new.kept ≡ None)) }
-        ensures has { MatchOption result (length self.new.line.told ≡ length self.old.line.told) (λ _. length self.new.line.told + 1 ≡ length self.old.line.told) }
-        ensures others { order_of self.new.line ≡ without key (order_of self.old.line) }
+        ensures { Obtains (X.exchanged exchange.now) key self.old on.old result self.new on.new }
     {
-        match leave_line(&mut self.line, key) {
-            Left::Told => self.kept.take(),
-            Left::Waited => None,
-            Left::Absent => None,
+        match self.kept.take() {
+            Some(value) => {
+                leave_any(&mut self.line, key);
+                Attempted::Done(value)
+            }
+            None => wait_in_line(&mut self.line, key, exchange, on),
         }
     }
 
-    /// Gives the value back: to the first that waits, who is woken, or to whoever comes.
+    /// Takes one out of the queue. If the value is there and nobody is notified of it now, the next is.
+    pub fn cancel<S: WakeSink<W>>(&mut self, key: Key, sink: &mut S)
+    where
+        W: Drop,
+        ensures kept { self.new.kept ≡ self.old.kept }
+        ensures step { LeavesThenTells S.woke key (count self.old.kept) self.old.line self.new.line sink.old sink.new }
+    {
+        leave_then_tell(&mut self.line, key, usize::from(self.kept.is_some()), sink);
+    }
+
+    /// Puts the value back, and notifies the first that waits of it, unless one is notified already. One that is put back
+    /// while another is there is dropped.
     #[inline(always)]
     pub fn put<S: WakeSink<W>>(&mut self, value: T, sink: &mut S)
     where
         T: Drop,
-        ensures kept { self.old.kept ≡ None → self.new.kept ≡ Some value }
-        ensures step { self.old.kept ≡ None → HandsOut S.woke 1 self.old.line self.new.line sink.old sink.new }
-        ensures unchanged { IsSome self.old.kept → (self.new ≡ self.old) × (sink.new ≡ sink.old) }
+        ensures kept { self.new.kept ≡ Some value }
+        ensures step { TellsUpTo S.woke 1 self.old.line self.new.line sink.old sink.new }
     {
-        if self.kept.is_some() {
-            return;
-        }
         self.kept = Some(value);
-        hand_out(&mut self.line, 1, sink);
+        tell(&mut self.line, 1, sink);
     }
 
     /// The value, if it is there.
@@ -134,7 +111,7 @@ impl<T, W> Slot<T, W> {
         kept
     }
 
-    /// Nobody waits in vain: while the value is there and kept for nobody, nobody waits. It is kept for one at most.
+    /// Nobody waits in vain: while the value is there and nobody is notified of it, nobody waits.
     pub fn nobody_waits_in_vain(&self)
         ensures { NobodyWaitsInVain self.now }
     {
@@ -142,44 +119,55 @@ impl<T, W> Slot<T, W> {
     }
 }
 
-impl<T: Drop, W: Drop> Line<W> for Slot<T, W> {
-    type Ask = ();
+impl<T: Drop> Request<Slot<T, Task>> for Place {
+    type Output = T;
 
-    type Ticket = Key;
+    ghost gives = { λ _ _. Unit {0} };
 
-    type Grant = T;
-
-    fn come<S: WakeSink<W>>(
-        &mut self,
-        _ask: (),
-        _sink: &mut S,
-    ) -> Result<Came<T, Key>, ListenError> {
-        if let Some(value) = self.try_take() {
-            return Ok(Came::Granted(value));
-        }
-        Ok(Came::Waits(self.join()?))
+    fn is_waiting(&self) -> bool {
+        self.key.is_some()
     }
 
-    fn try_come<S: WakeSink<W>>(&mut self, _ask: (), _sink: &mut S) -> Option<T> {
-        self.try_take()
+    #[inline(always)]
+    fn attempt<K: WakeSink<Task>>(
+        &mut self,
+        state: &mut Slot<T, Task>,
+        _sink: &mut K,
+    ) -> Option<T> {
+        state.try_take()
     }
 
-    fn look<C, X: TaskExchange<W, C>>(
+    fn attempt_or_wait<C, X: TaskExchange<Task, C>, K: WakeSink<Task>>(
         &mut self,
-        ticket: Key,
+        state: &mut Slot<T, Task>,
         exchange: &X,
         on: &mut C,
-    ) -> RegisterResult<T>
-        ensures { Looked (X.exchanged exchange.now) on.old result on.new }
-    {
-        Slot::look(self, ticket, exchange, on)
+        _sink: &mut K,
+    ) -> Attempted<T> {
+        let attempted = state.take_or_wait(self.key, exchange, on);
+        self.key = attempted.key();
+        attempted
     }
 
-    fn leave<S: WakeSink<W>>(&mut self, ticket: Key, _sink: &mut S) -> Option<T> {
-        Slot::leave(self, ticket)
+    fn leave<K: WakeSink<Task>>(&mut self, state: &mut Slot<T, Task>, sink: &mut K) -> Option<T> {
+        if let Some(key) = self.key.take() {
+            state.cancel(key, sink);
+        }
+        None
     }
 
-    fn give_back<S: WakeSink<W>>(&mut self, grant: T, sink: &mut S) {
+    fn give_up<K: WakeSink<Task>>(&mut self, state: &mut Slot<T, Task>, sink: &mut K) {
+        if let Some(key) = self.key.take() {
+            state.cancel(key, sink);
+        }
+    }
+}
+
+impl<T: Drop> Grantor for Slot<T, Task> {
+    type Grant = T;
+
+    #[inline(always)]
+    fn give_back<K: WakeSink<Task>>(&mut self, grant: T, sink: &mut K) {
         self.put(grant, sink);
     }
 }

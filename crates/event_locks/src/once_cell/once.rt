@@ -9,8 +9,9 @@ ghost use Rattle.event_queue.specs.Queue.{order_of};
 ghost use Rattle.event_locks.specs.Line.{HandsOut, Looked, OnGranted, as_told, left_by};
 ghost use Rattle.event_locks.specs.Once.{NobodyWaitsInVain, turn_at, turns};
 
-use crate::line::waiters::{Left, hand_all, hand_out, join_line, leave_line, look_for};
-use crate::line::{Came, Line};
+use crate::lock::Task;
+use crate::request::{Attempted, Grantor, Request};
+use crate::waiters::{Left, found, hand_all, hand_out, join_line, leave_line, look_for};
 use event_queue::{Key, List, ListenError, RegisterResult, TaskExchange, WakeSink};
 use std::alloc::Global;
 use std::marker::Model;
@@ -24,11 +25,23 @@ pub enum Want {
     Use,
 }
 
-/// Where one waits.
-#[derive(Clone, Copy)]
+/// What one wants of a cell, and its place in the queue of those that want the same, if it stands there.
+#[derive(Drop)]
 pub struct Seat {
     want: Want,
-    key: Key,
+    key: Option<Key>,
+}
+
+impl Model for Seat {
+    ghost Value = { Unit {0} };
+
+    ghost view = { λ _. tt };
+}
+
+impl Seat {
+    pub(crate) fn new(want: Want) -> Self {
+        Seat { want, key: None }
+    }
 }
 
 /// What one is to do that was granted something.
@@ -130,6 +143,13 @@ impl<W> Once<W> {
             return Ok(Ok(Turn::Use));
         }
         Ok(Err(join_line(&mut self.readers)?))
+    }
+
+    fn come(&mut self, want: Want) -> Result<Result<Turn, Key>, ListenError> {
+        match want {
+            Want::Make => self.come_to_make(),
+            Want::Use => self.come_to_use(),
+        }
     }
 
     /// What this one is to do, if it is its turn: then it leaves the queue.
@@ -250,61 +270,69 @@ impl<W> Once<W> {
     }
 }
 
-// What came of asking.
-fn came(want: Want, turn: Result<Turn, Key>) -> Came<Turn, Seat> {
-    match turn {
-        Ok(turn) => Came::Granted(turn),
-        Err(key) => Came::Waits(Seat { want, key }),
+impl Request<Once<Task>> for Seat {
+    type Output = Turn;
+
+    ghost gives = { λ _ _. Unit {0} };
+
+    fn is_waiting(&self) -> bool {
+        self.key.is_some()
+    }
+
+    fn attempt<K: WakeSink<Task>>(
+        &mut self,
+        state: &mut Once<Task>,
+        _sink: &mut K,
+    ) -> Option<Turn> {
+        match self.want {
+            Want::Make => state.try_make(),
+            Want::Use => state.try_use(),
+        }
+    }
+
+    fn attempt_or_wait<C, X: TaskExchange<Task, C>, K: WakeSink<Task>>(
+        &mut self,
+        state: &mut Once<Task>,
+        exchange: &X,
+        on: &mut C,
+        _sink: &mut K,
+    ) -> Attempted<Turn> {
+        let key = match self.key.take() {
+            Some(key) => key,
+            None => match state.come(self.want) {
+                Ok(Err(key)) => key,
+                Ok(Ok(turn)) => return Attempted::Done(turn),
+                Err(error) => return Attempted::Refused(error),
+            },
+        };
+        let looked = match self.want {
+            Want::Make => state.look_to_make(key, exchange, on),
+            Want::Use => state.look_to_use(key, exchange, on),
+        };
+        let attempted = found(key, looked);
+        self.key = attempted.key();
+        attempted
+    }
+
+    fn leave<K: WakeSink<Task>>(&mut self, state: &mut Once<Task>, _sink: &mut K) -> Option<Turn> {
+        let key = self.key.take()?;
+        match self.want {
+            Want::Make => state.leave_making(key),
+            Want::Use => state.leave_using(key),
+        }
+    }
+
+    fn give_up<K: WakeSink<Task>>(&mut self, state: &mut Once<Task>, sink: &mut K) {
+        if let Some(turn) = self.leave(state, sink) {
+            state.give_back(turn, sink);
+        }
     }
 }
 
-impl<W: Drop> Line<W> for Once<W> {
-    type Ask = Want;
-
-    type Ticket = Seat;
-
+impl Grantor for Once<Task> {
     type Grant = Turn;
 
-    fn come<S: WakeSink<W>>(
-        &mut self,
-        ask: Want,
-        _sink: &mut S,
-    ) -> Result<Came<Turn, Seat>, ListenError> {
-        match ask {
-            Want::Make => Ok(came(ask, self.come_to_make()?)),
-            Want::Use => Ok(came(ask, self.come_to_use()?)),
-        }
-    }
-
-    fn try_come<S: WakeSink<W>>(&mut self, ask: Want, _sink: &mut S) -> Option<Turn> {
-        match ask {
-            Want::Make => self.try_make(),
-            Want::Use => self.try_use(),
-        }
-    }
-
-    fn look<C, X: TaskExchange<W, C>>(
-        &mut self,
-        ticket: Seat,
-        exchange: &X,
-        on: &mut C,
-    ) -> RegisterResult<Turn>
-        ensures { Looked (X.exchanged exchange.now) on.old result on.new }
-    {
-        match ticket.want {
-            Want::Make => self.look_to_make(ticket.key, exchange, on),
-            Want::Use => self.look_to_use(ticket.key, exchange, on),
-        }
-    }
-
-    fn leave<S: WakeSink<W>>(&mut self, ticket: Seat, _sink: &mut S) -> Option<Turn> {
-        match ticket.want {
-            Want::Make => self.leave_making(ticket.key),
-            Want::Use => self.leave_using(ticket.key),
-        }
-    }
-
-    fn give_back<S: WakeSink<W>>(&mut self, grant: Turn, sink: &mut S) {
+    fn give_back<K: WakeSink<Task>>(&mut self, grant: Turn, sink: &mut K) {
         match grant {
             Turn::Make => self.give_up(sink),
             Turn::Made => self.set(sink),

@@ -4,11 +4,12 @@ ghost use Rattle.event_queue.specs.Exchange.{RegistersWith};
 ghost use Rattle.event_queue.specs.Insert.{Inserts};
 ghost use Rattle.event_queue.specs.Key.{without};
 ghost use Rattle.event_queue.specs.Queue.{order_of};
-ghost use Rattle.event_locks.specs.Line.{HandsOut, Looked, left_by};
+ghost use Rattle.event_locks.specs.Line.{HandsOut, Looked, as_told, left_by};
 ghost use Rattle.event_locks.specs.Shares.{HasNoRoom, IsAWriterThere, NobodyWaitsInVain, NoWriterIsThere, NobodyIsIn, reading, writing};
 
-use crate::line::waiters::{Left, hand_all, hand_out, join_line, leave_line, look_for};
-use crate::line::{Came, Line};
+use crate::lock::Task;
+use crate::request::{Attempted, Grantor, Request};
+use crate::waiters::{Left, found, hand_all, hand_out, join_line, leave_line, look_for};
 use event_queue::{Key, List, ListenError, RegisterResult, TaskExchange, WakeSink};
 use std::alloc::Global;
 use std::marker::Model;
@@ -20,11 +21,23 @@ pub enum Access {
     Write,
 }
 
-/// Where one stands.
-#[derive(Clone, Copy)]
-pub struct Place {
+/// What one that comes in is to do, and its place in the queue of those that wait to do it, if it stands there.
+#[derive(Drop)]
+pub struct Entry {
     access: Access,
-    key: Key,
+    key: Option<Key>,
+}
+
+impl Model for Entry {
+    ghost Value = { Unit {0} };
+
+    ghost view = { λ _. tt };
+}
+
+impl Entry {
+    pub(crate) fn new(access: Access) -> Self {
+        Entry { access, key: None }
+    }
 }
 
 /// The right to read or to write. It is no `Drop`.
@@ -137,6 +150,13 @@ impl<W> Shares<W> {
         Ok(None)
     }
 
+    fn enter(&mut self, access: Access) -> Result<Option<Key>, ListenError> {
+        match access {
+            Access::Read => self.read(),
+            Access::Write => self.write(),
+        }
+    }
+
     /// Counts a reader, if no writer writes or waits.
     pub fn try_read(&mut self) -> bool
         ensures let_in { IsTrue result → (self.new ≡ record self.old { readers = self.old.readers + 1 }) × NoWriterIsThere self.old }
@@ -168,16 +188,16 @@ impl<W> Shares<W> {
         key: Key,
         exchange: &X,
         on: &mut C,
-    ) -> RegisterResult<()>
+    ) -> RegisterResult<Share>
         ensures looked { Looked (X.exchanged exchange.now) on.old result on.new }
-        ensures step { RegistersWith (X.exchanged exchange.now) self.old.read_line key on.old result self.new.read_line on.new }
+        ensures step { RegistersWith (X.exchanged exchange.now) self.old.read_line key on.old (as_told result) self.new.read_line on.new }
         ensures reading { reading self.new ≡ reading self.old }
         ensures readers { self.new.readers ≡ self.old.readers + left_by result }
     {
         match look_for(&mut self.read_line, key, exchange, on) {
             RegisterResult::Notified(()) => {
                 self.readers += 1;
-                RegisterResult::Notified(())
+                RegisterResult::Notified(Share(Access::Read))
             }
             RegisterResult::Registered => RegisterResult::Registered,
             RegisterResult::NeverInserted => RegisterResult::NeverInserted,
@@ -190,16 +210,16 @@ impl<W> Shares<W> {
         key: Key,
         exchange: &X,
         on: &mut C,
-    ) -> RegisterResult<()>
+    ) -> RegisterResult<Share>
         ensures looked { Looked (X.exchanged exchange.now) on.old result on.new }
-        ensures step { RegistersWith (X.exchanged exchange.now) self.old.write_line key on.old result self.new.write_line on.new }
+        ensures step { RegistersWith (X.exchanged exchange.now) self.old.write_line key on.old (as_told result) self.new.write_line on.new }
         ensures writing { writing self.new ≡ writing self.old }
         ensures writers { self.new.writers ≡ self.old.writers + left_by result }
     {
         match look_for(&mut self.write_line, key, exchange, on) {
             RegisterResult::Notified(()) => {
                 self.writers = 1;
-                RegisterResult::Notified(())
+                RegisterResult::Notified(Share(Access::Write))
             }
             RegisterResult::Registered => RegisterResult::Registered,
             RegisterResult::NeverInserted => RegisterResult::NeverInserted,
@@ -324,14 +344,6 @@ impl<W> Shares<W> {
     }
 }
 
-// What came of asking for it.
-fn came(access: Access, key: Option<Key>) -> Came<Share, Place> {
-    match key {
-        None => Came::Granted(Share(access)),
-        Some(key) => Came::Waits(Place { access, key }),
-    }
-}
-
 // The right, if it was granted.
 fn granted(access: Access, is_told: bool) -> Option<Share> {
     if is_told {
@@ -340,62 +352,74 @@ fn granted(access: Access, is_told: bool) -> Option<Share> {
     None
 }
 
-impl<W: Drop> Line<W> for Shares<W> {
-    type Ask = Access;
+impl Request<Shares<Task>> for Entry {
+    type Output = Share;
 
-    type Ticket = Place;
+    ghost gives = { λ _ _. Unit {0} };
 
-    type Grant = Share;
+    fn is_waiting(&self) -> bool {
+        self.key.is_some()
+    }
 
-    fn come<S: WakeSink<W>>(
+    fn attempt<K: WakeSink<Task>>(
         &mut self,
-        ask: Access,
-        _sink: &mut S,
-    ) -> Result<Came<Share, Place>, ListenError> {
-        match ask {
-            Access::Read => Ok(came(ask, self.read()?)),
-            Access::Write => Ok(came(ask, self.write()?)),
+        state: &mut Shares<Task>,
+        _sink: &mut K,
+    ) -> Option<Share> {
+        match self.access {
+            Access::Read => granted(Access::Read, state.try_read()),
+            Access::Write => granted(Access::Write, state.try_write()),
         }
     }
 
-    fn try_come<S: WakeSink<W>>(&mut self, ask: Access, _sink: &mut S) -> Option<Share> {
-        match ask {
-            Access::Read => granted(ask, self.try_read()),
-            Access::Write => granted(ask, self.try_write()),
-        }
-    }
-
-    fn look<C, X: TaskExchange<W, C>>(
+    fn attempt_or_wait<C, X: TaskExchange<Task, C>, K: WakeSink<Task>>(
         &mut self,
-        ticket: Place,
+        state: &mut Shares<Task>,
         exchange: &X,
         on: &mut C,
-    ) -> RegisterResult<Share>
-        ensures { Looked (X.exchanged exchange.now) on.old result on.new }
-    {
-        match ticket.access {
-            Access::Read => match self.look_read(ticket.key, exchange, on) {
-                RegisterResult::Notified(()) => RegisterResult::Notified(Share(Access::Read)),
-                RegisterResult::Registered => RegisterResult::Registered,
-                RegisterResult::NeverInserted => RegisterResult::NeverInserted,
+        _sink: &mut K,
+    ) -> Attempted<Share> {
+        let key = match self.key.take() {
+            Some(key) => key,
+            None => match state.enter(self.access) {
+                Ok(Some(key)) => key,
+                Ok(None) => return Attempted::Done(Share(self.access)),
+                Err(error) => return Attempted::Refused(error),
             },
-            Access::Write => match self.look_write(ticket.key, exchange, on) {
-                RegisterResult::Notified(()) => RegisterResult::Notified(Share(Access::Write)),
-                RegisterResult::Registered => RegisterResult::Registered,
-                RegisterResult::NeverInserted => RegisterResult::NeverInserted,
-            },
+        };
+        let looked = match self.access {
+            Access::Read => state.look_read(key, exchange, on),
+            Access::Write => state.look_write(key, exchange, on),
+        };
+        let attempted = found(key, looked);
+        self.key = attempted.key();
+        attempted
+    }
+
+    fn leave<K: WakeSink<Task>>(
+        &mut self,
+        state: &mut Shares<Task>,
+        sink: &mut K,
+    ) -> Option<Share> {
+        let key = self.key.take()?;
+        let is_told = match self.access {
+            Access::Read => state.leave_read(key),
+            Access::Write => state.leave_write(key, sink),
+        };
+        granted(self.access, is_told)
+    }
+
+    fn give_up<K: WakeSink<Task>>(&mut self, state: &mut Shares<Task>, sink: &mut K) {
+        if let Some(share) = self.leave(state, sink) {
+            state.give_back(share, sink);
         }
     }
+}
 
-    fn leave<S: WakeSink<W>>(&mut self, ticket: Place, sink: &mut S) -> Option<Share> {
-        let is_told = match ticket.access {
-            Access::Read => self.leave_read(ticket.key),
-            Access::Write => self.leave_write(ticket.key, sink),
-        };
-        granted(ticket.access, is_told)
-    }
+impl Grantor for Shares<Task> {
+    type Grant = Share;
 
-    fn give_back<S: WakeSink<W>>(&mut self, grant: Share, sink: &mut S) {
+    fn give_back<K: WakeSink<Task>>(&mut self, grant: Share, sink: &mut K) {
         let Share(access) = grant;
         match access {
             Access::Read => self.unread(sink),

@@ -1,15 +1,13 @@
 //! The state of a semaphore.
-ghost use Rattle.std.specs.Prelude.{◌≡◌, ◌+◌, ◌-◌, ◌<◌, ◌≤◌, ◌^◌, ℕ, min, [], drop, length, MatchOption};
-ghost use Rattle.event_queue.specs.Exchange.{RegistersWith};
-ghost use Rattle.event_queue.specs.Insert.{Inserts};
-ghost use Rattle.event_queue.specs.Key.{without};
-ghost use Rattle.event_queue.specs.Queue.{order_of};
-ghost use Rattle.event_locks.specs.Line.{HandsOut, Looked, as_told, left_by};
-ghost use Rattle.event_locks.specs.Permits.{NobodyWaitsInVain};
+ghost use Rattle.std.specs.Prelude.{◌≡◌, ◌+◌, ◌-◌, ◌^◌, min, [], MatchOption};
+ghost use Rattle.event_locks.specs.Line.{HasLeftThenTells, LeavesThenTells, TellsUpTo};
+ghost use Rattle.event_locks.specs.Permits.{NobodyWaitsInVain, Obtains};
 
-use crate::line::waiters::{Left, hand_out, join_line, leave_line, look_for};
-use crate::line::{Came, Line};
-use event_queue::{Key, List, ListenError, RegisterResult, TaskExchange, WakeSink};
+use crate::lock::Task;
+use crate::place::Place;
+use crate::request::{Attempted, Grantor, Request};
+use crate::waiters::{leave_then_tell, tell, wait_in_line};
+use event_queue::{Key, List, TaskExchange, WakeSink};
 use std::alloc::Global;
 use std::marker::Model;
 
@@ -22,6 +20,13 @@ pub struct Permits<W> {
 
 /// One permit. It is no `Drop`.
 pub struct Permit(());
+
+impl Permit {
+    /// Lets it go for ever.
+    pub(crate) fn forget(self) {
+        let Permit(()) = self;
+    }
+}
 
 impl<W> Model for Permits<W> {
     ghost use Rattle.event_locks.specs.Permits.{State, NobodyWaitsInVain};
@@ -53,7 +58,8 @@ impl<W> Permits<W> {
         self.free
     }
 
-    /// Takes a permit, if one is free: then nobody waits.
+    /// Takes a permit, if one is free.
+    #[inline(always)]
     pub fn try_take(&mut self) -> Option<Permit>
         ensures taken { MatchOption result ((self.old.free ≡ 0) × (self.new ≡ self.old)) (λ _. (self.new.free + 1 ≡ self.old.free) × (self.new.line ≡ self.old.line)) }
     {
@@ -64,60 +70,60 @@ impl<W> Permits<W> {
         Some(Permit(()))
     }
 
-    /// Puts one at the end of the queue.
-    pub fn join(&mut self) -> Result<Key, ListenError>
-        requires { self.old.free ≡ 0 }
-        ensures step { Inserts self.old.line result self.new.line }
-        ensures free { self.new.free ≡ 0 }
-    {
-        join_line(&mut self.line)
-    }
-
-    /// The permit that this one was handed, which then leaves the queue; else it waits on, with its task.
-    pub fn look<C, X: TaskExchange<W, C>>(
+    /// Takes a permit, if one is free, and leaves the queue; else waits, with the task that the exchange makes, at its place,
+    /// or at the end where it was notified or is new.
+    pub fn take_or_wait<C, X: TaskExchange<W, C>, S: WakeSink<W>>(
         &mut self,
-        key: Key,
+        key: Option<Key>,
         exchange: &X,
         on: &mut C,
-    ) -> RegisterResult<Permit>
-        ensures step { RegistersWith (X.exchanged exchange.now) self.old.line key on.old (as_told result) self.new.line on.new }
-        ensures looked { Looked (X.exchanged exchange.now) on.old result on.new }
-        ensures told { length self.new.line.told + left_by result ≡ length self.old.line.told }
-        ensures free { self.new.free ≡ self.old.free }
-    {
-        match look_for(&mut self.line, key, exchange, on) {
-            RegisterResult::Notified(()) => RegisterResult::Notified(Permit(())),
-            RegisterResult::Registered => RegisterResult::Registered,
-            RegisterResult::NeverInserted => RegisterResult::NeverInserted,
-        }
-    }
-
-    /// Takes this one out of the queue, with the permit that it was handed.
-    pub fn leave(&mut self, key: Key) -> Option<Permit>
+        sink: &mut S,
+    ) -> Attempted<Permit>
     where
         W: Drop,
-        ensures has { MatchOption result (length self.new.line.told ≡ length self.old.line.told) (λ _. length self.new.line.told + 1 ≡ length self.old.line.told) }
-        ensures free { self.new.free ≡ self.old.free }
-        ensures others { order_of self.new.line ≡ without key (order_of self.old.line) }
+        ensures { Obtains (X.exchanged exchange.now) S.woke key self.old on.old sink.old result self.new on.new sink.new }
     {
-        match leave_line(&mut self.line, key) {
-            Left::Told => Some(Permit(())),
-            Left::Waited => None,
-            Left::Absent => None,
+        if self.free == 0 {
+            return wait_in_line(&mut self.line, key, exchange, on);
+        }
+        self.free -= 1;
+        self.leave(key, sink);
+        Attempted::Done(Permit(()))
+    }
+
+    fn leave<S: WakeSink<W>>(&mut self, key: Option<Key>, sink: &mut S)
+    where
+        W: Drop,
+        ensures free { self.new.free ≡ self.old.free }
+        ensures step { HasLeftThenTells S.woke key self.old.free self.old.line self.new.line sink.old sink.new }
+    {
+        if let Some(key) = key {
+            self.cancel(key, sink);
         }
     }
 
-    /// Gives `n` permits back: to the first that wait, who are woken, and the others are free. As many as a `usize` holds
-    /// are free at most.
-    pub fn release<S: WakeSink<W>>(&mut self, n: usize, sink: &mut S)
-        ensures step { HandsOut S.woke n self.old.line self.new.line sink.old sink.new }
-        ensures free { self.new.free ≡ min (2 ^ 64 - 1) (self.old.free + (n - length self.old.line.waiting)) }
+    /// Takes one out of the queue. If now fewer are notified than permits are free, others are.
+    pub fn cancel<S: WakeSink<W>>(&mut self, key: Key, sink: &mut S)
+    where
+        W: Drop,
+        ensures free { self.new.free ≡ self.old.free }
+        ensures step { LeavesThenTells S.woke key self.old.free self.old.line self.new.line sink.old sink.new }
     {
-        let told = hand_out(&mut self.line, n, sink);
-        self.free = self.free.saturating_add(n - told);
+        leave_then_tell(&mut self.line, key, self.free, sink);
     }
 
-    /// Nobody waits in vain: while a permit is free, nobody waits. Each permit that is told of is kept for its listener.
+    /// Gives `n` permits back, and notifies the first that wait, so that as many are notified as permits are free. As many
+    /// as a `usize` holds are free at most.
+    #[inline(always)]
+    pub fn release<S: WakeSink<W>>(&mut self, n: usize, sink: &mut S)
+        ensures free { self.new.free ≡ min (2 ^ 64 - 1) (self.old.free + n) }
+        ensures step { TellsUpTo S.woke self.new.free self.old.line self.new.line sink.old sink.new }
+    {
+        self.free = self.free.saturating_add(n);
+        tell(&mut self.line, self.free, sink);
+    }
+
+    /// Nobody waits in vain: while fewer are notified than permits are free, nobody waits.
     pub fn nobody_waits_in_vain(&self)
         ensures { NobodyWaitsInVain self.now }
     {
@@ -125,44 +131,55 @@ impl<W> Permits<W> {
     }
 }
 
-impl<W: Drop> Line<W> for Permits<W> {
-    type Ask = ();
+impl Request<Permits<Task>> for Place {
+    type Output = Permit;
 
-    type Ticket = Key;
+    ghost gives = { λ _ _. Unit {0} };
 
-    type Grant = Permit;
-
-    fn come<S: WakeSink<W>>(
-        &mut self,
-        _ask: (),
-        _sink: &mut S,
-    ) -> Result<Came<Permit, Key>, ListenError> {
-        if let Some(permit) = self.try_take() {
-            return Ok(Came::Granted(permit));
-        }
-        Ok(Came::Waits(self.join()?))
+    fn is_waiting(&self) -> bool {
+        self.key.is_some()
     }
 
-    fn try_come<S: WakeSink<W>>(&mut self, _ask: (), _sink: &mut S) -> Option<Permit> {
-        self.try_take()
+    #[inline(always)]
+    fn attempt<K: WakeSink<Task>>(
+        &mut self,
+        state: &mut Permits<Task>,
+        _sink: &mut K,
+    ) -> Option<Permit> {
+        state.try_take()
     }
 
-    fn look<C, X: TaskExchange<W, C>>(
+    fn attempt_or_wait<C, X: TaskExchange<Task, C>, K: WakeSink<Task>>(
         &mut self,
-        ticket: Key,
+        state: &mut Permits<Task>,
         exchange: &X,
         on: &mut C,
-    ) -> RegisterResult<Permit>
-        ensures { Looked (X.exchanged exchange.now) on.old result on.new }
-    {
-        Permits::look(self, ticket, exchange, on)
+        sink: &mut K,
+    ) -> Attempted<Permit> {
+        let attempted = state.take_or_wait(self.key, exchange, on, sink);
+        self.key = attempted.key();
+        attempted
     }
 
-    fn leave<S: WakeSink<W>>(&mut self, ticket: Key, _sink: &mut S) -> Option<Permit> {
-        Permits::leave(self, ticket)
+    fn leave<K: WakeSink<Task>>(
+        &mut self,
+        state: &mut Permits<Task>,
+        sink: &mut K,
+    ) -> Option<Permit> {
+        state.leave(self.key.take(), sink);
+        None
     }
 
-    fn give_back<S: WakeSink<W>>(&mut self, grant: Permit, sink: &mut S) {
+    fn give_up<K: WakeSink<Task>>(&mut self, state: &mut Permits<Task>, sink: &mut K) {
+        state.leave(self.key.take(), sink);
+    }
+}
+
+impl Grantor for Permits<Task> {
+    type Grant = Permit;
+
+    #[inline(always)]
+    fn give_back<K: WakeSink<Task>>(&mut self, grant: Permit, sink: &mut K) {
         let Permit(()) = grant;
         self.release(1, sink);
     }

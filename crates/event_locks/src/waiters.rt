@@ -1,13 +1,14 @@
 //! What a state does with its queue.
-ghost use Rattle.std.specs.Prelude.{◌≡◌, ◌+◌, min, drop, length, IfOk, OnErr};
-ghost use Rattle.std.specs.List.{FoldsTo};
+ghost use Rattle.std.specs.Prelude.{◌≡◌, ◌+◌, ◌<◌, min, drop, length, Err, IfOk, IfErr, OnErr};
 ghost use Rattle.event_queue.specs.Exchange.{RegistersWith};
 ghost use Rattle.event_queue.specs.Insert.{Inserts};
 ghost use Rattle.event_queue.specs.Key.{without};
 ghost use Rattle.event_queue.specs.Queue.{order_of};
-ghost use Rattle.event_locks.specs.Line.{HandsOut, Looked, left_by};
+ghost use Rattle.event_locks.specs.Attempted.{WaitsOn, found_by};
+ghost use Rattle.event_locks.specs.Line.{HandsOut, HasLeft, Leaves, LeavesThenTells, Looked, Stands, TellsUpTo, left_by};
 ghost use Rattle.event_locks.specs.Left.{left_as, told_of, waited_of};
 
+use crate::request::Attempted;
 use event_queue::{
     IntoNotification, Key, List, ListenError, RegisterResult, State, TaskExchange, WakeSink,
 };
@@ -19,6 +20,87 @@ impl<W: Drop> WakeSink<W> for Nobody {
     ghost woke = { λ _ _ _. Unit {0} };
 
     fn wake(&mut self, _task: W) {}
+}
+
+// Notifies the first that wait, so that `n` are notified if there are as many, and wakes them.
+#[inline(always)]
+pub(crate) fn tell<W, S: WakeSink<W>>(line: &mut List<(), W>, n: usize, sink: &mut S)
+    ensures step { TellsUpTo S.woke n line.old line.new sink.old sink.new }
+    ensures enough { length line.new.told < n → length line.new.waiting ≡ 0 }
+{
+    line.notify_uncounted(&mut n.into_notification(), sink)
+        .unwrap();
+}
+
+// Takes one out of the queue, and then notifies the first that wait, so that `n` are notified if there are as many.
+pub(crate) fn leave_then_tell<W: Drop, S: WakeSink<W>>(
+    line: &mut List<(), W>,
+    key: Key,
+    n: usize,
+    sink: &mut S,
+)
+    ensures step { LeavesThenTells S.woke key n line.old line.new sink.old sink.new }
+    ensures enough { length line.new.told < n → length line.new.waiting ≡ 0 }
+{
+    leave_line(line, key);
+    tell(line, n, sink);
+}
+
+// Takes one out of the queue, if it is there.
+pub(crate) fn leave_any<W: Drop>(line: &mut List<(), W>, key: Option<Key>)
+    ensures left { HasLeft key line.old line.new }
+{
+    if let Some(key) = key {
+        leave_line(line, key);
+    }
+}
+
+// Has one wait, with the task that the exchange makes: at its place, or at the end where it was notified or is new.
+pub(crate) fn wait_in_line<W: Drop, G, C, X: TaskExchange<W, C>>(
+    line: &mut List<(), W>,
+    key: Option<Key>,
+    exchange: &X,
+    on: &mut C,
+) -> Attempted<G>
+    ensures { WaitsOn (X.exchanged exchange.now) key line.old on.old result line.new on.new }
+{
+    let key = match place_in(line, key) {
+        Ok(key) => key,
+        Err(error) => return Attempted::Refused(error),
+    };
+    match line.register_with_uncounted(key, exchange, on) {
+        RegisterResult::Registered => Attempted::Waits(key),
+        RegisterResult::Notified(()) => Attempted::Absent,
+        RegisterResult::NeverInserted => Attempted::Absent,
+    }
+}
+
+// The place of one that waits: its own, or the last one where it was notified or is new.
+fn place_in<W: Drop>(line: &mut List<(), W>, key: Option<Key>) -> Result<Key, ListenError>
+    ensures placed { IfOk result (λ place. Stands key place line.old line.new) }
+    ensures refused { IfErr result (λ error. HasLeft key line.old line.new × Inserts line.new (Err error) line.new) }
+{
+    match key {
+        Some(key) => {
+            if !line.is_told(key) {
+                return Ok(key);
+            }
+            leave_line(line, key);
+            line.insert_uncounted()
+        }
+        None => line.insert_uncounted(),
+    }
+}
+
+// What a look by this key led to.
+pub(crate) fn found<G>(key: Key, looked: RegisterResult<G>) -> Attempted<G>
+    ensures { result ≡ found_by key looked }
+{
+    match looked {
+        RegisterResult::Notified(grant) => Attempted::Done(grant),
+        RegisterResult::Registered => Attempted::Waits(key),
+        RegisterResult::NeverInserted => Attempted::Absent,
+    }
 }
 
 // Hands something to the first that wait, `n` at most, and wakes them. Returns to how many.
@@ -76,6 +158,7 @@ pub(crate) fn leave_line<W: Drop>(line: &mut List<(), W>, key: Key) -> Left
     ensures told { length line.new.told + told_of result ≡ length line.old.told }
     ensures waiting { length line.new.waiting + waited_of result ≡ length line.old.waiting }
     ensures others { order_of line.new ≡ without key (order_of line.old) }
+    ensures leaves { Leaves key line.old line.new }
 {
     let mut nobody = Nobody {};
     let left = line.remove_uncounted(key, false, &mut nobody);

@@ -1,5 +1,5 @@
 use Rattle.event_locks.proofs.LineLemmas.{removed}
-use Rattle.event_locks.proofs.line.waiters.leave_line.Goals as goal
+use Rattle.event_locks.proofs.waiters.leave_line.Goals as goal
 
 pub returns-clause-told : goal.returns-clause-told
 returns-clause-told g c =
@@ -8,3 +8,7 @@ returns-clause-told g c =
 pub returns-clause-waiting : goal.returns-clause-waiting
 returns-clause-waiting g c =
     rw c.left_as.ensures (removed c.args.line.now c.remove_uncounted-left.new.self c.args.key c.remove_uncounted-left.result c.remove_uncounted-left.ensures.step).1
+
+pub returns-clause-leaves : goal.returns-clause-leaves
+returns-clause-leaves g c =
+    record { answer = c.remove_uncounted-left.result; removes = c.remove_uncounted-left.ensures.step }
