@@ -12,6 +12,12 @@ module _ {T : Type 0} where
   unsent_at_once (Try.Closed message) = message
   unsent_at_once (Try.Memory message) = message
 
+  -- it is none of a full channel
+  abbrev pub IsNotFull : TrySendError T → Type 0
+  IsNotFull (Try.Full message) = ⊥
+  IsNotFull (Try.Closed message) = Unit {0}
+  IsNotFull (Try.Memory message) = Unit {0}
+
   abbrev pub unsent : SendError T → T
   unsent (Send.Closed message) = message
   unsent (Send.Memory message) = message

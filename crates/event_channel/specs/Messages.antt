@@ -1,34 +1,64 @@
--- The messages between both sides, and what each call does to them.
-use Rattle.std.specs.Prelude.{◌≡◌, ◌≤◌, ◌++◌, ℕ, List, [], ◌∷◌, Bool, true, false, Option, None, IsSomeAnd, length}
-use Rattle.event_channel.specs.declared.error.TrySendError.{TrySendError}
-use Rattle.event_channel.specs.declared.error.TrySendError.TheVariants.{Closed, Full, Memory}
+-- What a contract sees of the state under a channel's lock.
+use Rattle.std.specs.Prelude.{◌≡◌, ℕ, ◌+◌, ◌<◌, ◌≤◌, ◌^◌, ◌-◌, Bool, true, false, List, [], length, Option, Some, None}
+use Rattle.event_queue.specs.Queue.{Queue}
 
--- those that wait, first the one that is received next; how many may wait at most, if there is a limit; and whether the
--- channel is closed
-pub record Messages (T : Type 0) : Type 0 where
-  pub waiting : List T
-  pub capacity : Option ℕ
+-- the messages, first the one that is received next; how many there may be at most; whether the channel is closed; and the
+-- queues of those that wait: to send, to receive one message, and to receive all as a stream
+pub record State (T W : Type 0) : Type 0 where
+  pub messages : List T
+  pub capacity : ℕ
   pub is_closed : Bool
+  pub senders : Queue (Unit {0}) W
+  pub receivers : Queue (Unit {0}) W
+  pub streams : Queue (Unit {0}) W
 
-module _ {T : Type 0} where
-  -- as many wait as may
-  abbrev pub IsFull : Messages T → Type 0
-  IsFull messages = IsSomeAnd messages.capacity (λ capacity. capacity ≤ length messages.waiting)
+-- how many messages there may be at most: without a limit the greatest `usize`
+abbrev pub limit_of : Option ℕ → ℕ
+limit_of (Some capacity) = capacity
+limit_of None = 2 ^ 64 - 1
 
-  -- the message is put behind all others of an open channel
-  abbrev pub Pushes : T → Messages T → Messages T → Type 0
-  Pushes message before after =
-      (before.is_closed ≡ false) × (after ≡ record { waiting = before.waiting ++ (message ∷ []); capacity = before.capacity; is_closed = false })
+module _ {T W : Type 0} where
+  -- nobody has come yet
+  abbrev pub empty_queue : Queue T W
+  empty_queue = record { told = []; waiting = []; next_serial = 0; spare = 0 }
 
-  -- the message comes back from a channel that is closed, or from an open one that is full, or, without a limit, out of memory
-  abbrev pub Refuses : T → Messages T → TrySendError T → Type 0
-  Refuses message before (Closed back) = (back ≡ message) × (before.is_closed ≡ true)
-  Refuses message before (Full back) =
-      (back ≡ message) × (before.is_closed ≡ false) × IsFull before
-  Refuses message before (Memory back) =
-      (back ≡ message) × (before.is_closed ≡ false) × (before.capacity ≡ None)
+module _ {T W : Type 0} where
+  -- an open channel without messages, at which nobody is
+  abbrev pub new_state : ℕ → State T W
+  new_state capacity = record {
+    messages = [];
+    capacity = capacity;
+    is_closed = false;
+    senders = empty_queue;
+    receivers = empty_queue;
+    streams = empty_queue;
+  }
 
-  -- before there was one message more, in front of all others
-  abbrev pub Pops : T → Messages T → Messages T → Type 0
-  Pops message before after =
-      before ≡ record { waiting = message ∷ after.waiting; capacity = after.capacity; is_closed = after.is_closed }
+  -- how many messages more there may be
+  abbrev pub room_in : State T W → ℕ
+  room_in s = s.capacity - length s.messages
+
+  -- as many messages are there as may be
+  abbrev pub IsFull : State T W → Type 0
+  IsFull s = s.capacity ≤ length s.messages
+
+  -- there is a limit below the greatest `usize`
+  abbrev pub IsBounded : State T W → Type 0
+  IsBounded s = s.capacity + 1 < 2 ^ 64
+
+  pub record NobodyWaitsInVain (s : State T W) : Type 0 where
+    -- while fewer receivers are told than there are messages, no receiver waits
+    pub receivers : length s.receivers.told < length s.messages → length s.receivers.waiting ≡ 0
+    -- while fewer senders are told than there is room for, no sender waits
+    pub senders : length s.messages + length s.senders.told < s.capacity → length s.senders.waiting ≡ 0
+    -- while there is a message, no stream waits
+    pub streams : 0 < length s.messages → length s.streams.waiting ≡ 0
+    -- nobody waits at a closed channel
+    pub closed : s.is_closed ≡ true → length s.senders.waiting + length s.receivers.waiting + length s.streams.waiting ≡ 0
+
+  -- what the state keeps, with so many places for messages: there are no more messages than may be, and where there is a
+  -- limit each has its place from the beginning
+  pub record IsKept (s : State T W) (places : ℕ) : Type 0 where
+    pub waits : NobodyWaitsInVain s
+    pub fits : length s.messages ≤ s.capacity
+    pub reserved : IsBounded s → s.capacity ≤ places

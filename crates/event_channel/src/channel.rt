@@ -1,41 +1,31 @@
 //! What both sides share.
-ghost use Rattle.std.specs.Prelude.{◌≡◌, ◌≢◌, ◌+◌, ◌≤◌, Err, IfOk, IfErr, OnErr};
-ghost use Rattle.event_channel.specs.declared.channel.ChannelError.TheVariants.{ZeroCapacity};
-ghost use Rattle.event_channel.specs.Errors.{unsent_at_once};
+ghost use Rattle.std.specs.Prelude.{◌≡◌, ◌≤◌, IfErr, IfOk};
+ghost use Rattle.event_channel.specs.Errors.{IsNotFull, unsent_at_once};
 
-use crate::error::{TryRecvError, TrySendError};
-use crate::queue::MessageQueue;
-use event_listener::{Event, EventIds, IdsUsedUp};
+use crate::error::TrySendError;
+use crate::messages::Messages;
+use event_locks::{Lock, Task, Waking};
 use std::alloc::{AllocError, Global};
+use std::sync::Wait;
 use std::sync::atomic::{AtomicUsize, Ordering};
-use std::sync::{Mutex, Wait};
 use thiserror::Error;
 
-/// Why no channel was made. The source of identities may have given one or two.
+/// Why no channel was made.
 #[derive(Clone, Copy, Debug, PartialEq, Eq, Error)]
 pub enum ChannelError {
-    /// A channel needs room for one message at least. No identity was taken.
+    /// A channel needs room for one message at least.
     #[error("a channel needs room for one message at least")]
     ZeroCapacity,
     /// There was no memory for the channel.
     #[error("no memory for a channel")]
     Memory(#[from] AllocError),
-    /// The source of identities has given all.
-    #[error("{0}")]
-    Ids(#[from] IdsUsedUp),
 }
 
-/// The messages under a lock, and the events that both sides wait for.
-///
-/// Whoever changes the messages gives the lock back, and then notifies: who is notified finds the change.
+/// The messages and all that wait, under one lock, and how many handles there are.
 #[derive(Drop)]
 pub(crate) struct Channel<T> {
-    queue: Mutex<MessageQueue<T>>,
+    pub(crate) lock: Lock<Messages<T, Task>>,
     pub(crate) capacity: Option<usize>,
-    /// What senders wait for: room, or the end.
-    pub(crate) sendable: Event,
-    /// What receivers wait for: a message, or the end. Its number is the channel's.
-    pub(crate) receivable: Event,
     pub(crate) senders: Handles,
     pub(crate) receivers: Handles,
 }
@@ -44,91 +34,88 @@ pub(crate) struct Channel<T> {
 #[derive(Drop)]
 pub(crate) struct Handles(AtomicUsize);
 
-fn next_event(ids: &mut EventIds) -> Result<Event, ChannelError>
-    ensures number { IfOk result (λ event. event ≡ ids.old) }
-    ensures taken { IfOk result (λ _. ids.new ≡ ids.old + 1) }
-    ensures kept { OnErr result (ids.new ≡ ids.old) }
-    ensures nonzero { result ≢ Err ZeroCapacity }
-{
-    match ids.next() {
-        Ok(id) => Ok(Event::new(id)),
-        Err(error) => Err(ChannelError::Ids(error)),
-    }
-}
-
 impl<T> Channel<T> {
     /// An open channel without messages, with one handle of each side.
-    pub(crate) fn new(
-        alloc: Global,
-        ids: &mut EventIds,
-        capacity: Option<usize>,
-    ) -> Result<Self, ChannelError>
-        ensures capacity { IfOk result (λ channel. channel.capacity ≡ capacity) }
-        ensures number { IfOk result (λ channel. channel.receivable ≡ ids.old) }
-        ensures taken { IfOk result (λ _. ids.new ≡ ids.old + 2) }
-        ensures onward { ids.old ≤ ids.new }
-        ensures nonzero { result ≢ Err ZeroCapacity }
+    pub(crate) fn new(alloc: Global, capacity: Option<usize>) -> Result<Self, AllocError>
+        ensures { IfOk result (λ channel. channel.capacity ≡ capacity) }
     {
-        let receivable = next_event(ids)?;
-        let sendable = next_event(ids)?;
-        let queue = match MessageQueue::new(alloc, capacity) {
-            Ok(queue) => Mutex::new(queue),
-            Err(error) => return Err(ChannelError::Memory(error)),
-        };
+        let messages = Messages::new(alloc, capacity)?;
         Ok(Channel {
-            queue,
+            lock: Lock::of(messages),
             capacity,
-            sendable,
-            receivable,
             senders: Handles::one(),
             receivers: Handles::one(),
         })
     }
 
     /// Puts a message behind all others, if the channel is open and not full.
+    #[inline(always)]
     pub(crate) fn try_send<R: Wait>(&self, rt: &R, message: T) -> Result<(), TrySendError<T>>
         ensures { IfErr result (λ error. unsent_at_once error ≡ message) }
     {
-        let mut queue = self.queue.lock(rt);
-        let pushed = queue.push(message);
-        drop(queue);
-        pushed?.notify(rt, &self.receivable);
-        Ok(())
+        let mut waking = Waking::new();
+        let mut messages = self.lock.state(rt);
+        let sent = messages.push(message, &mut waking);
+        drop(messages);
+        waking.finish();
+        sent
     }
 
-    /// Takes the first message.
-    pub(crate) fn try_recv<R: Wait>(&self, rt: &R) -> Result<T, TryRecvError> {
-        let mut queue = self.queue.lock(rt);
-        let taken = queue.pop();
-        let is_closed = queue.is_closed();
-        drop(queue);
-        match taken {
-            Some((message, popped)) => {
-                popped.notify(rt, &self.sendable);
-                Ok(message)
-            }
-            None if is_closed => Err(TryRecvError::Closed),
-            None => Err(TryRecvError::Empty),
-        }
+    /// Puts a message behind all others, if the channel is open, and takes the first out if it is full.
+    pub(crate) fn force_send<R: Wait>(
+        &self,
+        rt: &R,
+        message: T,
+    ) -> Result<Option<T>, TrySendError<T>>
+        ensures returned { IfErr result (λ error. unsent_at_once error ≡ message) }
+        ensures unfull { IfErr result IsNotFull }
+    {
+        let mut waking = Waking::new();
+        let mut messages = self.lock.state(rt);
+        let sent = messages.push_forced(message, &mut waking);
+        drop(messages);
+        waking.finish();
+        sent
     }
 
-    /// Closes the channel and notifies both sides, or returns `false` if it is closed already.
+    /// Takes the first messages, so many at most, and puts them behind what `into` has.
+    pub(crate) fn take_into<R: Wait>(
+        &self,
+        rt: &R,
+        into: &mut Vec<T>,
+        limit: usize,
+    ) -> Result<usize, AllocError>
+        ensures { IfOk result (λ count. count ≤ limit) }
+    {
+        let mut waking = Waking::new();
+        let mut messages = self.lock.state(rt);
+        let taken = messages.pop_into(into, limit, &mut waking);
+        drop(messages);
+        waking.finish();
+        taken
+    }
+
+    /// Closes the channel and wakes all that wait, or returns `false` if it is closed already.
     pub(crate) fn close<R: Wait>(&self, rt: &R) -> bool {
-        let mut queue = self.queue.lock(rt);
-        let closing = queue.close();
-        drop(queue);
-        match closing {
-            Some(closing) => {
-                closing.notify(rt, &self.sendable, &self.receivable);
-                true
-            }
-            None => false,
-        }
+        let mut waking = Waking::new();
+        let mut messages = self.lock.state(rt);
+        let is_closed = messages.close(&mut waking);
+        drop(messages);
+        waking.finish();
+        is_closed
     }
 
-    /// The messages under their lock.
-    pub(crate) fn queue(&self) -> &Mutex<MessageQueue<T>> {
-        &self.queue
+    pub(crate) fn is_closed<R: Wait>(&self, rt: &R) -> bool {
+        self.lock.state(rt).is_closed()
+    }
+
+    pub(crate) fn is_full<R: Wait>(&self, rt: &R) -> bool {
+        self.lock.state(rt).is_full()
+    }
+
+    /// How many messages wait.
+    pub(crate) fn len<R: Wait>(&self, rt: &R) -> usize {
+        self.lock.state(rt).len()
     }
 }
 
@@ -148,6 +135,16 @@ impl Handles {
             Ok(_) => Ok(()),
             Err(_) => Err(AllocError),
         }
+    }
+
+    /// One handle more, if there is one. It answers whether there was.
+    pub(crate) fn revive(&self) -> bool {
+        let revived = self.0.fetch_update(
+            Ordering::SeqCst,
+            Ordering::SeqCst,
+            |count| if count == 0 { None } else { count.checked_add(1) },
+        );
+        revived.is_ok()
     }
 
     /// One handle less. Returns whether none is left.

@@ -2,14 +2,14 @@
 ghost use Rattle.std.specs.Prelude.{◌≡◌};
 ghost use Rattle.event_channel.specs.Errors.{unsent, unsent_in_time, unsent_at_once};
 
-use event_until::UntilError;
+use event_locks::LockError;
 use std::error::Error;
 use std::fmt;
 use std::fmt::{Debug, Display, Formatter};
 use thiserror::Error;
 
 /// Why [`try_send`](crate::Sender::try_send) did not send the message, which it hands back.
-#[derive(Drop, PartialEq, Eq)]
+#[derive(Drop, Clone, PartialEq, Eq)]
 pub enum TrySendError<T> {
     /// As many messages wait as may.
     Full(T),
@@ -21,18 +21,18 @@ pub enum TrySendError<T> {
 }
 
 /// Why a message was not sent, which comes back.
-#[derive(Drop, PartialEq, Eq)]
+#[derive(Drop, Clone, PartialEq, Eq)]
 pub enum SendError<T> {
     /// The channel is closed.
     Closed(T),
     /// There was no memory for the message. A channel with a limit never returns this.
     Memory(T),
     /// The channel is full, and waiting for room was refused.
-    WaitFailed(T, UntilError),
+    WaitFailed(T, LockError),
 }
 
 /// Why a message was not sent in time, which comes back.
-#[derive(Drop, PartialEq, Eq)]
+#[derive(Drop, Clone, PartialEq, Eq)]
 pub enum SendTimeoutError<T> {
     /// The channel was full until then.
     TimedOut(T),
@@ -41,7 +41,7 @@ pub enum SendTimeoutError<T> {
     /// There was no memory for the message. A channel with a limit never returns this.
     Memory(T),
     /// The channel is full, and waiting for room was refused.
-    WaitFailed(T, UntilError),
+    WaitFailed(T, LockError),
 }
 
 /// Why [`try_recv`](crate::Receiver::try_recv) received no message.
@@ -63,7 +63,7 @@ pub enum RecvError {
     Closed,
     /// The channel is empty, and waiting for a message was refused.
     #[error("{0}")]
-    WaitFailed(#[from] UntilError),
+    WaitFailed(#[from] LockError),
 }
 
 /// Why no message was received in time.
@@ -77,7 +77,7 @@ pub enum RecvTimeoutError {
     Closed,
     /// The channel is empty, and waiting for a message was refused.
     #[error("{0}")]
-    WaitFailed(#[from] UntilError),
+    WaitFailed(#[from] LockError),
 }
 
 impl<T> TrySendError<T> {
@@ -90,6 +90,30 @@ impl<T> TrySendError<T> {
             TrySendError::Closed(message) => message,
             TrySendError::Memory(message) => message,
         }
+    }
+}
+
+impl<T> TrySendError<T> {
+    /// Whether the channel was full.
+    pub fn is_full(&self) -> bool {
+        matches!(self, TrySendError::Full(_))
+    }
+
+    /// Whether the channel was closed.
+    pub fn is_closed(&self) -> bool {
+        matches!(self, TrySendError::Closed(_))
+    }
+}
+
+impl TryRecvError {
+    /// Whether the channel was empty, and open.
+    pub fn is_empty(&self) -> bool {
+        matches!(self, TryRecvError::Empty)
+    }
+
+    /// Whether the channel was closed, and empty.
+    pub fn is_closed(&self) -> bool {
+        matches!(self, TryRecvError::Closed)
     }
 }
 

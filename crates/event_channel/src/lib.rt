@@ -6,17 +6,20 @@
 
 mod channel;
 mod error;
-mod queue;
+mod messages;
 mod receiver;
+mod receiving;
 mod recv;
 mod send;
 mod sender;
+mod sending;
 
 pub use channel::ChannelError;
 pub use error::{
     RecvError, RecvTimeoutError, SendError, SendTimeoutError, TryRecvError, TrySendError,
 };
-pub use receiver::Receiver;
+pub use messages::{Messages, Received, Sent, received_in_order};
+pub use receiver::{Receiver, WeakReceiver};
 pub use recv::Recv;
 pub use send::Send;
-pub use sender::{Sender, bounded, unbounded};
+pub use sender::{Sender, WeakSender, bounded, unbounded};

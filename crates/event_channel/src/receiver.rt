@@ -1,25 +1,32 @@
 //! The side that receives.
-ghost use Rattle.std.specs.Prelude.{◌≡◌};
+ghost use Rattle.std.specs.Prelude.{◌≡◌, ◌≤◌, IfOk, IfSome};
 ghost use Rattle.std.specs.Arc.{arc_value};
 
 use crate::channel::Channel;
 use crate::error::{RecvError, RecvTimeoutError, TryRecvError};
-use crate::recv::{Receiving, Recv, received, received_in_time};
-use event_until::Until;
+use crate::receiving::{Ended, Receiving};
+use crate::recv::Recv;
+use event_locks::{Limit, LockError};
+use futures::Stream;
+use futures::task::{Context, Poll};
 use std::alloc::{AllocError, Global};
+use std::fmt;
+use std::fmt::{Debug, Formatter};
 use std::marker::Model;
 use std::sync::{Arc, Wait};
-use std::time::{Clock, Duration};
+use std::time::{Clock, Duration, Instant};
 
 /// Receives the messages of a channel. Clones receive of the same one; when the last is dropped, the channel is closed.
 ///
-/// Each message is received once, and in the order in which they were sent. Each call may wait for the lock of the
-/// channel, which is held for a few instructions, and for the locks of its events. A contract sees the number of the
-/// channel and its capacity.
+/// Each message is received once, and in the order in which they were sent. Each call may wait for the lock of the channel,
+/// which is held for a few instructions. A receiver is a stream of the messages too, which ends when the channel is closed
+/// and empty. A contract sees the number of the channel and its capacity.
 pub struct Receiver<T: Drop, R: Wait + Clock + Clone> {
     channel: Arc<Channel<T>>,
     rt: R,
     alloc: Global,
+    // Where it waits as a stream.
+    stream: Receiving,
 }
 
 impl<T: Drop, R: Wait + Clock + Clone> Model for Receiver<T, R> {
@@ -28,48 +35,114 @@ impl<T: Drop, R: Wait + Clock + Clone> Model for Receiver<T, R> {
 
     ghost Value = { Handle };
 
-    ghost view = { λ receiver. record { channel = (arc_value receiver.channel).receivable; capacity = (arc_value receiver.channel).capacity } };
+    ghost view = { λ receiver. record { channel = (arc_value receiver.channel).lock; capacity = (arc_value receiver.channel).capacity } };
+}
+
+// What a wait for ever led to.
+fn received<T>(waited: Result<Option<Result<T, Ended>>, LockError>) -> Result<T, RecvError> {
+    match waited {
+        Ok(Some(Ok(message))) => Ok(message),
+        Ok(Some(Err(Ended))) => Err(RecvError::Closed),
+        Ok(None) => Err(RecvError::WaitFailed(LockError::Finished)),
+        Err(error) => Err(RecvError::WaitFailed(error)),
+    }
+}
+
+// What a wait with a limit led to.
+fn received_in_time<T>(
+    waited: Result<Option<Result<T, Ended>>, LockError>,
+) -> Result<T, RecvTimeoutError> {
+    match waited {
+        Ok(Some(Ok(message))) => Ok(message),
+        Ok(Some(Err(Ended))) => Err(RecvTimeoutError::Closed),
+        Ok(None) => Err(RecvTimeoutError::TimedOut),
+        Err(error) => Err(RecvTimeoutError::WaitFailed(error)),
+    }
 }
 
 impl<T: Drop, R: Wait + Clock + Clone> Receiver<T, R> {
     pub(crate) fn new(channel: Arc<Channel<T>>, rt: R, alloc: Global) -> Self
-        ensures { result ≡ record { channel = (arc_value channel).receivable; capacity = (arc_value channel).capacity } }
+        ensures { result ≡ record { channel = (arc_value channel).lock; capacity = (arc_value channel).capacity } }
     {
-        Receiver { channel, rt, alloc }
+        Receiver {
+            channel,
+            rt,
+            alloc,
+            stream: Receiving::stream(),
+        }
     }
 
     /// Receives the first message, if one waits. The call does not allocate.
+    #[inline(always)]
     pub fn try_recv(&self) -> Result<T, TryRecvError> {
-        self.channel.try_recv(&self.rt)
+        match self.channel.lock.attempt(&self.rt, &mut Receiving::one()) {
+            Some(Ok(message)) => Ok(message),
+            Some(Err(Ended)) => Err(TryRecvError::Closed),
+            None => Err(TryRecvError::Empty),
+        }
     }
 
-    /// Receives a message once there is one: to be awaited, or the messages one after another, as a stream. Nothing is
-    /// received before it is polled, and no message is lost if it is dropped.
+    /// Receives a message once there is one: to be awaited. Nothing is received before it is polled, and no message is lost
+    /// if it is dropped.
     pub fn recv(&self) -> Recv<'_, T, R> {
-        Recv::new(self.receiving())
+        Recv::new(&self.channel, &self.rt)
     }
 
     /// Receives a message once there is one, and blocks the calling thread until then.
     ///
-    /// The call allocates where waiting does, if the channel is empty.
+    /// The call allocates where it has to wait: a place in the queue, and what the thread parks on.
+    #[inline(always)]
     pub fn recv_blocking(&self) -> Result<T, RecvError> {
-        received(self.receiving().wait())
+        received(self.wait(Limit::Never))
     }
 
     /// Receives a message once there is one, and blocks the calling thread until then, or until so much time has passed.
-    /// It is attempted three times at least, with a timeout of zero, too.
+    /// With a timeout of zero, too, it is attempted.
     ///
-    /// The call allocates where waiting does, if the channel is empty.
+    /// The call allocates where it has to wait.
     pub fn recv_timeout(&self, timeout: Duration) -> Result<T, RecvTimeoutError> {
-        received_in_time(self.receiving().wait_timeout(timeout))
+        received_in_time(self.wait(Limit::after(&self.rt, timeout)))
     }
 
-    fn receiving(&self) -> Until<'_, Receiving<'_, T, R>, R> {
-        let receiving = Receiving::new(&self.channel, &self.rt);
-        Until::new(&self.rt, self.alloc, &self.channel.receivable, receiving)
+    /// Receives a message once there is one, and blocks the calling thread until then, or until this moment. With one that
+    /// has passed, too, it is attempted.
+    ///
+    /// The call allocates where it has to wait.
+    pub fn recv_deadline(&self, deadline: Instant) -> Result<T, RecvTimeoutError> {
+        received_in_time(self.wait(Limit::At(deadline)))
     }
 
-    /// Closes the channel, and notifies all who wait. Returns `false` if it is closed already.
+    /// Receives messages once there is one, `limit` at most, puts them behind what `into` has, and returns how many they
+    /// were: none only if `limit` is 0. It blocks the calling thread until there is one.
+    ///
+    /// The call allocates where it has to wait, and room in `into`: first for one message, which is an error if it is
+    /// refused; and then for more, which wait on if it is refused.
+    pub fn recv_many(&self, into: &mut Vec<T>, limit: usize) -> Result<usize, RecvError>
+        ensures { IfOk result (λ count. count ≤ limit) }
+    {
+        if limit == 0 {
+            return Ok(0);
+        }
+        if into.reserve(1).is_err() {
+            return Err(RecvError::WaitFailed(LockError::Memory(AllocError)));
+        }
+        let message = received(self.wait(Limit::Never))?;
+        into.push_reserved(message);
+        match self.channel.take_into(&self.rt, into, limit - 1) {
+            Ok(more) => Ok(more + 1),
+            Err(AllocError) => Ok(1),
+        }
+    }
+
+    #[inline(always)]
+    fn wait(&self, limit: Limit) -> Result<Option<Result<T, Ended>>, LockError> {
+        let mut receiving = Receiving::one();
+        self.channel
+            .lock
+            .obtain(&self.rt, self.alloc, &mut receiving, limit)
+    }
+
+    /// Closes the channel, and wakes all that wait. Returns `false` if it is closed already.
     ///
     /// No message is sent any more. Those that wait can still be received.
     pub fn close(&self) -> bool {
@@ -78,12 +151,12 @@ impl<T: Drop, R: Wait + Clock + Clone> Receiver<T, R> {
 
     /// Whether the channel is closed.
     pub fn is_closed(&self) -> bool {
-        self.channel.queue().lock(&self.rt).is_closed()
+        self.channel.is_closed(&self.rt)
     }
 
     /// How many messages wait.
     pub fn len(&self) -> usize {
-        self.channel.queue().lock(&self.rt).len()
+        self.channel.len(&self.rt)
     }
 
     /// Whether no message waits.
@@ -93,7 +166,7 @@ impl<T: Drop, R: Wait + Clock + Clone> Receiver<T, R> {
 
     /// Whether as many messages wait as may.
     pub fn is_full(&self) -> bool {
-        self.channel.queue().lock(&self.rt).is_full()
+        self.channel.is_full(&self.rt)
     }
 
     /// How many messages may wait at most, if there is a limit.
@@ -112,6 +185,19 @@ impl<T: Drop, R: Wait + Clock + Clone> Receiver<T, R> {
     pub fn receiver_count(&self) -> usize {
         self.channel.receivers.count()
     }
+
+    /// A handle that does not keep the channel open. It fails if the runtime value can't be cloned.
+    pub fn downgrade(&self) -> Result<WeakReceiver<T, R>, AllocError>
+        ensures { IfOk result (λ weak. weak ≡ self.now) }
+    {
+        let channel = Arc::try_clone(&self.channel)?;
+        let rt = self.rt.clone()?;
+        Ok(WeakReceiver {
+            channel,
+            rt,
+            alloc: self.alloc,
+        })
+    }
 }
 
 /// A receiver of the same channel. It fails if the runtime value can't be cloned or there are too many receivers.
@@ -122,11 +208,7 @@ impl<T: Drop, R: Wait + Clock + Clone> Clone for Receiver<T, R> {
         let channel = Arc::try_clone(&self.channel)?;
         let rt = self.rt.clone()?;
         channel.receivers.add()?;
-        Ok(Receiver {
-            channel,
-            rt,
-            alloc: self.alloc,
-        })
+        Ok(Receiver::new(channel, rt, self.alloc))
     }
 }
 
@@ -137,9 +219,71 @@ impl<T: Drop, R: Wait + Clock + Clone> Drop for Receiver<T, R> {
             channel,
             rt,
             alloc: _,
+            stream,
         } = self;
+        let mut stream = stream;
+        channel.lock.give_up(&rt, &mut stream);
         if channel.receivers.remove() {
             channel.close(&rt);
         }
+    }
+}
+
+/// An item is an error if waiting for a message was refused. It may be polled again then.
+///
+/// Each message wakes every stream that waits, beside one receive: a stream that is polled once and left alone keeps no
+/// message from others.
+impl<T: Drop, R: Wait + Clock + Clone> Stream for Receiver<T, R> {
+    type Item = Result<T, LockError>;
+
+    ghost use Rattle.std.specs.Prelude.{◌≡◌};
+
+    ghost needs = { λ receiver s. s ≡ receiver.channel };
+
+    fn poll_next(&mut self, cx: &mut Context<'_>) -> Poll<Option<Result<T, LockError>>> {
+        match self.channel.lock.poll_in(&self.rt, &mut self.stream, cx) {
+            Poll::Ready(Ok(Ok(message))) => Poll::Ready(Some(Ok(message))),
+            Poll::Ready(Ok(Err(Ended))) => Poll::Ready(None),
+            Poll::Ready(Err(error)) => Poll::Ready(Some(Err(LockError::Listen(error)))),
+            Poll::Pending => Poll::Pending,
+        }
+    }
+}
+
+impl<T: Drop, R: Wait + Clock + Clone> Debug for Receiver<T, R> {
+    fn fmt<W: fmt::Write>(&self, f: &mut Formatter<W>) -> fmt::Result {
+        f.write_str("Receiver { .. }")
+    }
+}
+
+/// A handle of a channel that does not keep it open for receivers: [`upgrade`](WeakReceiver::upgrade) makes a receiver of
+/// it while there is one.
+#[derive(Drop)]
+pub struct WeakReceiver<T: Drop, R: Wait + Clock + Clone> {
+    channel: Arc<Channel<T>>,
+    rt: R,
+    alloc: Global,
+}
+
+impl<T: Drop, R: Wait + Clock + Clone> Model for WeakReceiver<T, R> {
+    ghost use Rattle.std.specs.Arc.{arc_value};
+    ghost use Rattle.event_channel.specs.Handle.{Handle};
+
+    ghost Value = { Handle };
+
+    ghost view = { λ weak. record { channel = (arc_value weak.channel).lock; capacity = (arc_value weak.channel).capacity } };
+}
+
+impl<T: Drop, R: Wait + Clock + Clone> WeakReceiver<T, R> {
+    /// A receiver, if there is one still. It fails if the runtime value can't be cloned.
+    pub fn upgrade(&self) -> Result<Option<Receiver<T, R>>, AllocError>
+        ensures { IfOk result (λ receiver. IfSome receiver (λ receiver. receiver ≡ self.now)) }
+    {
+        let channel = Arc::try_clone(&self.channel)?;
+        let rt = self.rt.clone()?;
+        if !channel.receivers.revive() {
+            return Ok(None);
+        }
+        Ok(Some(Receiver::new(channel, rt, self.alloc)))
     }
 }

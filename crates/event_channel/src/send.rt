@@ -1,141 +1,88 @@
-//! Sends that wait for room.
-ghost use Rattle.std.specs.Prelude.{◌≡◌, Some, IsSome};
+//! The future of a send.
+ghost use Rattle.std.specs.Prelude.{◌≡◌, Some};
+ghost use Rattle.event_channel.specs.Handle.{Carries};
 
 use crate::channel::Channel;
-use crate::error::{SendError, TrySendError};
-use event_until::{Attempt, Until};
+use crate::error::SendError;
+use crate::sending::Sending;
+use event_locks::LockError;
 use futures::Future;
 use futures::task::{Context, Poll};
+use std::fmt;
+use std::fmt::{Debug, Formatter};
 use std::marker::Model;
 use std::sync::Wait;
 use std::time::Clock;
 
-/// Attempts to send a message, which a contract sees until it is sent or returned.
-#[derive(Drop)]
-pub(crate) struct Sending<'a, T, R> {
-    channel: &'a Channel<T>,
-    rt: &'a R,
-    message: Option<T>,
-}
-
-impl<'a, T, R> Model for Sending<'a, T, R> {
-    ghost use Rattle.std.specs.Prelude.{Option};
-
-    ghost Value = { Option T };
-
-    ghost view = { λ sending. sending.message };
-}
-
-impl<'a, T, R> Sending<'a, T, R> {
-    pub(crate) fn new(channel: &'a Channel<T>, rt: &'a R, message: T) -> Self
-        ensures { result ≡ Some message }
-    {
-        Sending {
-            channel,
-            rt,
-            message: Some(message),
-        }
-    }
-}
-
-impl<'a, T: Drop, R: Wait> Attempt for Sending<'a, T, R> {
-    type Output = Result<(), SendError<T>>;
-
-    ghost use Rattle.std.specs.Prelude.{◌≡◌, Some, IfErr};
-    ghost use Rattle.event_channel.specs.Errors.{unsent};
-
-    // What comes back is the message.
-    ghost succeeds = { λ before output _. IfErr output (λ error. before ≡ Some (unsent error)) };
-
-    fn attempt(&mut self) -> Option<Result<(), SendError<T>>> {
-        let message = self.message.take()?;
-        match self.channel.try_send(self.rt, message) {
-            Ok(()) => Some(Ok(())),
-            Err(TrySendError::Full(message)) => {
-                self.message = Some(message);
-                None
-            }
-            Err(TrySendError::Closed(message)) => Some(Err(SendError::Closed(message))),
-            Err(TrySendError::Memory(message)) => Some(Err(SendError::Memory(message))),
-        }
-    }
-}
-
-/// The message of a send that is not done.
-pub(crate) fn unsent_message<'a, T: Drop, R: Wait + Clock + Clone>(
-    sending: Until<'a, Sending<'a, T, R>, R>,
-) -> T
-    requires unsent { IsSome sending.attempt }
-    ensures { sending.entry.attempt ≡ Some result }
-{
-    match sending.into_attempt().message {
-        Some(message) => message,
-        None => unreachable!(),
-    }
-}
-
 /// A message that is sent once there is room: the future of [`send`](crate::Sender::send).
 ///
-/// It may be polled until it is ready.
+/// It may be polled until it is ready, and each poll attempts to send. Dropped before, it drops its message.
 #[must_use = "nothing is sent before it is polled"]
-#[derive(Drop)]
 pub struct Send<'a, T: Drop, R: Wait + Clock + Clone> {
-    // Gone once it was ready.
-    sending: Option<Until<'a, Sending<'a, T, R>, R>>,
+    channel: &'a Channel<T>,
+    rt: &'a R,
+    sending: Sending<T>,
 }
 
 impl<'a, T: Drop, R: Wait + Clock + Clone> Model for Send<'a, T, R> {
-    ghost use Rattle.std.specs.Prelude.{Option};
-    ghost use Rattle.event_until.specs.Trying.{Trying};
+    ghost use Rattle.event_channel.specs.Handle.{Pending};
 
-    ghost Value = { Option (Trying (Option T)) };
+    ghost Value = { Pending T };
 
-    ghost view = { λ send. send.sending };
+    ghost view = { λ send. record { message = send.sending; channel = send.channel.now.lock } };
 }
 
 impl<'a, T: Drop, R: Wait + Clock + Clone> Send<'a, T, R> {
-    pub(crate) fn new(sending: Until<'a, Sending<'a, T, R>, R>) -> Self
-        ensures { result ≡ Some sending.entry }
+    pub(crate) fn new(channel: &'a Channel<T>, rt: &'a R, message: T) -> Self
+        ensures { Carries message result }
     {
         Send {
-            sending: Some(sending),
+            channel,
+            rt,
+            sending: Sending::new(message),
         }
     }
+}
 
-    // What a poll that is pending leaves.
-    fn keep(&mut self, sending: Until<'a, Sending<'a, T, R>, R>)
-        ensures { self.new ≡ Some sending.entry }
-    {
-        self.sending = Some(sending);
+impl<'a, T: Drop, R: Wait + Clock + Clone> Drop for Send<'a, T, R> {
+    fn drop(self) {
+        let Send {
+            channel,
+            rt,
+            sending,
+        } = self;
+        let mut sending = sending;
+        channel.lock.give_up(rt, &mut sending);
     }
 }
 
 impl<'a, T: Drop, R: Wait + Clock + Clone> Future for Send<'a, T, R> {
     type Output = Result<(), SendError<T>>;
 
-    ghost use Rattle.std.specs.Prelude.{◌≡◌, IsSomeAnd, IfErr};
+    ghost use Rattle.std.specs.Prelude.{◌≡◌, IfErr};
     ghost use Rattle.event_channel.specs.Errors.{unsent};
     ghost use Rattle.event_channel.specs.Handle.{Carries};
 
     ghost can_poll = { λ send. (message : T) × Carries message send };
 
-    ghost needs = { λ send s. IsSomeAnd send (λ trying. IsSomeAnd trying.listener (λ listener. s ≡ listener.source)) };
+    ghost needs = { λ send s. s ≡ send.channel };
 
     ghost gives = { λ send output. IfErr output (λ error. Carries (unsent error) send) };
 
     fn poll(&mut self, cx: &mut Context<'_>) -> Poll<Result<(), SendError<T>>> {
-        let Some(mut sending) = self.sending.take() else {
-            unreachable!()
-        };
-        match sending.poll_in(cx) {
-            Poll::Ready(Ok(answer)) => Poll::Ready(answer),
+        match self.channel.lock.poll_in(self.rt, &mut self.sending, cx) {
+            Poll::Ready(Ok(sent)) => Poll::Ready(sent),
             Poll::Ready(Err(error)) => {
-                Poll::Ready(Err(SendError::WaitFailed(unsent_message(sending), error)))
+                let message = self.sending.take();
+                Poll::Ready(Err(SendError::WaitFailed(message, LockError::Listen(error))))
             }
-            Poll::Pending => {
-                self.keep(sending);
-                Poll::Pending
-            }
+            Poll::Pending => Poll::Pending,
         }
+    }
+}
+
+impl<'a, T: Drop, R: Wait + Clock + Clone> Debug for Send<'a, T, R> {
+    fn fmt<W: fmt::Write>(&self, f: &mut Formatter<W>) -> fmt::Result {
+        f.write_str("Send { .. }")
     }
 }

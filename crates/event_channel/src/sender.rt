@@ -1,5 +1,6 @@
 //! The side that sends.
-ghost use Rattle.std.specs.Prelude.{◌≡◌, ◌≢◌, ◌+◌, ◌≤◌, ◌↔◌, Some, None, Err, IfOk, IfErr};
+ghost use Rattle.std.specs.Prelude.{◌≡◌, ◌≢◌, ◌↔◌, Some, None, Err, IfOk, IfErr, IfSome};
+ghost use Rattle.std.specs.Arc.{arc_value};
 ghost use Rattle.event_channel.specs.Errors.{unsent, unsent_in_time, unsent_at_once};
 ghost use Rattle.event_channel.specs.Handle.{Carries};
 ghost use Rattle.event_channel.specs.declared.channel.ChannelError.TheVariants.{ZeroCapacity};
@@ -7,18 +8,20 @@ ghost use Rattle.event_channel.specs.declared.channel.ChannelError.TheVariants.{
 use crate::channel::{Channel, ChannelError};
 use crate::error::{SendError, SendTimeoutError, TrySendError};
 use crate::receiver::Receiver;
-use crate::send::{Send, Sending, unsent_message};
-use event_listener::EventIds;
-use event_until::Until;
+use crate::send::Send;
+use crate::sending::Sending;
+use event_locks::Limit;
 use std::alloc::{AllocError, Global};
+use std::fmt;
+use std::fmt::{Debug, Formatter};
 use std::marker::Model;
 use std::sync::{Arc, Wait};
-use std::time::{Clock, Duration};
+use std::time::{Clock, Duration, Instant};
 
 /// Sends messages into a channel. Clones send into the same one; when the last is dropped, the channel is closed.
 ///
-/// A message that is sent waits behind those sent before. Each call may wait for the lock of the channel, which is held
-/// for a few instructions, and for the locks of its events. A contract sees the number of the channel and its capacity.
+/// A message that is sent waits behind those sent before. Each call may wait for the lock of the channel, which is held for
+/// a few instructions. A contract sees the number of the channel and its capacity.
 pub struct Sender<T: Drop, R: Wait + Clock + Clone> {
     channel: Arc<Channel<T>>,
     rt: R,
@@ -31,101 +34,95 @@ impl<T: Drop, R: Wait + Clock + Clone> Model for Sender<T, R> {
 
     ghost Value = { Handle };
 
-    ghost view = { λ sender. record { channel = (arc_value sender.channel).receivable; capacity = (arc_value sender.channel).capacity } };
+    ghost view = { λ sender. record { channel = (arc_value sender.channel).lock; capacity = (arc_value sender.channel).capacity } };
 }
 
-/// A channel in which `capacity` messages wait at most. It has the first of two identities that `ids` gives.
+/// A channel in which `capacity` messages wait at most.
 ///
-/// Returns an error if `capacity` is 0, if `ids` has not two identities to give, or if there is no memory. The call
-/// allocates room for `capacity` messages, so no later call allocates for a message. Both sides keep clones of `rt`.
+/// Returns an error if `capacity` is 0 or if there is no memory. The call allocates room for `capacity` messages, so no
+/// later call allocates for a message. Both sides keep clones of `rt`.
 pub fn bounded<T: Drop, R: Wait + Clock + Clone>(
     rt: &R,
     alloc: Global,
-    ids: &mut EventIds,
     capacity: usize,
 ) -> Result<(Sender<T, R>, Receiver<T, R>), ChannelError>
     ensures one { IfOk result (λ sides. sides.1 ≡ sides.0) }
-    ensures number { IfOk result (λ sides. sides.0.channel ≡ ids.old) }
     ensures capacity { IfOk result (λ sides. sides.0.capacity ≡ Some capacity) }
     ensures zero { (result ≡ Err ZeroCapacity) ↔ (capacity ≡ 0) }
-    ensures untaken { result ≡ Err ZeroCapacity → ids.new ≡ ids.old }
-    ensures taken { IfOk result (λ _. ids.new ≡ ids.old + 2) }
-    ensures onward { ids.old ≤ ids.new }
 {
     if capacity == 0 {
         return Err(ChannelError::ZeroCapacity);
     }
-    sides(rt, alloc, ids, Some(capacity))
-}
-
-/// A channel in which any number of messages may wait. It has the first of two identities that `ids` gives.
-///
-/// Returns an error if `ids` has not two identities to give, or if there is no memory. Both sides keep clones of `rt`.
-pub fn unbounded<T: Drop, R: Wait + Clock + Clone>(
-    rt: &R,
-    alloc: Global,
-    ids: &mut EventIds,
-) -> Result<(Sender<T, R>, Receiver<T, R>), ChannelError>
-    ensures one { IfOk result (λ sides. sides.1 ≡ sides.0) }
-    ensures number { IfOk result (λ sides. sides.0.channel ≡ ids.old) }
-    ensures capacity { IfOk result (λ sides. sides.0.capacity ≡ None) }
-    ensures nonzero { result ≢ Err ZeroCapacity }
-    ensures taken { IfOk result (λ _. ids.new ≡ ids.old + 2) }
-    ensures onward { ids.old ≤ ids.new }
-{
-    sides(rt, alloc, ids, None)
-}
-
-fn sides<T: Drop, R: Wait + Clock + Clone>(
-    rt: &R,
-    alloc: Global,
-    ids: &mut EventIds,
-    capacity: Option<usize>,
-) -> Result<(Sender<T, R>, Receiver<T, R>), ChannelError>
-    ensures one { IfOk result (λ sides. sides.1 ≡ sides.0) }
-    ensures number { IfOk result (λ sides. sides.0.channel ≡ ids.old) }
-    ensures capacity { IfOk result (λ sides. sides.0.capacity ≡ capacity) }
-    ensures nonzero { result ≢ Err ZeroCapacity }
-    ensures taken { IfOk result (λ _. ids.new ≡ ids.old + 2) }
-    ensures onward { ids.old ≤ ids.new }
-{
-    let channel = Channel::new(alloc, ids, capacity)?;
-    match share(rt, alloc, channel) {
+    match sides(rt, alloc, Some(capacity)) {
         Ok(sides) => Ok(sides),
         Err(error) => Err(ChannelError::Memory(error)),
     }
 }
 
-// The first handle of each side.
-fn share<T: Drop, R: Wait + Clock + Clone>(
+/// A channel in which any number of messages may wait.
+///
+/// Returns an error if there is no memory. Both sides keep clones of `rt`.
+pub fn unbounded<T: Drop, R: Wait + Clock + Clone>(
     rt: &R,
     alloc: Global,
-    channel: Channel<T>,
+) -> Result<(Sender<T, R>, Receiver<T, R>), ChannelError>
+    ensures one { IfOk result (λ sides. sides.1 ≡ sides.0) }
+    ensures capacity { IfOk result (λ sides. sides.0.capacity ≡ None) }
+    ensures nonzero { result ≢ Err ZeroCapacity }
+{
+    match sides(rt, alloc, None) {
+        Ok(sides) => Ok(sides),
+        Err(error) => Err(ChannelError::Memory(error)),
+    }
+}
+
+// A channel, and the first handle of each side.
+fn sides<T: Drop, R: Wait + Clock + Clone>(
+    rt: &R,
+    alloc: Global,
+    capacity: Option<usize>,
 ) -> Result<(Sender<T, R>, Receiver<T, R>), AllocError>
     ensures one { IfOk result (λ sides. sides.1 ≡ sides.0) }
-    ensures number { IfOk result (λ sides. sides.0.channel ≡ channel.receivable) }
-    ensures capacity { IfOk result (λ sides. sides.0.capacity ≡ channel.capacity) }
+    ensures capacity { IfOk result (λ sides. sides.0.capacity ≡ capacity) }
 {
     let rt_of_sender = rt.clone()?;
     let rt_of_receiver = rt.clone()?;
+    let channel = Channel::new(alloc, capacity)?;
     let channel = Arc::new(alloc, channel)?;
     let share = Arc::try_clone(&channel)?;
-    let sender = Sender {
-        channel,
-        rt: rt_of_sender,
-        alloc,
-    };
+    let sender = Sender::new(channel, rt_of_sender, alloc);
     Ok((sender, Receiver::new(share, rt_of_receiver, alloc)))
 }
 
 impl<T: Drop, R: Wait + Clock + Clone> Sender<T, R> {
+    fn new(channel: Arc<Channel<T>>, rt: R, alloc: Global) -> Self
+        ensures { result ≡ record { channel = (arc_value channel).lock; capacity = (arc_value channel).capacity } }
+    {
+        Sender { channel, rt, alloc }
+    }
+
     /// Sends a message if the channel is open and not full.
     ///
     /// An error hands the message back. The call allocates if the channel has no limit and no room.
+    #[inline(always)]
     pub fn try_send(&self, message: T) -> Result<(), TrySendError<T>>
         ensures returned { IfErr result (λ error. unsent_at_once error ≡ message) }
     {
         self.channel.try_send(&self.rt, message)
+    }
+
+    /// Sends a message if the channel is open. If it is full the first message of all goes out, and is returned.
+    ///
+    /// An error hands the message back. The call allocates if the channel has no limit and no room.
+    pub fn force_send(&self, message: T) -> Result<Option<T>, SendError<T>>
+        ensures returned { IfErr result (λ error. unsent error ≡ message) }
+    {
+        match self.channel.force_send(&self.rt, message) {
+            Ok(out) => Ok(out),
+            Err(TrySendError::Closed(message)) => Err(SendError::Closed(message)),
+            Err(TrySendError::Memory(message)) => Err(SendError::Memory(message)),
+            Err(TrySendError::Full(_)) => unreachable!(),
+        }
     }
 
     /// Sends a message once there is room: to be awaited. Nothing is sent before it is polled.
@@ -134,46 +131,66 @@ impl<T: Drop, R: Wait + Clock + Clone> Sender<T, R> {
     pub fn send(&self, message: T) -> Send<'_, T, R>
         ensures { Carries message result }
     {
-        Send::new(self.sending(message))
+        Send::new(&self.channel, &self.rt, message)
     }
 
     /// Sends a message once there is room, and blocks the calling thread until then.
     ///
-    /// An error hands the message back. The call allocates where waiting does, if the channel is full.
+    /// An error hands the message back. The call allocates where it has to wait: a place in the queue, and what the thread
+    /// parks on.
+    #[inline(always)]
     pub fn send_blocking(&self, message: T) -> Result<(), SendError<T>>
         ensures returned { IfErr result (λ error. unsent error ≡ message) }
     {
-        let mut sending = self.sending(message);
-        match sending.wait() {
-            Ok(answer) => answer,
-            Err(error) => Err(SendError::WaitFailed(unsent_message(sending), error)),
+        let mut sending = Sending::new(message);
+        let sent = self
+            .channel
+            .lock
+            .obtain(&self.rt, self.alloc, &mut sending, Limit::Never);
+        match sent {
+            Ok(Some(sent)) => sent,
+            Ok(None) => unreachable!(),
+            Err(error) => Err(SendError::WaitFailed(sending.take(), error)),
         }
     }
 
-    /// Sends a message once there is room, and blocks the calling thread until then, or until so much time has passed. It
-    /// is attempted three times at least, with a timeout of zero, too.
+    /// Sends a message once there is room, and blocks the calling thread until then, or until so much time has passed. With
+    /// a timeout of zero, too, it is attempted.
     ///
-    /// An error hands the message back. The call allocates where waiting does, if the channel is full.
+    /// An error hands the message back. The call allocates where it has to wait.
     pub fn send_timeout(&self, message: T, timeout: Duration) -> Result<(), SendTimeoutError<T>>
         ensures returned { IfErr result (λ error. unsent_in_time error ≡ message) }
     {
-        let mut sending = self.sending(message);
-        match sending.wait_timeout(timeout) {
+        self.send_until(message, Limit::after(&self.rt, timeout))
+    }
+
+    /// Sends a message once there is room, and blocks the calling thread until then, or until this moment. With one that
+    /// has passed, too, it is attempted.
+    ///
+    /// An error hands the message back. The call allocates where it has to wait.
+    pub fn send_deadline(&self, message: T, deadline: Instant) -> Result<(), SendTimeoutError<T>>
+        ensures returned { IfErr result (λ error. unsent_in_time error ≡ message) }
+    {
+        self.send_until(message, Limit::At(deadline))
+    }
+
+    fn send_until(&self, message: T, limit: Limit) -> Result<(), SendTimeoutError<T>>
+        ensures { IfErr result (λ error. unsent_in_time error ≡ message) }
+    {
+        let mut sending = Sending::new(message);
+        let sent = self
+            .channel
+            .lock
+            .obtain(&self.rt, self.alloc, &mut sending, limit);
+        match sent {
             Ok(Some(Ok(()))) => Ok(()),
             Ok(Some(Err(error))) => Err(SendTimeoutError::from(error)),
-            Ok(None) => Err(SendTimeoutError::TimedOut(unsent_message(sending))),
-            Err(error) => Err(SendTimeoutError::WaitFailed(unsent_message(sending), error)),
+            Ok(None) => Err(SendTimeoutError::TimedOut(sending.take())),
+            Err(error) => Err(SendTimeoutError::WaitFailed(sending.take(), error)),
         }
     }
 
-    fn sending(&self, message: T) -> Until<'_, Sending<'_, T, R>, R>
-        ensures { (result.attempt ≡ Some message) × (result.listener ≡ None) }
-    {
-        let sending = Sending::new(&self.channel, &self.rt, message);
-        Until::new(&self.rt, self.alloc, &self.channel.sendable, sending)
-    }
-
-    /// Closes the channel, and notifies all who wait. Returns `false` if it is closed already.
+    /// Closes the channel, and wakes all that wait. Returns `false` if it is closed already.
     ///
     /// No message is sent any more. Those that wait can still be received.
     pub fn close(&self) -> bool {
@@ -182,12 +199,12 @@ impl<T: Drop, R: Wait + Clock + Clone> Sender<T, R> {
 
     /// Whether the channel is closed.
     pub fn is_closed(&self) -> bool {
-        self.channel.queue().lock(&self.rt).is_closed()
+        self.channel.is_closed(&self.rt)
     }
 
     /// How many messages wait.
     pub fn len(&self) -> usize {
-        self.channel.queue().lock(&self.rt).len()
+        self.channel.len(&self.rt)
     }
 
     /// Whether no message waits.
@@ -197,7 +214,7 @@ impl<T: Drop, R: Wait + Clock + Clone> Sender<T, R> {
 
     /// Whether as many messages wait as may.
     pub fn is_full(&self) -> bool {
-        self.channel.queue().lock(&self.rt).is_full()
+        self.channel.is_full(&self.rt)
     }
 
     /// How many messages may wait at most, if there is a limit.
@@ -216,9 +233,22 @@ impl<T: Drop, R: Wait + Clock + Clone> Sender<T, R> {
     pub fn receiver_count(&self) -> usize {
         self.channel.receivers.count()
     }
+
+    /// A handle that does not keep the channel open. It fails if the runtime value can't be cloned.
+    pub fn downgrade(&self) -> Result<WeakSender<T, R>, AllocError>
+        ensures { IfOk result (λ weak. weak ≡ self.now) }
+    {
+        let channel = Arc::try_clone(&self.channel)?;
+        let rt = self.rt.clone()?;
+        Ok(WeakSender {
+            channel,
+            rt,
+            alloc: self.alloc,
+        })
+    }
 }
 
-/// A sender of the same channel. It fails if the runtime value can't be cloned or there are too many senders.
+/// A sender into the same channel. It fails if the runtime value can't be cloned or there are too many senders.
 impl<T: Drop, R: Wait + Clock + Clone> Clone for Sender<T, R> {
     ghost is_clone = { λ sender same. same ≡ sender };
 
@@ -226,11 +256,7 @@ impl<T: Drop, R: Wait + Clock + Clone> Clone for Sender<T, R> {
         let channel = Arc::try_clone(&self.channel)?;
         let rt = self.rt.clone()?;
         channel.senders.add()?;
-        Ok(Sender {
-            channel,
-            rt,
-            alloc: self.alloc,
-        })
+        Ok(Sender::new(channel, rt, self.alloc))
     }
 }
 
@@ -245,5 +271,43 @@ impl<T: Drop, R: Wait + Clock + Clone> Drop for Sender<T, R> {
         if channel.senders.remove() {
             channel.close(&rt);
         }
+    }
+}
+
+impl<T: Drop, R: Wait + Clock + Clone> Debug for Sender<T, R> {
+    fn fmt<W: fmt::Write>(&self, f: &mut Formatter<W>) -> fmt::Result {
+        f.write_str("Sender { .. }")
+    }
+}
+
+/// A handle of a channel that does not keep it open for senders: [`upgrade`](WeakSender::upgrade) makes a sender of it while
+/// there is one.
+#[derive(Drop)]
+pub struct WeakSender<T: Drop, R: Wait + Clock + Clone> {
+    channel: Arc<Channel<T>>,
+    rt: R,
+    alloc: Global,
+}
+
+impl<T: Drop, R: Wait + Clock + Clone> Model for WeakSender<T, R> {
+    ghost use Rattle.std.specs.Arc.{arc_value};
+    ghost use Rattle.event_channel.specs.Handle.{Handle};
+
+    ghost Value = { Handle };
+
+    ghost view = { λ weak. record { channel = (arc_value weak.channel).lock; capacity = (arc_value weak.channel).capacity } };
+}
+
+impl<T: Drop, R: Wait + Clock + Clone> WeakSender<T, R> {
+    /// A sender, if there is one still. It fails if the runtime value can't be cloned.
+    pub fn upgrade(&self) -> Result<Option<Sender<T, R>>, AllocError>
+        ensures { IfOk result (λ sender. IfSome sender (λ sender. sender ≡ self.now)) }
+    {
+        let channel = Arc::try_clone(&self.channel)?;
+        let rt = self.rt.clone()?;
+        if !channel.senders.revive() {
+            return Ok(None);
+        }
+        Ok(Some(Sender::new(channel, rt, self.alloc)))
     }
 }

@@ -14,7 +14,7 @@ mod waiters;
 
 pub use barrier::{Barrier, BarrierWait, BarrierWaitResult, Ended, Rounds};
 pub use error::LockError;
-pub use lock::{Borrowed, Grants, Guard, Hold, Lock, Obtaining, Shared, Task};
+pub use lock::{Borrowed, Grants, Guard, Hold, Limit, Lock, Obtaining, Shared, Task, Waking};
 pub use mutex::{Locking, LockingArc, Mutex, MutexGuard, MutexGuardArc, Slot};
 pub use once_cell::{
     Asking, Claim, Claiming, Makes, Once, OnceCell, Seat, Seeing, Turn, Uses, Vacant, Want,

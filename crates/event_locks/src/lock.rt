@@ -1,5 +1,6 @@
 //! A state under a lock.
-ghost use Rattle.std.specs.Prelude.{◌≡◌, None, IfSome};
+ghost use Rattle.std.specs.Prelude.{◌≡◌, ℕ, None, IfSome, IfOk, OnErr};
+ghost use Rattle.futures.specs.Poll.{IfReady, OnPending};
 ghost use Rattle.futures.specs.Task.{Covers, Keeps};
 ghost use Rattle.event_locks.specs.Attempted.{Attempts, OnDone, OnUndone, OnWaits};
 
@@ -12,31 +13,43 @@ mod wait;
 
 pub use self::guard::Guard;
 pub use self::hold::{Borrowed, Grants, Hold, Shared};
+pub use self::limit::Limit;
 pub use self::obtaining::Obtaining;
-pub use self::task::Task;
-pub(crate) use self::task::Waking;
+pub use self::task::{Task, Waking};
 use self::task::{LineSource, Parks};
 use crate::request::{Attempted, Grantor, Request};
-use futures::task::Context;
+use event_queue::ListenError;
+use futures::task::{Context, Poll};
+use std::marker::Model;
 use std::sync::{Mutex, MutexGuard, Wait};
 
-/// A state under a lock, and the source of the tasks that wait.
+/// A state under a lock, with the queues of those that wait for something of it.
+///
+/// A contract sees the number of the source at which tasks that wait are registered.
 #[derive(Drop)]
 pub struct Lock<S> {
     state: Mutex<S>,
     source: LineSource,
 }
 
+impl<S> Model for Lock<S> {
+    ghost Value = { ℕ };
+
+    ghost view = { λ lock. lock.source.source.id };
+}
+
 impl<S> Lock<S> {
-    pub(crate) fn of(state: S) -> Self {
+    /// A lock round this state.
+    pub fn of(state: S) -> Self {
         Lock {
             state: Mutex::new(state),
             source: LineSource::new(),
         }
     }
 
+    /// The state, once nobody else has it. It may wait for the lock.
     #[inline(always)]
-    pub(crate) fn state<R: Wait>(&self, rt: &R) -> MutexGuard<'_, S> {
+    pub fn state<R: Wait>(&self, rt: &R) -> MutexGuard<'_, S> {
         self.state.lock(rt)
     }
 
@@ -49,12 +62,9 @@ impl<S> Lock<S> {
         state.into_inner()
     }
 
+    /// Attempts what is requested, and does not wait for it. Whom that notified is woken once the lock is given back.
     #[inline(always)]
-    pub(crate) fn attempt<Q: Request<S>, R: Wait>(
-        &self,
-        rt: &R,
-        request: &mut Q,
-    ) -> Option<Q::Output>
+    pub fn attempt<Q: Request<S>, R: Wait>(&self, rt: &R, request: &mut Q) -> Option<Q::Output>
         ensures gives { IfSome result (Q.gives request.old) }
         ensures kept { result ≡ None → request.new ≡ request.old }
     {
@@ -84,7 +94,28 @@ impl<S> Lock<S> {
         attempted
     }
 
-    // A task that polls attempts, and is registered if it waits on.
+    /// Attempts what is requested, and registers the task that polls if it waits on. An error says that it could not be put
+    /// into the queue, and is in none.
+    pub fn poll_in<Q: Request<S>, R: Wait>(
+        &self,
+        rt: &R,
+        request: &mut Q,
+        cx: &mut Context<'_>,
+    ) -> Poll<Result<Q::Output, ListenError>>
+        ensures gives { IfReady result (λ answer. IfOk answer (Q.gives request.old)) }
+        ensures refused { IfReady result (λ answer. OnErr answer (request.new ≡ request.old)) }
+        ensures pending { OnPending result (request.new ≡ request.old) }
+        ensures registered { OnPending result (Covers cx.new (λ s. s ≡ self.now)) }
+        ensures kept { Keeps cx.old cx.new }
+    {
+        match self.attempt_in(rt, request, cx) {
+            Attempted::Done(output) => Poll::Ready(Ok(output)),
+            Attempted::Waits(_) => Poll::Pending,
+            Attempted::Absent => cx.yield_now(),
+            Attempted::Refused(error) => Poll::Ready(Err(error)),
+        }
+    }
+
     fn attempt_in<Q: Request<S>, R: Wait>(
         &self,
         rt: &R,
@@ -93,7 +124,7 @@ impl<S> Lock<S> {
     ) -> Attempted<Q::Output>
         ensures gives { OnDone result (Q.gives request.old) }
         ensures undone { OnUndone result (request.new ≡ request.old) }
-        ensures registered { OnWaits result (Covers cx.new (λ s. s ≡ self.now.source.source.id)) }
+        ensures registered { OnWaits result (Covers cx.new (λ s. s ≡ self.now)) }
         ensures kept { Keeps cx.old cx.new }
     {
         let mut waking = Waking::new();
@@ -117,8 +148,8 @@ impl<S> Lock<S> {
         output
     }
 
-    // Leaves the queue. What it was notified of goes on, in the same step.
-    fn give_up<Q: Request<S>, R: Wait>(&self, rt: &R, request: &mut Q)
+    /// Leaves the queue, if it is there. What it was notified of goes on, in the same step.
+    pub fn give_up<Q: Request<S>, R: Wait>(&self, rt: &R, request: &mut Q)
         ensures { request.new ≡ request.old }
     {
         if !request.is_waiting() {

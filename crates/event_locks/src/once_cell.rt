@@ -147,7 +147,7 @@ pub struct Asking<'a, T, R, A> {
 }
 
 impl<'a, T, R: Wait + Clock, A> Hold<Once<Task>> for Asking<'a, T, R, A> {
-    ghost source = { λ it. it.cell.now.once.source.source.id };
+    ghost source = { λ it. it.cell.now.once };
 
     type Runtime = R;
 

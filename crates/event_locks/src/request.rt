@@ -34,6 +34,10 @@ pub trait Request<S> {
     /// What it gets.
     type Output;
 
+    /// How often a thread that did not get it at once yields and tries again before it waits in the queue: a few times where
+    /// others have it for a moment.
+    const TRIES: u32;
+
     ghost gives: { Self → Self.Output → Type 0 };
 
     /// Whether it has a place in a queue.

@@ -279,7 +279,7 @@ pub struct EnteringArc<T, R, A> {
 }
 
 impl<'a, T, R: Wait + Clock, A> Hold<Shares<Task>> for Entering<'a, T, R, A> {
-    ghost source = { λ it. it.lock.now.shares.source.source.id };
+    ghost source = { λ it. it.lock.now.shares };
 
     type Runtime = R;
 
@@ -293,7 +293,7 @@ impl<'a, T, R: Wait + Clock, A> Hold<Shares<Task>> for Entering<'a, T, R, A> {
 }
 
 impl<T, R: Wait + Clock, A> Hold<Shares<Task>> for EnteringArc<T, R, A> {
-    ghost source = { λ it. (arc_value it.lock).shares.source.source.id };
+    ghost source = { λ it. (arc_value it.lock).shares };
 
     type Runtime = R;
 

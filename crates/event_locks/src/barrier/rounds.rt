@@ -133,6 +133,8 @@ impl<W> Rounds<W> {
 impl Request<Rounds<Task>> for Place {
     type Output = Ended;
 
+    const TRIES: u32 = 0;
+
     ghost gives = { λ _ _. Unit {0} };
 
     fn is_waiting(&self) -> bool {

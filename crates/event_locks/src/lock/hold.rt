@@ -18,7 +18,7 @@ pub trait Hold<S> {
 
     /// The lock that it holds.
     fn lock(&self) -> &Lock<S>
-        ensures { result.now.source.source.id ≡ source self.now };
+        ensures { result.now ≡ source self.now };
 
     /// The runtime that it holds.
     fn rt(&self) -> &Self::Runtime;
@@ -48,7 +48,7 @@ pub struct Shared<S, R> {
 }
 
 impl<'a, S, R: Wait + Clock> Hold<S> for Borrowed<'a, S, R> {
-    ghost source = { λ hold. hold.lock.now.source.source.id };
+    ghost source = { λ hold. hold.lock.now };
 
     type Runtime = R;
 
@@ -64,7 +64,7 @@ impl<'a, S, R: Wait + Clock> Hold<S> for Borrowed<'a, S, R> {
 }
 
 impl<S, R: Wait + Clock> Hold<S> for Shared<S, R> {
-    ghost source = { λ hold. (arc_value hold.lock).source.source.id };
+    ghost source = { λ hold. arc_value hold.lock };
 
     type Runtime = R;
 

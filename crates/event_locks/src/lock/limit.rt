@@ -6,16 +6,18 @@ use std::time::{Clock, Duration, Instant};
 
 /// Until when a thread waits.
 #[derive(Clone, Copy)]
-pub(crate) enum Limit {
+pub enum Limit {
+    /// For ever.
     Never,
     At(Instant),
+    /// It has passed.
     Past,
 }
 
 impl Limit {
     /// The moment so long from now. One that can't be represented never comes, and a clock that can't be read counts as
     /// one that shows a later time.
-    pub(crate) fn after<R: Clock>(clock: &R, timeout: Duration) -> Self {
+    pub fn after<R: Clock>(clock: &R, timeout: Duration) -> Self {
         match Instant::now(clock) {
             Ok(now) => match now.checked_add(timeout) {
                 Some(moment) => Limit::At(moment),

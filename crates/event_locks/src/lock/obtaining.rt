@@ -4,10 +4,9 @@ ghost use Rattle.futures.specs.Poll.{OnPending};
 ghost use Rattle.futures.specs.Task.{Covers, Keeps};
 
 use super::limit::Limit;
-use super::wait::wait;
 use super::{Grants, Hold};
 use crate::error::LockError;
-use crate::request::{Attempted, Request};
+use crate::request::Request;
 use futures::Future;
 use futures::task::{Context, Poll};
 use std::alloc::Global;
@@ -79,7 +78,7 @@ impl<S, Q: Request<S> + Drop, H: Grants<S, Q::Output> + Drop> Obtaining<S, Q, H>
             return Err(LockError::Finished);
         };
         let mut request = request;
-        match wait(hold.lock(), hold.rt(), alloc, &mut request, limit)? {
+        match hold.lock().obtain(hold.rt(), alloc, &mut request, limit)? {
             Some(grant) => Ok(Some(hold.granted(grant))),
             None => Ok(None),
         }
@@ -111,17 +110,13 @@ impl<S, Q: Request<S> + Drop, H: Grants<S, Q::Output> + Drop> Future for Obtaini
         let Some(hold) = self.hold.take() else {
             return Poll::Ready(Err(LockError::Finished));
         };
-        match hold.lock().attempt_in(hold.rt(), &mut self.request, cx) {
-            Attempted::Done(grant) => Poll::Ready(Ok(hold.granted(grant))),
-            Attempted::Waits(_) => {
+        match hold.lock().poll_in(hold.rt(), &mut self.request, cx) {
+            Poll::Ready(Ok(grant)) => Poll::Ready(Ok(hold.granted(grant))),
+            Poll::Ready(Err(error)) => Poll::Ready(Err(LockError::Listen(error))),
+            Poll::Pending => {
                 self.hold = Some(hold);
                 Poll::Pending
             }
-            Attempted::Absent => {
-                self.hold = Some(hold);
-                cx.yield_now()
-            }
-            Attempted::Refused(error) => Poll::Ready(Err(LockError::Listen(error))),
         }
     }
 }

@@ -60,19 +60,20 @@ impl Task {
 ///
 /// It is no `Drop`, so whoever makes one has to finish it. Its relation says nothing, since no contract can name what
 /// sleeps. Tests show that it wakes.
-pub(crate) struct Waking {
+pub struct Waking {
     held_back: Option<Task>,
 }
 
 impl Waking {
+    /// It has woken nobody.
     #[inline(always)]
-    pub(crate) fn new() -> Self {
+    pub fn new() -> Self {
         Waking { held_back: None }
     }
 
     /// Wakes the task that is held back. It is called with no lock held.
     #[inline(always)]
-    pub(crate) fn finish(self) {
+    pub fn finish(self) {
         let Waking { held_back } = self;
         if let Some(task) = held_back {
             task.wake();

@@ -11,30 +11,30 @@ use std::sync::{Arc, Wait};
 use std::thread::{self, Parker};
 use std::time::Clock;
 
-// How often a thread yields and tries again before it waits in the queue.
-const TRIES: u32 = 4;
-
-/// Blocks the thread until it has what it requests or the limit has passed. It goes on at its place in the queue, if it has
-/// one.
-#[inline(always)]
-pub(crate) fn wait<S, Q: Request<S>, R: Wait + Clock>(
-    lock: &Lock<S>,
-    rt: &R,
-    alloc: Global,
-    request: &mut Q,
-    limit: Limit,
-) -> Result<Option<Q::Output>, LockError>
-    ensures never { limit ≡ Never → IfOk result IsSome }
-    ensures gives { IfOk result (λ output. IfSome output (Q.gives request.old)) }
-    ensures kept { OnErr result (request.new ≡ request.old) }
-    ensures in_time { result ≡ Ok None → request.new ≡ request.old }
-{
-    if !request.is_waiting() {
-        if let Some(output) = lock.attempt(rt, request) {
-            return Ok(Some(output));
+impl<S> Lock<S> {
+    /// Blocks the thread until it has what it requests or the limit has passed, which is `None`. It goes on at its place in
+    /// the queue, if it has one. It allocates what the thread parks on, and a place in the queue, if it has to wait; if that
+    /// is refused it is in no queue, and neither is it once it has what it requests or is out of time.
+    #[inline(always)]
+    pub fn obtain<Q: Request<S>, R: Wait + Clock>(
+        &self,
+        rt: &R,
+        alloc: Global,
+        request: &mut Q,
+        limit: Limit,
+    ) -> Result<Option<Q::Output>, LockError>
+        ensures never { limit ≡ Never → IfOk result IsSome }
+        ensures gives { IfOk result (λ output. IfSome output (Q.gives request.old)) }
+        ensures kept { OnErr result (request.new ≡ request.old) }
+        ensures in_time { result ≡ Ok None → request.new ≡ request.old }
+    {
+        if !request.is_waiting() {
+            if let Some(output) = self.attempt(rt, request) {
+                return Ok(Some(output));
+            }
         }
+        try_then_park(self, rt, alloc, request, limit)
     }
-    try_then_park(lock, rt, alloc, request, limit)
 }
 
 // A few tries with a yield between them, and then in the queue.
@@ -72,7 +72,7 @@ fn try_a_while<S, Q: Request<S>, R: Wait>(
     ensures gives { IfSome result (Q.gives request.old) }
     ensures kept { result ≡ None → request.new ≡ request.old }
 {
-    for _ in 0..TRIES {
+    for _ in 0..Q::TRIES {
         if request.is_waiting() {
             return None;
         }

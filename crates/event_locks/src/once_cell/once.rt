@@ -273,6 +273,8 @@ impl<W> Once<W> {
 impl Request<Once<Task>> for Seat {
     type Output = Turn;
 
+    const TRIES: u32 = 0;
+
     ghost gives = { λ _ _. Unit {0} };
 
     fn is_waiting(&self) -> bool {

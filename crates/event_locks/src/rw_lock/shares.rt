@@ -355,6 +355,8 @@ fn granted(access: Access, is_told: bool) -> Option<Share> {
 impl Request<Shares<Task>> for Entry {
     type Output = Share;
 
+    const TRIES: u32 = 4;
+
     ghost gives = { λ _ _. Unit {0} };
 
     fn is_waiting(&self) -> bool {

@@ -134,6 +134,8 @@ impl<W> Permits<W> {
 impl Request<Permits<Task>> for Place {
     type Output = Permit;
 
+    const TRIES: u32 = 4;
+
     ghost gives = { λ _ _. Unit {0} };
 
     fn is_waiting(&self) -> bool {

@@ -1,0 +1,98 @@
+-- What becomes of one queue of a channel.
+use Rattle.std.specs.Prelude.{◌≡◌, ℕ, ◌+◌, ◌-◌, min, Bool, false, if◌then◌else◌, Option, Some, None, is_some, unwrap_or, List, [], ◌∷◌, ◌++◌, length, drop, Err}
+use Rattle.std.specs.Map.{lookup, remove_entry, set_value}
+use Rattle.event_queue.specs.declared.key.Key.{Key}
+use Rattle.event_queue.specs.declared.reply.ListenError.{ListenError}
+use Rattle.event_queue.specs.Insert.{Inserts}
+use Rattle.event_queue.specs.Key.{is_key, without}
+use Rattle.event_queue.specs.Queue.{Queue, order_of, listeners_of, tasks_of}
+
+-- the entries but that of this key, if it is one
+abbrev pub others_of : {X : Type 0} → Option Key → List (Key × X) → List (Key × X)
+others_of None entries = entries
+others_of (Some key) entries = remove_entry (is_key key) entries
+
+module _ {T W : Type 0} where
+  -- how many are told anew, so that `n` are told if there are as many
+  abbrev pub told_anew : ℕ → Queue T W → ℕ
+  told_anew n q = min (n - length q.told) (length q.waiting)
+
+  -- the first that wait were told, so many that `n` are told if there are as many; nobody has come or gone
+  pub record TellsUpTo (n : ℕ) (old new : Queue T W) : Type 0 where
+    pub told : length new.told ≡ length old.told + told_anew n old
+    pub waiting : new.waiting ≡ drop (told_anew n old) old.waiting
+    pub order : order_of new ≡ order_of old
+
+  -- the tasks that this wakes
+  abbrev pub woken_up_to : ℕ → Queue T W → List W
+  woken_up_to n q = tasks_of (told_anew n q) q
+
+  -- all that waited were told; nobody has come or gone
+  pub record TellsAll (old new : Queue T W) : Type 0 where
+    pub told : length new.told ≡ listeners_of old
+    pub waiting : new.waiting ≡ []
+    pub order : order_of new ≡ order_of old
+
+  -- the tasks that this wakes
+  abbrev pub woken_at_once : Queue T W → List W
+  woken_at_once q = tasks_of (length q.waiting) q
+
+  -- the queue once this one, if it is one, has left
+  abbrev pub after_leaving : Option Key → Queue T W → Queue T W
+  after_leaving key q = record q { told = others_of key q.told; waiting = others_of key q.waiting }
+
+  -- this one has left the queue, and the others stand as they did
+  pub record HasLeft (key : Key) (old new : Queue T W) : Type 0 where
+    pub told : new.told ≡ others_of (Some key) old.told
+    pub waiting : new.waiting ≡ others_of (Some key) old.waiting
+    pub order : order_of new ≡ without key (order_of old)
+
+  -- this one has left the queue, and then so many were told that `n` are if there are as many
+  pub record HasLeftAndTold (key : Key) (n : ℕ) (old new : Queue T W) : Type 0 where
+    pub left : order_of new ≡ without key (order_of old)
+    pub tells : TellsUpTo n (after_leaving (Some key) old) new
+
+  -- one that is in the queue has left it; one that is in none changes nothing
+  abbrev pub Leaves : Option Key → Queue T W → Queue T W → Type 0
+  Leaves None old new = new ≡ old
+  Leaves (Some key) old new = HasLeft key old new
+
+  abbrev pub LeavesThenTells : Option Key → ℕ → Queue T W → Queue T W → Type 0
+  LeavesThenTells None n old new = new ≡ old
+  LeavesThenTells (Some key) n old new = HasLeftAndTold key n old new
+
+  -- the tasks that this wakes
+  abbrev pub woken_by_leaving : Option Key → ℕ → Queue T W → List W
+  woken_by_leaving None n q = []
+  woken_by_leaving (Some key) n q = woken_up_to n (after_leaving (Some key) q)
+
+  -- whether this one waits untold
+  abbrev pub waits_untold : Option Key → Queue T W → Bool
+  waits_untold None q = false
+  waits_untold (Some key) q = is_some (lookup (is_key key) q.waiting)
+
+  -- the task that it stored
+  abbrev pub stored_task : Option Key → Queue T W → Option W
+  stored_task None q = None
+  stored_task (Some key) q = unwrap_or (lookup (is_key key) q.waiting) None
+
+  -- those that wait once this one does, with that task: it stays where it stood, and one that was told or is new comes last
+  abbrev pub waiting_with : Option Key → Key → W → Queue T W → List (Key × Option W)
+  waiting_with key waits task q =
+      if waits_untold key q
+      then set_value (is_key waits) q.waiting (Some task)
+      else q.waiting ++ (waits, Some task) ∷ []
+
+  -- one could not be put at the end of the queue, and is in it no more
+  pub record CannotWait (key : Option Key) (error : ListenError) (old new : Queue T W) : Type 0 where
+    pub untold : waits_untold key old ≡ false
+    pub leaves : Leaves key old new
+    pub reason : Inserts new (Err error) new
+
+module _ {T W C : Type 0} (exchanged : C → Option W → W → C → Type 0) where
+  -- one waits by this key, with a task that was exchanged for the one that it had stored
+  pub record WaitsBy (key : Option Key) (old : Queue T W) (before : C) (waits : Key) (new : Queue T W) (after : C) : Type 0 where
+    pub task : W
+    pub made : exchanged before (stored_task key old) task after
+    pub told : new.told ≡ others_of key old.told
+    pub waiting : new.waiting ≡ waiting_with key waits task old

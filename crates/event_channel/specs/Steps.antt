@@ -1,0 +1,80 @@
+-- What each call does to the messages.
+use Rattle.std.specs.Prelude.{◌≡◌, ◌<◌, ◌++◌, List, [], ◌∷◌, Option, Some, None, true, false, length}
+use Rattle.event_channel.specs.Line.{TellsUpTo, TellsAll, woken_up_to, woken_at_once}
+use Rattle.event_channel.specs.Messages.{State, IsFull, IsBounded, room_in}
+use Rattle.event_channel.specs.declared.error.TrySendError.{TrySendError}
+use Rattle.event_channel.specs.declared.error.TrySendError.TheVariants.{Closed, Full, Memory}
+use Rattle.event_channel.specs.declared.error.TryRecvError.{TryRecvError}
+use Rattle.event_channel.specs.declared.error.TryRecvError.TheVariants.{Empty, Closed as WasClosed}
+
+module _ {T W : Type 0} where
+  -- the message is put behind all others of an open channel that is not full; a receiver is told for each message, and all
+  -- streams are
+  pub record Pushes (message : T) (before after : State T W) : Type 0 where
+    pub is_open : before.is_closed ≡ false
+    pub has_room : length before.messages < before.capacity
+    pub rest : after ≡ record before { messages = before.messages ++ (message ∷ []); receivers = after.receivers; streams = after.streams }
+    pub receivers : TellsUpTo (length after.messages) before.receivers after.receivers
+    pub streams : TellsAll before.streams after.streams
+
+  -- the message comes back from a channel that is closed, or from an open one that is full, or, without a limit, out of memory
+  abbrev pub Refuses : T → State T W → TrySendError T → Type 0
+  Refuses message before (Closed back) = (back ≡ message) × (before.is_closed ≡ true)
+  Refuses message before (Full back) = (back ≡ message) × (before.is_closed ≡ false) × IsFull before
+  Refuses message before (Memory back) = (back ≡ message) × (before.is_closed ≡ false) × ¬ IsBounded before
+
+  -- the message is put behind all others of a full channel, and the first of all goes out; nobody need be told
+  pub record Replaces (message first : T) (before after : State T W) : Type 0 where
+    pub is_open : before.is_closed ≡ false
+    pub is_full : IsFull before
+    pub moves : before.messages ++ (message ∷ []) ≡ first ∷ after.messages
+    pub rest : after ≡ record before { messages = after.messages }
+
+  -- the message is put behind all others, and just where the channel is full the first of all goes out
+  abbrev pub Forces : T → Option T → State T W → State T W → Type 0
+  Forces message None before after = Pushes message before after
+  Forces message (Some first) before after = Replaces message first before after
+
+  -- a message that is put in by force comes back from a channel that is closed, or, without a limit, out of memory
+  abbrev pub RefusesForce : T → State T W → TrySendError T → Type 0
+  RefusesForce message before (Closed back) = (back ≡ message) × (before.is_closed ≡ true)
+  RefusesForce message before (Full back) = ⊥
+  RefusesForce message before (Memory back) = (back ≡ message) × (before.is_closed ≡ false) × ¬ IsBounded before
+
+  -- the tasks that a push wakes: of receivers, then of all streams
+  abbrev pub woken_by_pushing : State T W → State T W → List W
+  woken_by_pushing before after =
+      woken_up_to (length after.messages) before.receivers ++ woken_at_once before.streams
+
+  abbrev pub woken_by_forcing : Option T → State T W → State T W → List W
+  woken_by_forcing None before after = woken_by_pushing before after
+  woken_by_forcing (Some first) before after = []
+
+  -- these messages were in front of all others; a sender is told for each place that is free
+  pub record Takes (taken : List T) (before after : State T W) : Type 0 where
+    pub first : before.messages ≡ taken ++ after.messages
+    pub rest : after ≡ record before { messages = after.messages; senders = after.senders }
+    pub senders : TellsUpTo (room_in after) before.senders after.senders
+
+  -- there is no message, and the channel is open or closed
+  abbrev pub IsEmptyFor : State T W → TryRecvError → Type 0
+  IsEmptyFor before Empty = (before.messages ≡ []) × (before.is_closed ≡ false)
+  IsEmptyFor before WasClosed = (before.messages ≡ []) × (before.is_closed ≡ true)
+
+  -- an open channel is closed, and all that wait are told
+  pub record Closes (before after : State T W) : Type 0 where
+    pub was_open : before.is_closed ≡ false
+    pub rest : after ≡ record before { is_closed = true; senders = after.senders; receivers = after.receivers; streams = after.streams }
+    pub senders : TellsAll before.senders after.senders
+    pub receivers : TellsAll before.receivers after.receivers
+    pub streams : TellsAll before.streams after.streams
+
+  -- nothing changes but the queue of the senders, of the receivers, or of the streams
+  abbrev pub KeepsAllButSenders : State T W → State T W → Type 0
+  KeepsAllButSenders before after = after ≡ record before { senders = after.senders }
+
+  abbrev pub KeepsAllButReceivers : State T W → State T W → Type 0
+  KeepsAllButReceivers before after = after ≡ record before { receivers = after.receivers }
+
+  abbrev pub KeepsAllButStreams : State T W → State T W → Type 0
+  KeepsAllButStreams before after = after ≡ record before { streams = after.streams }
