@@ -142,7 +142,11 @@ impl Handles {
         let revived = self.0.fetch_update(
             Ordering::SeqCst,
             Ordering::SeqCst,
-            |count| if count == 0 { None } else { count.checked_add(1) },
+            |count| if count == 0 {
+                None
+            } else {
+                count.checked_add(1)
+            },
         );
         revived.is_ok()
     }

@@ -25,9 +25,9 @@ pub struct Recv<'a, T: Drop, R: Wait + Clock + Clone> {
 }
 
 impl<'a, T: Drop, R: Wait + Clock + Clone> Model for Recv<'a, T, R> {
-    ghost Value = { ℕ };
-
     ghost use Rattle.std.specs.Prelude.{ℕ};
+
+    ghost Value = { ℕ };
 
     ghost view = { λ recv. recv.channel.now.lock };
 }

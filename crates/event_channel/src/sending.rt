@@ -43,7 +43,9 @@ impl<T> Sending<T> {
             None => unreachable!(),
         }
     }
+}
 
+impl<T: Drop> Sending<T> {
     // The sender waits by this key.
     fn wait(&mut self, key: Key, message: T)
         ensures { self.new ≡ Some message }
