@@ -1,11 +1,16 @@
-//! Measures what callers build on events: a semaphore over `event_until` beside the same one by hand.
+//! Measures the locks of `event_locks` and the channels of `event_channel`, by the workloads that `scripts/peers` has of
+//! other libraries: `make bench` runs both in turn, and docs/BENCHMARKS.md has the tables.
+//!
+//!     bench_callers time WORKLOAD THREADS [OPERATIONS]
+//!
+//! prints the nanoseconds of one operation, of one run. Without words it runs every workload for a moment. An error, or an
+//! answer that the workload does not expect, is printed to standard error, with status 1.
 #![tactic(auto)]
 
-mod by_hand;
 mod channels;
-mod regions;
+mod locks;
+mod loops;
 mod request;
-mod sides;
 mod workload;
 
 use anyhow::Result;

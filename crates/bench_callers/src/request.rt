@@ -1,28 +1,15 @@
 //! What is asked for on the command line.
-use crate::channels::{Kind, nanoseconds};
+use crate::locks::Threaded;
 use crate::workload::{WORKLOADS, Workload};
 use anyhow::Result;
-use std::alloc::AllocGlobal;
 use std::env::{self, Env};
 use std::io::Write;
 use std::random::RandomSource;
-use std::sync::Wait;
-use std::thread::Threads;
-use std::time::Clock;
 
-const USAGE: &str =
-    "usage: bench_callers WORKLOAD ROUNDS        runs it, and prints how many operations that were
-       bench_callers time CHANNEL THREADS   prints nanoseconds of a message, the middle of five runs
-       bench_callers                        prints this, and runs every workload for a moment";
-
-// For a moment: so many rounds.
-const MOMENT: u64 = 3;
+const USAGE: &str = "usage: bench_callers time WORKLOAD THREADS [OPERATIONS]";
 
 /// Does what the words of the command line ask for, and answers whether they asked for something.
-pub fn answer<R, W: Write>(rt: &R, output: &mut W) -> Result<bool>
-where
-    R: Threads + Wait + Clock + Clone + Sync + RandomSource + AllocGlobal + Env,
-{
+pub fn answer<R: Threaded + RandomSource + Env, W: Write>(rt: &R, output: &mut W) -> Result<bool> {
     let mut words = Vec::new(rt.alloc());
     for word in env::args(rt)? {
         words.push(word)?;
@@ -34,39 +21,29 @@ where
         run_all(rt, output)?;
         return Ok(true);
     }
-    if word(1) == Some("time") {
-        let kind = word(2).and_then(|name| Kind::named(name));
-        let threads = word(3).and_then(|threads| threads.parse().ok());
-        if let (Some(kind), Some(threads), None) = (kind, threads, word(4)) {
-            let nanoseconds = nanoseconds(rt, kind, threads)?;
-            writeln!(output, "{nanoseconds} ns per op")?;
+    let workload = word(2).and_then(|name| Workload::named(name));
+    let threads = word(3).and_then(|threads| threads.parse().ok());
+    if let (Some("time"), Some(workload), Some(threads)) = (word(1), workload, threads) {
+        let operations = match word(4) {
+            Some(operations) => operations.parse().ok(),
+            None => Some(workload.operations(threads)),
+        };
+        if let Some(operations) = operations {
+            let time = workload.run(rt, threads, operations)?;
+            let tenths = time.as_nanos().saturating_mul(10) / operations.max(1) as u128;
+            writeln!(output, "{}.{} ns per op", tenths / 10, tenths % 10)?;
             return Ok(true);
         }
     }
-    let workload = word(1).and_then(|name| Workload::named(name));
-    let rounds = word(2).and_then(|rounds| rounds.parse().ok());
-    match (workload, rounds, word(3)) {
-        (Some(workload), Some(rounds), None) => {
-            workload.run(rt, rounds)?;
-            writeln!(output, "{rounds} operations")?;
-            Ok(true)
-        }
-        _ => {
-            writeln!(output, "{USAGE}")?;
-            Ok(false)
-        }
-    }
+    writeln!(output, "{USAGE}")?;
+    Ok(false)
 }
 
-// Runs every workload for a moment, and prints a line for each.
-fn run_all<R, W: Write>(rt: &R, output: &mut W) -> Result<()>
-where
-    R: Wait + Clock + Clone + RandomSource + AllocGlobal,
-{
-    for workload in WORKLOADS {
-        workload.run(rt, MOMENT)?;
-        let name = workload.name();
-        writeln!(output, "{name}: {MOMENT} operations")?;
+// Runs every workload by one thread for a moment, and prints its name.
+fn run_all<R: Threaded + RandomSource, W: Write>(rt: &R, output: &mut W) -> Result<()> {
+    for (name, workload) in &WORKLOADS {
+        workload.run(rt, 1, 3)?;
+        writeln!(output, "{name}")?;
     }
     Ok(())
 }

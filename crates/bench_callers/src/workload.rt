@@ -1,23 +1,26 @@
 //! The workloads, by name.
-use crate::sides::{ByHand, OverUntil, Side};
-use crate::{by_hand, regions};
+use crate::channels::{pass, pass_alone, pass_in_tasks};
+use crate::locks::{Threaded, acquire, hand_over, lock_mutex, meet, read, try_mutex, write};
 use anyhow::Result;
-use event_listener::EventIds;
-use example_until as over_until;
-use futures::test::MockTask;
-use std::alloc::AllocGlobal;
 use std::random::RandomSource;
-use std::sync::Wait;
-use std::time::Clock;
+use std::time::Duration;
 use thiserror::Error;
 
-/// What is measured, on a semaphore with one permit.
+/// What is measured.
 #[derive(Clone, Copy, Debug, PartialEq, Eq)]
 pub enum Workload {
-    AcquireUntil,
-    AcquireByHand,
-    WaitUntil,
-    WaitByHand,
+    MutexLock,
+    MutexTry,
+    // With so many permits.
+    Semaphore(usize),
+    Handover,
+    Read,
+    Write,
+    Barrier,
+    // In which so many messages may wait, or any number.
+    Channel(Option<usize>),
+    ChannelAlone,
+    ChannelTasks,
 }
 
 /// A call gave another answer than the workload expects.
@@ -25,74 +28,63 @@ pub enum Workload {
 #[error("a call gave another answer than the workload expects")]
 pub struct OtherAnswer;
 
-pub const WORKLOADS: [Workload; 4] = [
-    Workload::AcquireUntil,
-    Workload::AcquireByHand,
-    Workload::WaitUntil,
-    Workload::WaitByHand,
+pub const WORKLOADS: [(&str, Workload); 13] = [
+    ("mutex_lock", Workload::MutexLock),
+    ("mutex_try", Workload::MutexTry),
+    ("semaphore", Workload::Semaphore(1)),
+    ("semaphore_3", Workload::Semaphore(3)),
+    ("handover", Workload::Handover),
+    ("read", Workload::Read),
+    ("write", Workload::Write),
+    ("barrier", Workload::Barrier),
+    ("channel_1", Workload::Channel(Some(1))),
+    ("channel_128", Workload::Channel(Some(128))),
+    ("channel_unbounded", Workload::Channel(None)),
+    ("channel_alone", Workload::ChannelAlone),
+    ("channel_tasks", Workload::ChannelTasks),
 ];
 
 impl Workload {
     /// The workload of that name.
     pub fn named(name: &str) -> Option<Workload> {
-        WORKLOADS.iter().copied().find(|it| it.name() == name)
+        for (its_name, workload) in &WORKLOADS {
+            if *its_name == name {
+                return Some(*workload);
+            }
+        }
+        None
     }
 
-    pub fn name(self) -> &'static str {
+    /// How many operations all threads do in one run.
+    pub fn operations(self, threads: usize) -> u64 {
         match self {
-            Workload::AcquireUntil => "acquire_until",
-            Workload::AcquireByHand => "acquire_by_hand",
-            Workload::WaitUntil => "wait_until",
-            Workload::WaitByHand => "wait_by_hand",
+            Workload::Handover | Workload::Barrier => 20_000,
+            Workload::Channel(_) | Workload::ChannelTasks => 100_000,
+            Workload::ChannelAlone => 1_000_000,
+            _ if threads == 1 => 1_000_000,
+            _ => 200_000,
         }
     }
 
-    /// Runs it for so many rounds, each of which is one operation.
-    pub fn run<R>(self, rt: &R, rounds: u64) -> Result<()>
-    where
-        R: Wait + Clock + Clone + RandomSource + AllocGlobal,
-    {
-        let id = EventIds::new().next()?;
-        let alloc = rt.alloc();
-        let is_right = match self {
-            Workload::AcquireUntil | Workload::WaitUntil => {
-                let semaphore = &over_until::Semaphore::new(id, 1);
-                let side = OverUntil {
-                    semaphore,
-                    rt,
-                    alloc,
-                };
-                self.run_on(rt, &side, rounds)?
-            }
-            Workload::AcquireByHand | Workload::WaitByHand => {
-                let semaphore = &by_hand::Semaphore::new(id, 1);
-                let side = ByHand {
-                    semaphore,
-                    rt,
-                    alloc,
-                };
-                self.run_on(rt, &side, rounds)?
-            }
-        };
-        if is_right {
-            Ok(())
-        } else {
-            Err(OtherAnswer.into())
-        }
-    }
-
-    fn run_on<S: Side, R: RandomSource + AllocGlobal>(
+    /// How long it takes until so many threads, of each side of a channel, have done so many operations in all.
+    pub fn run<R: Threaded + RandomSource>(
         self,
         rt: &R,
-        side: &S,
-        rounds: u64,
-    ) -> Result<bool> {
+        threads: usize,
+        operations: u64,
+    ) -> Result<Duration> {
+        let each = operations / threads.max(1) as u64;
         match self {
-            Workload::AcquireUntil | Workload::AcquireByHand => Ok(regions::acquire(side, rounds)),
-            Workload::WaitUntil | Workload::WaitByHand => {
-                let task = MockTask::new(rt)?;
-                Ok(task.enter(|cx| regions::wait(side, cx, rounds)))
-            }
+            Workload::MutexLock => lock_mutex(rt, threads, each),
+            Workload::MutexTry => try_mutex(rt, threads, each),
+            Workload::Semaphore(permits) => acquire(rt, permits, threads, each),
+            Workload::Handover => hand_over(rt, operations),
+            Workload::Read => read(rt, threads, each),
+            Workload::Write => write(rt, threads, each),
+            Workload::Barrier => meet(rt, threads, operations),
+            Workload::Channel(capacity) => pass(rt, capacity, threads, each),
+            Workload::ChannelAlone => pass_alone(rt, operations),
+            Workload::ChannelTasks => pass_in_tasks(rt, operations),
         }
     }
 }

@@ -101,14 +101,16 @@ fn pass_to_one(
     )
 }
 
-/// Four tasks send and four receive, in one thread.
-fn pass_in_tasks<S: Future<Output = ()>, R: Future<Output = ()>>(
-    send: impl Fn() -> S,
-    receive: impl Fn() -> R,
-) -> Duration {
+/// A task waits for a message that another sends. One thread awaits both, for each message anew.
+fn pass_in_tasks<S, R>(messages: u64, send: impl Fn() -> S, receive: impl Fn() -> R) -> Duration
+where
+    S: Future<Output = bool>,
+    R: Future<Output = bool>,
+{
     let began = Instant::now();
-    let pair = || zip(send(), receive());
-    block_on(zip(zip(pair(), pair()), zip(pair(), pair())));
+    region(messages, || {
+        assert_eq!(block_on(zip(receive(), send())), (true, true))
+    });
     began.elapsed()
 }
 
@@ -288,16 +290,9 @@ fn time(library: &str, workload: &str, threads: u64, n: u64) -> Option<Duration>
             let (sender, receiver) = async_channel::bounded(3);
             let (sender, receiver) = (&sender, &receiver);
             pass_in_tasks(
-                || async move {
-                    for _ in 0..n / 4 {
-                        sender.send(MESSAGE).await.unwrap();
-                    }
-                },
-                || async move {
-                    for _ in 0..n / 4 {
-                        receiver.recv().await.unwrap();
-                    }
-                },
+                n,
+                || async move { sender.send(MESSAGE).await.is_ok() },
+                || async move { receiver.recv().await == Ok(MESSAGE) },
             )
         }
         ("async-channel", _) => {
@@ -332,16 +327,9 @@ fn time(library: &str, workload: &str, threads: u64, n: u64) -> Option<Duration>
             let (sender, receiver) = flume::bounded(3);
             let (sender, receiver) = (&sender, &receiver);
             pass_in_tasks(
-                || async move {
-                    for _ in 0..n / 4 {
-                        sender.send_async(MESSAGE).await.unwrap();
-                    }
-                },
-                || async move {
-                    for _ in 0..n / 4 {
-                        receiver.recv_async().await.unwrap();
-                    }
-                },
+                n,
+                || async move { sender.send_async(MESSAGE).await.is_ok() },
+                || async move { receiver.recv_async().await == Ok(MESSAGE) },
             )
         }
         ("flume", _) => {
