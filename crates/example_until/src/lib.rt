@@ -4,12 +4,8 @@
 
 mod baton;
 mod gate;
-mod mutex;
-mod semaphore;
 mod watch;
 
 pub use baton::{Baton, OwnedBaton, Take};
 pub use gate::{Gate, Pass};
-pub use mutex::{Lock, Mutex, MutexGuard};
-pub use semaphore::{Acquire, Permit, Semaphore};
 pub use watch::{Newer, Version, Watch};

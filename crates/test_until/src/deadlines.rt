@@ -1,84 +1,65 @@
-//! Clocks that free a permit when they are read, so that who waits is told at its deadline.
-use crate::support::{check, new_id};
-use example_until::{Gate, Permit, Semaphore};
+//! Clocks that notify when they are read, so that who waits is told at its deadline.
+use crate::support::{Notes, check, new_id, until_nth};
+use event_listener::Event;
+use example_until::Gate;
 use std::cell::Cell;
 use std::io;
-use std::sync::{self, Wait};
+use std::sync::Wait;
 use std::thread::{self, Threads};
 use std::time::{Clock, Duration};
 use test_support::{OwnClock, Runtime, WithClock};
 
-// A clock that goes on by a second at each reading. From the second reading to the last that it is told to, it frees the
-// permit that it holds, and may take it again at once.
+// A clock that goes on by a second at each reading. From the second reading to the last that it is told to, it notifies.
 #[derive(Drop)]
-struct Frees<'a, R: Wait> {
+struct Notifies<'a, R> {
     rt: &'a R,
-    semaphore: &'a Semaphore,
-    held: sync::Mutex<Option<Permit<'a, R>>>,
-    takes_again: bool,
+    event: &'a Event<()>,
     last: u32,
     reads: Cell<u32>,
 }
 
-impl<'a, R: Wait> Frees<'a, R> {
-    fn new(rt: &'a R, semaphore: &'a Semaphore, takes_again: bool, last: u32) -> Self {
-        Frees {
-            rt,
-            semaphore,
-            held: sync::Mutex::new(semaphore.try_acquire(rt)),
-            takes_again,
-            last,
-            reads: Cell::new(0),
-        }
-    }
-}
-
-impl<'a, R: Wait> OwnClock for Frees<'a, R> {
+impl<'a, R: Wait> OwnClock for Notifies<'a, R> {
     fn read(&self) -> io::Result<Duration> {
         let reads = self.reads.get();
         self.reads.set(reads.saturating_add(1));
         if reads > 0 && reads <= self.last {
-            let mut held = self.held.lock(self.rt);
-            drop(held.take());
-            if self.takes_again {
-                *held = self.semaphore.try_acquire(self.rt);
-            }
+            self.event.notify_relaxed(self.rt, 1);
         }
         Ok(Duration::from_secs(u64::from(reads)))
     }
 }
 
-// The second reading, which frees the permit, shows the deadline.
-#[test]
-fn who_is_told_at_its_deadline_takes_what_was_freed(rt: HostRuntime) {
-    let semaphore = Semaphore::new(new_id(&rt), 1);
-    let frees = Frees::new(&rt, &semaphore, false, 1);
-    let clock = WithClock {
-        rt: &rt,
-        clock: &frees,
+// What a wait of so many seconds gives whose n-th attempt succeeds, under a clock that notifies up to this reading; and how
+// many readings and attempts that takes.
+fn waits<R: Runtime>(rt: &R, seconds: u64, n: usize, last: u32) -> (Option<usize>, u32, usize) {
+    let event = Event::new(new_id(rt));
+    let notes = Notes::new();
+    let notifies = Notifies {
+        rt,
+        event: &event,
+        last,
+        reads: Cell::new(0),
     };
-    let mut acquiring = semaphore.acquire(&clock, rt.alloc());
-    let answer = acquiring.wait_timeout(Duration::from_secs(1));
-    let given = answer.expect(&rt, "an answer").is_some();
-    check(&rt, "whether a permit is given", given, true);
-    check(&rt, "the readings", frees.reads.get(), 2);
+    let clock = WithClock {
+        rt,
+        clock: &notifies,
+    };
+    let mut until = until_nth(rt, &clock, &event, &notes, n);
+    let output = until.wait_timeout(Duration::from_secs(seconds));
+    let output = output.expect(rt, "an answer");
+    (output, notifies.reads.get(), notes.made.get())
 }
 
-// It is told at each reading before the deadline, and comes too late each time. It gives up at the deadline that it began
-// with.
+// The second reading, which notifies, shows the deadline. One last attempt would be the third.
+#[test]
+fn who_is_told_at_its_deadline_begins_anew(rt: HostRuntime) {
+    check(&rt, "the fourth", waits(&rt, 1, 4, 1), (Some(4), 2, 4));
+}
+
+// It is told at each reading before the deadline, and fails each time. It gives up at the deadline that it began with.
 #[test]
 fn who_is_told_and_too_late_keeps_its_deadline(rt: HostRuntime) {
-    let semaphore = Semaphore::new(new_id(&rt), 1);
-    let steals = Frees::new(&rt, &semaphore, true, 4);
-    let clock = WithClock {
-        rt: &rt,
-        clock: &steals,
-    };
-    let mut acquiring = semaphore.acquire(&clock, rt.alloc());
-    let answer = acquiring.wait_timeout(Duration::from_secs(5));
-    let given = answer.expect(&rt, "an answer").is_some();
-    check(&rt, "whether a permit is given", given, false);
-    check(&rt, "the readings", steals.reads.get(), 6);
+    check(&rt, "too late", waits(&rt, 5, 99, 4), (None, 6, 11));
 }
 
 // A clock that stands at its beginning.

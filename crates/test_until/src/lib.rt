@@ -5,8 +5,7 @@
 //! | `attempts` | how many attempts are made, and which of them while a listener is in the queue; the last one at a deadline; a listener that is told and not needed passes its notification on |
 //! | `polls` | polls by hand: a poll that is not due attempts nothing and wakes nobody; told and dropped, or blocking from then on, or giving its attempt back; told and too late |
 //! | `deadlines` | who is told at its deadline; limits whose moment can't be represented |
-//! | `locks` | permits, a lock and the gate, one call after another |
-//! | `shared` | the watch and the baton, one call after another |
+//! | `shared` | the gate, the watch and the baton, one call after another |
 //! | `threads` | 10 threads that make 1,000 calls each, half of them as futures; how often their tasks are polled; who is woken finds the gate open |
 //!
 //! `support` has what they share.
@@ -16,8 +15,6 @@
 mod attempts;
 #[cfg(test)]
 mod deadlines;
-#[cfg(test)]
-mod locks;
 #[cfg(test)]
 mod polls;
 #[cfg(test)]

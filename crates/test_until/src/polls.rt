@@ -2,7 +2,6 @@
 use crate::support::{Notes, Nth, check, check_woken, new_id, new_task, until_nth};
 use event_listener::{Event, Listener};
 use event_until::Until;
-use example_until::Semaphore;
 use futures::task::Poll;
 use std::time::Duration;
 use test_support::{Runtime, deadline_after};
@@ -59,6 +58,7 @@ fn who_is_told_and_fails_listens_anew(rt: HostRuntime) {
 // What is called on an `Until` that a poll left pending. Its third attempt succeeds.
 #[derive(Clone, Copy)]
 enum End {
+    Drop,
     IntoAttempt,
     Wait,
     Timeout,
@@ -68,6 +68,7 @@ enum End {
 impl End {
     fn make<R: Runtime>(self, rt: &R, mut until: Until<'_, Nth<'_, R>, R>) {
         match self {
+            End::Drop => drop(until),
             End::IntoAttempt => drop(until.into_attempt()),
             End::Wait => check(rt, "the wait", until.wait(), Ok(3)),
             End::Timeout => {
@@ -103,8 +104,10 @@ fn passes_on<R: Runtime>(rt: &R, end: End) {
 }
 
 #[test]
-fn who_is_told_and_gives_its_attempt_back_passes_on(rt: HostRuntime) {
-    passes_on(&rt, End::IntoAttempt);
+fn who_is_told_and_goes_passes_on(rt: HostRuntime) {
+    for end in [End::Drop, End::IntoAttempt] {
+        passes_on(&rt, end);
+    }
 }
 
 #[test]
@@ -115,53 +118,19 @@ fn who_is_told_and_then_blocks_passes_on(rt: HostRuntime) {
 }
 
 #[test]
-fn who_is_told_and_dropped_passes_on(rt: HostRuntime) {
-    let semaphore = Semaphore::new(new_id(&rt), 1);
-    let held = semaphore.try_acquire(&rt).expect(&rt, "a permit");
-    let first = new_task(&rt);
-    let second = new_task(&rt);
-    let mut one = semaphore.acquire(&rt, rt.alloc());
-    let mut other = semaphore.acquire(&rt, rt.alloc());
-    check(&rt, "pending", first.poll(&mut one).is_pending(), true);
-    check(&rt, "pending", second.poll(&mut other).is_pending(), true);
-    drop(held);
-    check_woken(&rt, &first, true);
-    check_woken(&rt, &second, false);
-    drop(one);
-    check_woken(&rt, &second, true);
-    check(&rt, "ready", second.poll(&mut other).is_ready(), true);
-}
-
-#[test]
 fn who_is_not_told_and_dropped_wakes_nobody(rt: HostRuntime) {
-    let semaphore = Semaphore::new(new_id(&rt), 0);
-    let first = new_task(&rt);
-    let second = new_task(&rt);
-    let mut one = semaphore.acquire(&rt, rt.alloc());
-    let mut other = semaphore.acquire(&rt, rt.alloc());
-    check(&rt, "pending", first.poll(&mut one).is_pending(), true);
-    check(&rt, "pending", second.poll(&mut other).is_pending(), true);
-    drop(one);
-    check_woken(&rt, &second, false);
-}
-
-// Two permits that are freed one after the other wake two, though the first has not gone yet.
-#[test]
-fn each_freed_permit_tells_one_more(rt: HostRuntime) {
-    let semaphore = Semaphore::new(new_id(&rt), 2);
-    let held = (
-        semaphore.try_acquire(&rt).expect(&rt, "a permit"),
-        semaphore.try_acquire(&rt).expect(&rt, "a second permit"),
+    let event = Event::new(new_id(&rt));
+    let notes = Notes::new();
+    let task = new_task(&rt);
+    let mut one = until_nth(&rt, &rt, &event, &notes, 9);
+    let mut other = until_nth(&rt, &rt, &event, &notes, 9);
+    check(
+        &rt,
+        "the first",
+        new_task(&rt).poll(&mut one),
+        Poll::Pending,
     );
-    let first = new_task(&rt);
-    let second = new_task(&rt);
-    let mut one = semaphore.acquire(&rt, rt.alloc());
-    let mut other = semaphore.acquire(&rt, rt.alloc());
-    check(&rt, "pending", first.poll(&mut one).is_pending(), true);
-    check(&rt, "pending", second.poll(&mut other).is_pending(), true);
-    drop(held);
-    check_woken(&rt, &first, true);
-    check_woken(&rt, &second, true);
-    check(&rt, "ready", second.poll(&mut other).is_ready(), true);
-    check(&rt, "ready", first.poll(&mut one).is_ready(), true);
+    check(&rt, "the second", task.poll(&mut other), Poll::Pending);
+    drop(one);
+    check_woken(&rt, &task, false);
 }

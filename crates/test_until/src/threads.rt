@@ -3,11 +3,12 @@ ghost use Rattle.std.specs.Prelude.{◌≡◌};
 
 use crate::support::{check, new_id, new_task};
 use event_until::{Attempt, UntilError};
-use example_until::{Gate, Permit, Semaphore};
+use example_until::{Baton, Gate, OwnedBaton};
 use futures::Future;
 use futures::executor::block_on;
 use futures::task::{Context, Poll};
 use futures::test::MockTask;
+use std::sync::Arc;
 use std::sync::atomic::{AtomicBool, AtomicUsize, Ordering};
 use std::thread::{self, Threads};
 use std::time::Duration;
@@ -47,56 +48,50 @@ impl<F: Future> Future for Counted<'_, F> {
     }
 }
 
-fn acquire<'a, R: Runtime>(
-    rt: &'a R,
-    semaphore: &'a Semaphore,
+fn take<R: Runtime + Drop>(
+    rt: &R,
+    baton: &Arc<Baton>,
     polls: &AtomicUsize,
     thread: usize,
-) -> Result<Permit<'a, R>, UntilError> {
-    let mut acquiring = semaphore.acquire(rt, rt.alloc());
+) -> Result<OwnedBaton<R>, UntilError> {
+    let mut take = Baton::take(baton, rt, rt.alloc());
     if thread % 2 == 0 {
-        acquiring.wait()
+        take.wait()?
     } else {
-        block_on(rt, Counted::new(acquiring, polls)).expect(rt, "an executor")
+        block_on(rt, Counted::new(take, polls)).expect(rt, "an executor")?
     }
 }
 
-// Answers the most permits that were out at once, as far as it saw.
-fn take_turns<R: Runtime>(
+// Answers the most batons that were out at once, as far as it saw.
+fn take_turns<R: Runtime + Drop>(
     rt: &R,
-    semaphore: &Semaphore,
+    baton: &Arc<Baton>,
     out: &AtomicUsize,
     polls: &AtomicUsize,
     thread: usize,
 ) -> usize {
     let mut most = 0usize;
     for _ in 0..CALLS {
-        let permit = acquire(rt, semaphore, polls, thread).expect(rt, "a permit");
+        let taken = take(rt, baton, polls, thread).expect(rt, "the baton");
         let before = out.fetch_add(1, Ordering::SeqCst);
         most = most.max(before.saturating_add(1));
         out.fetch_sub(1, Ordering::SeqCst);
-        drop(permit);
+        drop(taken);
     }
     most
 }
 
-// A poll is either the first of its task or due to a notification, of which each permit makes one. That leaves room for one
+// A poll is either the first of its task or due to a notification, of which each guard makes one. That leaves room for one
 // more each task.
 #[test]
-fn no_more_permits_are_out_than_there_are_and_tasks_rest(rt: HostRuntime) {
-    let semaphore = Semaphore::new(new_id(&rt), 3);
+fn one_at_a_time_has_the_baton_and_tasks_rest(rt: HostRuntime) {
+    let baton = Arc::new(rt.alloc(), Baton::new(new_id(&rt))).expect(&rt, "memory");
     let out = AtomicUsize::new(0);
     let polls = AtomicUsize::new(0);
-    let turns = |thread| take_turns(&rt, &semaphore, &out, &polls, thread);
+    let turns = |thread| take_turns(&rt, &baton, &out, &polls, thread);
     let seen = thread::map_indices(&rt, rt.alloc(), THREADS, &turns);
     let seen = seen.expect(&rt, "the threads");
-    let most = seen.iter().copied().max().unwrap_or(0);
-    check(&rt, "whether there were too many", most > 3, false);
-    let permits = (
-        semaphore.try_acquire(&rt).is_some(),
-        semaphore.try_acquire(&rt).is_some(),
-    );
-    check(&rt, "permits at the end", permits, (true, true));
+    check(&rt, "the most", seen.iter().copied().max(), Some(1));
     let polls = polls.load(Ordering::SeqCst);
     let most = 2 * (THREADS / 2) * CALLS + THREADS * CALLS;
     check(&rt, "at most so many polls", polls.max(most), most);
