@@ -3,7 +3,6 @@ use crate::locks::Threaded;
 use crate::loops::measured;
 use anyhow::Result;
 use event_channel::{Receiver, Sender, bounded, unbounded};
-use event_listener::EventIds;
 use futures::executor::block_on;
 use futures::future::join;
 use std::random::RandomSource;
@@ -16,10 +15,9 @@ fn channel<R: Threaded>(
     rt: &R,
     capacity: Option<usize>,
 ) -> Result<(Sender<u64, R>, Receiver<u64, R>)> {
-    let mut ids = EventIds::new();
     Ok(match capacity {
-        Some(capacity) => bounded(rt, rt.alloc(), &mut ids, capacity)?,
-        None => unbounded(rt, rt.alloc(), &mut ids)?,
+        Some(capacity) => bounded(rt, rt.alloc(), capacity)?,
+        None => unbounded(rt, rt.alloc())?,
     })
 }
 

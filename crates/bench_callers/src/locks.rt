@@ -3,7 +3,6 @@ use crate::loops::measured;
 use anyhow::Result;
 use event_locks::{Barrier, Mutex, RwLock, Semaphore, SemaphoreGuard};
 use std::alloc::AllocGlobal;
-use std::mem::forget;
 use std::sync::Wait;
 use std::thread::Threads;
 use std::time::{Clock, Duration};
@@ -82,7 +81,7 @@ pub fn hand_over<R: Threaded>(rt: &R, rounds: u64) -> Result<Duration> {
             let Ok(permit) = mine.acquire(rt, alloc).wait() else {
                 return false;
             };
-            forget(permit);
+            permit.forget();
             if index != 0 {
                 other.add_permits(rt, 1);
             }
