@@ -1,6 +1,5 @@
 //! A thread that waits for two channels at once.
 use event_channel::{Receiver, unbounded};
-use event_listener::EventIds;
 use futures::executor::block_on;
 use futures::future::select;
 use std::alloc::AllocGlobal;
@@ -28,9 +27,8 @@ pub fn urgent_first<R>(rt: &R) -> anyhow::Result<[u64; 3]>
 where
     R: Wait + Clock + Clone + RandomSource + AllocGlobal,
 {
-    let mut ids = EventIds::new();
-    let (send_urgent, urgent) = unbounded(rt, rt.alloc(), &mut ids)?;
-    let (send, others) = unbounded(rt, rt.alloc(), &mut ids)?;
+    let (send_urgent, urgent) = unbounded(rt, rt.alloc())?;
+    let (send, others) = unbounded(rt, rt.alloc())?;
     send.send_blocking(1)?;
     send.send_blocking(2)?;
     send_urgent.send_blocking(3)?;

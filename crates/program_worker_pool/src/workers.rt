@@ -1,6 +1,5 @@
 //! Workers that share the numbers of one channel, in which a few wait at most.
 use event_channel::{Receiver, RecvError, SendError, Sender, bounded};
-use event_listener::EventIds;
 use std::alloc::Global;
 use std::sync::Wait;
 use std::thread::{self, Threads};
@@ -39,7 +38,7 @@ pub fn sum_of_squares<R>(rt: R, alloc: Global) -> anyhow::Result<u64>
 where
     R: Threads + Wait + Clock + Copy + Send + Sync + 'static,
 {
-    let (sender, receiver) = bounded(&rt, alloc, &mut EventIds::new(), 8)?;
+    let (sender, receiver) = bounded(&rt, alloc, 8)?;
     let mut workers = Vec::new(alloc);
     for _ in 0..WORKERS {
         workers.reserve(1)?;
