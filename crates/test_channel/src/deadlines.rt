@@ -1,7 +1,6 @@
 //! Calls that end at a limit.
 use crate::support::check;
 use event_channel::{Receiver, Sender, bounded};
-use event_listener::EventIds;
 use std::alloc::AllocGlobal;
 use std::sync::Wait;
 use std::time::{Clock, Duration, Instant};
@@ -67,7 +66,7 @@ fn ends_at_once<R: Runtime, C: Wait + Clock + Clone>(
 #[test]
 fn a_clock_that_cannot_be_read_is_past_the_limit(rt: HostRuntime) {
     let blind = NoClock { rt: &rt };
-    let made = bounded(&blind, rt.alloc(), &mut EventIds::new(), 1);
+    let made = bounded(&blind, rt.alloc(), 1);
     let (sender, receiver) = made.expect(&rt, "a channel");
     ends_at_once(&rt, &sender, &receiver);
 }

@@ -3,12 +3,12 @@ use crate::support::check;
 use event_channel::{
     RecvError, RecvTimeoutError, SendError, SendTimeoutError, TryRecvError, TrySendError,
 };
-use event_listener::ListenError;
-use event_until::UntilError;
+use event_locks::LockError;
+use std::alloc::AllocError;
 use std::fmt::{Debug, Display};
 use test_support::Runtime;
 
-const REFUSED: UntilError = UntilError::Listen(ListenError::Memory);
+const REFUSED: LockError = LockError::Memory(AllocError);
 
 // The error has this text, and a programmer is shown that one.
 fn reads<E: Display + Debug + Drop, R: Runtime>(rt: &R, error: E, text: &str, shown: &str) {
@@ -22,7 +22,7 @@ fn reads<E: Display + Debug + Drop, R: Runtime>(rt: &R, error: E, text: &str, sh
 fn sends_say_why_they_fail(rt: HostRuntime) {
     let closed = "the channel is closed";
     let memory = "no memory for a message";
-    let listener = "no memory for a listener";
+    let listener = "no memory for a wait";
     reads(
         &rt,
         TrySendError::Full(1),
@@ -51,8 +51,8 @@ fn sends_say_why_they_fail(rt: HostRuntime) {
 #[test]
 fn receives_say_why_they_fail(rt: HostRuntime) {
     let closed = "the channel is empty and closed";
-    let listener = "no memory for a listener";
-    let refused = "WaitFailed(Listen(Memory))";
+    let listener = "no memory for a wait";
+    let refused = "WaitFailed(Memory(AllocError))";
     reads(&rt, TryRecvError::Empty, "the channel is empty", "Empty");
     reads(&rt, TryRecvError::Closed, closed, "Closed");
     reads(&rt, RecvError::Closed, closed, "Closed");

@@ -1,7 +1,6 @@
 //! Calls that need not wait: the order of messages, what a channel says of itself, its handles, and what is dropped.
 use crate::support::check;
-use event_channel::{ChannelError, Receiver, Sender, bounded, unbounded};
-use event_listener::{EventIds, IdsUsedUp};
+use event_channel::{ChannelError, Receiver, Sender, bounded};
 use futures::test::MockTask;
 use std::alloc::AllocGlobal;
 use std::cell::Cell;
@@ -117,22 +116,14 @@ fn handles_are_counted(rt: HostRuntime) {
 
 #[test]
 fn what_makes_no_channel(rt: HostRuntime) {
-    let mut ids = EventIds::new();
-    let made = bounded::<usize, _>(&rt, rt.alloc(), &mut ids, 0);
+    let made = bounded::<usize, _>(&rt, rt.alloc(), 0);
     let refused = matches!(&made, Err(ChannelError::ZeroCapacity));
     check(&rt, "whether it needs room", refused, true);
     // A sender and a receiver each keep a clone of the runtime value.
     let unshared = Unshared { rt: &rt };
-    let made = bounded::<usize, _>(&unshared, rt.alloc(), &mut ids, 1);
+    let made = bounded::<usize, _>(&unshared, rt.alloc(), 1);
     let refused = matches!(&made, Err(ChannelError::Memory(_)));
     check(&rt, "whether it needs clones", refused, true);
-    // A channel needs two identities, and there is none, or one.
-    for first in [u64::MAX, u64::MAX - 1] {
-        let mut ids = EventIds::starting_at(first);
-        let made = unbounded::<usize, _>(&rt, rt.alloc(), &mut ids);
-        let refused = matches!(&made, Err(ChannelError::Ids(IdsUsedUp)));
-        check(&rt, "whether it needs identities", refused, true);
-    }
 }
 
 // A message that counts its drops.
@@ -151,8 +142,7 @@ impl Drop for Counted<'_> {
 #[test]
 fn each_message_is_dropped_once(rt: HostRuntime) {
     let drops = Cell::new(0);
-    let mut ids = EventIds::new();
-    let made = bounded(&rt, rt.alloc(), &mut ids, 2);
+    let made = bounded(&rt, rt.alloc(), 2);
     let (sender, receiver) = made.expect(&rt, "a channel");
     let first = sender.try_send(Counted { drops: &drops }).is_ok();
     let second = sender.try_send(Counted { drops: &drops }).is_ok();

@@ -1,11 +1,6 @@
 -- A send that is not done carries a message.
-use Rattle.std.proofs.Common.{◌≡◌, refl, ℕ, Option, Some, None, IsSome, IsSomeAnd, rules}
-use Rattle.event_until.specs.Trying.{Trying}
+use Rattle.std.proofs.Common.{◌≡◌, refl, ℕ, Option, Some, None, IsSome, rules}
 
-stored : (state : Option ℕ) → IsSome state → (x : ℕ) × (state ≡ Some x)
-stored (Some x) is = (x, refl)
-stored None is = search rules
-
-pub carried : (send : Option (Trying (Option ℕ))) → IsSomeAnd send (λ trying. IsSome trying.attempt) → (x : ℕ) × IsSomeAnd send (λ trying. trying.attempt ≡ Some x)
-carried (Some trying) is = stored trying.attempt is
-carried None is = absurd is
+pub carried : (message : Option ℕ) → IsSome message → (x : ℕ) × (message ≡ Some x)
+carried (Some x) is = (x, refl)
+carried None is = search rules

@@ -1,7 +1,6 @@
 //! Channels of numbers, and what waits in them.
 use crate::ways::{Received, received_at_once};
 use event_channel::{ChannelError, Receiver, Sender, bounded, unbounded};
-use event_listener::EventIds;
 use std::alloc::AllocGlobal;
 use std::random::RandomSource;
 use std::sync::Wait;
@@ -17,10 +16,9 @@ pub fn new_channel<R: ChannelRuntime>(
     rt: &R,
     capacity: Option<usize>,
 ) -> Result<(Sender<usize, R>, Receiver<usize, R>), ChannelError> {
-    let mut ids = EventIds::new();
     match capacity {
-        Some(capacity) => bounded(rt, rt.alloc(), &mut ids, capacity),
-        None => unbounded(rt, rt.alloc(), &mut ids),
+        Some(capacity) => bounded(rt, rt.alloc(), capacity),
+        None => unbounded(rt, rt.alloc()),
     }
 }
 

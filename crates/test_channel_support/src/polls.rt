@@ -1,5 +1,5 @@
 //! Sends and receives that are awaited, each by a task of its own that a test polls by hand.
-ghost use Rattle.std.specs.Prelude.{IsSome, IsSomeAnd};
+ghost use Rattle.std.specs.Prelude.{IsSome};
 ghost use Rattle.std.proofs.Props.{props};
 
 use crate::channels::ChannelRuntime;
@@ -27,7 +27,7 @@ fn wait_until_woken<R: Wait>(rt: &R, task: &MockTask) {
 #[derive(Drop)]
 struct Unsent<'a, R: Wait + Clock + Clone> {
     send: Send<'a, usize, R>,
-    ghost carries: { IsSomeAnd send (λ trying. IsSome trying.attempt) } by { Prim.hlevel props },
+    ghost carries: { IsSome send.message } by { Prim.hlevel props },
 }
 
 /// A send that is awaited by a task of its own.

@@ -4,7 +4,7 @@ use event_channel::{
     Receiver, RecvError, RecvTimeoutError, SendError, SendTimeoutError, Sender, TryRecvError,
     TrySendError,
 };
-use event_until::UntilError;
+use event_locks::LockError;
 use futures::executor::block_on;
 use std::time::Duration;
 
@@ -17,7 +17,7 @@ pub enum Sent {
     TimedOut(usize),
     Closed(usize),
     Memory(usize),
-    Refused(usize, UntilError),
+    Refused(usize, LockError),
     /// There was no executor to await it.
     NotAwaited,
     /// It was done before.
@@ -32,7 +32,7 @@ pub enum Received {
     Empty,
     TimedOut,
     Closed,
-    Refused(UntilError),
+    Refused(LockError),
     /// There was no executor to await it.
     NotAwaited,
 }
