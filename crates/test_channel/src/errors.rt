@@ -1,40 +1,73 @@
-//! What the errors say, and the messages that come back in them.
-use crate::support::check;
-use event_channel::{
-    RecvError, RecvTimeoutError, SendError, SendTimeoutError, TryRecvError, TrySendError,
-};
+//! What errors and handles say.
+use crate::support::{Runtime, check, sides};
+use event_channel::{SendError, SendTimeoutError, TryRecvError, TrySendError};
 use event_locks::LockError;
 use std::alloc::AllocError;
 use std::fmt::{Debug, Display};
-use test_support::Runtime;
 
 const REFUSED: LockError = LockError::Memory(AllocError);
+
+fn is_shown<D: Debug, R: Runtime>(rt: &R, value: &D, shown: &str) {
+    let name = format!(in rt.alloc(); "{value:?}").expect(rt, "a text");
+    check(rt, "what is shown", name.as_str(), shown);
+}
 
 // The error has this text, and a programmer is shown that one.
 fn reads<E: Display + Debug + Drop, R: Runtime>(rt: &R, error: E, text: &str, shown: &str) {
     let said = format!(in rt.alloc(); "{error}").expect(rt, "a text");
     check(rt, "the text", said.as_str(), text);
-    let name = format!(in rt.alloc(); "{error:?}").expect(rt, "a text");
-    check(rt, "what is shown", name.as_str(), shown);
+    is_shown(rt, &error, shown);
 }
 
 #[test]
 fn sends_say_why_they_fail(rt: HostRuntime) {
-    let closed = "the channel is closed";
-    let memory = "no memory for a message";
-    let listener = "no memory for a wait";
-    reads(
-        &rt,
-        TrySendError::Full(1),
-        "the channel is full",
-        "Full(..)",
-    );
-    reads(&rt, TrySendError::Closed(1), closed, "Closed(..)");
-    reads(&rt, TrySendError::Memory(1), memory, "Memory(..)");
-    reads(&rt, SendError::Closed(1), closed, "Closed(..)");
-    reads(&rt, SendError::Memory(1), memory, "Memory(..)");
-    let refused = SendError::WaitFailed(1, REFUSED);
-    reads(&rt, refused, listener, "WaitFailed(..)");
+    for (error, text, shown) in [
+        (TrySendError::Full(1), "the channel is full", "Full(..)"),
+        (
+            TrySendError::Closed(1),
+            "the channel is closed",
+            "Closed(..)",
+        ),
+        (
+            TrySendError::Memory(1),
+            "no memory for a message",
+            "Memory(..)",
+        ),
+    ] {
+        check(
+            &rt,
+            "whether it was full",
+            error.is_full(),
+            shown == "Full(..)",
+        );
+        check(
+            &rt,
+            "whether it was closed",
+            error.is_closed(),
+            shown == "Closed(..)",
+        );
+        let same = error.clone().expect(&rt, "a clone") == error;
+        check(&rt, "whether a clone is the same", same, true);
+        reads(&rt, error, text, shown);
+    }
+    // One with a limit says the same, and may be out of time.
+    for (error, text, shown) in [
+        (SendError::Closed(1), "the channel is closed", "Closed(..)"),
+        (
+            SendError::Memory(1),
+            "no memory for a message",
+            "Memory(..)",
+        ),
+        (
+            SendError::WaitFailed(1, REFUSED),
+            "no memory for a wait",
+            "WaitFailed(..)",
+        ),
+    ] {
+        let same = error.clone().expect(&rt, "a clone");
+        reads(&rt, SendTimeoutError::from(same), text, shown);
+        reads(&rt, error, text, shown);
+    }
     let late = SendTimeoutError::TimedOut(1);
     reads(
         &rt,
@@ -42,62 +75,22 @@ fn sends_say_why_they_fail(rt: HostRuntime) {
         "the channel was full for too long",
         "TimedOut(..)",
     );
-    reads(&rt, SendTimeoutError::Closed(1), closed, "Closed(..)");
-    reads(&rt, SendTimeoutError::Memory(1), memory, "Memory(..)");
-    let refused = SendTimeoutError::WaitFailed(1, REFUSED);
-    reads(&rt, refused, listener, "WaitFailed(..)");
 }
 
 #[test]
-fn receives_say_why_they_fail(rt: HostRuntime) {
-    let closed = "the channel is empty and closed";
-    let listener = "no memory for a wait";
-    let refused = "WaitFailed(Memory(AllocError))";
-    reads(&rt, TryRecvError::Empty, "the channel is empty", "Empty");
-    reads(&rt, TryRecvError::Closed, closed, "Closed");
-    reads(&rt, RecvError::Closed, closed, "Closed");
-    reads(&rt, RecvError::WaitFailed(REFUSED), listener, refused);
-    let late = RecvTimeoutError::TimedOut;
-    reads(&rt, late, "no message came in time", "TimedOut");
-    reads(&rt, RecvTimeoutError::Closed, closed, "Closed");
-    reads(
-        &rt,
-        RecvTimeoutError::WaitFailed(REFUSED),
-        listener,
-        refused,
-    );
-}
-
-#[test]
-fn each_error_of_a_send_has_its_message(rt: HostRuntime) {
-    for error in [
-        TrySendError::Full(7),
-        TrySendError::Closed(7),
-        TrySendError::Memory(7),
-    ] {
-        check(&rt, "at once", error.into_inner(), 7);
-    }
-    let refused = SendError::WaitFailed(7, REFUSED);
-    for error in [SendError::Closed(7), SendError::Memory(7), refused] {
-        check(&rt, "in a wait", error.into_inner(), 7);
-    }
-    let late = [SendTimeoutError::TimedOut(7), SendTimeoutError::Closed(7)];
-    for error in late {
-        check(&rt, "in time", error.into_inner(), 7);
-    }
-    let refused = SendTimeoutError::WaitFailed(7, REFUSED);
-    for error in [SendTimeoutError::Memory(7), refused] {
-        check(&rt, "in time", error.into_inner(), 7);
+fn a_receive_at_once_says_why_it_fails(rt: HostRuntime) {
+    for error in [TryRecvError::Empty, TryRecvError::Closed] {
+        let is_empty = error == TryRecvError::Empty;
+        check(&rt, "whether it was empty", error.is_empty(), is_empty);
+        check(&rt, "whether it was closed", error.is_closed(), !is_empty);
     }
 }
 
 #[test]
-fn an_error_of_a_send_is_one_of_a_send_in_time(rt: HostRuntime) {
-    let closed = SendTimeoutError::from(SendError::Closed(7));
-    check(&rt, "closed", closed == SendTimeoutError::Closed(7), true);
-    let memory = SendTimeoutError::from(SendError::Memory(7));
-    check(&rt, "memory", memory == SendTimeoutError::Memory(7), true);
-    let refused = SendTimeoutError::from(SendError::WaitFailed(7, REFUSED));
-    let same = refused == SendTimeoutError::WaitFailed(7, REFUSED);
-    check(&rt, "a refused wait", same, true);
+fn handles_and_futures_are_shown(rt: HostRuntime) {
+    let (sender, receiver) = sides(&rt, None);
+    is_shown(&rt, &sender, "Sender { .. }");
+    is_shown(&rt, &receiver, "Receiver { .. }");
+    is_shown(&rt, &sender.send(1), "Send { .. }");
+    is_shown(&rt, &receiver.recv(), "Recv { .. }");
 }

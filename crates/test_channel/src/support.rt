@@ -1,13 +1,51 @@
 //! What the tests share.
+use event_channel::{Receiver, Sender};
 use std::fmt::Debug;
+use std::marker::Send;
 use std::process::Abort;
+use std::thread::Threads;
+use std::time::Duration;
+use test_channel_support::{Answer, Way, new_channel};
+pub use test_support::Runtime;
+
+/// What tests with threads ask of a runtime value.
+pub trait SharedRuntime: Runtime + Threads + Sync + Send {}
+
+impl<R: Runtime + Threads + Sync + Send> SharedRuntime for R {}
 
 /// The answer is the expected one. Where it is not, the message has both, and what was asked. The assertion stands here
 /// once, in a generic function, and is proved once.
-pub fn check<V, R>(rt: &R, asked: &str, answer: V, expected: V)
+pub fn check<A, V, R>(rt: &R, asked: A, answer: V, expected: V)
 where
+    A: Debug + Drop,
     V: PartialEq + Debug + Drop,
     R: Abort,
 {
-    assert_eq!(rt; answer, expected, "{asked}");
+    assert_eq!(rt; answer, expected, "{asked:?}");
+}
+
+/// Both sides of a channel of numbers.
+pub type Sides<R> = (Sender<usize, R>, Receiver<usize, R>);
+
+/// A new channel with this capacity or without a limit.
+pub fn sides<R: Runtime>(rt: &R, capacity: Option<usize>) -> Sides<R> {
+    new_channel(rt, capacity).expect(rt, "a channel")
+}
+
+/// A send in this way, without time, answers so.
+pub fn sends<R: Runtime>(
+    rt: &R,
+    way: Way,
+    sender: &Sender<usize, R>,
+    message: usize,
+    expected: Answer,
+) {
+    let answer = way.send(rt, sender, message, Duration::ZERO);
+    check(rt, (way, message), answer, expected);
+}
+
+/// A receive in this way, without time, answers so.
+pub fn receives<R: Runtime>(rt: &R, way: Way, receiver: &Receiver<usize, R>, expected: Answer) {
+    let answer = way.receive(rt, receiver, Duration::ZERO);
+    check(rt, way, answer, expected);
 }

@@ -1,40 +1,29 @@
 //! The ways to send and to receive, and what they answer.
 use crate::channels::ChannelRuntime;
+use crate::waiting::Waiting;
 use event_channel::{
     Receiver, RecvError, RecvTimeoutError, SendError, SendTimeoutError, Sender, TryRecvError,
     TrySendError,
 };
 use event_locks::LockError;
+use futures::StreamExt;
 use futures::executor::block_on;
-use std::time::Duration;
+use std::thread;
+use std::time::{Clock, Duration, Instant};
 
-/// What a send answered.
+/// What a call answered. A message in it came back, but for one that was received or went out by force.
 #[derive(Clone, Copy, Debug, PartialEq, Eq)]
-pub enum Sent {
-    Done,
+pub enum Answer {
+    Sent,
+    Received(usize),
+    /// Another one was sent, and this went out.
+    Out(usize),
     Waits,
-    Full(usize),
-    TimedOut(usize),
-    Closed(usize),
-    Memory(usize),
-    Refused(usize, LockError),
-    /// There was no executor to await it.
-    NotAwaited,
-    /// It was done before.
-    Over,
-}
-
-/// What a receive answered.
-#[derive(Clone, Copy, Debug, PartialEq, Eq)]
-pub enum Received {
-    Message(usize),
-    Waits,
-    Empty,
-    TimedOut,
-    Closed,
-    Refused(LockError),
-    /// There was no executor to await it.
-    NotAwaited,
+    /// The channel was full or empty: it did not wait, was out of time, or was given up.
+    Late(Option<usize>),
+    Closed(Option<usize>),
+    /// It was refused memory, an executor or the time, or was done before.
+    Failed,
 }
 
 /// A way to send, and to receive.
@@ -43,100 +32,170 @@ pub enum Way {
     AtOnce,
     Blocking,
     Timed,
+    /// With a deadline.
+    Due,
     Awaited,
+    /// By a stream of its own, which is dropped after one item. A send is awaited.
+    Streamed,
+    /// Polled, and dropped a little later if it is not done.
+    GivenUp,
 }
 
 /// All ways.
-pub const WAYS: [Way; 4] = [Way::AtOnce, Way::Blocking, Way::Timed, Way::Awaited];
+pub const WAYS: [Way; 7] = [
+    Way::AtOnce,
+    Way::Blocking,
+    Way::Timed,
+    Way::Due,
+    Way::Awaited,
+    Way::Streamed,
+    Way::GivenUp,
+];
+
+fn moment<R: Clock>(rt: &R, limit: Duration) -> Option<Instant> {
+    Instant::now(rt).ok()?.checked_add(limit)
+}
 
 impl Way {
-    /// Sends a message. A timed send waits so long for room.
+    /// Sends a message. One that has a limit waits so long for room.
     pub fn send<R: ChannelRuntime>(
         self,
         rt: &R,
         sender: &Sender<usize, R>,
         message: usize,
         limit: Duration,
-    ) -> Sent {
+    ) -> Answer {
         match self {
-            Way::AtOnce => sent_at_once(sender.try_send(message)),
-            Way::Blocking => waited_to_send(sender.send_blocking(message)),
-            Way::Timed => sent_in_time(sender.send_timeout(message, limit)),
-            Way::Awaited => match block_on(rt, sender.send(message)) {
-                Ok(answer) => waited_to_send(answer),
-                Err(_) => Sent::NotAwaited,
+            Way::AtOnce => of_try_send(sender.try_send(message)),
+            Way::Blocking => of_send(sender.send_blocking(message)),
+            Way::Timed => of_timed_send(sender.send_timeout(message, limit)),
+            Way::Due => match moment(rt, limit) {
+                Some(moment) => of_timed_send(sender.send_deadline(message, moment)),
+                None => Answer::Failed,
+            },
+            Way::Awaited | Way::Streamed => match block_on(rt, sender.send(message)) {
+                Ok(answer) => of_send(answer),
+                Err(_) => Answer::Failed,
+            },
+            Way::GivenUp => match Waiting::send(rt, sender, message) {
+                Some(waiting) => once(waiting, Some(message)),
+                None => Answer::Failed,
             },
         }
     }
 
-    /// Receives a message. A timed receive waits so long for one.
+    /// Receives a message. One that has a limit waits so long for it.
     pub fn receive<R: ChannelRuntime>(
         self,
         rt: &R,
         receiver: &Receiver<usize, R>,
         limit: Duration,
-    ) -> Received {
+    ) -> Answer {
         match self {
-            Way::AtOnce => received_at_once(receiver.try_recv()),
-            Way::Blocking => waited_to_receive(receiver.recv_blocking()),
-            Way::Timed => received_in_time(receiver.recv_timeout(limit)),
+            Way::AtOnce => of_try_recv(receiver.try_recv()),
+            Way::Blocking => of_recv(receiver.recv_blocking()),
+            Way::Timed => of_timed_recv(receiver.recv_timeout(limit)),
+            Way::Due => match moment(rt, limit) {
+                Some(moment) => of_timed_recv(receiver.recv_deadline(moment)),
+                None => Answer::Failed,
+            },
             Way::Awaited => match block_on(rt, receiver.recv()) {
-                Ok(answer) => waited_to_receive(answer),
-                Err(_) => Received::NotAwaited,
+                Ok(answer) => of_recv(answer),
+                Err(_) => Answer::Failed,
+            },
+            Way::Streamed => first_of(rt, receiver),
+            Way::GivenUp => match Waiting::receive(rt, receiver) {
+                Some(waiting) => once(waiting, None),
+                None => Answer::Failed,
             },
         }
     }
 }
 
-fn sent_at_once(answer: Result<(), TrySendError<usize>>) -> Sent {
-    match answer {
-        Ok(()) => Sent::Done,
-        Err(TrySendError::Full(message)) => Sent::Full(message),
-        Err(TrySendError::Closed(message)) => Sent::Closed(message),
-        Err(TrySendError::Memory(message)) => Sent::Memory(message),
+fn first_of<R: ChannelRuntime>(rt: &R, receiver: &Receiver<usize, R>) -> Answer {
+    let Ok(mut stream) = receiver.clone() else {
+        return Answer::Failed;
+    };
+    match block_on(rt, stream.next()) {
+        Ok(item) => of_item(item),
+        Err(_) => Answer::Failed,
     }
 }
 
-pub(crate) fn waited_to_send(answer: Result<(), SendError<usize>>) -> Sent {
-    match answer {
-        Ok(()) => Sent::Done,
-        Err(SendError::Closed(message)) => Sent::Closed(message),
-        Err(SendError::Memory(message)) => Sent::Memory(message),
-        Err(SendError::WaitFailed(message, error)) => Sent::Refused(message, error),
+// Between the poll and the drop others may tell it.
+fn once<R: ChannelRuntime>(waiting: Waiting<'_, R>, message: Option<usize>) -> Answer {
+    let mut waiting = waiting;
+    match waiting.poll() {
+        Answer::Waits => {
+            thread::yield_now();
+            drop(waiting);
+            Answer::Late(message)
+        }
+        answer => answer,
     }
 }
 
-fn sent_in_time(answer: Result<(), SendTimeoutError<usize>>) -> Sent {
+fn of_try_send(answer: Result<(), TrySendError<usize>>) -> Answer {
     match answer {
-        Ok(()) => Sent::Done,
-        Err(SendTimeoutError::TimedOut(message)) => Sent::TimedOut(message),
-        Err(SendTimeoutError::Closed(message)) => Sent::Closed(message),
-        Err(SendTimeoutError::Memory(message)) => Sent::Memory(message),
-        Err(SendTimeoutError::WaitFailed(message, error)) => Sent::Refused(message, error),
+        Ok(()) => Answer::Sent,
+        Err(TrySendError::Full(message)) => Answer::Late(Some(message)),
+        Err(TrySendError::Closed(message)) => Answer::Closed(Some(message)),
+        Err(TrySendError::Memory(_)) => Answer::Failed,
     }
 }
 
-pub(crate) fn received_at_once(answer: Result<usize, TryRecvError>) -> Received {
+pub(crate) fn of_send(answer: Result<(), SendError<usize>>) -> Answer {
+    of_force(answer.map(|()| None))
+}
+
+/// What a send by force answered.
+pub fn of_force(answer: Result<Option<usize>, SendError<usize>>) -> Answer {
     match answer {
-        Ok(message) => Received::Message(message),
-        Err(TryRecvError::Empty) => Received::Empty,
-        Err(TryRecvError::Closed) => Received::Closed,
+        Ok(None) => Answer::Sent,
+        Ok(Some(message)) => Answer::Out(message),
+        Err(SendError::Closed(message)) => Answer::Closed(Some(message)),
+        Err(_) => Answer::Failed,
     }
 }
 
-pub(crate) fn waited_to_receive(answer: Result<usize, RecvError>) -> Received {
+fn of_timed_send(answer: Result<(), SendTimeoutError<usize>>) -> Answer {
     match answer {
-        Ok(message) => Received::Message(message),
-        Err(RecvError::Closed) => Received::Closed,
-        Err(RecvError::WaitFailed(error)) => Received::Refused(error),
+        Ok(()) => Answer::Sent,
+        Err(SendTimeoutError::TimedOut(message)) => Answer::Late(Some(message)),
+        Err(SendTimeoutError::Closed(message)) => Answer::Closed(Some(message)),
+        Err(_) => Answer::Failed,
     }
 }
 
-fn received_in_time(answer: Result<usize, RecvTimeoutError>) -> Received {
+fn of_try_recv(answer: Result<usize, TryRecvError>) -> Answer {
     match answer {
-        Ok(message) => Received::Message(message),
-        Err(RecvTimeoutError::TimedOut) => Received::TimedOut,
-        Err(RecvTimeoutError::Closed) => Received::Closed,
-        Err(RecvTimeoutError::WaitFailed(error)) => Received::Refused(error),
+        Ok(message) => Answer::Received(message),
+        Err(TryRecvError::Empty) => Answer::Late(None),
+        Err(TryRecvError::Closed) => Answer::Closed(None),
+    }
+}
+
+pub(crate) fn of_recv(answer: Result<usize, RecvError>) -> Answer {
+    match answer {
+        Ok(message) => Answer::Received(message),
+        Err(RecvError::Closed) => Answer::Closed(None),
+        Err(RecvError::WaitFailed(_)) => Answer::Failed,
+    }
+}
+
+pub(crate) fn of_item(item: Option<Result<usize, LockError>>) -> Answer {
+    match item {
+        Some(Ok(message)) => Answer::Received(message),
+        Some(Err(_)) => Answer::Failed,
+        None => Answer::Closed(None),
+    }
+}
+
+fn of_timed_recv(answer: Result<usize, RecvTimeoutError>) -> Answer {
+    match answer {
+        Ok(message) => Answer::Received(message),
+        Err(RecvTimeoutError::TimedOut) => Answer::Late(None),
+        Err(RecvTimeoutError::Closed) => Answer::Closed(None),
+        Err(RecvTimeoutError::WaitFailed(_)) => Answer::Failed,
     }
 }

@@ -1,5 +1,4 @@
-//! What `Until` leaves where memory is refused, and channels, which stand on it: a message is in the channel or comes back,
-//! and is never lost.
+//! What `Until` and channels leave where memory is refused: a message is in the channel or comes back, and is never lost.
 use crate::support::{
     Answer, Runtime, Starved, all_memory, check, count_refused, leave, new_id, new_task,
 };
@@ -7,7 +6,8 @@ use event_channel::{
     ChannelError, Receiver, RecvError, RecvTimeoutError, SendError, SendTimeoutError, Sender,
     TryRecvError, TrySendError, bounded, unbounded,
 };
-use event_listener::{Event, EventIds, ListenError, NeverInserted, WaitReason};
+use event_listener::{Event, ListenError, NeverInserted, WaitReason};
+use event_locks::LockError;
 use event_until::{Attempt, Until, UntilError};
 use futures::StreamExt;
 use futures::task::Poll;
@@ -17,7 +17,9 @@ use std::sync::Wait;
 use std::time::Duration;
 use test_queue_memory::Budget;
 
-const LISTENING: UntilError = UntilError::Listen(ListenError::Memory);
+const LISTENING: LockError = LockError::Listen(ListenError::Memory);
+
+const NO_MEMORY: LockError = LockError::Memory(AllocError);
 
 const MAX: Duration = Duration::MAX;
 
@@ -76,7 +78,8 @@ fn waits_are_refused<R: Runtime>(rt: &R, has_room: bool, refusal: UntilError, at
 
 #[test]
 fn a_refused_listening_or_parker_leaves_no_listener(rt: HostRuntime) {
-    waits_are_refused(&rt, false, LISTENING, 1);
+    let listening = UntilError::Listen(ListenError::Memory);
+    waits_are_refused(&rt, false, listening, 1);
     waits_are_refused(&rt, true, UntilError::Parker, 2);
 }
 
@@ -84,10 +87,9 @@ type Sides<R> = (Sender<usize, R>, Receiver<usize, R>);
 
 // A channel of numbers, with this capacity or without a limit.
 fn make<R: Runtime>(rt: &R, capacity: Option<usize>) -> Result<Sides<R>, ChannelError> {
-    let mut ids = EventIds::new();
     match capacity {
-        Some(capacity) => bounded(rt, rt.alloc(), &mut ids, capacity),
-        None => unbounded(rt, rt.alloc(), &mut ids),
+        Some(capacity) => bounded(rt, rt.alloc(), capacity),
+        None => unbounded(rt, rt.alloc()),
     }
 }
 
@@ -145,12 +147,50 @@ fn each_request_of_a_new_channel_is_refused(rt: HostRuntime) {
     check(rt, "whether its room is, too", limited > unlimited, true);
 }
 
-// The sends that block are refused for this reason, and hand the message back.
-fn sends_are_refused<R: Runtime>(rt: &R, sender: &Sender<usize, R>, reason: UntilError) {
-    let refusal = SendError::WaitFailed(7, reason);
+// Without memory each send that would block is refused what its thread parks on, and hands the message back.
+fn sends_are_refused<R: Runtime>(rt: &R, sender: &Sender<usize, R>) {
+    let refusal = SendError::WaitFailed(7, NO_MEMORY);
     refused(rt, sender.send_blocking(7), refusal);
-    let refusal = SendTimeoutError::WaitFailed(8, reason);
+    let refusal = SendTimeoutError::WaitFailed(8, NO_MEMORY);
     refused(rt, sender.send_timeout(8, MAX), refusal);
+}
+
+// It notes whether a place in the queue was refused.
+#[derive(Drop)]
+struct FirstWait<'a, R> {
+    rt: &'a R,
+    needs_place: &'a Cell<bool>,
+}
+
+impl<R: Runtime> Starved for FirstWait<'_, R> {
+    fn is_granted(&self, budget: &mut Budget, bytes: usize) -> bool {
+        let rt = self.rt;
+        let (sender, receiver) = make(rt, Some(1)).expect(rt, "a channel");
+        sends(rt, &sender, &[0]);
+        leave(rt, budget, bytes);
+        let sent = sender.send_timeout(7, Duration::ZERO);
+        budget.give_back();
+        are_left(rt, &receiver, &[0]);
+        let is_late = sent == Err(SendTimeoutError::TimedOut(7));
+        let is_placeless = sent == Err(SendTimeoutError::WaitFailed(7, LISTENING));
+        if is_placeless {
+            self.needs_place.set(true);
+        }
+        if !is_late && !is_placeless {
+            let refusal = SendTimeoutError::WaitFailed(7, NO_MEMORY);
+            refused(rt, sent, refusal);
+        }
+        is_late
+    }
+}
+
+#[test]
+fn each_request_of_a_first_wait_is_refused(rt: HostRuntime) {
+    let rt = &rt;
+    let needs_place = &Cell::new(false);
+    let refused = count_refused(rt, &FirstWait { rt, needs_place });
+    check(rt, "whether some are refused", refused > 0, true);
+    check(rt, "whether a place is", needs_place.get(), true);
 }
 
 #[test]
@@ -160,18 +200,18 @@ fn a_send_that_cannot_wait_hands_back(rt: HostRuntime) {
     sends(rt, &sender, &[0, 1]);
     let task = new_task(rt);
     let hog = all_memory(rt);
-    sends_are_refused(rt, &sender, LISTENING);
+    sends_are_refused(rt, &sender);
     let polled = task.poll(&mut sender.send(9));
     let refusal = SendError::WaitFailed(9, LISTENING);
     check(rt, "a poll", polled, Poll::Ready(Err(refusal)));
     drop(hog);
 
-    // It makes room for a listener.
+    // It makes a place in the queue.
     let timed_out = sender.send_timeout(5, Duration::ZERO);
     refused(rt, timed_out, SendTimeoutError::TimedOut(5));
     let mut sending = sender.send(9);
     let hog = all_memory(rt);
-    sends_are_refused(rt, &sender, UntilError::Parker);
+    sends_are_refused(rt, &sender);
     let Poll::Pending = task.poll(&mut sending) else {
         panic!(rt; "there is no room");
     };
@@ -182,11 +222,11 @@ fn a_send_that_cannot_wait_hands_back(rt: HostRuntime) {
     are_left(rt, &receiver, &[1, 9]);
 }
 
-// The receives that block are refused for this reason.
-fn receives_are_refused<R: Runtime>(rt: &R, receiver: &Receiver<usize, R>, reason: UntilError) {
-    let refusal = RecvError::WaitFailed(reason);
+// Without memory each receive that would block is refused what its thread parks on.
+fn receives_are_refused<R: Runtime>(rt: &R, receiver: &Receiver<usize, R>) {
+    let refusal = RecvError::WaitFailed(NO_MEMORY);
     refused(rt, receiver.recv_blocking(), refusal);
-    let refusal = RecvTimeoutError::WaitFailed(reason);
+    let refusal = RecvTimeoutError::WaitFailed(NO_MEMORY);
     refused(rt, receiver.recv_timeout(MAX), refusal);
 }
 
@@ -195,27 +235,40 @@ fn a_receive_that_cannot_wait_loses_nothing(rt: HostRuntime) {
     let rt = &rt;
     let (sender, receiver) = make(rt, Some(2)).expect(rt, "a channel");
     let task = new_task(rt);
+    let mut stream = receiver.clone().expect(rt, "a receiver");
+    let mut many = Vec::new(rt.alloc());
     let mut receiving = receiver.recv();
     let hog = all_memory(rt);
-    receives_are_refused(rt, &receiver, LISTENING);
-    let refusal = Poll::Ready(Err(RecvError::WaitFailed(LISTENING)));
-    check(rt, "a poll", task.poll(&mut receiving), refusal);
+    receives_are_refused(rt, &receiver);
+    let refusal = RecvError::WaitFailed(LISTENING);
+    let polled = task.poll(&mut receiving);
+    check(rt, "a poll", polled, Poll::Ready(Err(refusal)));
     // An item that says so is not the end of the stream.
-    let item = task.poll(&mut receiving.next());
+    let item = task.poll(&mut stream.next());
     check(rt, "an item", item, Poll::Ready(Some(Err(LISTENING))));
+    sends(rt, &sender, &[5]);
+    let refusal = RecvError::WaitFailed(NO_MEMORY);
+    refused(rt, receiver.recv_many(&mut many, 2), refusal);
+    are_left(rt, &receiver, &[5]);
     drop(hog);
 
-    let timed_out = receiver.recv_timeout(Duration::ZERO);
-    refused(rt, timed_out, RecvTimeoutError::TimedOut);
+    // They make places in the queues.
+    let polled = task.poll(&mut receiving);
+    check(rt, "a poll", polled, Poll::Pending);
+    let item = task.poll(&mut stream.next());
+    check(rt, "no item", item, Poll::Pending);
+    sends(rt, &sender, &[6]);
+    let polled = task.poll(&mut receiving);
+    check(rt, "a poll", polled, Poll::Ready(Ok(6)));
     let hog = all_memory(rt);
-    receives_are_refused(rt, &receiver, UntilError::Parker);
-    let item = task.poll(&mut receiving.next());
+    receives_are_refused(rt, &receiver);
+    let item = task.poll(&mut stream.next());
     check(rt, "no item", item, Poll::Pending);
     sends(rt, &sender, &[7, 8]);
-    let item = task.poll(&mut receiving.next());
+    let item = task.poll(&mut stream.next());
     check(rt, "an item", item, Poll::Ready(Some(Ok(7))));
-    let message = Poll::Ready(Ok(8));
-    check(rt, "a poll", task.poll(&mut receiving), message);
+    let polled = task.poll(&mut receiving);
+    check(rt, "a poll", polled, Poll::Ready(Ok(8)));
     drop(hog);
     are_left(rt, &receiver, &[]);
 }
@@ -230,6 +283,7 @@ fn a_send_that_finds_no_memory_hands_back(rt: HostRuntime) {
     check(rt, "a poll", task.poll(&mut receiving), Poll::Pending);
     let hog = all_memory(rt);
     refused(rt, sender.try_send(6), TrySendError::Memory(6));
+    refused(rt, sender.force_send(5), SendError::Memory(5));
     refused(rt, sender.send_blocking(7), SendError::Memory(7));
     refused(rt, sender.send_timeout(8, MAX), SendTimeoutError::Memory(8));
     let polled = other.poll(&mut sender.send(9));
@@ -265,8 +319,10 @@ fn calls_that_need_no_memory(rt: HostRuntime) {
     sends(rt, &sender, &[1]);
     check(rt, "a send", sender.send_blocking(2), Ok(()));
     refused(rt, sender.try_send(9), TrySendError::Full(9));
-    check(rt, "a receive", receiver.recv_blocking(), Ok(1));
-    check(rt, "the next", receiver.recv_timeout(MAX), Ok(2));
+    check(rt, "a send by force", sender.force_send(3), Ok(Some(1)));
+    check(rt, "one more", sender.force_send(1), Ok(Some(2)));
+    check(rt, "a receive", receiver.recv_blocking(), Ok(3));
+    check(rt, "the next", receiver.recv_timeout(MAX), Ok(1));
     are_left(rt, &receiver, &[]);
     let polled = task.poll(&mut sender.send(3));
     check(rt, "a poll", polled, Poll::Ready(Ok(())));

@@ -6,7 +6,7 @@
 //! | `events` | listening that is refused the queue, its growth or a clone of the runtime value, or takes a spare slot; waits that are refused what the thread parks on, and hand the listener back as it was; threads that are parked, and woken by one without memory: by a notification, and by the drop of a listener that was told |
 //! | `recorded` | calls on recorded events that are refused the note or the entry; each request of a wait |
 //! | `locks` | locks, polled locks and semaphores, each of whose requests is refused while another one has them; a client that was told before it was refused tells another one; the example programs, refused the counter, the flag or a thread |
-//! | `channels` | attempts until one succeeds, and channels: refused themselves, a listener, what a thread parks on, or room for a message |
+//! | `channels` | attempts until one succeeds, and channels: refused themselves, a place in the queue, what a thread parks on, or room for a message |
 //!
 //! A test takes all memory of the process by a `Hog` of `test_queue_memory`, or all but so much by its `Budget`: `support`
 //! makes a call with larger and larger ones until it is granted, so that each of its requests is refused in its turn. Under

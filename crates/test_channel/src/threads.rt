@@ -1,0 +1,257 @@
+//! Many threads and tasks at once: each message that is sent is received once, and those of one sender in order.
+use crate::support::{Runtime, SharedRuntime, check, sides};
+use event_channel::{Receiver, Sender};
+use std::alloc::AllocGlobal;
+use std::thread;
+use std::time::{Duration, Instant};
+use test_channel_support::{Answer, Way};
+use test_support::deadline_after;
+
+// Threads of each side.
+const SIDE: usize = 8;
+
+// The most messages of a sender. Those of the next begin so much later.
+const MOST: usize = 5_000;
+
+// No message is sent after so long.
+const SECONDS: u64 = 4;
+
+// How the threads of each side send and receive.
+const MIXED: [Way; SIDE] = [
+    Way::Blocking,
+    Way::Awaited,
+    Way::Timed,
+    Way::Streamed,
+    Way::Due,
+    Way::GivenUp,
+    Way::AtOnce,
+    Way::Awaited,
+];
+
+// Each of these may be out of time.
+const HASTY: [Way; SIDE] = [
+    Way::Timed,
+    Way::GivenUp,
+    Way::Due,
+    Way::GivenUp,
+    Way::Timed,
+    Way::GivenUp,
+    Way::Due,
+    Way::AtOnce,
+];
+
+// What the threads of a run do.
+#[derive(Clone, Copy)]
+struct Plan {
+    capacity: Option<usize>,
+    ways: [Way; SIDE],
+    // How long a call waits that has a limit.
+    patience: Duration,
+    // Whether a message that was not sent in time is sent again.
+    sends_again: bool,
+    // After how many messages a receiver closes the channel.
+    closes_after: usize,
+}
+
+// What a thread has.
+#[derive(Drop)]
+enum Job<R: Runtime> {
+    Send(usize, Sender<usize, R>),
+    Receive(usize, Receiver<usize, R>),
+}
+
+// The messages that a thread sent, or received, in order.
+#[derive(Drop)]
+struct Done {
+    is_sender: bool,
+    messages: Vec<usize>,
+}
+
+impl Plan {
+    fn way_of(&self, number: usize) -> Way {
+        self.ways.get(number).copied().unwrap_or(Way::Blocking)
+    }
+
+    // Sends one message, by as many calls as that needs.
+    fn send_one<R: Runtime>(
+        &self,
+        rt: &R,
+        way: Way,
+        sender: &Sender<usize, R>,
+        message: usize,
+    ) -> Answer {
+        for _ in rt.forever() {
+            let answer = way.send(rt, sender, message, self.patience);
+            if !self.sends_again || answer != Answer::Late(Some(message)) {
+                return answer;
+            }
+            thread::yield_now();
+        }
+        unreachable!()
+    }
+
+    // Sends all messages of a sender, until the channel is closed or time is up. Each that is not sent comes back.
+    fn send_all<R: Runtime>(
+        &self,
+        rt: &R,
+        end: Instant,
+        number: usize,
+        sender: Sender<usize, R>,
+    ) -> Vec<usize> {
+        let mut sent = Vec::with_capacity(rt.alloc(), MOST).expect(rt, "room");
+        let first = number.saturating_mul(MOST);
+        for message in first..first.saturating_add(MOST) {
+            if Instant::now(rt).expect(rt, "the time") >= end {
+                break;
+            }
+            match self.send_one(rt, self.way_of(number), &sender, message) {
+                Answer::Sent => sent.push(message).expect(rt, "room"),
+                Answer::Late(Some(same)) => check(rt, "what comes back", same, message),
+                other => {
+                    check(rt, "the end", other, Answer::Closed(Some(message)));
+                    break;
+                }
+            }
+        }
+        sent
+    }
+
+    // Receives messages until the channel is closed and empty.
+    fn receive_all<R: Runtime>(
+        &self,
+        rt: &R,
+        number: usize,
+        receiver: Receiver<usize, R>,
+    ) -> Vec<usize> {
+        let mut messages = Vec::new(rt.alloc());
+        for _ in rt.forever() {
+            match self.way_of(number).receive(rt, &receiver, self.patience) {
+                Answer::Received(message) => messages.push(message).expect(rt, "room"),
+                Answer::Closed(None) => break,
+                other => {
+                    check(rt, "no message", other, Answer::Late(None));
+                    thread::yield_now();
+                }
+            }
+            if messages.len() == self.closes_after {
+                receiver.close();
+            }
+        }
+        messages
+    }
+
+    fn work<R: Runtime>(&self, rt: &R, end: Instant, job: Job<R>) -> Done {
+        match job {
+            Job::Send(number, sender) => Done {
+                is_sender: true,
+                messages: self.send_all(rt, end, number, sender),
+            },
+            Job::Receive(number, receiver) => Done {
+                is_sender: false,
+                messages: self.receive_all(rt, number, receiver),
+            },
+        }
+    }
+
+    // Each job has a handle of its own, and no other is left.
+    fn jobs<R: Runtime>(&self, rt: &R) -> Vec<Job<R>> {
+        let (sender, receiver) = sides(rt, self.capacity);
+        let mut jobs = Vec::new(rt.alloc());
+        for number in 0..SIDE {
+            let own = sender.clone().expect(rt, "a sender");
+            jobs.push(Job::Send(number, own)).expect(rt, "room");
+            let own = receiver.clone().expect(rt, "a receiver");
+            jobs.push(Job::Receive(number, own)).expect(rt, "room");
+        }
+        jobs
+    }
+
+    // Runs all threads. At least so many messages were sent, and each was received once.
+    fn run<R: SharedRuntime>(self, rt: &R, least: usize) {
+        let end = deadline_after(rt, Duration::from_secs(SECONDS)).expect(rt, "an end");
+        let jobs = self.jobs(rt);
+        let done = thread::map_vec(rt, jobs, &|job| self.work(rt, end, job));
+        let done = done.expect(rt, "the threads");
+        let sent = each_is_received_once(rt, done.as_slice());
+        check(rt, "whether enough are sent", sent >= least, true);
+    }
+}
+
+// Whether the messages of each sender rise, at one receiver.
+fn is_in_order(messages: &[usize]) -> bool {
+    let mut next = [0usize; SIDE];
+    for message in messages {
+        match next.get_mut(*message / MOST) {
+            Some(least) if *least <= *message => *least = message.saturating_add(1),
+            _ => return false,
+        }
+    }
+    true
+}
+
+fn each_is_received_once<R: Runtime>(rt: &R, done: &[Done]) -> usize {
+    // How often each message was sent, and received.
+    let counts = vec![in rt.alloc(); [0usize; 2]; SIDE * MOST];
+    let mut counts = counts.expect(rt, "a table");
+    for thread in done {
+        let in_order = is_in_order(thread.messages.as_slice());
+        check(rt, "whether they are in order", in_order, true);
+        for message in &thread.messages {
+            let count = counts.get_mut(*message).expect(rt, "a message");
+            if thread.is_sender {
+                count[0] = count[0].saturating_add(1);
+            } else {
+                count[1] = count[1].saturating_add(1);
+            }
+        }
+    }
+    let is_lost = |count: &&[usize; 2]| **count != [0, 0] && **count != [1, 1];
+    let lost = counts.iter().filter(is_lost).count();
+    check(rt, "messages not received once", lost, 0);
+    counts.iter().filter(|count| **count == [1, 1]).count()
+}
+
+// A message that is out of time is sent again.
+#[test]
+fn each_message_is_received_once(rt: HostRuntime) {
+    for capacity in [Some(1), Some(3), Some(128), None] {
+        let plan = Plan {
+            capacity,
+            ways: MIXED,
+            patience: Duration::from_micros(50),
+            sends_again: true,
+            closes_after: usize::MAX,
+        };
+        plan.run(&rt, SIDE);
+    }
+}
+
+// What senders sent until the close is received, and what comes back is not.
+#[test]
+fn a_close_in_the_middle_loses_nothing(rt: HostRuntime) {
+    for capacity in [Some(1), Some(3), None] {
+        let plan = Plan {
+            capacity,
+            ways: MIXED,
+            patience: Duration::from_micros(50),
+            sends_again: true,
+            closes_after: 100,
+        };
+        plan.run(&rt, 100);
+    }
+}
+
+// Many calls are out of time before they wait, or are given up while they are told.
+#[test]
+fn a_storm_of_haste_loses_nothing(rt: HostRuntime) {
+    for patience in [0, 1, 20] {
+        let plan = Plan {
+            capacity: Some(1),
+            ways: HASTY,
+            patience: Duration::from_micros(patience),
+            sends_again: false,
+            closes_after: 2_000,
+        };
+        plan.run(&rt, 1);
+    }
+}

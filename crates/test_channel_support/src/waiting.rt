@@ -1,0 +1,101 @@
+//! Sends, receives and streams, each with a task of its own that a test polls by hand.
+ghost use Rattle.std.specs.Prelude.{IsSome};
+ghost use Rattle.std.proofs.Props.{props};
+
+use crate::channels::ChannelRuntime;
+use crate::ways::{Answer, of_item, of_recv, of_send};
+use event_channel::{Receiver, Recv, Send, Sender};
+use futures::StreamExt;
+use futures::task::Poll;
+use futures::test::MockTask;
+use std::mem;
+use std::sync::Wait;
+use std::time::Clock;
+
+// A send that is not done.
+#[derive(Drop)]
+struct Unsent<'a, R: Wait + Clock + Clone> {
+    send: Send<'a, usize, R>,
+    ghost carries: { IsSome send.message } by { Prim.hlevel props },
+}
+
+#[derive(Drop)]
+enum Awaited<'a, R: Wait + Clock + Clone> {
+    Send(Unsent<'a, R>),
+    Receive(Recv<'a, usize, R>),
+    Stream(Receiver<usize, R>),
+    Over,
+}
+
+/// What is awaited by a task of its own.
+#[derive(Drop)]
+pub struct Waiting<'a, R: Wait + Clock + Clone> {
+    task: MockTask,
+    awaited: Awaited<'a, R>,
+}
+
+// Polls a send. One that is not done comes back.
+fn poll_send<'a, R: ChannelRuntime>(
+    task: &MockTask,
+    unsent: Unsent<'a, R>,
+) -> (Awaited<'a, R>, Answer) {
+    let Unsent { mut send } = unsent;
+    match task.poll(&mut send) {
+        Poll::Pending => (Awaited::Send(Unsent { send }), Answer::Waits),
+        Poll::Ready(answer) => (Awaited::Over, of_send(answer)),
+    }
+}
+
+impl<'a, R: ChannelRuntime> Waiting<'a, R> {
+    // There is none without memory for its task, which is not woken.
+    fn new(rt: &R, awaited: Awaited<'a, R>) -> Option<Self> {
+        let task = MockTask::new(rt).ok()?;
+        task.enter(|_| ());
+        Some(Waiting { task, awaited })
+    }
+
+    /// A send of this message, which was not polled yet.
+    pub fn send(rt: &R, sender: &'a Sender<usize, R>, message: usize) -> Option<Self> {
+        let send = sender.send(message);
+        Waiting::new(rt, Awaited::Send(Unsent { send }))
+    }
+
+    /// A receive, which was not polled yet.
+    pub fn receive(rt: &R, receiver: &'a Receiver<usize, R>) -> Option<Self> {
+        Waiting::new(rt, Awaited::Receive(receiver.recv()))
+    }
+
+    /// A clone of this receiver as a stream, which was not polled yet.
+    pub fn stream(rt: &R, receiver: &Receiver<usize, R>) -> Option<Self> {
+        Waiting::new(rt, Awaited::Stream(receiver.clone().ok()?))
+    }
+
+    /// What a poll answers.
+    pub fn poll(&mut self) -> Answer {
+        let (awaited, answer) = match mem::replace(&mut self.awaited, Awaited::Over) {
+            Awaited::Send(unsent) => poll_send(&self.task, unsent),
+            Awaited::Receive(mut recv) => {
+                let answer = match self.task.poll(&mut recv) {
+                    Poll::Pending => Answer::Waits,
+                    Poll::Ready(answer) => of_recv(answer),
+                };
+                (Awaited::Receive(recv), answer)
+            }
+            Awaited::Stream(mut stream) => {
+                let answer = match self.task.poll(&mut stream.next()) {
+                    Poll::Pending => Answer::Waits,
+                    Poll::Ready(item) => of_item(item),
+                };
+                (Awaited::Stream(stream), answer)
+            }
+            Awaited::Over => (Awaited::Over, Answer::Failed),
+        };
+        self.awaited = awaited;
+        answer
+    }
+
+    /// Whether its task was woken since its last poll began.
+    pub fn is_woken(&self) -> bool {
+        self.task.is_woken()
+    }
+}
