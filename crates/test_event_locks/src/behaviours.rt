@@ -1,30 +1,48 @@
-//! What a lock does with its value, and who leads at a barrier.
-use crate::support::{Host, check};
-use crate::waits::turn_of;
+//! What each lock does in the order in which callers of other crates' locks use it.
+use crate::support::{check, in_time, is_over_soon, new_task};
 use event_locks::{Barrier, LockError, Mutex, OnceCell, RwLock, Semaphore};
 use std::sync::Arc;
+use std::sync::atomic::{AtomicBool, AtomicUsize, Ordering};
 use std::thread;
+use test_support::Runtime;
+
+#[test]
+fn a_future_that_gave_its_output_is_over(rt: HostRuntime) {
+    let mutex = Mutex::new(rt.alloc(), 7u64);
+    let mut waits = mutex.lock(&rt, rt.alloc());
+    let task = new_task(&rt);
+    check(&rt, "ready", task.poll(&mut waits).is_ready(), true);
+    check(
+        &rt,
+        "whether it is free",
+        mutex.try_lock(&rt).is_some(),
+        true,
+    );
+    let finished = waits.wait().err();
+    check(&rt, "a wait after it", finished, Some(LockError::Finished));
+}
 
 #[test]
 fn a_mutex_keeps_what_its_guard_writes(rt: HostRuntime) {
     let mut mutex = Mutex::new(rt.alloc(), 1u64);
     *mutex.lock(&rt, rt.alloc()).wait().expect(&rt, "the value") = 2;
+    if let Some(value) = mutex.get_mut() {
+        *value = value.saturating_add(1);
+    }
     let value = mutex.get_mut().copied();
-    check(
-        &rt,
-        "the value",
-        (value, mutex.into_inner()),
-        (Some(2), Some(2)),
-    );
+    let values = (value, mutex.into_inner());
+    check(&rt, "the value", values, (Some(3), Some(3)));
 }
 
 #[test]
 fn a_writer_downgrades_and_one_reader_of_two_does_not_upgrade(rt: HostRuntime) {
-    let lock = RwLock::new(rt.alloc(), 7u64);
+    let mut lock = RwLock::new(rt.alloc(), 7u64);
+    *lock.get_mut() = 6;
     let mut writer = lock.try_write(&rt).expect(&rt, "the writer");
-    *writer = 8;
+    *writer = writer.saturating_add(2);
     let reader = writer.downgrade();
     let other = lock.try_read(&rt).expect(&rt, "another reader");
+    check(&rt, "a writer", lock.try_write(&rt).is_none(), true);
     let reader = reader.try_upgrade().err().expect(&rt, "the reader");
     check(&rt, "the values", (*reader, *other), (8, 8));
     drop(other);
@@ -34,38 +52,72 @@ fn a_writer_downgrades_and_one_reader_of_two_does_not_upgrade(rt: HostRuntime) {
     check(&rt, "the value", lock.into_inner(), 8);
 }
 
+// A writer that shares its lock goes to another thread, whose end lets a reader in that shares it too.
+#[test]
+fn owned_guards_of_a_read_write_lock(rt: HostRuntime) {
+    let lock = Arc::new(rt.alloc(), RwLock::new(rt.alloc(), 7u64));
+    let lock = lock.expect(&rt, "memory");
+    let write = RwLock::write_arc(&lock, rt, rt.alloc());
+    let writer = write.expect(&rt, "a share").wait();
+    let mut writer = writer.expect(&rt, "the value");
+    *writer.value() = 8;
+    let read = RwLock::read_arc(&lock, rt, rt.alloc());
+    let mut read = read.expect(&rt, "a share");
+    let task = new_task(&rt);
+    check(&rt, "pending", task.poll(&mut read).is_pending(), true);
+    let child = thread::spawn(&rt, move || drop(writer));
+    child.ok().expect(&rt, "a thread").join(&rt);
+    check(&rt, "woken", task.is_woken(), true);
+    let reader = read.wait().expect(&rt, "the value");
+    check(&rt, "the value", *reader.value(), 8);
+    check(&rt, "a writer", lock.try_write(&rt).is_none(), true);
+}
+
+#[test]
+fn a_permit_that_is_forgotten_does_not_come_back(rt: HostRuntime) {
+    let semaphore = Semaphore::new(rt.alloc(), 2);
+    let permit = semaphore.try_acquire(&rt).expect(&rt, "a permit");
+    permit.forget();
+    check(&rt, "free", semaphore.available(&rt), 1);
+}
+
 #[test]
 fn a_shared_permit_goes_to_another_thread(rt: HostRuntime) {
     let semaphore = Arc::new(rt.alloc(), Semaphore::new(rt.alloc(), 1));
     let semaphore = semaphore.expect(&rt, "memory");
     let acquire = Semaphore::acquire_arc(&semaphore, rt, rt.alloc());
-    let permit = acquire
-        .expect(&rt, "a share")
-        .wait()
-        .expect(&rt, "a permit");
+    let permit = acquire.expect(&rt, "a share").wait();
+    let permit = permit.expect(&rt, "a permit");
     let wait = || semaphore.acquire(&rt, rt.alloc()).wait().is_ok();
-    let ((), given) = thread::join(&rt, move || drop(permit), wait);
+    let drops = move || drop(permit);
+    let ((), given) = in_time!(&rt, thread::join(&rt, drops, wait));
     check(&rt, "given", given, true);
 }
 
-// How often this thread was the leader.
-fn lead<R: Host>(rt: &R, barrier: &Barrier) -> usize {
+// How often this thread led, and whether it ever went on before all ten had arrived.
+fn goes_round<R: Runtime>(rt: &R, barrier: &Barrier, arrived: &AtomicUsize) -> usize {
     let mut led = 0usize;
-    for _ in 0..100 {
+    for round in 1..=10usize {
+        arrived.fetch_add(1, Ordering::SeqCst);
         let ended = barrier.wait(rt, rt.alloc()).wait();
-        if ended.expect(rt, "the end of the round").is_leader() {
-            led = led.saturating_add(1);
-        }
+        let is_leader = ended.expect(rt, "the end of the round").is_leader();
+        led = led.saturating_add(usize::from(is_leader));
+        let all_are_there = arrived.load(Ordering::SeqCst) >= round.saturating_mul(10);
+        check(rt, "whether all are there", all_are_there, true);
     }
     led
 }
 
 #[test]
 fn a_barrier_has_one_leader_a_round(rt: HostRuntime) {
-    let barrier = Barrier::new(rt.alloc(), 2);
-    let lead = || lead(&rt, &barrier);
-    let (one, two) = thread::join(&rt, lead, lead);
-    check(&rt, "in a hundred rounds", one.saturating_add(two), 100);
+    let (barrier, arrived) = (Barrier::new(rt.alloc(), 10), AtomicUsize::new(0));
+    let goes = |_| goes_round(&rt, &barrier, &arrived);
+    let led = in_time!(&rt, thread::map_indices(&rt, rt.alloc(), 10, &goes));
+    let mut all = 0usize;
+    for led in led.expect(&rt, "the threads").iter() {
+        all = all.saturating_add(*led);
+    }
+    check(&rt, "led", all, 10);
 }
 
 fn failed() -> Result<u64, LockError> {
@@ -78,13 +130,32 @@ fn a_cell_is_set_once(rt: HostRuntime) {
     let made = cell.get_or_try_init(&rt, rt.alloc(), failed).copied();
     check(&rt, "failed", made, Err(LockError::Finished));
     check(&rt, "unset", cell.get().copied(), None);
-    check(&rt, "set", turn_of(&rt, &cell).set(7).copied(), Ok(7));
-    check(
-        &rt,
-        "set again",
-        cell.set(&rt, rt.alloc(), 8).err(),
-        Some(8),
-    );
+    let set = cell.set(&rt, rt.alloc(), 7).copied();
+    check(&rt, "set", set, Ok(7));
+    let again = cell.set(&rt, rt.alloc(), 8).err();
+    check(&rt, "set again", again, Some(8));
+    let made = cell.get_or_try_init(&rt, rt.alloc(), failed).copied();
+    check(&rt, "made", made, Ok(7));
     let seen = cell.wait(&rt, rt.alloc()).wait().expect(&rt, "the value");
-    check(&rt, "seen", seen.copied(), Some(7));
+    check(&rt, "seen", *seen, 7);
+}
+
+// Of eight threads one makes the value, and all have it.
+#[test]
+fn a_value_is_made_once(rt: HostRuntime) {
+    let (cell, made) = (OnceCell::new(rt.alloc()), AtomicUsize::new(0));
+    let gets = |_| {
+        let make = || -> Result<u64, LockError> {
+            made.fetch_add(1, Ordering::SeqCst);
+            thread::yield_now();
+            Ok(7)
+        };
+        cell.get_or_try_init(&rt, rt.alloc(), make)
+            .copied()
+            .unwrap_or(0)
+    };
+    let values = in_time!(&rt, thread::map_indices(&rt, rt.alloc(), 8, &gets));
+    let values = values.expect(&rt, "the threads");
+    check(&rt, "values", values.as_slice(), [7; 8].as_slice());
+    check(&rt, "made", made.load(Ordering::SeqCst), 1);
 }
