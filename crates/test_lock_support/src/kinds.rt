@@ -1,7 +1,7 @@
 //! Each kind of wait, so that what is said of every one is written once and run with each.
 use event_locks::{
-    Asking, Barrier, BarrierWait, Borrowed, Claim, Entering, Entry, Grants, LockError, Makes, Mutex,
-    MutexGuard, Obtaining, Once, OnceCell, Permits, Place, Reads, Request, Rounds, RwLock,
+    Asking, Barrier, BarrierWait, Borrowed, Claim, Entering, Entry, Grants, LockError, Makes,
+    Mutex, MutexGuard, Obtaining, Once, OnceCell, Permits, Place, Reads, Request, Rounds, RwLock,
     RwLockReadGuard, RwLockWriteGuard, Seat, Semaphore, SemaphoreGuard, Shared, Shares, Slot, Task,
     Uses, Vacant, Writes,
 };
@@ -32,11 +32,8 @@ pub trait Kind: Sync {
     type Request: Request<Self::State> + Drop;
 
     /// How a wait holds the lock.
-    type Hold: Grants<
-            Self::State,
-            <Self::Request as Request<Self::State>>::Output,
-            Output: Drop,
-        > + Drop;
+    type Hold: Grants<Self::State, <Self::Request as Request<Self::State>>::Output, Output: Drop>
+        + Drop;
 
     /// What keeps those waiting that come. Dropping it ends that.
     type Held: Drop;
