@@ -21,60 +21,30 @@ fn reads<E: Display + Debug + Drop, R: Runtime>(rt: &R, error: E, text: &str, sh
 
 #[test]
 fn sends_say_why_they_fail(rt: HostRuntime) {
+    let (full, closed) = ("the channel is full", "the channel is closed");
+    let (memory, wait) = ("no memory for a message", "no memory for a wait");
     for (error, text, shown) in [
-        (TrySendError::Full(1), "the channel is full", "Full(..)"),
-        (
-            TrySendError::Closed(1),
-            "the channel is closed",
-            "Closed(..)",
-        ),
-        (
-            TrySendError::Memory(1),
-            "no memory for a message",
-            "Memory(..)",
-        ),
+        (TrySendError::Full(1), full, "Full(..)"),
+        (TrySendError::Closed(1), closed, "Closed(..)"),
+        (TrySendError::Memory(1), memory, "Memory(..)"),
     ] {
-        check(
-            &rt,
-            "whether it was full",
-            error.is_full(),
-            shown == "Full(..)",
-        );
-        check(
-            &rt,
-            "whether it was closed",
-            error.is_closed(),
-            shown == "Closed(..)",
-        );
-        let same = error.clone().expect(&rt, "a clone") == error;
-        check(&rt, "whether a clone is the same", same, true);
+        let is = (error.is_full(), error.is_closed());
+        check(&rt, text, is, (text == full, text == closed));
         reads(&rt, error, text, shown);
     }
     // One with a limit says the same, and may be out of time.
     for (error, text, shown) in [
-        (SendError::Closed(1), "the channel is closed", "Closed(..)"),
-        (
-            SendError::Memory(1),
-            "no memory for a message",
-            "Memory(..)",
-        ),
-        (
-            SendError::WaitFailed(1, REFUSED),
-            "no memory for a wait",
-            "WaitFailed(..)",
-        ),
+        (SendError::Closed(1), closed, "Closed(..)"),
+        (SendError::Memory(1), memory, "Memory(..)"),
+        (SendError::WaitFailed(1, REFUSED), wait, "WaitFailed(..)"),
     ] {
         let same = error.clone().expect(&rt, "a clone");
         reads(&rt, SendTimeoutError::from(same), text, shown);
         reads(&rt, error, text, shown);
     }
     let late = SendTimeoutError::TimedOut(1);
-    reads(
-        &rt,
-        late,
-        "the channel was full for too long",
-        "TimedOut(..)",
-    );
+    let text = "the channel was full for too long";
+    reads(&rt, late, text, "TimedOut(..)");
 }
 
 #[test]

@@ -17,26 +17,14 @@ const MOST: usize = 5_000;
 const SECONDS: u64 = 4;
 
 // How the threads of each side send and receive.
-const MIXED: [Way; SIDE] = [
+const WAYS: [Way; SIDE] = [
     Way::Blocking,
     Way::Awaited,
     Way::Timed,
     Way::Streamed,
     Way::Due,
     Way::GivenUp,
-    Way::AtOnce,
-    Way::Awaited,
-];
-
-// Each of these may be out of time.
-const HASTY: [Way; SIDE] = [
-    Way::Timed,
     Way::GivenUp,
-    Way::Due,
-    Way::GivenUp,
-    Way::Timed,
-    Way::GivenUp,
-    Way::Due,
     Way::AtOnce,
 ];
 
@@ -44,11 +32,8 @@ const HASTY: [Way; SIDE] = [
 #[derive(Clone, Copy)]
 struct Plan {
     capacity: Option<usize>,
-    ways: [Way; SIDE],
-    // How long a call waits that has a limit.
-    patience: Duration,
-    // Whether a message that was not sent in time is sent again.
-    sends_again: bool,
+    // How many microseconds a call waits that has a limit.
+    patience: u64,
     // After how many messages a receiver closes the channel.
     closes_after: usize,
 }
@@ -67,30 +52,16 @@ struct Done {
     messages: Vec<usize>,
 }
 
+fn way_of(number: usize) -> Way {
+    WAYS.get(number).copied().unwrap_or(Way::Blocking)
+}
+
 impl Plan {
-    fn way_of(&self, number: usize) -> Way {
-        self.ways.get(number).copied().unwrap_or(Way::Blocking)
+    fn patience(&self) -> Duration {
+        Duration::from_micros(self.patience)
     }
 
-    // Sends one message, by as many calls as that needs.
-    fn send_one<R: Runtime>(
-        &self,
-        rt: &R,
-        way: Way,
-        sender: &Sender<usize, R>,
-        message: usize,
-    ) -> Answer {
-        for _ in rt.forever() {
-            let answer = way.send(rt, sender, message, self.patience);
-            if !self.sends_again || answer != Answer::Late(Some(message)) {
-                return answer;
-            }
-            thread::yield_now();
-        }
-        unreachable!()
-    }
-
-    // Sends all messages of a sender, until the channel is closed or time is up. Each that is not sent comes back.
+    // Sends the messages of a sender, until the channel is closed or time is up. Each that is not sent comes back.
     fn send_all<R: Runtime>(
         &self,
         rt: &R,
@@ -104,12 +75,15 @@ impl Plan {
             if Instant::now(rt).expect(rt, "the time") >= end {
                 break;
             }
-            match self.send_one(rt, self.way_of(number), &sender, message) {
+            match way_of(number).send(rt, &sender, message, self.patience()) {
                 Answer::Sent => sent.push(message).expect(rt, "room"),
-                Answer::Late(Some(same)) => check(rt, "what comes back", same, message),
-                other => {
-                    check(rt, "the end", other, Answer::Closed(Some(message)));
+                Answer::Closed(Some(same)) => {
+                    check(rt, "what comes back", same, message);
                     break;
+                }
+                other => {
+                    check(rt, "what is late", other, Answer::Late(Some(message)));
+                    thread::yield_now();
                 }
             }
         }
@@ -125,7 +99,7 @@ impl Plan {
     ) -> Vec<usize> {
         let mut messages = Vec::new(rt.alloc());
         for _ in rt.forever() {
-            match self.way_of(number).receive(rt, &receiver, self.patience) {
+            match way_of(number).receive(rt, &receiver, self.patience()) {
                 Answer::Received(message) => messages.push(message).expect(rt, "room"),
                 Answer::Closed(None) => break,
                 other => {
@@ -166,14 +140,14 @@ impl Plan {
         jobs
     }
 
-    // Runs all threads. At least so many messages were sent, and each was received once.
-    fn run<R: SharedRuntime>(self, rt: &R, least: usize) {
+    // Runs all threads. Each message that was sent was received once.
+    fn run<R: SharedRuntime>(self, rt: &R) {
         let end = deadline_after(rt, Duration::from_secs(SECONDS)).expect(rt, "an end");
         let jobs = self.jobs(rt);
         let done = thread::map_vec(rt, jobs, &|job| self.work(rt, end, job));
         let done = done.expect(rt, "the threads");
         let sent = each_is_received_once(rt, done.as_slice());
-        check(rt, "whether enough are sent", sent >= least, true);
+        check(rt, "whether enough are sent", sent >= 100, true);
     }
 }
 
@@ -211,47 +185,25 @@ fn each_is_received_once<R: Runtime>(rt: &R, done: &[Done]) -> usize {
     counts.iter().filter(|count| **count == [1, 1]).count()
 }
 
-// A message that is out of time is sent again.
+// A call that waits for room may be out of time before it waits, or given up while it is told. In the last runs a receiver
+// closes the channel in the middle.
 #[test]
 fn each_message_is_received_once(rt: HostRuntime) {
-    for capacity in [Some(1), Some(3), Some(128), None] {
+    for (capacity, patience, closes_after) in [
+        (Some(1), 0, usize::MAX),
+        (Some(1), 50, usize::MAX),
+        (Some(3), 20, usize::MAX),
+        (Some(128), 50, usize::MAX),
+        (None, 1, usize::MAX),
+        (Some(1), 20, 100),
+        (Some(3), 0, 100),
+        (None, 50, 100),
+    ] {
         let plan = Plan {
             capacity,
-            ways: MIXED,
-            patience: Duration::from_micros(50),
-            sends_again: true,
-            closes_after: usize::MAX,
+            patience,
+            closes_after,
         };
-        plan.run(&rt, SIDE);
-    }
-}
-
-// What senders sent until the close is received, and what comes back is not.
-#[test]
-fn a_close_in_the_middle_loses_nothing(rt: HostRuntime) {
-    for capacity in [Some(1), Some(3), None] {
-        let plan = Plan {
-            capacity,
-            ways: MIXED,
-            patience: Duration::from_micros(50),
-            sends_again: true,
-            closes_after: 100,
-        };
-        plan.run(&rt, 100);
-    }
-}
-
-// Many calls are out of time before they wait, or are given up while they are told.
-#[test]
-fn a_storm_of_haste_loses_nothing(rt: HostRuntime) {
-    for patience in [0, 1, 20] {
-        let plan = Plan {
-            capacity: Some(1),
-            ways: HASTY,
-            patience: Duration::from_micros(patience),
-            sends_again: false,
-            closes_after: 2_000,
-        };
-        plan.run(&rt, 1);
+        plan.run(&rt);
     }
 }
