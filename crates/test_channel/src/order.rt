@@ -25,17 +25,19 @@ fn go_through<R: Runtime>(rt: &R, way: Way, capacity: Option<usize>, count: usiz
     let (sender, receiver) = sides(rt, capacity);
     let capacities = (sender.capacity(), receiver.capacity());
     check(rt, "the capacity", capacities, (capacity, capacity));
-    for first in [0, 10] {
+    for first in [0usize, 10] {
         says(rt, &sender, &receiver, 0, false);
         for sent in 0..count {
-            sends(rt, way, &sender, first + sent, Answer::Sent);
-            let len = sent + 1;
+            let message = first.saturating_add(sent);
+            sends(rt, way, &sender, message, Answer::Sent);
+            let len = sent.saturating_add(1);
             says(rt, &sender, &receiver, len, capacity == Some(len));
         }
-        for received in 0..count {
-            let message = Answer::Received(first + received);
+        for left in (0..count).rev() {
+            let message = first.saturating_add(count.saturating_sub(left));
+            let message = Answer::Received(message.saturating_sub(1));
             receives(rt, way, &receiver, message);
-            says(rt, &sender, &receiver, count - received - 1, false);
+            says(rt, &sender, &receiver, left, false);
         }
     }
 }
