@@ -1,25 +1,37 @@
 //! What each lock does in the order in which callers of other crates' locks use it.
-use crate::support::{check, in_time, is_over_soon, new_task};
-use event_locks::{Barrier, LockError, Mutex, OnceCell, RwLock, Semaphore};
+use crate::support::{check, new_task};
+use event_locks::{
+    Barrier, Grants, LockError, Mutex, Obtaining, OnceCell, Request, RwLock, Semaphore,
+};
 use std::sync::Arc;
-use std::sync::atomic::{AtomicBool, AtomicUsize, Ordering};
+use std::sync::atomic::{AtomicUsize, Ordering};
 use std::thread;
 use test_support::Runtime;
+
+// It is granted at the first poll, and has nothing to give after that.
+fn is_over_once_granted<
+    R: Runtime,
+    S,
+    Q: Request<S> + Drop,
+    H: Grants<S, Q::Output, Output: Drop> + Drop,
+>(rt: &R, waits: Obtaining<S, Q, H>) {
+    let mut waits = waits;
+    let task = new_task(rt);
+    check(rt, "ready", task.poll(&mut waits).is_ready(), true);
+    let finished = waits.wait().err();
+    check(rt, "a wait", finished, Some(LockError::Finished));
+}
 
 #[test]
 fn a_future_that_gave_its_output_is_over(rt: HostRuntime) {
     let mutex = Mutex::new(rt.alloc(), 7u64);
-    let mut waits = mutex.lock(&rt, rt.alloc());
-    let task = new_task(&rt);
-    check(&rt, "ready", task.poll(&mut waits).is_ready(), true);
+    is_over_once_granted(&rt, mutex.lock(&rt, rt.alloc()));
     check(
         &rt,
         "whether it is free",
         mutex.try_lock(&rt).is_some(),
         true,
     );
-    let finished = waits.wait().err();
-    check(&rt, "a wait after it", finished, Some(LockError::Finished));
 }
 
 #[test]
@@ -74,14 +86,6 @@ fn owned_guards_of_a_read_write_lock(rt: HostRuntime) {
 }
 
 #[test]
-fn a_permit_that_is_forgotten_does_not_come_back(rt: HostRuntime) {
-    let semaphore = Semaphore::new(rt.alloc(), 2);
-    let permit = semaphore.try_acquire(&rt).expect(&rt, "a permit");
-    permit.forget();
-    check(&rt, "free", semaphore.available(&rt), 1);
-}
-
-#[test]
 fn a_shared_permit_goes_to_another_thread(rt: HostRuntime) {
     let semaphore = Arc::new(rt.alloc(), Semaphore::new(rt.alloc(), 1));
     let semaphore = semaphore.expect(&rt, "memory");
@@ -89,8 +93,7 @@ fn a_shared_permit_goes_to_another_thread(rt: HostRuntime) {
     let permit = acquire.expect(&rt, "a share").wait();
     let permit = permit.expect(&rt, "a permit");
     let wait = || semaphore.acquire(&rt, rt.alloc()).wait().is_ok();
-    let drops = move || drop(permit);
-    let ((), given) = in_time!(&rt, thread::join(&rt, drops, wait));
+    let ((), given) = thread::join(&rt, move || drop(permit), wait);
     check(&rt, "given", given, true);
 }
 
@@ -112,7 +115,7 @@ fn goes_round<R: Runtime>(rt: &R, barrier: &Barrier, arrived: &AtomicUsize) -> u
 fn a_barrier_has_one_leader_a_round(rt: HostRuntime) {
     let (barrier, arrived) = (Barrier::new(rt.alloc(), 10), AtomicUsize::new(0));
     let goes = |_| goes_round(&rt, &barrier, &arrived);
-    let led = in_time!(&rt, thread::map_indices(&rt, rt.alloc(), 10, &goes));
+    let led = thread::map_indices(&rt, rt.alloc(), 10, &goes);
     let mut all = 0usize;
     for led in led.expect(&rt, "the threads").iter() {
         all = all.saturating_add(*led);
@@ -154,7 +157,7 @@ fn a_value_is_made_once(rt: HostRuntime) {
             .copied()
             .unwrap_or(0)
     };
-    let values = in_time!(&rt, thread::map_indices(&rt, rt.alloc(), 8, &gets));
+    let values = thread::map_indices(&rt, rt.alloc(), 8, &gets);
     let values = values.expect(&rt, "the threads");
     check(&rt, "values", values.as_slice(), [7; 8].as_slice());
     check(&rt, "made", made.load(Ordering::SeqCst), 1);

@@ -1,14 +1,10 @@
 //! What the tests share.
-use event_locks::Obtaining;
 use futures::test::MockTask;
 use std::alloc::AllocGlobal;
 use std::fmt::{Debug, Display};
 use std::process::Abort;
 use std::random::RandomSource;
-use std::sync::atomic::{AtomicBool, Ordering};
-use std::thread::{self, Threads};
-use std::time::{Clock, Duration};
-use test_lock_support::Kind;
+use std::thread::Threads;
 use test_support::Runtime;
 
 /// What these tests ask of their runtime value.
@@ -32,33 +28,10 @@ pub fn new_task<R: Abort + RandomSource + AllocGlobal>(rt: &R) -> MockTask {
     MockTask::new(rt).expect(rt, "a task")
 }
 
-/// A new wait of this kind.
-pub fn waits_of<R: Abort, K: Kind>(rt: &R, kind: &K) -> Obtaining<K::State, K::Request, K::Hold> {
-    kind.waits().expect(rt, "a share of the lock")
+/// Since its last poll the task was woken, or was not.
+pub fn check_woken<R: Abort>(rt: &R, task: &MockTask, expected: bool) {
+    check(rt, "whether the task is woken", task.is_woken(), expected);
 }
 
-/// Ends the test if this is not over in ten seconds.
-pub fn is_over_soon<R: Abort + Clock>(rt: &R, is_over: &AtomicBool) {
-    for _ in 0..10_000u32 {
-        if is_over.load(Ordering::SeqCst) {
-            return;
-        }
-        thread::sleep(rt, Duration::from_millis(1));
-    }
-    panic!(rt; "somebody waits in vain");
-}
-
-/// Does this in a thread, and ends the test if it is not over in ten seconds: who is not woken would wait for ever.
-macro_rules! in_time {
-    ($rt:expr, $does:expr) => {{
-        let is_over = AtomicBool::new(false);
-        let does = || {
-            let done = $does;
-            is_over.store(true, Ordering::SeqCst);
-            done
-        };
-        thread::join($rt, does, || is_over_soon($rt, &is_over)).0
-    }};
-}
-
-pub(crate) use in_time;
+/// How many threads there are.
+pub const THREADS: usize = 8;
