@@ -64,27 +64,6 @@ fn a_writer_downgrades_and_one_reader_of_two_does_not_upgrade(rt: HostRuntime) {
     check(&rt, "the value", lock.into_inner(), 8);
 }
 
-// A writer that shares its lock goes to another thread, whose end lets a reader in that shares it too.
-#[test]
-fn owned_guards_of_a_read_write_lock(rt: HostRuntime) {
-    let lock = Arc::new(rt.alloc(), RwLock::new(rt.alloc(), 7u64));
-    let lock = lock.expect(&rt, "memory");
-    let write = RwLock::write_arc(&lock, rt, rt.alloc());
-    let writer = write.expect(&rt, "a share").wait();
-    let mut writer = writer.expect(&rt, "the value");
-    *writer.value() = 8;
-    let read = RwLock::read_arc(&lock, rt, rt.alloc());
-    let mut read = read.expect(&rt, "a share");
-    let task = new_task(&rt);
-    check(&rt, "pending", task.poll(&mut read).is_pending(), true);
-    let child = thread::spawn(&rt, move || drop(writer));
-    child.ok().expect(&rt, "a thread").join(&rt);
-    check(&rt, "woken", task.is_woken(), true);
-    let reader = read.wait().expect(&rt, "the value");
-    check(&rt, "the value", *reader.value(), 8);
-    check(&rt, "a writer", lock.try_write(&rt).is_none(), true);
-}
-
 #[test]
 fn a_shared_permit_goes_to_another_thread(rt: HostRuntime) {
     let semaphore = Arc::new(rt.alloc(), Semaphore::new(rt.alloc(), 1));

@@ -1,12 +1,11 @@
-//! Tests of `event_locks`, by its public calls: what no clause can name, since it stands behind a lock or is done by
-//! threads, tasks and clocks.
+//! Tests of `event_locks`, by its public calls: many threads and tasks at each lock, and the orders in which callers use it.
+//! `test_lock_waits` has those of single waits.
 //!
 //! | Module | What it tests |
 //! |---|---|
-//! | `waits` | a thread that waits is unparked, a task that polls each lock is woken, and a wait ends at its limit |
-//! | `told` | one that is told and dropped, which gives on what it was handed |
+//! | `threads` | threads that wait in each way, and are woken once they are let in, also at their limit |
 //! | `stress` | threads and tasks at these locks, which give up at times |
-//! | `behaviours` | writers that become readers and back, leaders of a barrier, a cell that is set once, and guards that go to another thread |
+//! | `behaviours` | what each lock does when it is called in the order that its users know from other crates |
 //! | `accounts` | what the page of the crate shows |
 //!
 //! `support` has what they share.
@@ -21,6 +20,4 @@ mod stress;
 #[cfg(test)]
 mod support;
 #[cfg(test)]
-mod told;
-#[cfg(test)]
-mod waits;
+mod threads;

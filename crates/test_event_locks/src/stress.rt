@@ -1,11 +1,13 @@
 //! Threads and tasks that wait at once, and give up at times.
-use crate::support::{THREADS, check, new_task};
-use event_locks::{Barrier, Grants, Mutex, Obtaining, Request, RwLock, Semaphore};
+use crate::support::{check, new_task};
+use event_locks::{Barrier, Grants, Mutex, Obtaining, OnceCell, Request, RwLock, Semaphore};
 use futures::executor::block_on;
 use std::alloc::AllocError;
 use std::thread;
 use std::time::{Duration, Instant};
 use test_support::Runtime;
+
+const THREADS: usize = 8;
 
 // What is given in this way, or `None` if it gave up.
 fn in_some_way<R: Runtime, S, Q: Request<S> + Drop, H: Grants<S, Q::Output, Output: Drop> + Drop>(
@@ -51,11 +53,13 @@ struct Locks {
     semaphore: Semaphore,
     mutex: Mutex<usize>,
     shared: RwLock<usize>,
+    cell: OnceCell<usize>,
 }
 
-// Counts at the mutex and at the read-write lock in one round, with a permit if it was given one. Returns how often.
+// Gives up the turn to make a value, and counts at the mutex and at the read-write lock in one round, with a permit if it was given one. Returns how often.
 fn round<R: Runtime>(rt: &R, locks: &Locks, way: usize) -> usize {
     let mut counted = 0usize;
+    drop(in_some_way(rt, way, locks.cell.claim(rt, rt.alloc())));
     let _permit = in_some_way(rt, way, locks.semaphore.acquire(rt, rt.alloc()));
     if let Some(mut count) = in_some_way(rt, way, locks.mutex.lock(rt, rt.alloc())) {
         *count = count.saturating_add(1);
@@ -88,6 +92,7 @@ fn nothing_is_lost_among_threads_and_tasks_that_give_up(rt: HostRuntime) {
         semaphore: Semaphore::new(rt.alloc(), 3),
         mutex: Mutex::new(rt.alloc(), 0),
         shared: RwLock::new(rt.alloc(), 0),
+        cell: OnceCell::new(rt.alloc()),
     };
     let work = |thread| lock_rounds(&rt, &locks, thread);
     let all = sum(&rt, thread::map_indices(&rt, rt.alloc(), THREADS, &work));
@@ -95,6 +100,8 @@ fn nothing_is_lost_among_threads_and_tasks_that_give_up(rt: HostRuntime) {
     let count = *locks.mutex.try_lock(&rt).expect(&rt, "the mutex");
     let written = *locks.shared.try_write(&rt).expect(&rt, "the lock");
     check(&rt, "the counts", count.saturating_add(written), all);
+    let made = locks.cell.set(&rt, rt.alloc(), 7).copied();
+    check(&rt, "made", made, Ok(7));
 }
 
 const PARTIES: usize = 4;

@@ -4,13 +4,9 @@ use std::alloc::AllocGlobal;
 use std::fmt::{Debug, Display};
 use std::process::Abort;
 use std::random::RandomSource;
-use std::thread::Threads;
-use test_support::Runtime;
-
-/// What these tests ask of their runtime value.
-pub trait Host: Runtime + Threads + Sync {}
-
-impl<R: Runtime + Threads + Sync> Host for R {}
+use std::sync::atomic::{AtomicBool, Ordering};
+use std::thread;
+use std::time::{Clock, Duration};
 
 /// The answer is the expected one. Where it is not, the message has both, and what was asked. The assertion stands here
 /// once, in a generic function, and is proved once.
@@ -28,10 +24,13 @@ pub fn new_task<R: Abort + RandomSource + AllocGlobal>(rt: &R) -> MockTask {
     MockTask::new(rt).expect(rt, "a task")
 }
 
-/// Since its last poll the task was woken, or was not.
-pub fn check_woken<R: Abort>(rt: &R, task: &MockTask, expected: bool) {
-    check(rt, "whether the task is woken", task.is_woken(), expected);
+/// Ends the test if this is not over in ten seconds.
+pub fn is_over_soon<R: Abort + Clock>(rt: &R, is_over: &AtomicBool) {
+    for _ in 0..10_000u32 {
+        if is_over.load(Ordering::SeqCst) {
+            return;
+        }
+        thread::sleep(rt, Duration::from_millis(1));
+    }
+    panic!(rt; "somebody waits in vain");
 }
-
-/// How many threads there are.
-pub const THREADS: usize = 8;

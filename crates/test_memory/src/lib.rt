@@ -7,6 +7,7 @@
 //! | `recorded` | calls on recorded events that are refused the note or the entry; each request of a wait |
 //! | `locks` | locks, polled locks and semaphores, each of whose requests is refused while another one has them; a client that was told before it was refused tells another one; the example programs, refused the counter, the flag or a thread |
 //! | `channels` | attempts until one succeeds, and channels: refused themselves, a place in the queue, what a thread parks on, or room for a message |
+//! | `waits` | waits for each lock of `event_locks`, each of whose requests is refused; calls of these locks without memory |
 //!
 //! A test takes all memory of the process by a `Hog` of `test_queue_memory`, or all but so much by its `Budget`: `support`
 //! makes a call with larger and larger ones until it is granted, so that each of its requests is refused in its turn. Under
@@ -23,3 +24,5 @@ mod locks;
 mod recorded;
 #[cfg(test)]
 mod support;
+#[cfg(test)]
+mod waits;

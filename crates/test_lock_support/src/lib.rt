@@ -1,0 +1,8 @@
+//! What tests of `event_locks` share: each kind of wait that its locks have, and cases that are run with each of them.
+#![tactic(auto)]
+
+mod cases;
+mod kinds;
+
+pub use cases::{Case, each};
+pub use kinds::{Arrives, Kind, Of, Read, See, Sets, Sharing, Write};

@@ -1,0 +1,20 @@
+//! Tests of waits for the locks of `event_locks`: what no clause can name, since it stands behind a lock or is done by
+//! tasks and clocks. Each case is run with each kind of wait.
+//!
+//! | Module | What it tests |
+//! |---|---|
+//! | `waits` | tasks that wait for each lock, and are woken once they are let in |
+//! | `limits` | waits that end at their limit, at one that has passed and by a clock that can't be read |
+//! | `told` | one that is told and dropped, which gives on what it was handed |
+//!
+//! `support` has what they share.
+#![tactic(auto)]
+
+#[cfg(test)]
+mod limits;
+#[cfg(test)]
+mod support;
+#[cfg(test)]
+mod told;
+#[cfg(test)]
+mod waits;

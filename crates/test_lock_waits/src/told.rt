@@ -1,0 +1,109 @@
+//! One that gives up: what it was handed goes to the next, and who waited for it alone is let in.
+use crate::support::check;
+use crate::waits::Polled;
+use event_locks::{Grants, Obtaining, Request, RwLock};
+use std::time::Duration;
+use test_lock_support::{Case, Kind, each};
+use test_support::Runtime;
+
+// Both wait, and the first is dropped once it is woken.
+fn passes_on<R, S, Q, H, I, G>(
+    rt: &R,
+    first: Obtaining<S, Q, H>,
+    second: Obtaining<S, Q, I>,
+    held: G,
+)
+where
+    R: Runtime,
+    Q: Request<S> + Drop,
+    H: Grants<S, Q::Output, Output: Drop> + Drop,
+    I: Grants<S, Q::Output, Output: Drop> + Drop,
+    G: Drop,
+{
+    let first = Polled::new(rt, first);
+    let mut second = Polled::new(rt, second);
+    drop(held);
+    check(rt, "whether the first is woken", first.is_woken(), true);
+    drop(first);
+    second.is_granted(rt);
+}
+
+#[derive(Drop)]
+struct PassesOn;
+
+impl<R: Runtime> Case<R> for PassesOn {
+    fn waiters(&self) -> usize {
+        2
+    }
+
+    fn run<K: Kind>(&self, rt: &R, kind: &K) {
+        let held = kind.hold();
+        passes_on(
+            rt,
+            kind.waits().expect(rt, "a share"),
+            kind.waits().expect(rt, "a share"),
+            held,
+        );
+    }
+}
+
+#[test]
+fn who_is_dropped_once_it_is_told_passes_it_on(rt: HostRuntime) {
+    each(&rt, &rt, &PassesOn).expect(&rt, "memory");
+}
+
+#[test]
+fn a_reader_gives_way_to_a_writer(rt: HostRuntime) {
+    let shared = RwLock::new(rt.alloc(), 7u64);
+    let writer = shared.try_write(&rt).expect(&rt, "the value");
+    let first = shared.read(&rt, rt.alloc());
+    passes_on(&rt, first, shared.write(&rt, rt.alloc()), writer);
+}
+
+#[test]
+fn a_writer_gives_way_to_a_reader(rt: HostRuntime) {
+    let shared = RwLock::new(rt.alloc(), 7u64);
+    let reader = shared.try_read(&rt).expect(&rt, "the value");
+    let first = shared.write(&rt, rt.alloc());
+    passes_on(&rt, first, shared.read(&rt, rt.alloc()), reader);
+}
+
+// The only writer that waits gives up, and is dropped or comes to its limit. Readers that stood behind it are let in.
+#[test]
+fn readers_come_in_once_no_writer_waits(rt: HostRuntime) {
+    for is_dropped in [true, false] {
+        let shared = RwLock::new(rt.alloc(), 7u64);
+        let reader = shared.try_read(&rt).expect(&rt, "the value");
+        let writer = Polled::new(&rt, shared.write(&rt, rt.alloc())).into_waits();
+        let mut first = Polled::new(&rt, shared.read(&rt, rt.alloc()));
+        let mut second = Polled::new(&rt, shared.read(&rt, rt.alloc()));
+        if is_dropped {
+            drop(writer);
+        } else {
+            let given = writer.wait_timeout(Duration::ZERO);
+            check(
+                &rt,
+                "in vain",
+                given.expect(&rt, "an answer").is_none(),
+                true,
+            );
+        }
+        first.is_granted(&rt);
+        second.is_granted(&rt);
+        drop(reader);
+    }
+}
+
+// A reader that is alone writes first, though a writer waits, which is let in afterwards.
+#[test]
+fn upgrade_with_a_concurrent_writer(rt: HostRuntime) {
+    let lock = RwLock::new(rt.alloc(), 0u64);
+    let reader = lock.try_read(&rt).expect(&rt, "the reader");
+    let behind = Polled::new(&rt, lock.write(&rt, rt.alloc()));
+    check(&rt, "read", lock.try_read(&rt).is_none(), true);
+    let mut writer = reader.try_upgrade().ok().expect(&rt, "the writer");
+    check(&rt, "the value", *writer, 0);
+    *writer = 2;
+    behind.let_in(&rt, writer);
+    check(&rt, "the value", lock.into_inner(), 2);
+}

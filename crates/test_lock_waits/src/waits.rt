@@ -1,0 +1,205 @@
+//! Tasks that wait in each way, and are woken once they are let in.
+use crate::support::{check, new_task};
+use event_locks::{
+    Barrier, Claim, Grants, Obtaining, OnceCell, Request, RwLock, Semaphore, Vacant,
+};
+use futures::test::MockTask;
+use std::sync::Arc;
+use std::thread;
+use test_lock_support::{Case, Kind, Sharing, each};
+use test_support::Runtime;
+
+/// A wait that a task of its own polls.
+pub struct Polled<S, Q: Request<S>, H: Grants<S, Q::Output>> {
+    task: MockTask,
+    waits: Obtaining<S, Q, H>,
+    is_granted: bool,
+}
+
+impl<S, Q: Request<S> + Drop, H: Grants<S, Q::Output> + Drop> Drop for Polled<S, Q, H> {
+    fn drop(self) {
+        let Polled {
+            task: _,
+            waits: _,
+            is_granted: _,
+        } = self;
+    }
+}
+
+impl<S, Q: Request<S> + Drop, H: Grants<S, Q::Output, Output: Drop> + Drop> Polled<S, Q, H> {
+    /// Polls this wait, which is not granted at once, and wakes nobody.
+    pub fn new<R: Runtime>(rt: &R, waits: Obtaining<S, Q, H>) -> Self {
+        let (mut waits, task) = (waits, new_task(rt));
+        let pending = task.poll(&mut waits).is_pending();
+        check(rt, "whether it waits", pending, true);
+        check(rt, "whether it is woken", task.is_woken(), false);
+        Polled {
+            task,
+            waits,
+            is_granted: false,
+        }
+    }
+
+    /// Whether its task was woken since its last poll.
+    pub fn is_woken(&self) -> bool {
+        self.task.is_woken()
+    }
+
+    /// The wait, which nobody polls any more.
+    pub fn into_waits(self) -> Obtaining<S, Q, H> {
+        let Polled {
+            task: _,
+            waits,
+            is_granted: _,
+        } = self;
+        waits
+    }
+
+    /// Polls again if its task is woken: then it is granted, and let go at once.
+    pub fn polls_if_woken<R: Runtime>(&mut self, rt: &R) {
+        if self.is_granted || !self.task.is_woken() {
+            return;
+        }
+        let ready = self.task.poll(&mut self.waits).is_ready();
+        check(rt, "whether it is granted", ready, true);
+        self.is_granted = true;
+    }
+
+    /// It is let in once this is dropped.
+    pub fn let_in<R: Runtime, G: Drop>(self, rt: &R, held: G) {
+        let mut polled = self;
+        check(rt, "whether it is woken", polled.is_woken(), false);
+        drop(held);
+        polled.is_granted(rt);
+    }
+
+    /// It was woken, and it is granted at the next poll.
+    pub fn is_granted<R: Runtime>(&mut self, rt: &R) {
+        self.polls_if_woken(rt);
+        check(
+            rt,
+            "whether it was woken and granted",
+            self.is_granted,
+            true,
+        );
+    }
+}
+
+/// Three tasks wait, and all are woken once they are let in, or one after the other.
+#[derive(Drop)]
+pub struct AllAreWoken;
+
+impl<R: Runtime> Case<R> for AllAreWoken {
+    fn waiters(&self) -> usize {
+        3
+    }
+
+    fn run<K: Kind>(&self, rt: &R, kind: &K) {
+        let held = kind.hold();
+        let mut first = Polled::new(rt, kind.waits().expect(rt, "a share"));
+        let mut second = Polled::new(rt, kind.waits().expect(rt, "a share"));
+        let mut third = Polled::new(rt, kind.waits().expect(rt, "a share"));
+        drop(held);
+        let woken = [first.is_woken(), second.is_woken(), third.is_woken()];
+        let all = kind.sharing() != Sharing::One;
+        check(rt, "who is woken", woken, [true, all, all]);
+        first.is_granted(rt);
+        second.is_granted(rt);
+        third.is_granted(rt);
+    }
+}
+
+#[test]
+fn all_tasks_are_woken_in_their_turn(rt: HostRuntime) {
+    each(&rt, &rt, &AllAreWoken).expect(&rt, "memory");
+}
+
+#[test]
+fn added_permits_wake_as_many(rt: HostRuntime) {
+    let semaphore = Semaphore::new(rt.alloc(), 0);
+    let mut first = Polled::new(&rt, semaphore.acquire(&rt, rt.alloc()));
+    let mut second = Polled::new(&rt, semaphore.acquire(&rt, rt.alloc()));
+    let third = Polled::new(&rt, semaphore.acquire(&rt, rt.alloc()));
+    semaphore.add_permits(&rt, 2);
+    let woken = [first.is_woken(), second.is_woken(), third.is_woken()];
+    check(&rt, "who is woken", woken, [true, true, false]);
+    // Each lets its permit go at once, and the third is given one of them.
+    first.is_granted(&rt);
+    second.is_granted(&rt);
+    drop(third);
+    check(&rt, "free", semaphore.available(&rt), 2);
+}
+
+// It is granted at the first poll.
+fn comes_last<R: Runtime, S, Q: Request<S> + Drop, H: Grants<S, Q::Output, Output: Drop> + Drop>(
+    rt: &R,
+    waits: Obtaining<S, Q, H>,
+) {
+    let mut waits = waits;
+    let ready = new_task(rt).poll(&mut waits).is_ready();
+    check(rt, "whether the round has ended", ready, true);
+}
+
+#[test]
+fn a_task_that_comes_last_wakes_all(rt: HostRuntime) {
+    let barrier = Barrier::new(rt.alloc(), 3);
+    let mut first = Polled::new(&rt, barrier.wait(&rt, rt.alloc()));
+    let mut second = Polled::new(&rt, barrier.wait(&rt, rt.alloc()));
+    comes_last(&rt, barrier.wait(&rt, rt.alloc()));
+    first.is_granted(&rt);
+    second.is_granted(&rt);
+}
+
+#[test]
+fn a_writer_that_downgrades_wakes_all_readers(rt: HostRuntime) {
+    let shared = RwLock::new(rt.alloc(), 7u64);
+    let writer = shared.try_write(&rt).expect(&rt, "the value");
+    let mut first = Polled::new(&rt, shared.read(&rt, rt.alloc()));
+    let mut second = Polled::new(&rt, shared.read(&rt, rt.alloc()));
+    let reader = writer.downgrade();
+    first.is_granted(&rt);
+    second.is_granted(&rt);
+    check(&rt, "the value", *reader, 7);
+}
+
+/// The turn to make the value of a cell, which nobody else has.
+pub fn turn_of<'a, R: Runtime>(rt: &'a R, cell: &'a OnceCell<u64>) -> Vacant<'a, u64, R> {
+    match cell.claim(rt, rt.alloc()).wait() {
+        Ok(Claim::Vacant(turn)) => turn,
+        _ => panic!(rt; "no turn"),
+    }
+}
+
+#[test]
+fn a_value_that_is_set_wakes_those_that_would_make_it(rt: HostRuntime) {
+    let cell = OnceCell::new(rt.alloc());
+    let turn = turn_of(&rt, &cell);
+    let mut maker = Polled::new(&rt, cell.claim(&rt, rt.alloc()));
+    let mut other = Polled::new(&rt, cell.claim(&rt, rt.alloc()));
+    check(&rt, "set", turn.set(7).copied(), Ok(7));
+    let woken = [maker.is_woken(), other.is_woken()];
+    check(&rt, "who is woken", woken, [true, true]);
+    maker.is_granted(&rt);
+    other.is_granted(&rt);
+}
+
+// A writer that shares its lock goes to another thread, whose end lets a reader in that shares it too.
+#[test]
+fn owned_guards_of_a_read_write_lock(rt: HostRuntime) {
+    let lock = Arc::new(rt.alloc(), RwLock::new(rt.alloc(), 7u64));
+    let lock = lock.expect(&rt, "memory");
+    let write = RwLock::write_arc(&lock, rt, rt.alloc());
+    let writer = write.expect(&rt, "a share").wait();
+    let mut writer = writer.expect(&rt, "the value");
+    *writer.value() = 8;
+    let read = RwLock::read_arc(&lock, rt, rt.alloc());
+    let mut read = read.expect(&rt, "a share");
+    let task = new_task(&rt);
+    check(&rt, "pending", task.poll(&mut read).is_pending(), true);
+    let child = thread::spawn(&rt, move || drop(writer));
+    child.ok().expect(&rt, "a thread").join(&rt);
+    check(&rt, "woken", task.is_woken(), true);
+    let reader = read.wait().expect(&rt, "the value");
+    check(&rt, "the value", *reader.value(), 8);
+    check(&rt, "a writer", lock.try_write(&rt).is_none(), true);
+}
