@@ -9,8 +9,8 @@
 # vectors   proves and runs the program of the worked rows, and keeps it as crates/vectors/out/vectors: 12 minutes
 # check     proves every crate, without tests: what an edit changed takes seconds or minutes
 # refused   tries small programs that must not compile, and some that must: a minute or two
-# quoted    compares what the pages for callers quote with the sources: a second
-# api       writes the API page of each library, every public item with its clauses, from the sources: a second
+# quoted    compares what pages quote, and the API pages, with the sources: a second
+# api       writes the API page of each library, its public items with their clauses, from the sources: a second
 # explore   shows a run of a world: `make explore RUN='mutex 2: 0 Go 2, 1 Go 5'`, or lines on its input: a minute. It proves
 #           nothing; with PROVED=1 it proves the program first
 # fuzz      compares events and records with a queue on random lists of calls: `make fuzz SECONDS=600 SEED=7`, from another
@@ -54,10 +54,10 @@ refused:
 	$(needs_rt)@scripts/refused
 
 quoted:
-	@scripts/quoted
+	@scripts/pages
 
 api:
-	@scripts/api
+	@scripts/pages write
 
 explore:
 	$(needs_rt)@scripts/explore "$(RUN)" "$(PROVED)"
