@@ -23,7 +23,7 @@
 #           scripts/bench says. It writes the tables and the chart of docs/BENCHMARKS.md: a quarter of an hour, and the
 #           programs' proofs
 # diff      compares the queue with the Rust crate, if its answers are at hand: `make diff ORACLE=FOLDER`, with
-#           a folder as crates/replies/README.md says
+#           a folder as crates/replies/src/main.rt says
 .PHONY: help run test gate prove vectors check refused quoted api explore fuzz soak starved fmt bench diff
 
 # What a target that runs the toolchain begins with: it ends with status 2 where that is not there.

@@ -1,4 +1,29 @@
-//! What callers write over events: threads that wait, tasks that await, and a recorded event.
+//! Short callers of `event_listener`, proved, and tested in `test_examples`. Pages quote them.
+//!
+//! - [`flag`]: a flag that threads wait for: look, listen, look again, wait; set, then notify all; a listener for
+//!   callers that wait otherwise, which is one of the flag's event. Two flags of one `EventIds` have different events,
+//!   and making them fails only if fewer than two identities are left.
+//! - [`meeting`]: a thread that waits for such a flag until another one has set it, for `program_flag`.
+//! - [`tagged`]: default and additional notifications with tags, each of which notifies one listener at most and does
+//!   not fail.
+//! - [`timed`]: a wait against a deadline, over any kind of listener; a failed wait is retried. One on a finished
+//!   listener fails, and one that fails for memory returns the same listener.
+//! - [`relayed`]: errors of waits that `?` propagates.
+//! - [`polled`]: a tag that a task awaits; a future over two events, whose pending poll has registered with both.
+//! - [`desk`]: a desk that one at a time sits at: a guard that notifies in its drop, and a future that tries, listens
+//!   and polls in a loop, whose pending poll has registered.
+//! - [`recorded_flag`]: a flag over a recorded event, for which each thread waits with a hand of its own, which it
+//!   tells from others; closed with `Ok`, the notes of each hand are entries of its record.
+//! - [`race`]: the thread of the first hand sets such a flag, and those of all others wait for it. Its record has
+//!   entries of these hands alone, and of none.
+//! - [`record_table`]: a record as a table of hand, call and reply.
+//!
+//! Only tested: which listener gets which tag; that setting a flag notifies all who listen; that waits end, and a
+//! second wait has the deadline of the first; that a flag is seen which is set between the first look and `listen`, and
+//! that the recorded listener dropped then stands in the record without a hand; that an awaited tag comes, either event
+//! wakes the future's task, and a second poll wakes no task; that those who wait for the desk sit one after another;
+//! that a listener which an error held propagates its notification; that each listener of a race ends by its tag or is
+//! dropped; the lines of a table and the texts of errors.
 #![tactic(auto)]
 
 pub mod desk;

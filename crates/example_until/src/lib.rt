@@ -1,5 +1,18 @@
-//! What threads and tasks wait for over [`event_until`], one a file: what each waits for is an [`Attempt`](event_until::Attempt), and
-//! nothing else of a wait is written here.
+//! What threads and tasks wait for over [`event_until`], one a file: each says what one
+//! [`Attempt`](event_until::Attempt) is and whom a drop notifies, and nothing else of a wait is written here. Locks are
+//! in `event_locks`.
+//!
+//! - [`Gate`]: it is opened once, and all who wait for it go on.
+//! - [`Watch`]: the latest value, for many readers; each gets a newer one than it has seen, which is a clause of
+//!   `wait_newer`.
+//! - [`Baton`]: one at a time has it, by a guard that owns its runtime value.
+//!
+//! Each call that may wait returns an `Until`: `gate.pass(&rt, alloc).wait()?` blocks, `.wait_timeout(limit)?` returns
+//! `None` at the limit, and `block_on(&rt, gate.pass(&rt, alloc))??` awaits. What one at a time can have needs no more
+//! than a default notification; what all can have notifies `usize::MAX`. Each changes first and notifies then.
+//!
+//! Only tested, in `test_until`: that one at a time has the baton, that all who wait come through, that who is woken
+//! finds the gate open, and what a drop propagates.
 #![tactic(auto)]
 
 mod baton;

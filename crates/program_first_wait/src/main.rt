@@ -1,4 +1,6 @@
-//! A thread waits until another one notifies it, and prints the tag that came.
+//! One thread listens and waits, another notifies it with the tag 7. Prints `the tag is 7`. The listener is made before
+//! the other thread starts, so the notification finds it. An error is printed to standard error, with status 1. No
+//! clause says that the wait returns.
 #![tactic(auto)]
 
 use event_listener::{Event, EventIds, IntoTagged, Listener};

@@ -1,4 +1,5 @@
-//! One thread waits for a flag, and another sets it. Prints `Done!` once the flag is set.
+//! One thread waits for a flag of `example_events`, and another sets it. Prints `Done!` once the flag is set and both
+//! have ended. Words on the command line are ignored. An error is printed to standard error, with status 1.
 #![tactic(auto)]
 
 use event_listener::EventIds;

@@ -1,4 +1,8 @@
-//! Ten threads each lock a counter and add 1. Prints `Done!` once all have ended and the counter stands at ten.
+//! Ten threads each lock a counter of `example_locks` and add 1. Prints `Done!` once all have ended and the counter
+//! stands at ten.
+//!
+//! Words on the command line are ignored. Any other count, and an error, that of the first thread which fails in order
+//! of starting, is printed to standard error, with status 1.
 #![tactic(auto)]
 
 use event_listener::EventIds;

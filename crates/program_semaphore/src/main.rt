@@ -1,4 +1,8 @@
-//! Ten threads share three permits, and each adds 1 to a counter. Prints `Done!` once all have ended.
+//! Ten threads share three permits of `example_locks`; each takes one, and one more if one is free, adds 1 to a
+//! counter, and gives them back. Prints `Done!` once all have ended and the counter is at 10.
+//!
+//! Words on the command line are ignored. An error, that of the first thread which fails in order of starting, is
+//! printed to standard error, with status 1.
 #![tactic(auto)]
 
 use event_listener::EventIds;

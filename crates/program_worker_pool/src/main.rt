@@ -1,4 +1,6 @@
-//! Workers take numbers from one channel and add up their squares; then one thread takes numbers from two channels.
+//! Workers take the numbers from 1 to 1000 from one channel, in which 8 wait at most, and add up their squares; then
+//! one thread sends 1 and 2 into a channel and 3 into an urgent one, and takes them by a `select` of both. An error is
+//! printed to standard error, with status 1. No clause says what the program prints, or that a wait returns.
 #![tactic(auto)]
 
 mod two_channels;

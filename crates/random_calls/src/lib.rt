@@ -1,5 +1,7 @@
-//! What the programs share that do random things: numbers from a seed, lists of calls that are made on two things and
-//! made shorter, the kinds of answers that came up, and what the command line asks for.
+//! What the programs `fuzz` and `soak` share: random numbers from a seed, by a generator of `rand_pcg`, where one seed
+//! gives the same ones again; listeners by a random place; lists of calls that are made on two things, and how a list
+//! that shows a difference is made shorter; which kinds of answers came up; and what the command line asks for,
+//! `seed SEED times N` or `seed SEED seconds N`.
 #![tactic(auto)]
 
 mod comparison;

@@ -1,4 +1,7 @@
-//! The worked rows over a queue, and over the numbers that notify it.
+//! The worked rows over a queue: its serials and keys, which listeners are notified, where a propagated notification
+//! goes, the tasks that a sink gets, runs of calls, and which integers can be a notification. `QueueRow` lists them
+//! with their numbers. `rows_harness` says what a row is, how it runs and how one is added. The answers are compared
+//! when the rows run, by `vectors`.
 #![tactic(auto)]
 
 mod calls;

@@ -1,4 +1,14 @@
-//! Prints each worked row as `row N ok` or `row N differs`, in order of number. The status is 0 where none differs.
+//! Runs the worked rows, and prints `row N ok` or `row N differs` for each, in order of number. The status is 0 if none
+//! differs.
+//!
+//! If a call of a row fails, the text of its error goes to the standard error, and the row differs. Words on the
+//! command line are ignored. The table of rows and its printing do not allocate, so a row that ran out of memory has
+//! its line, too: the tests of the crate ([`refused`]) have each request of a row fail in turn, and `make starved` runs
+//! the program with too few addresses.
+//!
+//! `make run` runs it without proof, in under a minute. `make vectors` proves it and all below it, runs it, and keeps
+//! the program as `crates/vectors/out/vectors`. The rows stand in the crates `rows_*`; `rows_harness` says how to add
+//! one. What the rows show, they show when they run.
 #![tactic(auto)]
 
 ghost use Rattle.std.specs.Prelude.{◌≡◌, IfOk, IsErr, if◌then◌else◌};
