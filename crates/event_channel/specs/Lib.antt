@@ -1,6 +1,5 @@
 pub mod Errors
 pub mod Handle
-pub mod Line
 pub mod Messages
 pub mod Order
 pub mod Steps

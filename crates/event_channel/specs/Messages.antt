@@ -47,16 +47,16 @@ module _ {T W : Type 0} where
   IsBounded s = s.capacity + 1 < 2 ^ 64
 
   pub record NobodyWaitsInVain (s : State T W) : Type 0 where
-    -- while fewer receivers are told than there are messages, no receiver waits
+    -- while fewer receivers are notified than there are messages, no receiver waits
     pub receivers : length s.receivers.told < length s.messages → length s.receivers.waiting ≡ 0
-    -- while fewer senders are told than there is room for, no sender waits
+    -- while fewer senders are notified than there is room for, no sender waits
     pub senders : length s.messages + length s.senders.told < s.capacity → length s.senders.waiting ≡ 0
     -- while there is a message, no stream waits
     pub streams : 0 < length s.messages → length s.streams.waiting ≡ 0
     -- nobody waits at a closed channel
     pub closed : s.is_closed ≡ true → length s.senders.waiting + length s.receivers.waiting + length s.streams.waiting ≡ 0
 
-  -- what the state keeps, with so many places for messages: there are no more messages than may be, and where there is a
+  -- what the state keeps, where there are `places` places for messages: there are no more messages than may be, and where there is a
   -- limit each has its place from the beginning
   pub record IsKept (s : State T W) (places : ℕ) : Type 0 where
     pub waits : NobodyWaitsInVain s

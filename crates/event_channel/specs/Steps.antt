@@ -1,6 +1,6 @@
 -- What each call does to the messages.
 use Rattle.std.specs.Prelude.{◌≡◌, ◌<◌, ◌++◌, List, [], ◌∷◌, Option, Some, None, true, false, length}
-use Rattle.event_channel.specs.Line.{TellsUpTo, TellsAll, woken_up_to, woken_at_once}
+use Rattle.event_locks.specs.Line.{TellsUpTo, TellsAll, woken_up_to, woken_at_once}
 use Rattle.event_channel.specs.Messages.{State, IsFull, IsBounded, room_in}
 use Rattle.event_channel.specs.declared.error.TrySendError.{TrySendError}
 use Rattle.event_channel.specs.declared.error.TrySendError.TheVariants.{Closed, Full, Memory}
@@ -8,7 +8,7 @@ use Rattle.event_channel.specs.declared.error.TryRecvError.{TryRecvError}
 use Rattle.event_channel.specs.declared.error.TryRecvError.TheVariants.{Empty, Closed as WasClosed}
 
 module _ {T W : Type 0} where
-  -- the message is put behind all others of an open channel that is not full; a receiver is told for each message, and all
+  -- the message is put behind all others of an open channel that is not full; a receiver is notified for each message, and all
   -- streams are
   pub record Pushes (message : T) (before after : State T W) : Type 0 where
     pub is_open : before.is_closed ≡ false
@@ -23,7 +23,7 @@ module _ {T W : Type 0} where
   Refuses message before (Full back) = (back ≡ message) × (before.is_closed ≡ false) × IsFull before
   Refuses message before (Memory back) = (back ≡ message) × (before.is_closed ≡ false) × ¬ IsBounded before
 
-  -- the message is put behind all others of a full channel, and the first of all goes out; nobody need be told
+  -- the message is put behind all others of a full channel, and the first of all goes out; nobody need be notified
   pub record Replaces (message first : T) (before after : State T W) : Type 0 where
     pub is_open : before.is_closed ≡ false
     pub is_full : IsFull before
@@ -50,7 +50,7 @@ module _ {T W : Type 0} where
   woken_by_forcing None before after = woken_by_pushing before after
   woken_by_forcing (Some first) before after = []
 
-  -- these messages were in front of all others; a sender is told for each place that is free
+  -- these messages were in front of all others; a sender is notified for each place that is free
   pub record Takes (taken : List T) (before after : State T W) : Type 0 where
     pub first : before.messages ≡ taken ++ after.messages
     pub rest : after ≡ record before { messages = after.messages; senders = after.senders }
@@ -61,7 +61,7 @@ module _ {T W : Type 0} where
   IsEmptyFor before Empty = (before.messages ≡ []) × (before.is_closed ≡ false)
   IsEmptyFor before WasClosed = (before.messages ≡ []) × (before.is_closed ≡ true)
 
-  -- an open channel is closed, and all that wait are told
+  -- an open channel is closed, and all that wait are notified
   pub record Closes (before after : State T W) : Type 0 where
     pub was_open : before.is_closed ≡ false
     pub rest : after ≡ record before { is_closed = true; senders = after.senders; receivers = after.receivers; streams = after.streams }

@@ -2,8 +2,7 @@
 use Rattle.std.specs.Prelude.{◌≡◌, List, [], ◌∷◌, ◌++◌, Option, true, false, length}
 use Rattle.event_queue.specs.declared.key.Key.{Key}
 use Rattle.event_queue.specs.Queue.{Queue}
-use Rattle.event_locks.specs.Line.{Stores}
-use Rattle.event_channel.specs.Line.{LeavesThenTells, WaitsBy, CannotWait, woken_up_to, woken_by_leaving}
+use Rattle.event_locks.specs.Line.{Stores, LeavesThenTells, WaitsBy, CannotWait, woken_up_to, woken_by_leaving}
 use Rattle.event_channel.specs.Messages.{State, IsFull, IsBounded, room_in}
 use Rattle.event_channel.specs.Steps.{Pushes, Takes, woken_by_pushing}
 use Rattle.event_channel.specs.declared.messages.waits.Sent.{Sent}
@@ -53,7 +52,7 @@ module _ {T W C : Type 0} (exchanged : C → Option W → W → C → Type 0) wh
   ReceivesOn before (received.WaitFailed error) after = after ≡ before
 
 module _ {T W : Type 0} where
-  -- the tasks that this wakes: of those that wait for the message, and of senders if one told has left
+  -- the tasks that this wakes: of those that wait for the message, and of senders if one that was notified has left
   abbrev pub woken_by_sending : Option Key → State T W → Sent T → State T W → List W
   woken_by_sending key before sent.Done after =
       woken_by_pushing before after ++ woken_by_leaving key (room_in after) before.senders
@@ -62,7 +61,7 @@ module _ {T W : Type 0} where
   woken_by_sending key before (sent.Memory back) after = woken_by_leaving key (room_in after) before.senders
   woken_by_sending key before (sent.WaitFailed back error) after = []
 
-  -- the tasks that this wakes: of senders, and of those that wait in the same queue if one told has left
+  -- the tasks that this wakes: of senders, and of those that wait in the same queue if one that was notified has left
   abbrev pub woken_by_receiving : Option Key → State T W → Queue (Unit {0}) W → Received T → State T W → List W
   woken_by_receiving key before line (received.Message message) after =
       woken_up_to (room_in after) before.senders ++ woken_by_leaving key (length after.messages) line

@@ -6,8 +6,9 @@ use crate::error::TrySendError;
 use crate::messages::Messages;
 use event_locks::{Lock, Task, Waking};
 use std::alloc::{AllocError, Global};
-use std::sync::Wait;
+use std::marker::Model;
 use std::sync::atomic::{AtomicUsize, Ordering};
+use std::sync::{Arc, Wait};
 use thiserror::Error;
 
 /// Why no channel was made.
@@ -28,6 +29,36 @@ pub(crate) struct Channel<T> {
     pub(crate) capacity: Option<usize>,
     pub(crate) senders: Handles,
     pub(crate) receivers: Handles,
+}
+
+/// What each handle has: a share of the channel, and a runtime value of its own.
+#[derive(Drop)]
+pub(crate) struct Link<T, R> {
+    pub(crate) channel: Arc<Channel<T>>,
+    pub(crate) rt: R,
+    pub(crate) alloc: Global,
+}
+
+impl<T, R> Model for Link<T, R> {
+    ghost use Rattle.std.specs.Arc.{arc_value};
+    ghost use Rattle.event_channel.specs.Handle.{Handle};
+
+    ghost Value = { Handle };
+
+    ghost view = { λ link. record { channel = (arc_value link.channel).lock; capacity = (arc_value link.channel).capacity } };
+}
+
+impl<T: Drop, R: Clone + Drop> Link<T, R> {
+    /// Another one to the same channel.
+    pub(crate) fn try_clone(&self) -> Result<Self, AllocError>
+        ensures { IfOk result (λ link. link ≡ self.now) }
+    {
+        Ok(Link {
+            channel: Arc::try_clone(&self.channel)?,
+            rt: self.rt.clone()?,
+            alloc: self.alloc,
+        })
+    }
 }
 
 /// How many handles there are of one side.
@@ -78,7 +109,7 @@ impl<T> Channel<T> {
         sent
     }
 
-    /// Takes the first messages, so many at most, and puts them behind what `into` has.
+    /// Takes the first messages, `limit` at most, and puts them behind what `into` has.
     pub(crate) fn take_into<R: Wait>(
         &self,
         rt: &R,

@@ -1,6 +1,6 @@
 //! A channel: many threads and tasks send messages, and many receive them, each message once and in order.
 //!
-//! [`bounded`] makes a channel in which so many messages wait at most, [`unbounded`] one without a limit. Both return a
+//! [`bounded`] makes a channel in which a given number of messages wait at most, [`unbounded`] one without a limit. Both return a
 //! [`Sender`] and a [`Receiver`], which are shared by clones.
 #![tactic(auto)]
 

@@ -2,17 +2,16 @@
 ghost use Rattle.std.specs.Prelude.{◌≡◌, ◌+◌, ◌-◌, ◌<◌, ◌≤◌, ◌↔◌, min, true, false, [], ◌∷◌, ◌++◌, take, drop, length, vec_len, vec_capacity, IfOk, IfErr, OnErr, IsTrue, IsFalse};
 ghost use Rattle.std.specs.List.{FoldsTo};
 ghost use Rattle.std.specs.VecDeque.{deque_capacity};
-ghost use Rattle.event_channel.specs.Line.{woken_up_to, woken_at_once};
+ghost use Rattle.event_locks.specs.Line.{TellsAll, TellsUpTo, woken_up_to, woken_at_once};
 ghost use Rattle.event_channel.specs.Messages.{NobodyWaitsInVain, IsFull, limit_of, new_state, room_in};
 ghost use Rattle.event_channel.specs.Order.{IsReceivedInOrder};
 ghost use Rattle.event_channel.specs.Steps.{Pushes, Refuses, Forces, RefusesForce, Takes, IsEmptyFor, Closes, woken_by_pushing, woken_by_forcing};
 
-mod line;
 mod waits;
 
-use self::line::{tell, tell_all, tell_of};
 pub use self::waits::{Received, Sent};
 use crate::error::{TryRecvError, TrySendError};
+use event_locks::waiters::{tell, tell_all};
 use event_queue::{List, WakeSink};
 use std::alloc::{AllocError, AllocFailed, Global};
 use std::collections::VecDeque;
@@ -21,8 +20,8 @@ use std::marker::Model;
 /// The messages, first the one that is received next; how many there may be at most; whether the channel is closed; and the
 /// queues of those that wait.
 ///
-/// One that is told has no message or place of its own: it looks, and waits again if another one came before. A message
-/// tells one receiver and all streams, since a stream that is left alone must not keep it from the receivers.
+/// One that is notified has no message or place of its own: it looks, and waits again if another one came before. A message
+/// notifies one receiver and all streams, since a stream that is left alone must not keep it from the receivers.
 #[derive(Drop)]
 pub struct Messages<T, W> {
     items: VecDeque<T>,
@@ -59,7 +58,7 @@ fn replace_first<T>(items: &mut VecDeque<T>, message: T) -> T
     }
 }
 
-// Moves the first so many messages.
+// Moves the first `count` messages.
 fn move_first<T>(items: &mut VecDeque<T>, into: &mut Vec<T>, count: usize)
     requires there { count ≤ length items.old.items }
     requires room { vec_len into.old + count ≤ vec_capacity into.old }
@@ -73,6 +72,22 @@ fn move_first<T>(items: &mut VecDeque<T>, into: &mut Vec<T>, count: usize)
         };
         into.push_reserved(message);
     }
+}
+
+// Notifies as many of the receivers as there are messages, and all streams.
+#[inline(always)]
+fn tell_of<W, S: WakeSink<W>>(
+    receivers: &mut List<(), W>,
+    streams: &mut List<(), W>,
+    messages: usize,
+    sink: &mut S,
+)
+    ensures receivers { TellsUpTo messages receivers.old receivers.new }
+    ensures streams { TellsAll streams.old streams.new }
+    ensures wakes { FoldsTo S.woke sink.old (woken_up_to messages receivers.old ++ woken_at_once streams.old) sink.new }
+{
+    tell(receivers, messages, sink);
+    tell_all(streams, sink);
 }
 
 impl<T, W> Messages<T, W> {
@@ -230,8 +245,8 @@ impl<T, W> Messages<T, W> {
         self.is_closed
     }
 
-    /// Nobody waits in vain: a receiver only while as many are told as there are messages, a sender only while as many are
-    /// told as there are places free, a stream only while there is no message, and nobody once the channel is closed.
+    /// Nobody waits in vain: a receiver only while as many are notified as there are messages, a sender only while as many
+    /// are notified as there are places free, a stream only while there is no message, and nobody once the channel is closed.
     pub fn nobody_waits_in_vain(&self)
         ensures waits { NobodyWaitsInVain self.now }
         ensures fits { length self.now.messages ≤ self.now.capacity }

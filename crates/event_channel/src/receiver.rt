@@ -1,19 +1,18 @@
 //! The side that receives.
 ghost use Rattle.std.specs.Prelude.{◌≡◌, ◌≤◌, IfOk, IfSome};
-ghost use Rattle.std.specs.Arc.{arc_value};
 
-use crate::channel::Channel;
+use crate::channel::Link;
 use crate::error::{RecvError, RecvTimeoutError, TryRecvError};
 use crate::receiving::{Ended, Receiving};
 use crate::recv::Recv;
 use event_locks::{Limit, LockError};
 use futures::Stream;
 use futures::task::{Context, Poll};
-use std::alloc::{AllocError, Global};
+use std::alloc::AllocError;
 use std::fmt;
 use std::fmt::{Debug, Formatter};
 use std::marker::Model;
-use std::sync::{Arc, Wait};
+use std::sync::Wait;
 use std::time::{Clock, Duration, Instant};
 
 /// Receives the messages of a channel. Clones receive of the same one; when the last is dropped, the channel is closed.
@@ -22,20 +21,17 @@ use std::time::{Clock, Duration, Instant};
 /// which is held for a few instructions. A receiver is a stream of the messages too, which ends when the channel is closed
 /// and empty. A contract sees the number of the channel and its capacity.
 pub struct Receiver<T: Drop, R: Wait + Clock + Clone> {
-    channel: Arc<Channel<T>>,
-    rt: R,
-    alloc: Global,
+    link: Link<T, R>,
     // Where it waits as a stream.
     stream: Receiving,
 }
 
 impl<T: Drop, R: Wait + Clock + Clone> Model for Receiver<T, R> {
-    ghost use Rattle.std.specs.Arc.{arc_value};
     ghost use Rattle.event_channel.specs.Handle.{Handle};
 
     ghost Value = { Handle };
 
-    ghost view = { λ receiver. record { channel = (arc_value receiver.channel).lock; capacity = (arc_value receiver.channel).capacity } };
+    ghost view = { λ receiver. receiver.link };
 }
 
 // What a wait for ever led to.
@@ -61,13 +57,11 @@ fn received_in_time<T>(
 }
 
 impl<T: Drop, R: Wait + Clock + Clone> Receiver<T, R> {
-    pub(crate) fn new(channel: Arc<Channel<T>>, rt: R, alloc: Global) -> Self
-        ensures { result ≡ record { channel = (arc_value channel).lock; capacity = (arc_value channel).capacity } }
+    pub(crate) fn new(link: Link<T, R>) -> Self
+        ensures { result ≡ link }
     {
         Receiver {
-            channel,
-            rt,
-            alloc,
+            link,
             stream: Receiving::stream(),
         }
     }
@@ -75,7 +69,12 @@ impl<T: Drop, R: Wait + Clock + Clone> Receiver<T, R> {
     /// Receives the first message, if one waits. The call does not allocate.
     #[inline(always)]
     pub fn try_recv(&self) -> Result<T, TryRecvError> {
-        match self.channel.lock.attempt(&self.rt, &mut Receiving::one()) {
+        match self
+            .link
+            .channel
+            .lock
+            .attempt(&self.link.rt, &mut Receiving::one())
+        {
             Some(Ok(message)) => Ok(message),
             Some(Err(Ended)) => Err(TryRecvError::Closed),
             None => Err(TryRecvError::Empty),
@@ -85,7 +84,7 @@ impl<T: Drop, R: Wait + Clock + Clone> Receiver<T, R> {
     /// Receives a message once there is one: to be awaited. Nothing is received before it is polled, and no message is lost
     /// if it is dropped.
     pub fn recv(&self) -> Recv<'_, T, R> {
-        Recv::new(&self.channel, &self.rt)
+        Recv::new(&self.link.channel, &self.link.rt)
     }
 
     /// Receives a message once there is one, and blocks the calling thread until then.
@@ -101,7 +100,7 @@ impl<T: Drop, R: Wait + Clock + Clone> Receiver<T, R> {
     ///
     /// The call allocates where it has to wait.
     pub fn recv_timeout(&self, timeout: Duration) -> Result<T, RecvTimeoutError> {
-        received_in_time(self.wait(Limit::after(&self.rt, timeout)))
+        received_in_time(self.wait(Limit::after(&self.link.rt, timeout)))
     }
 
     /// Receives a message once there is one, and blocks the calling thread until then, or until this moment. With one that
@@ -128,7 +127,7 @@ impl<T: Drop, R: Wait + Clock + Clone> Receiver<T, R> {
         }
         let message = received(self.wait(Limit::Never))?;
         into.push_reserved(message);
-        match self.channel.take_into(&self.rt, into, limit - 1) {
+        match self.link.channel.take_into(&self.link.rt, into, limit - 1) {
             Ok(more) => Ok(more + 1),
             Err(AllocError) => Ok(1),
         }
@@ -137,26 +136,27 @@ impl<T: Drop, R: Wait + Clock + Clone> Receiver<T, R> {
     #[inline(always)]
     fn wait(&self, limit: Limit) -> Result<Option<Result<T, Ended>>, LockError> {
         let mut receiving = Receiving::one();
-        self.channel
+        self.link
+            .channel
             .lock
-            .obtain(&self.rt, self.alloc, &mut receiving, limit)
+            .obtain(&self.link.rt, self.link.alloc, &mut receiving, limit)
     }
 
     /// Closes the channel, and wakes all that wait. Returns `false` if it is closed already.
     ///
     /// No message is sent any more. Those that wait can still be received.
     pub fn close(&self) -> bool {
-        self.channel.close(&self.rt)
+        self.link.channel.close(&self.link.rt)
     }
 
     /// Whether the channel is closed.
     pub fn is_closed(&self) -> bool {
-        self.channel.is_closed(&self.rt)
+        self.link.channel.is_closed(&self.link.rt)
     }
 
     /// How many messages wait.
     pub fn len(&self) -> usize {
-        self.channel.len(&self.rt)
+        self.link.channel.len(&self.link.rt)
     }
 
     /// Whether no message waits.
@@ -166,37 +166,32 @@ impl<T: Drop, R: Wait + Clock + Clone> Receiver<T, R> {
 
     /// Whether as many messages wait as may.
     pub fn is_full(&self) -> bool {
-        self.channel.is_full(&self.rt)
+        self.link.channel.is_full(&self.link.rt)
     }
 
     /// How many messages may wait at most, if there is a limit.
     pub fn capacity(&self) -> Option<usize>
         ensures { result ≡ self.now.capacity }
     {
-        self.channel.capacity
+        self.link.channel.capacity
     }
 
     /// How many senders of the channel there are.
     pub fn sender_count(&self) -> usize {
-        self.channel.senders.count()
+        self.link.channel.senders.count()
     }
 
     /// How many receivers of the channel there are.
     pub fn receiver_count(&self) -> usize {
-        self.channel.receivers.count()
+        self.link.channel.receivers.count()
     }
 
     /// A handle that does not keep the channel open. It fails if the runtime value can't be cloned.
     pub fn downgrade(&self) -> Result<WeakReceiver<T, R>, AllocError>
         ensures { IfOk result (λ weak. weak ≡ self.now) }
     {
-        let channel = Arc::try_clone(&self.channel)?;
-        let rt = self.rt.clone()?;
-        Ok(WeakReceiver {
-            channel,
-            rt,
-            alloc: self.alloc,
-        })
+        let link = self.link.try_clone()?;
+        Ok(WeakReceiver { link })
     }
 }
 
@@ -205,26 +200,20 @@ impl<T: Drop, R: Wait + Clock + Clone> Clone for Receiver<T, R> {
     ghost is_clone = { λ receiver same. same ≡ receiver };
 
     fn clone(&self) -> Result<Self, AllocError> {
-        let channel = Arc::try_clone(&self.channel)?;
-        let rt = self.rt.clone()?;
-        channel.receivers.add()?;
-        Ok(Receiver::new(channel, rt, self.alloc))
+        let link = self.link.try_clone()?;
+        link.channel.receivers.add()?;
+        Ok(Receiver::new(link))
     }
 }
 
 /// The last receiver closes the channel.
 impl<T: Drop, R: Wait + Clock + Clone> Drop for Receiver<T, R> {
     fn drop(self) {
-        let Receiver {
-            channel,
-            rt,
-            alloc: _,
-            stream,
-        } = self;
+        let Receiver { link, stream } = self;
         let mut stream = stream;
-        channel.lock.give_up(&rt, &mut stream);
-        if channel.receivers.remove() {
-            channel.close(&rt);
+        link.channel.lock.give_up(&link.rt, &mut stream);
+        if link.channel.receivers.remove() {
+            link.channel.close(&link.rt);
         }
     }
 }
@@ -241,7 +230,12 @@ impl<T: Drop, R: Wait + Clock + Clone> Stream for Receiver<T, R> {
     ghost needs = { λ receiver s. s ≡ receiver.channel };
 
     fn poll_next(&mut self, cx: &mut Context<'_>) -> Poll<Option<Result<T, LockError>>> {
-        match self.channel.lock.poll_in(&self.rt, &mut self.stream, cx) {
+        match self
+            .link
+            .channel
+            .lock
+            .poll_in(&self.link.rt, &mut self.stream, cx)
+        {
             Poll::Ready(Ok(Ok(message))) => Poll::Ready(Some(Ok(message))),
             Poll::Ready(Ok(Err(Ended))) => Poll::Ready(None),
             Poll::Ready(Err(error)) => Poll::Ready(Some(Err(LockError::Listen(error)))),
@@ -260,18 +254,15 @@ impl<T: Drop, R: Wait + Clock + Clone> Debug for Receiver<T, R> {
 /// it while there is one.
 #[derive(Drop)]
 pub struct WeakReceiver<T: Drop, R: Wait + Clock + Clone> {
-    channel: Arc<Channel<T>>,
-    rt: R,
-    alloc: Global,
+    link: Link<T, R>,
 }
 
 impl<T: Drop, R: Wait + Clock + Clone> Model for WeakReceiver<T, R> {
-    ghost use Rattle.std.specs.Arc.{arc_value};
     ghost use Rattle.event_channel.specs.Handle.{Handle};
 
     ghost Value = { Handle };
 
-    ghost view = { λ weak. record { channel = (arc_value weak.channel).lock; capacity = (arc_value weak.channel).capacity } };
+    ghost view = { λ weak. weak.link };
 }
 
 impl<T: Drop, R: Wait + Clock + Clone> WeakReceiver<T, R> {
@@ -279,11 +270,10 @@ impl<T: Drop, R: Wait + Clock + Clone> WeakReceiver<T, R> {
     pub fn upgrade(&self) -> Result<Option<Receiver<T, R>>, AllocError>
         ensures { IfOk result (λ receiver. IfSome receiver (λ receiver. receiver ≡ self.now)) }
     {
-        let channel = Arc::try_clone(&self.channel)?;
-        let rt = self.rt.clone()?;
-        if !channel.receivers.revive() {
+        let link = self.link.try_clone()?;
+        if !link.channel.receivers.revive() {
             return Ok(None);
         }
-        Ok(Some(Receiver::new(channel, rt, self.alloc)))
+        Ok(Some(Receiver::new(link)))
     }
 }

@@ -86,33 +86,12 @@ impl<T> Request<Messages<T, Task>> for Receiving {
         }
     }
 
-    fn leave<K: WakeSink<Task>>(
-        &mut self,
-        state: &mut Messages<T, Task>,
-        sink: &mut K,
-    ) -> Option<Result<T, Ended>> {
-        if let Some(key) = self.key.take() {
-            cancel(state, key, self.is_stream, sink);
-        }
-        None
-    }
-
     fn give_up<K: WakeSink<Task>>(&mut self, state: &mut Messages<T, Task>, sink: &mut K) {
-        if let Some(key) = self.key.take() {
-            cancel(state, key, self.is_stream, sink);
+        let key = self.key.take();
+        if self.is_stream {
+            state.cancel_stream(key, sink);
+        } else {
+            state.cancel_receiver(key, sink);
         }
-    }
-}
-
-fn cancel<T, K: WakeSink<Task>>(
-    state: &mut Messages<T, Task>,
-    key: Key,
-    is_stream: bool,
-    sink: &mut K,
-) {
-    if is_stream {
-        state.cancel_stream(key);
-    } else {
-        state.cancel_receiver(key, sink);
     }
 }

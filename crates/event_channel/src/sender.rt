@@ -1,11 +1,10 @@
 //! The side that sends.
 ghost use Rattle.std.specs.Prelude.{◌≡◌, ◌≢◌, ◌↔◌, Some, None, Err, IfOk, IfErr, IfSome};
-ghost use Rattle.std.specs.Arc.{arc_value};
 ghost use Rattle.event_channel.specs.Errors.{unsent, unsent_in_time, unsent_at_once};
 ghost use Rattle.event_channel.specs.Handle.{Carries};
 ghost use Rattle.event_channel.specs.declared.channel.ChannelError.TheVariants.{ZeroCapacity};
 
-use crate::channel::{Channel, ChannelError};
+use crate::channel::{Channel, ChannelError, Link};
 use crate::error::{SendError, SendTimeoutError, TrySendError};
 use crate::receiver::Receiver;
 use crate::send::Send;
@@ -23,18 +22,15 @@ use std::time::{Clock, Duration, Instant};
 /// A message that is sent waits behind those sent before. Each call may wait for the lock of the channel, which is held for
 /// a few instructions. A contract sees the number of the channel and its capacity.
 pub struct Sender<T: Drop, R: Wait + Clock + Clone> {
-    channel: Arc<Channel<T>>,
-    rt: R,
-    alloc: Global,
+    link: Link<T, R>,
 }
 
 impl<T: Drop, R: Wait + Clock + Clone> Model for Sender<T, R> {
-    ghost use Rattle.std.specs.Arc.{arc_value};
     ghost use Rattle.event_channel.specs.Handle.{Handle};
 
     ghost Value = { Handle };
 
-    ghost view = { λ sender. record { channel = (arc_value sender.channel).lock; capacity = (arc_value sender.channel).capacity } };
+    ghost view = { λ sender. sender.link };
 }
 
 /// A channel in which `capacity` messages wait at most.
@@ -85,20 +81,21 @@ fn sides<T: Drop, R: Wait + Clock + Clone>(
     ensures one { IfOk result (λ sides. sides.1 ≡ sides.0) }
     ensures capacity { IfOk result (λ sides. sides.0.capacity ≡ capacity) }
 {
-    let rt_of_sender = rt.clone()?;
-    let rt_of_receiver = rt.clone()?;
     let channel = Channel::new(alloc, capacity)?;
-    let channel = Arc::new(alloc, channel)?;
-    let share = Arc::try_clone(&channel)?;
-    let sender = Sender::new(channel, rt_of_sender, alloc);
-    Ok((sender, Receiver::new(share, rt_of_receiver, alloc)))
+    let link = Link {
+        channel: Arc::new(alloc, channel)?,
+        rt: rt.clone()?,
+        alloc,
+    };
+    let other = link.try_clone()?;
+    Ok((Sender::new(link), Receiver::new(other)))
 }
 
 impl<T: Drop, R: Wait + Clock + Clone> Sender<T, R> {
-    fn new(channel: Arc<Channel<T>>, rt: R, alloc: Global) -> Self
-        ensures { result ≡ record { channel = (arc_value channel).lock; capacity = (arc_value channel).capacity } }
+    fn new(link: Link<T, R>) -> Self
+        ensures { result ≡ link }
     {
-        Sender { channel, rt, alloc }
+        Sender { link }
     }
 
     /// Sends a message if the channel is open and not full.
@@ -108,7 +105,7 @@ impl<T: Drop, R: Wait + Clock + Clone> Sender<T, R> {
     pub fn try_send(&self, message: T) -> Result<(), TrySendError<T>>
         ensures returned { IfErr result (λ error. unsent_at_once error ≡ message) }
     {
-        self.channel.try_send(&self.rt, message)
+        self.link.channel.try_send(&self.link.rt, message)
     }
 
     /// Sends a message if the channel is open. If it is full the first message of all goes out, and is returned.
@@ -117,7 +114,7 @@ impl<T: Drop, R: Wait + Clock + Clone> Sender<T, R> {
     pub fn force_send(&self, message: T) -> Result<Option<T>, SendError<T>>
         ensures returned { IfErr result (λ error. unsent error ≡ message) }
     {
-        match self.channel.force_send(&self.rt, message) {
+        match self.link.channel.force_send(&self.link.rt, message) {
             Ok(out) => Ok(out),
             Err(TrySendError::Closed(message)) => Err(SendError::Closed(message)),
             Err(TrySendError::Memory(message)) => Err(SendError::Memory(message)),
@@ -131,7 +128,7 @@ impl<T: Drop, R: Wait + Clock + Clone> Sender<T, R> {
     pub fn send(&self, message: T) -> Send<'_, T, R>
         ensures { Carries message result }
     {
-        Send::new(&self.channel, &self.rt, message)
+        Send::new(&self.link.channel, &self.link.rt, message)
     }
 
     /// Sends a message once there is room, and blocks the calling thread until then.
@@ -144,9 +141,10 @@ impl<T: Drop, R: Wait + Clock + Clone> Sender<T, R> {
     {
         let mut sending = Sending::new(message);
         let sent = self
+            .link
             .channel
             .lock
-            .obtain(&self.rt, self.alloc, &mut sending, Limit::Never);
+            .obtain(&self.link.rt, self.link.alloc, &mut sending, Limit::Never);
         match sent {
             Ok(Some(sent)) => sent,
             Ok(None) => unreachable!(),
@@ -161,7 +159,7 @@ impl<T: Drop, R: Wait + Clock + Clone> Sender<T, R> {
     pub fn send_timeout(&self, message: T, timeout: Duration) -> Result<(), SendTimeoutError<T>>
         ensures returned { IfErr result (λ error. unsent_in_time error ≡ message) }
     {
-        self.send_until(message, Limit::after(&self.rt, timeout))
+        self.send_until(message, Limit::after(&self.link.rt, timeout))
     }
 
     /// Sends a message once there is room, and blocks the calling thread until then, or until this moment. With one that
@@ -179,9 +177,10 @@ impl<T: Drop, R: Wait + Clock + Clone> Sender<T, R> {
     {
         let mut sending = Sending::new(message);
         let sent = self
+            .link
             .channel
             .lock
-            .obtain(&self.rt, self.alloc, &mut sending, limit);
+            .obtain(&self.link.rt, self.link.alloc, &mut sending, limit);
         match sent {
             Ok(Some(Ok(()))) => Ok(()),
             Ok(Some(Err(error))) => Err(SendTimeoutError::from(error)),
@@ -194,17 +193,17 @@ impl<T: Drop, R: Wait + Clock + Clone> Sender<T, R> {
     ///
     /// No message is sent any more. Those that wait can still be received.
     pub fn close(&self) -> bool {
-        self.channel.close(&self.rt)
+        self.link.channel.close(&self.link.rt)
     }
 
     /// Whether the channel is closed.
     pub fn is_closed(&self) -> bool {
-        self.channel.is_closed(&self.rt)
+        self.link.channel.is_closed(&self.link.rt)
     }
 
     /// How many messages wait.
     pub fn len(&self) -> usize {
-        self.channel.len(&self.rt)
+        self.link.channel.len(&self.link.rt)
     }
 
     /// Whether no message waits.
@@ -214,37 +213,32 @@ impl<T: Drop, R: Wait + Clock + Clone> Sender<T, R> {
 
     /// Whether as many messages wait as may.
     pub fn is_full(&self) -> bool {
-        self.channel.is_full(&self.rt)
+        self.link.channel.is_full(&self.link.rt)
     }
 
     /// How many messages may wait at most, if there is a limit.
     pub fn capacity(&self) -> Option<usize>
         ensures { result ≡ self.now.capacity }
     {
-        self.channel.capacity
+        self.link.channel.capacity
     }
 
     /// How many senders of the channel there are.
     pub fn sender_count(&self) -> usize {
-        self.channel.senders.count()
+        self.link.channel.senders.count()
     }
 
     /// How many receivers of the channel there are.
     pub fn receiver_count(&self) -> usize {
-        self.channel.receivers.count()
+        self.link.channel.receivers.count()
     }
 
     /// A handle that does not keep the channel open. It fails if the runtime value can't be cloned.
     pub fn downgrade(&self) -> Result<WeakSender<T, R>, AllocError>
         ensures { IfOk result (λ weak. weak ≡ self.now) }
     {
-        let channel = Arc::try_clone(&self.channel)?;
-        let rt = self.rt.clone()?;
-        Ok(WeakSender {
-            channel,
-            rt,
-            alloc: self.alloc,
-        })
+        let link = self.link.try_clone()?;
+        Ok(WeakSender { link })
     }
 }
 
@@ -253,23 +247,18 @@ impl<T: Drop, R: Wait + Clock + Clone> Clone for Sender<T, R> {
     ghost is_clone = { λ sender same. same ≡ sender };
 
     fn clone(&self) -> Result<Self, AllocError> {
-        let channel = Arc::try_clone(&self.channel)?;
-        let rt = self.rt.clone()?;
-        channel.senders.add()?;
-        Ok(Sender::new(channel, rt, self.alloc))
+        let link = self.link.try_clone()?;
+        link.channel.senders.add()?;
+        Ok(Sender::new(link))
     }
 }
 
 /// The last sender closes the channel.
 impl<T: Drop, R: Wait + Clock + Clone> Drop for Sender<T, R> {
     fn drop(self) {
-        let Sender {
-            channel,
-            rt,
-            alloc: _,
-        } = self;
-        if channel.senders.remove() {
-            channel.close(&rt);
+        let Sender { link } = self;
+        if link.channel.senders.remove() {
+            link.channel.close(&link.rt);
         }
     }
 }
@@ -284,18 +273,15 @@ impl<T: Drop, R: Wait + Clock + Clone> Debug for Sender<T, R> {
 /// there is one.
 #[derive(Drop)]
 pub struct WeakSender<T: Drop, R: Wait + Clock + Clone> {
-    channel: Arc<Channel<T>>,
-    rt: R,
-    alloc: Global,
+    link: Link<T, R>,
 }
 
 impl<T: Drop, R: Wait + Clock + Clone> Model for WeakSender<T, R> {
-    ghost use Rattle.std.specs.Arc.{arc_value};
     ghost use Rattle.event_channel.specs.Handle.{Handle};
 
     ghost Value = { Handle };
 
-    ghost view = { λ weak. record { channel = (arc_value weak.channel).lock; capacity = (arc_value weak.channel).capacity } };
+    ghost view = { λ weak. weak.link };
 }
 
 impl<T: Drop, R: Wait + Clock + Clone> WeakSender<T, R> {
@@ -303,11 +289,10 @@ impl<T: Drop, R: Wait + Clock + Clone> WeakSender<T, R> {
     pub fn upgrade(&self) -> Result<Option<Sender<T, R>>, AllocError>
         ensures { IfOk result (λ sender. IfSome sender (λ sender. sender ≡ self.now)) }
     {
-        let channel = Arc::try_clone(&self.channel)?;
-        let rt = self.rt.clone()?;
-        if !channel.senders.revive() {
+        let link = self.link.try_clone()?;
+        if !link.channel.senders.revive() {
             return Ok(None);
         }
-        Ok(Some(Sender::new(channel, rt, self.alloc)))
+        Ok(Some(Sender::new(link)))
     }
 }

@@ -121,18 +121,7 @@ impl<T: Drop> Request<Messages<T, Task>> for Sending<T> {
         }
     }
 
-    fn leave<K: WakeSink<Task>>(
-        &mut self,
-        state: &mut Messages<T, Task>,
-        sink: &mut K,
-    ) -> Option<Result<(), SendError<T>>> {
-        self.give_up(state, sink);
-        None
-    }
-
     fn give_up<K: WakeSink<Task>>(&mut self, state: &mut Messages<T, Task>, sink: &mut K) {
-        if let Some(key) = self.key.take() {
-            state.cancel_sender(key, sink);
-        }
+        state.cancel_sender(self.key.take(), sink);
     }
 }

@@ -1,22 +1,19 @@
 -- What came of an attempt by one that waits if it has to.
-use Rattle.std.specs.Prelude.{◌≡◌, ◌≢◌, Option, Err}
+use Rattle.std.specs.Prelude.{◌≡◌, Option, Result, Ok, Err}
 use Rattle.event_queue.specs.declared.key.Key.{Key}
+use Rattle.event_queue.specs.declared.reply.ListenError.{ListenError}
 use Rattle.event_queue.specs.declared.reply.RegisterResult.{RegisterResult}
 use Rattle.event_queue.specs.declared.reply.RegisterResult.TheVariants.{Notified, Registered, NeverInserted}
 use Rattle.event_locks.specs.declared.request.Attempted.{Attempted}
 use Rattle.event_locks.specs.declared.request.Attempted.TheVariants.{Done, Waits, Absent, Refused}
-use Rattle.event_queue.specs.Queue.{Queue}
-use Rattle.event_queue.specs.Insert.{Inserts}
-use Rattle.event_locks.specs.Line.{HasLeft, Registers, Stores}
-
--- the queue did not know the listener that stands in it, or had told it
-pub record IsNotFound {W C : Type 0} (exchanged : C → Option W → W → C → Type 0) (key : Option Key) (old : Queue (Unit {0}) W) (before : C) (new : Queue (Unit {0}) W) (after : C) : Type 0 where
-  pub waits : Key
-  pub reply : RegisterResult (Unit {0})
-  pub registers : Registers exchanged key waits old before reply new after
-  pub unregistered : reply ≢ Registered
+use Rattle.event_locks.specs.Line.{Stores}
 
 module _ {G : Type 0} where
+  -- what that wait led to
+  abbrev pub waits_by : Result Key ListenError → Attempted G
+  waits_by (Ok key) = Waits key
+  waits_by (Err error) = Refused error
+
   -- what that registration led to
   abbrev pub found_by : Key → RegisterResult G → Attempted G
   found_by key (Notified grant) = Done grant
@@ -50,11 +47,3 @@ module _ {G : Type 0} where
   Attempts exchanged before (Waits key) after = Stores exchanged before after
   Attempts exchanged before Absent after = after ≡ before
   Attempts exchanged before (Refused error) after = after ≡ before
-
-  -- one waits with its task, at its place or at the end; or it was not found there; or it has left the queue, and none came
-  -- into it
-  abbrev pub WaitsOn : {W C : Type 0} → (C → Option W → W → C → Type 0) → Option Key → Queue (Unit {0}) W → C → Attempted G → Queue (Unit {0}) W → C → Type 0
-  WaitsOn exchanged key old before (Done grant) new after = ⊥
-  WaitsOn exchanged key old before (Waits waits) new after = Registers exchanged key waits old before Registered new after
-  WaitsOn exchanged key old before Absent new after = IsNotFound exchanged key old before new after
-  WaitsOn exchanged key old before (Refused error) new after = HasLeft key old new × Inserts new (Err error) new × (after ≡ before)

@@ -13,7 +13,7 @@ left_as (Some (Notified additional tag)) = Told
 left_as (Some (Passed to)) = Absent
 left_as (Some (WasLost additional tag)) = Absent
 
--- how many of those told, and of those that wait, left by it
+-- how many of those notified, and of those that wait, left by it
 abbrev pub told_of : Left → ℕ
 told_of Told = 1
 told_of Waited = 0

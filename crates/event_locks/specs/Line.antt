@@ -1,16 +1,106 @@
--- What becomes of a queue, and what one that stands in it learns.
-use Rattle.std.specs.Prelude.{◌≡◌, ℕ, ◌+◌, ◌-◌, ◌⊎◌, min, drop, Option, Some, None, Ok, false, length}
+-- What becomes of a queue, and what one that waits in it learns.
+use Rattle.std.specs.Prelude.{◌≡◌, ℕ, ◌+◌, ◌-◌, min, Bool, false, if◌then◌else◌, Option, Some, None, is_some, unwrap_or, List, [], ◌∷◌, ◌++◌, length, drop, Err}
 use Rattle.std.specs.List.{FoldsTo}
+use Rattle.std.specs.Map.{lookup, remove_entry, set_value}
 use Rattle.event_queue.specs.declared.key.Key.{Key}
-use Rattle.event_queue.specs.declared.reply.State.{State}
-use Rattle.event_queue.specs.Exchange.{RegistersWith}
-use Rattle.event_queue.specs.Insert.{Inserts}
-use Rattle.event_queue.specs.Queue.{Queue, order_of, tasks_of}
-use Rattle.event_queue.specs.Remove.{Removes}
+use Rattle.event_queue.specs.declared.reply.ListenError.{ListenError}
 use Rattle.event_queue.specs.declared.reply.RegisterResult.{RegisterResult}
 use Rattle.event_queue.specs.declared.reply.RegisterResult.TheVariants.{Notified, Registered, NeverInserted}
+use Rattle.event_queue.specs.Insert.{Inserts}
+use Rattle.event_queue.specs.Key.{is_key, without}
+use Rattle.event_queue.specs.Queue.{Queue, order_of, listeners_of, tasks_of}
 
--- how many of those told have left by a look
+-- the entries but that of this key, if it is one
+abbrev pub others_of : {X : Type 0} → Option Key → List (Key × X) → List (Key × X)
+others_of None entries = entries
+others_of (Some key) entries = remove_entry (is_key key) entries
+
+module _ {T W : Type 0} where
+  -- how many are notified anew, so that `n` are notified if there are as many
+  abbrev pub told_anew : ℕ → Queue T W → ℕ
+  told_anew n q = min (n - length q.told) (length q.waiting)
+
+  -- the first that wait were notified, until `n` of the queue were, if there are as many; nobody has come or gone
+  pub record TellsUpTo (n : ℕ) (old new : Queue T W) : Type 0 where
+    pub told : length new.told ≡ length old.told + told_anew n old
+    pub waiting : new.waiting ≡ drop (told_anew n old) old.waiting
+    pub order : order_of new ≡ order_of old
+
+  -- the tasks that this wakes
+  abbrev pub woken_up_to : ℕ → Queue T W → List W
+  woken_up_to n q = tasks_of (told_anew n q) q
+
+  -- all that waited were notified; nobody has come or gone
+  pub record TellsAll (old new : Queue T W) : Type 0 where
+    pub told : length new.told ≡ listeners_of old
+    pub waiting : new.waiting ≡ []
+    pub order : order_of new ≡ order_of old
+
+  -- the tasks that this wakes
+  abbrev pub woken_at_once : Queue T W → List W
+  woken_at_once q = tasks_of (length q.waiting) q
+
+  -- the queue once this one, if it is one, has left
+  abbrev pub after_leaving : Option Key → Queue T W → Queue T W
+  after_leaving key q = record q { told = others_of key q.told; waiting = others_of key q.waiting }
+
+  -- this one has left the queue, and the others are as they were
+  pub record HasLeft (key : Key) (old new : Queue T W) : Type 0 where
+    pub told : new.told ≡ others_of (Some key) old.told
+    pub waiting : new.waiting ≡ others_of (Some key) old.waiting
+    pub order : order_of new ≡ without key (order_of old)
+
+  -- this one has left the queue, and then the first that wait were notified, until `n` were
+  pub record HasLeftAndTold (key : Key) (n : ℕ) (old new : Queue T W) : Type 0 where
+    pub left : order_of new ≡ without key (order_of old)
+    pub tells : TellsUpTo n (after_leaving (Some key) old) new
+
+  -- one that is in the queue has left it; one that is in none changes nothing
+  abbrev pub Leaves : Option Key → Queue T W → Queue T W → Type 0
+  Leaves None old new = new ≡ old
+  Leaves (Some key) old new = HasLeft key old new
+
+  abbrev pub LeavesThenTells : Option Key → ℕ → Queue T W → Queue T W → Type 0
+  LeavesThenTells None n old new = new ≡ old
+  LeavesThenTells (Some key) n old new = HasLeftAndTold key n old new
+
+  -- the tasks that this wakes
+  abbrev pub woken_by_leaving : Option Key → ℕ → Queue T W → List W
+  woken_by_leaving None n q = []
+  woken_by_leaving (Some key) n q = woken_up_to n (after_leaving (Some key) q)
+
+  -- whether this one waits untold
+  abbrev pub waits_untold : Option Key → Queue T W → Bool
+  waits_untold None q = false
+  waits_untold (Some key) q = is_some (lookup (is_key key) q.waiting)
+
+  -- the task that it stored
+  abbrev pub stored_task : Option Key → Queue T W → Option W
+  stored_task None q = None
+  stored_task (Some key) q = unwrap_or (lookup (is_key key) q.waiting) None
+
+  -- those that wait once this one does, with that task: it keeps its place, and one that was notified or is new comes last
+  abbrev pub waiting_with : Option Key → Key → W → Queue T W → List (Key × Option W)
+  waiting_with key waits task q =
+      if waits_untold key q
+      then set_value (is_key waits) q.waiting (Some task)
+      else q.waiting ++ (waits, Some task) ∷ []
+
+  -- one could not be put at the end of the queue, and is in it no more
+  pub record CannotWait (key : Option Key) (error : ListenError) (old new : Queue T W) : Type 0 where
+    pub untold : waits_untold key old ≡ false
+    pub leaves : Leaves key old new
+    pub reason : Inserts new (Err error) new
+
+module _ {T W C : Type 0} (exchanged : C → Option W → W → C → Type 0) where
+  -- one waits by this key, with a task that was exchanged for the one that it had stored
+  pub record WaitsBy (key : Option Key) (old : Queue T W) (before : C) (waits : Key) (new : Queue T W) (after : C) : Type 0 where
+    pub task : W
+    pub made : exchanged before (stored_task key old) task after
+    pub told : new.told ≡ others_of key old.told
+    pub waiting : new.waiting ≡ waiting_with key waits task old
+
+-- how many of those notified have left by a look
 abbrev pub left_by : {T : Type 0} → RegisterResult T → ℕ
 left_by (Notified tag) = 1
 left_by Registered = 0
@@ -28,43 +118,12 @@ as_told (Notified grant) = Notified tt
 as_told Registered = Registered
 as_told NeverInserted = NeverInserted
 
-module _ {T W : Type 0} where
-  -- how many are notified anew, so that `n` are if there are as many
-  abbrev pub told_anew : ℕ → Queue T W → ℕ
-  told_anew n q = min (n - length q.told) (length q.waiting)
-
-  -- the listener of that key left the queue, whatever it was notified of, and its notification was not passed on
-  pub record Leaves (key : Key) (old new : Queue T W) : Type 0 where
-    pub answer : Option (State T W)
-    pub removes : Removes old key false answer new
-
-  -- it left, if it was there
-  abbrev pub HasLeft : Option Key → Queue T W → Queue T W → Type 0
-  HasLeft None old new = new ≡ old
-  HasLeft (Some key) old new = Leaves key old new
-
-  -- it left, if it was there, and came again by that key, last in the queue
-  pub record GoesLast (key : Option Key) (waits : Key) (old new : Queue T W) : Type 0 where
-    pub between : Queue T W
-    pub left : HasLeft key old between
-    pub joins : Inserts between (Ok waits) new
-
-  -- it kept its place, or went to the end
-  abbrev pub Stands : Option Key → Key → Queue T W → Queue T W → Type 0
-  Stands key waits old new = ((key ≡ Some waits) × (new ≡ old)) ⊎ GoesLast key waits old new
-
 module _ {W C : Type 0} (exchanged : C → Option W → W → C → Type 0) where
   -- a task was stored that was exchanged for the one before
   pub record Stores (before after : C) : Type 0 where
     pub handed_out : Option W
     pub task : W
     pub made : exchanged before handed_out task after
-
-  -- it stands in the queue by that key, where its task was exchanged, or it was not found there
-  pub record Registers (key : Option Key) (waits : Key) (old : Queue (Unit {0}) W) (before : C) (reply : RegisterResult (Unit {0})) (new : Queue (Unit {0}) W) (after : C) : Type 0 where
-    pub between : Queue (Unit {0}) W
-    pub stands : Stands key waits old between
-    pub step : RegistersWith exchanged between waits before reply new after
 
   -- only the task of one that waits on is exchanged
   abbrev pub Looked : {G : Type 0} → C → RegisterResult G → C → Type 0
@@ -73,29 +132,10 @@ module _ {W C : Type 0} (exchanged : C → Option W → W → C → Type 0) wher
   Looked before NeverInserted after = after ≡ before
 
 module _ {T W S : Type 0} (woke : S → W → S → Type 0) where
-  -- the first so many of those that wait, or all if fewer do, were handed something, and their tasks were woken in order;
+  -- the first `n` of those that wait, or all if fewer do, were handed something, and their tasks were woken in order;
   -- nobody has come or gone
   pub record HandsOut (n : ℕ) (old new : Queue T W) (sink sink' : S) : Type 0 where
     pub told : length new.told ≡ length old.told + min n (length old.waiting)
     pub waiting : new.waiting ≡ drop n old.waiting
     pub order : order_of new ≡ order_of old
     pub wakes : FoldsTo woke sink (tasks_of n old) sink'
-
-  -- the first that wait were notified, and their tasks woken in order, so many that `n` are if there are as many; nobody has
-  -- come or gone
-  pub record TellsUpTo (n : ℕ) (old new : Queue T W) (sink sink' : S) : Type 0 where
-    pub told : length new.told ≡ length old.told + told_anew n old
-    pub waiting : new.waiting ≡ drop (told_anew n old) old.waiting
-    pub order : order_of new ≡ order_of old
-    pub wakes : FoldsTo woke sink (tasks_of (told_anew n old) old) sink'
-
-  -- one left the queue, and then so many were notified that `n` are if there are as many
-  pub record LeavesThenTells (key : Key) (n : ℕ) (old new : Queue T W) (sink sink' : S) : Type 0 where
-    pub between : Queue T W
-    pub leaves : Leaves key old between
-    pub tells : TellsUpTo n between new sink sink'
-
-  -- the same of one that is there or not: nobody is notified where it was not
-  abbrev pub HasLeftThenTells : Option Key → ℕ → Queue T W → Queue T W → S → S → Type 0
-  HasLeftThenTells None n old new sink sink' = (new ≡ old) × (sink' ≡ sink)
-  HasLeftThenTells (Some key) n old new sink sink' = LeavesThenTells key n old new sink sink'

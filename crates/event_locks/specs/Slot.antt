@@ -2,8 +2,7 @@
 use Rattle.std.specs.Prelude.{◌≡◌, ℕ, ◌<◌, length, Option, Some, None}
 use Rattle.event_queue.specs.declared.key.Key.{Key}
 use Rattle.event_queue.specs.Queue.{Queue}
-use Rattle.event_locks.specs.Attempted.{WaitsOn}
-use Rattle.event_locks.specs.Line.{HasLeft}
+use Rattle.event_locks.specs.Line.{Leaves, WaitsBy, CannotWait}
 use Rattle.event_locks.specs.declared.request.Attempted.{Attempted}
 use Rattle.event_locks.specs.declared.request.Attempted.TheVariants.{Done, Waits, Absent, Refused}
 
@@ -22,22 +21,21 @@ module _ {T W : Type 0} where
   abbrev pub NobodyWaitsInVain : State T W → Type 0
   NobodyWaitsInVain s = length s.line.told < count s.kept → length s.line.waiting ≡ 0
 
+  -- the value was there, and whoever took it is in the queue no more
+  pub record Takes (key : Option Key) (value : T) (old new : State T W) : Type 0 where
+    pub was : old.kept ≡ Some value
+    pub now : new.kept ≡ None
+    pub left : Leaves key old.line new.line
+
+  -- the value was not there, and is not
+  pub record IsOut (old new : State T W) : Type 0 where
+    pub was : old.kept ≡ None
+    pub now : new.kept ≡ None
+
   module _ {C : Type 0} (exchanged : C → Option W → W → C → Type 0) where
-    -- the value was there, and whoever took it is in the queue no more
-    pub record Takes (key : Option Key) (old : State T W) (before : C) (value : T) (new : State T W) (after : C) : Type 0 where
-      pub was : old.kept ≡ Some value
-      pub now : new.kept ≡ None
-      pub left : HasLeft key old.line new.line
-      pub task : after ≡ before
-
-    -- the value was not there, and one waits for it
-    pub record WaitsFor (key : Option Key) (old : State T W) (before : C) (reply : Attempted T) (new : State T W) (after : C) : Type 0 where
-      pub was : old.kept ≡ None
-      pub now : new.kept ≡ None
-      pub waits : WaitsOn exchanged key old.line before reply new.line after
-
+    -- of one that was to take the value, or else to wait: it has it; or it waits; or it could not come into the queue
     abbrev pub Obtains : Option Key → State T W → C → Attempted T → State T W → C → Type 0
-    Obtains key old before (Done value) new after = Takes key old before value new after
-    Obtains key old before (Waits waits) new after = WaitsFor key old before (Waits waits) new after
-    Obtains key old before Absent new after = WaitsFor key old before Absent new after
-    Obtains key old before (Refused error) new after = WaitsFor key old before (Refused error) new after
+    Obtains key old before (Done value) new after = Takes key value old new × (after ≡ before)
+    Obtains key old before (Waits waits) new after = IsOut old new × WaitsBy exchanged key old.line before waits new.line after
+    Obtains key old before Absent new after = ⊥
+    Obtains key old before (Refused error) new after = IsOut old new × CannotWait key error old.line new.line × (after ≡ before)

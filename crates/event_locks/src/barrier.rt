@@ -9,7 +9,7 @@ use std::alloc::Global;
 use std::sync::Wait;
 use std::time::Clock;
 
-/// Where so many threads and tasks have to arrive before any goes on, round after round.
+/// Where a number of threads and tasks have to arrive before any goes on, round after round.
 pub type Barrier = Lock<Rounds<Task>>;
 
 /// A wait for the others. Dropped before its round has ended, it has not arrived.
@@ -19,7 +19,7 @@ pub type BarrierWait<'a, R> = Obtaining<Rounds<Task>, Place, Borrowed<'a, Rounds
 pub type BarrierWaitResult<'a, R> = Guard<Rounds<Task>, Borrowed<'a, Rounds<Task>, R>>;
 
 impl Lock<Rounds<Task>> {
-    /// A barrier for so many. One for none is one for one. It takes no memory until somebody waits.
+    /// A barrier for `parties` threads and tasks. One for none is one for one. It takes no memory until somebody waits.
     pub fn new(alloc: Global, parties: usize) -> Self {
         Lock::of(Rounds::new(alloc, parties))
     }

@@ -10,7 +10,7 @@ mod place;
 mod request;
 mod rw_lock;
 mod semaphore;
-mod waiters;
+pub mod waiters;
 
 pub use barrier::{Barrier, BarrierWait, BarrierWaitResult, Ended, Rounds};
 pub use error::LockError;

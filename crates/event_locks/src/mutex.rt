@@ -12,7 +12,7 @@ use std::time::Clock;
 
 /// A value that one thread or task at a time can use. Those that wait get it first come, first served.
 ///
-/// The value stands in the lock while nobody has it, and in the guard of the one that has it: a large one is better boxed.
+/// The value is in the lock while nobody has it, and else in the guard of the one that has it: a large one is better boxed.
 pub type Mutex<T> = Lock<Slot<T, Task>>;
 
 /// The value of a mutex. Dropping the guard gives it back.

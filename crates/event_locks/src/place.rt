@@ -2,7 +2,7 @@
 use event_queue::Key;
 use std::marker::Model;
 
-/// The place of one that wants something of a state, in its only queue, if it stands there.
+/// The place of one that wants something of a state, in its only queue, if it has one.
 #[derive(Drop)]
 pub struct Place {
     pub(crate) key: Option<Key>,

@@ -43,7 +43,7 @@ pub trait Request<S> {
     /// Whether it has a place in a queue.
     fn is_waiting(&self) -> bool;
 
-    /// Attempts it, with no place in a queue.
+    /// Attempts it once. It does not look whether it waits in a queue, and does not leave one.
     fn attempt<K: WakeSink<Task>>(&mut self, state: &mut S, sink: &mut K) -> Option<Self::Output>
         ensures gives { IfSome result (gives self.old) }
         ensures kept { result ≡ None → self.new ≡ self.old };
@@ -60,14 +60,20 @@ pub trait Request<S> {
         ensures kept { OnUndone result (self.new ≡ self.old) }
         ensures exchanged { Attempts (X.exchanged exchange.now) on.old result on.new };
 
-    /// Leaves the queue, with what it can still get.
-    fn leave<K: WakeSink<Task>>(&mut self, state: &mut S, sink: &mut K) -> Option<Self::Output>
-        ensures gives { IfSome result (gives self.old) }
-        ensures kept { result ≡ None → self.new ≡ self.old };
-
-    /// Leaves the queue, and gives on what it was notified of.
+    /// Leaves the queue, if it is there, and gives on what it was notified of.
     fn give_up<K: WakeSink<Task>>(&mut self, state: &mut S, sink: &mut K)
         ensures kept { self.new ≡ self.old };
+
+    /// Leaves the queue, with what it can still get: by default it attempts once more, since who is
+    /// notified has nothing yet.
+    fn leave<K: WakeSink<Task>>(&mut self, state: &mut S, sink: &mut K) -> Option<Self::Output>
+        ensures gives { IfSome result (gives self.old) }
+        ensures kept { result ≡ None → self.new ≡ self.old }
+    {
+        let output = self.attempt(state, sink);
+        self.give_up(state, sink);
+        output
+    }
 }
 
 /// A state that takes back what it has granted.

@@ -178,7 +178,7 @@ fn entering_arc<T: Drop, R: Drop, A>(
 }
 
 impl<'a, T, R: Wait + Clock> RwLockReadGuard<'a, T, R> {
-    /// Writes from here on, if nobody else reads; else the guard comes back. Writers that wait do not stand in the way.
+    /// Writes from here on, if nobody else reads; else the guard comes back. Writers that wait do not keep it from that.
     pub fn try_upgrade(self) -> Result<RwLockWriteGuard<'a, T, R>, RwLockReadGuard<'a, T, R>> {
         let RwLockReadGuard {
             value,

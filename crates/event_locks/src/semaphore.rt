@@ -25,7 +25,7 @@ pub type Acquire<'a, R> = Obtaining<Permits<Task>, Place, Borrowed<'a, Permits<T
 pub type AcquireArc<R> = Obtaining<Permits<Task>, Place, Shared<Permits<Task>, R>>;
 
 impl Lock<Permits<Task>> {
-    /// A semaphore with so many permits, all free. It takes no memory until somebody waits.
+    /// A semaphore with `permits` permits, all free. It takes no memory until somebody waits.
     pub fn new(alloc: Global, permits: usize) -> Self {
         Lock::of(Permits::new(alloc, permits))
     }

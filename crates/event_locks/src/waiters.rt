@@ -1,11 +1,15 @@
-//! What a state does with its queue.
-ghost use Rattle.std.specs.Prelude.{◌≡◌, ◌+◌, ◌<◌, min, drop, length, Err, IfOk, IfErr, OnErr};
+//! What a state does with a queue of those that wait for something of it: a queue notifies, or it hands out.
+//!
+//! Who is notified has nothing yet: it attempts again, and goes to the end of the queue if another one came before. Who is
+//! handed something has it, and nobody comes between.
+ghost use Rattle.std.specs.Prelude.{◌≡◌, ◌+◌, ◌<◌, ◌≤◌, ◌↔◌, min, drop, length, Err, None, Some, IsTrue, IfOk, IfErr, OnErr};
+ghost use Rattle.std.specs.List.{FoldsTo};
 ghost use Rattle.event_queue.specs.Exchange.{RegistersWith};
 ghost use Rattle.event_queue.specs.Insert.{Inserts};
 ghost use Rattle.event_queue.specs.Key.{without};
 ghost use Rattle.event_queue.specs.Queue.{order_of};
-ghost use Rattle.event_locks.specs.Attempted.{WaitsOn, found_by};
-ghost use Rattle.event_locks.specs.Line.{HandsOut, HasLeft, Leaves, LeavesThenTells, Looked, Stands, TellsUpTo, left_by};
+ghost use Rattle.event_locks.specs.Attempted.{found_by, waits_by};
+ghost use Rattle.event_locks.specs.Line.{CannotWait, HandsOut, HasLeft, Leaves, LeavesThenTells, Looked, TellsAll, TellsUpTo, WaitsBy, left_by, woken_at_once, woken_by_leaving, woken_up_to};
 ghost use Rattle.event_locks.specs.Left.{left_as, told_of, waited_of};
 
 use crate::request::Attempted;
@@ -22,73 +26,145 @@ impl<W: Drop> WakeSink<W> for Nobody {
     fn wake(&mut self, _task: W) {}
 }
 
-// Notifies the first that wait, so that `n` are notified if there are as many, and wakes them.
+// Whether somebody waits who is not notified. Where nobody does, this is all that a notification costs.
 #[inline(always)]
-pub(crate) fn tell<W, S: WakeSink<W>>(line: &mut List<(), W>, n: usize, sink: &mut S)
-    ensures step { TellsUpTo S.woke n line.old line.new sink.old sink.new }
-    ensures enough { length line.new.told < n → length line.new.waiting ≡ 0 }
+pub(crate) fn somebody_waits<W>(line: &List<(), W>) -> bool
+    ensures { IsTrue result ↔ (0 < length line.now.waiting) }
+{
+    line.total_listeners() > line.listeners_notified()
+}
+
+/// Notifies the first that wait until `n` of the queue are notified, if there are as many, and wakes them.
+#[inline(always)]
+pub fn tell<W, S: WakeSink<W>>(line: &mut List<(), W>, n: usize, sink: &mut S)
+    ensures step { TellsUpTo n line.old line.new }
+    ensures wakes { FoldsTo S.woke sink.old (woken_up_to n line.old) sink.new }
+{
+    if somebody_waits(line) {
+        tell_waiting(line, n, sink);
+    }
+}
+
+#[inline(never)]
+fn tell_waiting<W, S: WakeSink<W>>(line: &mut List<(), W>, n: usize, sink: &mut S)
+    ensures step { TellsUpTo n line.old line.new }
+    ensures wakes { FoldsTo S.woke sink.old (woken_up_to n line.old) sink.new }
 {
     line.notify_uncounted(&mut n.into_notification(), sink)
         .unwrap();
 }
 
-// Takes one out of the queue, and then notifies the first that wait, so that `n` are notified if there are as many.
-pub(crate) fn leave_then_tell<W: Drop, S: WakeSink<W>>(
-    line: &mut List<(), W>,
-    key: Key,
-    n: usize,
-    sink: &mut S,
-)
-    ensures step { LeavesThenTells S.woke key n line.old line.new sink.old sink.new }
-    ensures enough { length line.new.told < n → length line.new.waiting ≡ 0 }
+/// Notifies all that wait, and wakes them.
+#[inline(always)]
+pub fn tell_all<W, S: WakeSink<W>>(line: &mut List<(), W>, sink: &mut S)
+    ensures step { TellsAll line.old line.new }
+    ensures wakes { FoldsTo S.woke sink.old (woken_at_once line.old) sink.new }
 {
-    leave_line(line, key);
-    tell(line, n, sink);
+    if somebody_waits(line) {
+        tell_all_waiting(line, sink);
+    }
 }
 
-// Takes one out of the queue, if it is there.
-pub(crate) fn leave_any<W: Drop>(line: &mut List<(), W>, key: Option<Key>)
-    ensures left { HasLeft key line.old line.new }
+#[inline(never)]
+fn tell_all_waiting<W, S: WakeSink<W>>(line: &mut List<(), W>, sink: &mut S)
+    ensures step { TellsAll line.old line.new }
+    ensures wakes { FoldsTo S.woke sink.old (woken_at_once line.old) sink.new }
+{
+    let all = line.total_listeners();
+    tell_waiting(line, all, sink);
+}
+
+/// Takes this one, if it is one, out of the queue. What it was notified of is passed on to nobody.
+#[inline(always)]
+pub fn leave<W: Drop>(line: &mut List<(), W>, key: Option<Key>)
+    ensures left { Leaves key line.old line.new }
+    ensures waiting { length line.new.waiting ≤ length line.old.waiting }
 {
     if let Some(key) = key {
         leave_line(line, key);
     }
 }
 
-// Has one wait, with the task that the exchange makes: at its place, or at the end where it was notified or is new.
-pub(crate) fn wait_in_line<W: Drop, G, C, X: TaskExchange<W, C>>(
+/// Takes this one, if it is one, out of the queue, and then notifies as [`tell`] does.
+#[inline(always)]
+pub fn leave_then_tell<W: Drop, S: WakeSink<W>>(
+    line: &mut List<(), W>,
+    key: Option<Key>,
+    n: usize,
+    sink: &mut S,
+)
+    ensures left { LeavesThenTells key n line.old line.new }
+    ensures wakes { FoldsTo S.woke sink.old (woken_by_leaving key n line.old) sink.new }
+    ensures waiting { length line.new.waiting ≤ length line.old.waiting }
+{
+    if let Some(key) = key {
+        leave_line(line, key);
+        tell(line, n, sink);
+    }
+}
+
+/// Has one wait, with the task that the exchange makes of the one that it stored: at its place, or at the end of the queue
+/// if it was notified or is new. One that is new may allocate. An error says that it is in the queue no more.
+pub fn wait_in_line<W, C, X: TaskExchange<W, C>>(
     line: &mut List<(), W>,
     key: Option<Key>,
     exchange: &X,
     on: &mut C,
-) -> Attempted<G>
-    ensures { WaitsOn (X.exchanged exchange.now) key line.old on.old result line.new on.new }
+) -> Result<Key, ListenError>
+    ensures waits { IfOk result (λ waits. WaitsBy (X.exchanged exchange.now) key line.old on.old waits line.new on.new) }
+    ensures refused { IfErr result (λ error. CannotWait key error line.old line.new) }
+    ensures kept { OnErr result (on.new ≡ on.old) }
 {
-    let key = match place_in(line, key) {
-        Ok(key) => key,
-        Err(error) => return Attempted::Refused(error),
-    };
-    match line.register_with_uncounted(key, exchange, on) {
-        RegisterResult::Registered => Attempted::Waits(key),
-        RegisterResult::Notified(()) => Attempted::Absent,
-        RegisterResult::NeverInserted => Attempted::Absent,
+    match key {
+        Some(key) => wait_on(line, key, exchange, on),
+        None => wait_at_end(line, exchange, on),
     }
 }
 
-// The place of one that waits: its own, or the last one where it was notified or is new.
-fn place_in<W: Drop>(line: &mut List<(), W>, key: Option<Key>) -> Result<Key, ListenError>
-    ensures placed { IfOk result (λ place. Stands key place line.old line.new) }
-    ensures refused { IfErr result (λ error. HasLeft key line.old line.new × Inserts line.new (Err error) line.new) }
+// Has one wait that has a key: at its place, or at the end of the queue if it was notified.
+fn wait_on<W, C, X: TaskExchange<W, C>>(
+    line: &mut List<(), W>,
+    key: Key,
+    exchange: &X,
+    on: &mut C,
+) -> Result<Key, ListenError>
+    ensures waits { IfOk result (λ waits. WaitsBy (X.exchanged exchange.now) (Some key) line.old on.old waits line.new on.new) }
+    ensures refused { IfErr result (λ error. CannotWait (Some key) error line.old line.new) }
+    ensures kept { OnErr result (on.new ≡ on.old) }
 {
-    match key {
-        Some(key) => {
-            if !line.is_told(key) {
-                return Ok(key);
-            }
-            leave_line(line, key);
-            line.insert_uncounted()
-        }
-        None => line.insert_uncounted(),
+    match line.register_with_uncounted(key, exchange, on) {
+        RegisterResult::Registered => Ok(key),
+        RegisterResult::Notified(()) => wait_at_end(line, exchange, on),
+        RegisterResult::NeverInserted => wait_at_end(line, exchange, on),
+    }
+}
+
+// Has a newcomer wait at the end of the queue.
+fn wait_at_end<W, C, X: TaskExchange<W, C>>(
+    line: &mut List<(), W>,
+    exchange: &X,
+    on: &mut C,
+) -> Result<Key, ListenError>
+    ensures waits { IfOk result (λ waits. WaitsBy (X.exchanged exchange.now) None line.old on.old waits line.new on.new) }
+    ensures refused { OnErr result (line.new ≡ line.old) }
+    ensures kept { OnErr result (on.new ≡ on.old) }
+    ensures reason { IfErr result (λ error. Inserts line.old (Err error) line.new) }
+{
+    let key = line.insert_uncounted()?;
+    match line.register_with_uncounted(key, exchange, on) {
+        RegisterResult::Registered => Ok(key),
+        RegisterResult::Notified(()) => unreachable!(),
+        RegisterResult::NeverInserted => unreachable!(),
+    }
+}
+
+// What a wait in a queue led to.
+pub(crate) fn waiting<G>(waits: Result<Key, ListenError>) -> Attempted<G>
+    ensures { result ≡ waits_by waits }
+{
+    match waits {
+        Ok(key) => Attempted::Waits(key),
+        Err(error) => Attempted::Refused(error),
     }
 }
 
@@ -104,10 +180,22 @@ pub(crate) fn found<G>(key: Key, looked: RegisterResult<G>) -> Attempted<G>
 }
 
 // Hands something to the first that wait, `n` at most, and wakes them. Returns to how many.
+#[inline(always)]
 pub(crate) fn hand_out<W, S: WakeSink<W>>(line: &mut List<(), W>, n: usize, sink: &mut S) -> usize
     ensures count { result ≡ min n (length line.old.waiting) }
     ensures told { length line.new.told ≡ length line.old.told + result }
     ensures waiting { line.new.waiting ≡ drop n line.old.waiting }
+    ensures step { HandsOut S.woke n line.old line.new sink.old sink.new }
+{
+    if !somebody_waits(line) {
+        return 0;
+    }
+    hand_to_waiting(line, n, sink)
+}
+
+#[inline(never)]
+fn hand_to_waiting<W, S: WakeSink<W>>(line: &mut List<(), W>, n: usize, sink: &mut S) -> usize
+    ensures count { result ≡ min n (length line.old.waiting) }
     ensures step { HandsOut S.woke n line.old line.new sink.old sink.new }
 {
     line.notify_uncounted(&mut n.additional(), sink).unwrap()
@@ -157,8 +245,7 @@ fn left_as<W: Drop>(left: Option<State<(), W>>) -> Left
 pub(crate) fn leave_line<W: Drop>(line: &mut List<(), W>, key: Key) -> Left
     ensures told { length line.new.told + told_of result ≡ length line.old.told }
     ensures waiting { length line.new.waiting + waited_of result ≡ length line.old.waiting }
-    ensures others { order_of line.new ≡ without key (order_of line.old) }
-    ensures leaves { Leaves key line.old line.new }
+    ensures leaves { HasLeft key line.old line.new }
 {
     let mut nobody = Nobody {};
     let left = line.remove_uncounted(key, false, &mut nobody);

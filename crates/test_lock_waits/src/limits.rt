@@ -1,11 +1,13 @@
 //! Waits that end at their limit. Who gives up there stands in no queue, and what it was handed is not lost.
 use crate::support::{check, in_time, is_over_soon};
 use crate::waits::Polled;
+use event_locks::Semaphore;
+use std::alloc::AllocGlobal;
 use std::sync::atomic::{AtomicBool, Ordering};
 use std::time::{Duration, Instant};
 use std::{io, thread};
 use test_lock_support::{Case, Kind, Sharing, each};
-use test_support::{NoClock, Runtime};
+use test_support::{NoClock, OwnClock, Runtime, WithClock};
 
 // One waits with each of these limits, in vain. Then another one comes first.
 #[derive(Drop)]
@@ -65,4 +67,38 @@ fn a_clock_that_cannot_be_read_ends_each_wait(rt: HostRuntime) {
     };
     let ran = in_time!(&rt, each(&rt, &NoClock { rt: &rt }, &case));
     ran.expect(&rt, "memory");
+}
+
+// A clock that gives a permit whenever it is read.
+#[derive(Drop)]
+struct Gives<'a, R> {
+    rt: &'a R,
+    semaphore: &'a Semaphore,
+}
+
+impl<'a, R: Runtime> OwnClock for Gives<'a, R> {
+    fn read(&self) -> io::Result<Duration> {
+        self.semaphore.add_permits(self.rt, 1);
+        Ok(Duration::from_secs(1))
+    }
+}
+
+#[test]
+fn what_comes_while_the_clock_is_read_is_taken(rt: HostRuntime) {
+    let semaphore = Semaphore::new(rt.alloc(), 0);
+    let clock = Gives {
+        rt: &rt,
+        semaphore: &semaphore,
+    };
+    let host = WithClock {
+        rt: &rt,
+        clock: &clock,
+    };
+    let now = Instant::now(&host).expect(&rt, "the time");
+    let first = semaphore.try_acquire(&rt).expect(&rt, "a permit");
+    let given = semaphore.acquire(&host, rt.alloc()).wait_deadline(now);
+    let given = given.expect(&rt, "an answer").is_some();
+    check(&rt, "whether it is granted", given, true);
+    drop(first);
+    check(&rt, "how many are free", semaphore.available(&rt), 2);
 }

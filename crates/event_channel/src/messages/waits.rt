@@ -1,14 +1,14 @@
 //! One that sends or receives, and waits where it can't.
 ghost use Rattle.std.specs.Prelude.{◌≡◌, [], false, length};
 ghost use Rattle.std.specs.List.{FoldsTo};
-ghost use Rattle.event_channel.specs.Line.{HasLeft, HasLeftAndTold, LeavesThenTells, woken_by_leaving};
+ghost use Rattle.event_locks.specs.Line.{LeavesThenTells, woken_by_leaving};
 ghost use Rattle.event_channel.specs.Messages.{IsFull, room_in};
 ghost use Rattle.event_channel.specs.Steps.{KeepsAllButSenders, KeepsAllButReceivers, KeepsAllButStreams};
 ghost use Rattle.event_channel.specs.Waits.{Sends, Receives, SendsOn, ReceivesOn, woken_by_sending, woken_by_receiving};
 
 use super::Messages;
-use super::line::{leave, leave_and_tell, wait_in_line};
 use crate::error::{TryRecvError, TrySendError};
+use event_locks::waiters::{leave_then_tell, wait_in_line};
 use event_queue::{Key, ListenError, TaskExchange, WakeSink};
 
 /// What became of a message that was to be sent.
@@ -41,9 +41,9 @@ pub enum Received<T> {
 
 impl<T, W: Drop> Messages<T, W> {
     /// [`push`](Messages::push); where the channel is full the message comes back, and its sender waits, with the task that
-    /// the exchange makes. It tries each time, told or not; one that was told in vain goes to the end of the queue. One that
-    /// does not wait is in the queue no more, and another is told in its place if one is due. A newcomer that waits may
-    /// allocate.
+    /// the exchange makes. It tries each time, notified or not; one that was notified in vain goes to the end of the queue. One
+    /// that does not wait is in the queue no more, and another is notified in its place if one is due. A newcomer that
+    /// waits may allocate.
     pub fn push_or_wait<C, X: TaskExchange<W, C>, S: WakeSink<W>>(
         &mut self,
         message: T,
@@ -58,16 +58,16 @@ impl<T, W: Drop> Messages<T, W> {
     {
         match self.push(message, sink) {
             Ok(()) => {
-                self.end_send(key, sink);
+                self.cancel_sender(key, sink);
                 Sent::Done
             }
             Err(TrySendError::Full(message)) => self.wait_for_room(message, key, exchange, on),
             Err(TrySendError::Closed(message)) => {
-                self.end_send(key, sink);
+                self.cancel_sender(key, sink);
                 Sent::Closed(message)
             }
             Err(TrySendError::Memory(message)) => {
-                self.end_send(key, sink);
+                self.cancel_sender(key, sink);
                 Sent::Memory(message)
             }
         }
@@ -87,12 +87,12 @@ impl<T, W: Drop> Messages<T, W> {
     {
         match self.pop(sink) {
             Ok(message) => {
-                self.end_receive(key, sink);
+                self.cancel_receiver(key, sink);
                 Received::Message(message)
             }
             Err(TryRecvError::Empty) => self.wait_for_message(key, exchange, on),
             Err(TryRecvError::Closed) => {
-                self.end_receive(key, sink);
+                self.cancel_receiver(key, sink);
                 Received::Closed
             }
         }
@@ -112,70 +112,49 @@ impl<T, W: Drop> Messages<T, W> {
     {
         match self.pop(sink) {
             Ok(message) => {
-                self.end_stream(key, sink);
+                self.cancel_stream(key, sink);
                 Received::Message(message)
             }
             Err(TryRecvError::Empty) => self.wait_for_next(key, exchange, on),
             Err(TryRecvError::Closed) => {
-                self.end_stream(key, sink);
+                self.cancel_stream(key, sink);
                 Received::Closed
             }
         }
     }
 
-    /// Takes a sender out of its queue. If now fewer are told than there are places free, others are, and are woken.
-    pub fn cancel_sender<S: WakeSink<W>>(&mut self, key: Key, sink: &mut S)
-        ensures left { HasLeftAndTold key (room_in self.new) self.old.senders self.new.senders }
-        ensures wakes { FoldsTo S.woke sink.old (woken_by_leaving (Some key) (room_in self.new) self.old.senders) sink.new }
-        ensures others { KeepsAllButSenders self.old self.new }
-    {
-        self.end_send(Some(key), sink);
-    }
-
-    /// Takes a receiver out of its queue. If now fewer are told than there are messages, others are, and are woken.
-    pub fn cancel_receiver<S: WakeSink<W>>(&mut self, key: Key, sink: &mut S)
-        ensures left { HasLeftAndTold key (length self.new.messages) self.old.receivers self.new.receivers }
-        ensures wakes { FoldsTo S.woke sink.old (woken_by_leaving (Some key) (length self.new.messages) self.old.receivers) sink.new }
-        ensures others { KeepsAllButReceivers self.old self.new }
-    {
-        self.end_receive(Some(key), sink);
-    }
-
-    /// Takes a stream out of its queue. Nobody is told in its place, since all are told of each message.
-    pub fn cancel_stream(&mut self, key: Key)
-        ensures left { HasLeft key self.old.streams self.new.streams }
-        ensures others { KeepsAllButStreams self.old self.new }
-    {
-        leave(&mut self.streams, key);
-    }
-
+    /// Takes this sender, if it is one, out of its queue. If now fewer are notified than there are places free, others are,
+    /// and are woken.
     #[inline(always)]
-    fn end_send<S: WakeSink<W>>(&mut self, key: Option<Key>, sink: &mut S)
+    pub fn cancel_sender<S: WakeSink<W>>(&mut self, key: Option<Key>, sink: &mut S)
         ensures left { LeavesThenTells key (room_in self.new) self.old.senders self.new.senders }
         ensures wakes { FoldsTo S.woke sink.old (woken_by_leaving key (room_in self.new) self.old.senders) sink.new }
         ensures others { KeepsAllButSenders self.old self.new }
     {
         let room = self.capacity - self.items.len();
-        leave_and_tell(&mut self.senders, key, room, sink);
+        leave_then_tell(&mut self.senders, key, room, sink);
     }
 
+    /// Takes this receiver, if it is one, out of its queue. If now fewer are notified than there are messages, others are,
+    /// and are woken.
     #[inline(always)]
-    fn end_receive<S: WakeSink<W>>(&mut self, key: Option<Key>, sink: &mut S)
+    pub fn cancel_receiver<S: WakeSink<W>>(&mut self, key: Option<Key>, sink: &mut S)
         ensures left { LeavesThenTells key (length self.new.messages) self.old.receivers self.new.receivers }
         ensures wakes { FoldsTo S.woke sink.old (woken_by_leaving key (length self.new.messages) self.old.receivers) sink.new }
         ensures others { KeepsAllButReceivers self.old self.new }
     {
-        leave_and_tell(&mut self.receivers, key, self.items.len(), sink);
+        leave_then_tell(&mut self.receivers, key, self.items.len(), sink);
     }
 
-    // Where there is a message no stream waits untold, so this tells nobody.
+    /// Takes this stream, if it is one, out of its queue. Nobody is notified in its place: where there is a message, no
+    /// stream waits.
     #[inline(always)]
-    fn end_stream<S: WakeSink<W>>(&mut self, key: Option<Key>, sink: &mut S)
+    pub fn cancel_stream<S: WakeSink<W>>(&mut self, key: Option<Key>, sink: &mut S)
         ensures left { LeavesThenTells key (length self.new.messages) self.old.streams self.new.streams }
         ensures wakes { FoldsTo S.woke sink.old (woken_by_leaving key (length self.new.messages) self.old.streams) sink.new }
         ensures others { KeepsAllButStreams self.old self.new }
     {
-        leave_and_tell(&mut self.streams, key, self.items.len(), sink);
+        leave_then_tell(&mut self.streams, key, self.items.len(), sink);
     }
 
     fn wait_for_room<C, X: TaskExchange<W, C>>(

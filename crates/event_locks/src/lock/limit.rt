@@ -15,9 +15,12 @@ pub enum Limit {
 }
 
 impl Limit {
-    /// The moment so long from now. One that can't be represented never comes, and a clock that can't be read counts as
-    /// one that shows a later time.
+    /// The moment so long from now. No time at all has passed already; a moment that can't be represented never comes; and a
+    /// clock that can't be read counts as one that shows a later time.
     pub fn after<R: Clock>(clock: &R, timeout: Duration) -> Self {
+        if timeout.is_zero() {
+            return Limit::Past;
+        }
         match Instant::now(clock) {
             Ok(now) => match now.checked_add(timeout) {
                 Some(moment) => Limit::At(moment),

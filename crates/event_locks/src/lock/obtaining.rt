@@ -17,7 +17,7 @@ use std::time::{Clock, Duration, Instant};
 /// A wait for what was asked for. It asks once it is waited on or polled, and not before.
 ///
 /// A thread blocks by [`wait`](Obtaining::wait), [`wait_timeout`](Obtaining::wait_timeout) or
-/// [`wait_deadline`](Obtaining::wait_deadline). A task awaits it: it is a future. Threads and tasks stand in one queue, and
+/// [`wait_deadline`](Obtaining::wait_deadline). A task awaits it: it is a future. Threads and tasks wait in one queue, and
 /// a thread that waits on a future which was polled before keeps its place. Dropped while it waits, it leaves the queue,
 /// and what it was notified of goes to the next.
 #[must_use = "nothing is asked for until it is waited on or polled"]

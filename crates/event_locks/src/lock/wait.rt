@@ -14,7 +14,8 @@ use std::time::Clock;
 impl<S> Lock<S> {
     /// Blocks the thread until it has what it requests or the limit has passed, which is `None`. It goes on at its place in
     /// the queue, if it has one. It allocates what the thread parks on, and a place in the queue, if it has to wait; if that
-    /// is refused it is in no queue, and neither is it once it has what it requests or is out of time.
+    /// is refused it is in no queue, and neither is it once it has what it requests or is out of time. It attempts at least
+    /// once, also where the limit has passed.
     #[inline(always)]
     pub fn obtain<Q: Request<S>, R: Wait + Clock>(
         &self,
@@ -31,6 +32,9 @@ impl<S> Lock<S> {
         if !request.is_waiting() {
             if let Some(output) = self.attempt(rt, request) {
                 return Ok(Some(output));
+            }
+            if let Limit::Past = limit {
+                return Ok(None);
             }
         }
         try_then_park(self, rt, alloc, request, limit)

@@ -1,12 +1,13 @@
 //! The state of a mutex.
 ghost use Rattle.std.specs.Prelude.{◌≡◌, ◌-◌, [], length, None, Some, IsSome, MatchOption};
-ghost use Rattle.event_locks.specs.Line.{HasLeft, LeavesThenTells, TellsUpTo};
+ghost use Rattle.std.specs.List.{FoldsTo};
+ghost use Rattle.event_locks.specs.Line.{LeavesThenTells, TellsUpTo, woken_by_leaving, woken_up_to};
 ghost use Rattle.event_locks.specs.Slot.{NobodyWaitsInVain, Obtains, count};
 
 use crate::lock::Task;
 use crate::place::Place;
 use crate::request::{Attempted, Grantor, Request};
-use crate::waiters::{leave_any, leave_then_tell, tell, wait_in_line};
+use crate::waiters::{leave, leave_then_tell, tell, wait_in_line, waiting};
 use event_queue::{Key, List, TaskExchange, WakeSink};
 use std::alloc::Global;
 use std::marker::Model;
@@ -63,19 +64,20 @@ impl<T, W> Slot<T, W> {
     {
         match self.kept.take() {
             Some(value) => {
-                leave_any(&mut self.line, key);
+                leave(&mut self.line, key);
                 Attempted::Done(value)
             }
-            None => wait_in_line(&mut self.line, key, exchange, on),
+            None => waiting(wait_in_line(&mut self.line, key, exchange, on)),
         }
     }
 
-    /// Takes one out of the queue. If the value is there and nobody is notified of it now, the next is.
-    pub fn cancel<S: WakeSink<W>>(&mut self, key: Key, sink: &mut S)
+    /// Takes this one, if it is one, out of the queue. If the value is there and nobody is notified of it now, the next is.
+    pub fn cancel<S: WakeSink<W>>(&mut self, key: Option<Key>, sink: &mut S)
     where
         W: Drop,
         ensures kept { self.new.kept ≡ self.old.kept }
-        ensures step { LeavesThenTells S.woke key (count self.old.kept) self.old.line self.new.line sink.old sink.new }
+        ensures left { LeavesThenTells key (count self.old.kept) self.old.line self.new.line }
+        ensures wakes { FoldsTo S.woke sink.old (woken_by_leaving key (count self.old.kept) self.old.line) sink.new }
     {
         leave_then_tell(&mut self.line, key, usize::from(self.kept.is_some()), sink);
     }
@@ -87,7 +89,8 @@ impl<T, W> Slot<T, W> {
     where
         T: Drop,
         ensures kept { self.new.kept ≡ Some value }
-        ensures step { TellsUpTo S.woke 1 self.old.line self.new.line sink.old sink.new }
+        ensures step { TellsUpTo 1 self.old.line self.new.line }
+        ensures wakes { FoldsTo S.woke sink.old (woken_up_to 1 self.old.line) sink.new }
     {
         self.kept = Some(value);
         tell(&mut self.line, 1, sink);
@@ -151,17 +154,8 @@ impl<T: Drop> Request<Slot<T, Task>> for Place {
         attempted
     }
 
-    fn leave<K: WakeSink<Task>>(&mut self, state: &mut Slot<T, Task>, sink: &mut K) -> Option<T> {
-        if let Some(key) = self.key.take() {
-            state.cancel(key, sink);
-        }
-        None
-    }
-
     fn give_up<K: WakeSink<Task>>(&mut self, state: &mut Slot<T, Task>, sink: &mut K) {
-        if let Some(key) = self.key.take() {
-            state.cancel(key, sink);
-        }
+        state.cancel(self.key.take(), sink);
     }
 }
 

@@ -25,7 +25,7 @@ pub enum Want {
     Use,
 }
 
-/// What one wants of a cell, and its place in the queue of those that want the same, if it stands there.
+/// What one wants of a cell, and its place in the queue of those that want the same, if it has one.
 #[derive(Drop)]
 pub struct Seat {
     want: Want,

@@ -9,7 +9,9 @@ ghost use Rattle.event_locks.specs.Shares.{HasNoRoom, IsAWriterThere, NobodyWait
 
 use crate::lock::Task;
 use crate::request::{Attempted, Grantor, Request};
-use crate::waiters::{Left, found, hand_all, hand_out, join_line, leave_line, look_for};
+use crate::waiters::{
+    Left, found, hand_all, hand_out, join_line, leave_line, look_for, somebody_waits,
+};
 use event_queue::{Key, List, ListenError, RegisterResult, TaskExchange, WakeSink};
 use std::alloc::Global;
 use std::marker::Model;
@@ -21,7 +23,7 @@ pub enum Access {
     Write,
 }
 
-/// What one that comes in is to do, and its place in the queue of those that wait to do it, if it stands there.
+/// What one that comes in is to do, and its place in the queue of those that wait to do it, if it has one.
 #[derive(Drop)]
 pub struct Entry {
     access: Access,
@@ -298,7 +300,7 @@ impl<W> Shares<W> {
             return;
         }
         self.writers = 0;
-        if self.read_line.total_listeners() > self.read_line.listeners_notified() {
+        if somebody_waits(&self.read_line) {
             hand_all(&mut self.read_line, sink);
         } else {
             hand_out(&mut self.write_line, 1, sink);
@@ -421,6 +423,7 @@ impl Request<Shares<Task>> for Entry {
 impl Grantor for Shares<Task> {
     type Grant = Share;
 
+    #[inline(always)]
     fn give_back<K: WakeSink<Task>>(&mut self, grant: Share, sink: &mut K) {
         let Share(access) = grant;
         match access {

@@ -1,12 +1,13 @@
 //! The state of a semaphore.
 ghost use Rattle.std.specs.Prelude.{◌≡◌, ◌+◌, ◌-◌, ◌^◌, min, [], MatchOption};
-ghost use Rattle.event_locks.specs.Line.{HasLeftThenTells, LeavesThenTells, TellsUpTo};
-ghost use Rattle.event_locks.specs.Permits.{NobodyWaitsInVain, Obtains};
+ghost use Rattle.std.specs.List.{FoldsTo};
+ghost use Rattle.event_locks.specs.Line.{LeavesThenTells, TellsUpTo, woken_by_leaving, woken_up_to};
+ghost use Rattle.event_locks.specs.Permits.{NobodyWaitsInVain, Obtains, woken_by_obtaining};
 
 use crate::lock::Task;
 use crate::place::Place;
 use crate::request::{Attempted, Grantor, Request};
-use crate::waiters::{leave_then_tell, tell, wait_in_line};
+use crate::waiters::{leave_then_tell, tell, wait_in_line, waiting};
 use event_queue::{Key, List, TaskExchange, WakeSink};
 use std::alloc::Global;
 use std::marker::Model;
@@ -81,33 +82,25 @@ impl<W> Permits<W> {
     ) -> Attempted<Permit>
     where
         W: Drop,
-        ensures { Obtains (X.exchanged exchange.now) S.woke key self.old on.old sink.old result self.new on.new sink.new }
+        ensures obtains { Obtains (X.exchanged exchange.now) key self.old on.old result self.new on.new }
+        ensures wakes { FoldsTo S.woke sink.old (woken_by_obtaining key self.old result self.new) sink.new }
     {
         if self.free == 0 {
-            return wait_in_line(&mut self.line, key, exchange, on);
+            return waiting(wait_in_line(&mut self.line, key, exchange, on));
         }
         self.free -= 1;
-        self.leave(key, sink);
+        self.cancel(key, sink);
         Attempted::Done(Permit(()))
     }
 
-    fn leave<S: WakeSink<W>>(&mut self, key: Option<Key>, sink: &mut S)
+    /// Takes this one, if it is one, out of the queue. If now fewer are notified than permits are free, others are.
+    #[inline(always)]
+    pub fn cancel<S: WakeSink<W>>(&mut self, key: Option<Key>, sink: &mut S)
     where
         W: Drop,
         ensures free { self.new.free ≡ self.old.free }
-        ensures step { HasLeftThenTells S.woke key self.old.free self.old.line self.new.line sink.old sink.new }
-    {
-        if let Some(key) = key {
-            self.cancel(key, sink);
-        }
-    }
-
-    /// Takes one out of the queue. If now fewer are notified than permits are free, others are.
-    pub fn cancel<S: WakeSink<W>>(&mut self, key: Key, sink: &mut S)
-    where
-        W: Drop,
-        ensures free { self.new.free ≡ self.old.free }
-        ensures step { LeavesThenTells S.woke key self.old.free self.old.line self.new.line sink.old sink.new }
+        ensures left { LeavesThenTells key self.old.free self.old.line self.new.line }
+        ensures wakes { FoldsTo S.woke sink.old (woken_by_leaving key self.old.free self.old.line) sink.new }
     {
         leave_then_tell(&mut self.line, key, self.free, sink);
     }
@@ -117,7 +110,8 @@ impl<W> Permits<W> {
     #[inline(always)]
     pub fn release<S: WakeSink<W>>(&mut self, n: usize, sink: &mut S)
         ensures free { self.new.free ≡ min (2 ^ 64 - 1) (self.old.free + n) }
-        ensures step { TellsUpTo S.woke self.new.free self.old.line self.new.line sink.old sink.new }
+        ensures step { TellsUpTo self.new.free self.old.line self.new.line }
+        ensures wakes { FoldsTo S.woke sink.old (woken_up_to self.new.free self.old.line) sink.new }
     {
         self.free = self.free.saturating_add(n);
         tell(&mut self.line, self.free, sink);
@@ -163,17 +157,8 @@ impl Request<Permits<Task>> for Place {
         attempted
     }
 
-    fn leave<K: WakeSink<Task>>(
-        &mut self,
-        state: &mut Permits<Task>,
-        sink: &mut K,
-    ) -> Option<Permit> {
-        state.leave(self.key.take(), sink);
-        None
-    }
-
     fn give_up<K: WakeSink<Task>>(&mut self, state: &mut Permits<Task>, sink: &mut K) {
-        state.leave(self.key.take(), sink);
+        state.cancel(self.key.take(), sink);
     }
 }
 

@@ -1,4 +1,5 @@
-use Rattle.event_locks.proofs.LineLemmas.{removed}
+use Rattle.event_locks.proofs.LengthLemmas.{removed}
+use Rattle.event_locks.proofs.LineLemmas.{has_left}
 use Rattle.event_locks.proofs.waiters.leave_line.Goals as goal
 
 pub returns-clause-told : goal.returns-clause-told
@@ -11,4 +12,5 @@ returns-clause-waiting g c =
 
 pub returns-clause-leaves : goal.returns-clause-leaves
 returns-clause-leaves g c =
-    record { answer = c.remove_uncounted-left.result; removes = c.remove_uncounted-left.ensures.step }
+    let call = c.remove_uncounted-left.ensures in
+    has_left c.args.line.now c.remove_uncounted-left.new.self c.args.key c.remove_uncounted-left.result call.step call.gone call.order

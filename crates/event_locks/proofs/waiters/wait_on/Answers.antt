@@ -1,5 +1,5 @@
-use Rattle.event_channel.proofs.LineLemmas.{stays, goes_last, told_has_left, absent_left, cannot_wait}
-use Rattle.event_channel.proofs.messages.line.wait_on.Goals as goal
+use Rattle.event_locks.proofs.LineLemmas.{stays, goes_last, told_has_left, absent_left, cannot_wait}
+use Rattle.event_locks.proofs.waiters.wait_on.Goals as goal
 
 pub returns-in-Registered-clause-waits : goal.returns-in-Registered-clause-waits
 returns-in-Registered-clause-waits g c =

@@ -1,5 +1,5 @@
-use Rattle.event_channel.proofs.LineLemmas.{joined, no_newcomer_is_told, no_newcomer_is_absent}
-use Rattle.event_channel.proofs.messages.line.wait_at_end.Goals as goal
+use Rattle.event_locks.proofs.LineLemmas.{joined, no_newcomer_is_told, no_newcomer_is_absent}
+use Rattle.event_locks.proofs.waiters.wait_at_end.Goals as goal
 
 pub unreachable-requires : goal.unreachable-requires
 unreachable-requires g c =
