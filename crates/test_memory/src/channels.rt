@@ -168,7 +168,7 @@ impl<R: Runtime> Starved for FirstWait<'_, R> {
         let (sender, receiver) = make(rt, Some(1)).expect(rt, "a channel");
         sends(rt, &sender, &[0]);
         leave(rt, budget, bytes);
-        let sent = sender.send_timeout(7, Duration::ZERO);
+        let sent = sender.send_timeout(7, Duration::from_nanos(1));
         budget.give_back();
         are_left(rt, &receiver, &[0]);
         let is_late = sent == Err(SendTimeoutError::TimedOut(7));
@@ -207,7 +207,7 @@ fn a_send_that_cannot_wait_hands_back(rt: HostRuntime) {
     drop(hog);
 
     // It makes a place in the queue.
-    let timed_out = sender.send_timeout(5, Duration::ZERO);
+    let timed_out = sender.send_timeout(5, Duration::from_nanos(1));
     refused(rt, timed_out, SendTimeoutError::TimedOut(5));
     let mut sending = sender.send(9);
     let hog = all_memory(rt);

@@ -31,7 +31,7 @@ impl<R: Runtime, K: Kind> Starved for InVain<'_, R, K> {
                 Poll::Pending => None,
             }
         } else {
-            waits.wait_timeout(Duration::ZERO).err()
+            waits.wait_timeout(Duration::from_nanos(1)).err()
         };
         budget.give_back();
         match refusal {
