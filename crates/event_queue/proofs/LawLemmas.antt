@@ -1,21 +1,19 @@
 -- What users rely on, from the steps: who is gone, in which order the others stand, and how many are told.
 use Rattle.std.proofs.Common.{◌≡◌, ◌+◌, ◌-◌, ◌≤◌, min, max, Bool, true, false, [], ◌∷◌, ◌++◌, take, length, refl, sym, ap, ◌∙◌, subst, arith, Option, Some, None, Result, Ok, Err}
 use Rattle.std.proofs.Common.{IfOk, IsSomeAnd, OnSome, length-take}
+use Rattle.std.specs.List.{FoldsTo}
 use Rattle.std.specs.Map.{keys_of, lookup}
 use Rattle.std.proofs.lemmas.Map.Entries.{length-keys_of}
 use Rattle.event_queue.specs.declared.key.Key.{Key}
 use Rattle.event_queue.specs.declared.notice.Notice.{Notice}
 use Rattle.event_queue.specs.declared.reply.ListenError.{ListenError}
 use Rattle.event_queue.specs.declared.reply.ListenError.TheVariants.{Memory, SerialsUsedUp}
-use Rattle.event_queue.specs.declared.reply.RegisterResult.{RegisterResult}
-use Rattle.event_queue.specs.declared.reply.RegisterResult.TheVariants.{Notified, Registered, NeverInserted}
 use Rattle.event_queue.specs.declared.reply.State.{State}
 use Rattle.event_queue.specs.declared.reply.State.TheVariants.{Created, Notified as WasNotified, Task, Passed, Lost}
 use Rattle.event_queue.specs.Key.{is_key, without}
 use Rattle.event_queue.specs.Queue.{Queue, IsQueue, IsGone, IsToldAs, order_of, listeners_of, how_many, told_leaves}
-use Rattle.event_queue.specs.Insert.{Inserts}
-use Rattle.event_queue.specs.Register.{Registers, OnNotified, UnlessNotified}
-use Rattle.event_queue.specs.Remove.{Removes, PassesTo, told_by_passing, after_passing}
+use Rattle.event_queue.specs.Insert.{Inserts, IsInsertion}
+use Rattle.event_queue.specs.Remove.{Removes, PassesTo, told_by_passing, after_passing, woken_by_removal, IsRemoval}
 use Rattle.event_queue.proofs.OrderLemmas.{without-none, lookup-none_is, none_before, length-remove_entry}
 use Rattle.event_queue.proofs.QueueLemmas.{rises_along, order_of-push, order_of-told_leaves, order_of-waiting_leaves, order_of-after_storing, IsAbsent-none, IsGone-without}
 use Rattle.event_queue.proofs.QueueLemmas.{told_serial, waiting_serial}
@@ -45,34 +43,18 @@ module _ {T W : Type 0} where
       let found = found_value (lookup (is_key key) old.told) (λ n. n.tag ≡ tag) told in
       order_of-told_leaves key old found.0 queue found.1
 
-  -- the newcomer stands last
-  pub Inserts-order : (old : Queue T W) (answer : Result Key ListenError) (new : Queue T W) → Inserts old answer new → IfOk answer (λ key. order_of new ≡ order_of old ++ key ∷ [])
-  Inserts-order old (Ok key) new step = ap order_of step.queue ∙ order_of-push old key None
-  Inserts-order old (Err error) new step = tt
-
-  pub Inserts-serial : (old : Queue T W) (answer : Result Key ListenError) (new : Queue T W) → Inserts old answer new → old.next_serial ≤ new.next_serial
-  Inserts-serial old (Ok key) new step = omega (arith, ap (λ q. q.next_serial) step.queue)
-  Inserts-serial old (Err Memory) new step = omega (arith, ap (λ q. q.next_serial) step.2)
-  Inserts-serial old (Err SerialsUsedUp) new step = omega (arith, ap (λ q. q.next_serial) step.1)
-
-  pub Registers-gone : (old : Queue T W) (key : Key) (task : W) (reply : RegisterResult T) (new : Queue T W) → IsQueue old → Registers old key task reply new → OnNotified reply (IsGone key new)
-  Registers-gone old key task (Notified tag) new queue step =
-      subst (IsGone key) (sym step.1) (took_tag-gone key old tag queue step.0)
-  Registers-gone old key task Registered new queue step = tt
-  Registers-gone old key task NeverInserted new queue step = tt
-
-  pub Registers-order_without : (old : Queue T W) (key : Key) (task : W) (reply : RegisterResult T) (new : Queue T W) → IsQueue old → Registers old key task reply new
-      → OnNotified reply (order_of new ≡ without key (order_of old))
-  Registers-order_without old key task (Notified tag) new queue step =
-      ap order_of step.1 ∙ took_tag-order key old tag queue step.0
-  Registers-order_without old key task Registered new queue step = tt
-  Registers-order_without old key task NeverInserted new queue step = tt
-
-  pub Registers-order_kept : (old : Queue T W) (key : Key) (task : W) (reply : RegisterResult T) (new : Queue T W) → Registers old key task reply new
-      → UnlessNotified reply (order_of new ≡ order_of old)
-  Registers-order_kept old key task (Notified tag) new step = tt
-  Registers-order_kept old key task Registered new step = ap order_of step.1 ∙ order_of-after_storing key task old
-  Registers-order_kept old key task NeverInserted new step = ap order_of step.1
+  -- the laws of an insertion follow from its step
+  pub IsInsertion-step : (old : Queue T W) (answer : Result Key ListenError) (new : Queue T W) → IsQueue new → Inserts old answer new → IsInsertion old answer new
+  IsInsertion-step old (Ok key) new queue step = record {
+    step = step;
+    queue = queue;
+    order = ap order_of step.queue ∙ order_of-push old key None;
+    serial = omega (arith, ap (λ q. q.next_serial) step.queue);
+  }
+  IsInsertion-step old (Err Memory) new queue step =
+      record { step = step; queue = queue; order = tt; serial = omega (arith, ap (λ q. q.next_serial) step.2) }
+  IsInsertion-step old (Err SerialsUsedUp) new queue step =
+      record { step = step; queue = queue; order = tt; serial = omega (arith, ap (λ q. q.next_serial) step.1) }
 
   -- a told listener left with propagation, and its notification told somebody or nobody
   pub record Propagates (old : Queue T W) (key : Key) (propagate : Bool) (new : Queue T W) : Type 0 where
@@ -198,3 +180,31 @@ module _ {T W : Type 0} where
   Removes-drop_additional old key reply new queue step told =
       let counts = Removes-drop old key reply new true queue step told in
       omega (arith, counts.0, counts.1)
+
+  serial-propagated : (old : Queue T W) (key : Key) (propagate : Bool) (new : Queue T W) → Propagates old key propagate new → new.next_serial ≡ old.next_serial
+  serial-propagated old key propagate new step = ap (λ q. q.next_serial) step.queue
+
+  Removes-serial : (old : Queue T W) (key : Key) (propagate : Bool) (reply : Option (State T W)) (new : Queue T W) → Removes old key propagate reply new → new.next_serial ≡ old.next_serial
+  Removes-serial old key propagate None new step = ap (λ q. q.next_serial) step.1
+  Removes-serial old key propagate (Some Created) new step = ap (λ q. q.next_serial) step.1
+  Removes-serial old key propagate (Some (Task task)) new step = ap (λ q. q.next_serial) step.1
+  Removes-serial old key propagate (Some (WasNotified additional tag)) new step = ap (λ q. q.next_serial) step.2
+  Removes-serial old key propagate (Some (Passed to)) new step =
+      serial-propagated old key propagate new (propagates-passed old key propagate to new step)
+  Removes-serial old key propagate (Some (Lost additional tag)) new step =
+      serial-propagated old key propagate new (propagates-lost old key propagate additional tag new step)
+
+  -- the laws of a removal follow from its step and its wakes
+  pub IsRemoval-step : {S : Type 0} (woke : S → W → S → Type 0) (old : Queue T W) (key : Key) (propagate : Bool) (sink : S) (reply : Option (State T W)) (new : Queue T W) (sink' : S)
+      → IsQueue old → IsQueue new → Removes old key propagate reply new → FoldsTo woke sink (woken_by_removal key propagate old) sink'
+      → IsRemoval woke old key propagate sink reply new sink'
+  IsRemoval-step woke old key propagate sink reply new sink' was queue step wakes = record {
+    step = step;
+    wakes = wakes;
+    queue = queue;
+    order = Removes-order old key propagate reply new was step;
+    gone = Removes-gone old key propagate reply new was step;
+    serial = Removes-serial old key propagate reply new step;
+    drop_default = λ passes told. Removes-drop_default old key reply new was (rw passes at step) told;
+    drop_additional = λ passes told. Removes-drop_additional old key reply new was (rw passes at step) told;
+  }

@@ -5,7 +5,7 @@ use Rattle.std.specs.List.{FoldsTo}
 use Rattle.std.specs.declared.alloc.AllocError.{AllocError}
 use Rattle.event_queue.specs.declared.reply.NotifyError.{NotifyError}
 use Rattle.event_queue.specs.Queue.{Queue, IsQueue, order_of, listeners_of, how_many, after_telling, tasks_of}
-use Rattle.event_queue.specs.Notify.{Tells, Notifies}
+use Rattle.event_queue.specs.Notify.{Tells, Notifies, NeverRefuses, told_by, IsNotification}
 use Rattle.event_queue.proofs.TellingLemmas.{FoldsTo-append, after_telling-push, tasks_of-push, order_of-after_telling, length-after_telling}
 
 module _ {T W N S : Type 0} (gives : N → Result T AllocError → N → Type 0) (can_tag : N → Type 0) (woke : S → W → S → Type 0) where
@@ -52,14 +52,14 @@ module _ {T W N : Type 0} (gives : N → Result T AllocError → N → Type 0) w
 
   -- the laws of the step
 
-  pub Notifies-order : (count : ℕ) (additional : Bool) (old : Queue T W) (source : N) (reply : Result ℕ NotifyError) (new : Queue T W) (source' : N)
+  Notifies-order : (count : ℕ) (additional : Bool) (old : Queue T W) (source : N) (reply : Result ℕ NotifyError) (new : Queue T W) (source' : N)
       → Notifies gives count additional old source reply new source' → order_of new ≡ order_of old
   Notifies-order count additional old source (Ok told) new source' step =
       ap order_of step.1.queue ∙ order_of-after_telling additional step.1.tags old
   Notifies-order count additional old source (Err error) new source' step =
       ap order_of step.1.tells.queue ∙ order_of-after_telling additional step.1.tells.tags old
 
-  pub Notifies-told : (count : ℕ) (additional : Bool) (old : Queue T W) (source : N) (reply : Result ℕ NotifyError) (new : Queue T W) (source' : N)
+  Notifies-told : (count : ℕ) (additional : Bool) (old : Queue T W) (source : N) (reply : Result ℕ NotifyError) (new : Queue T W) (source' : N)
       → Notifies gives count additional old source reply new source' → IsOk reply → length new.told ≡ length old.told + how_many count additional old
   Notifies-told count additional old source (Ok told) new source' step ok =
       let tells = step.1 in
@@ -69,16 +69,42 @@ module _ {T W N : Type 0} (gives : N → Result T AllocError → N → Type 0) w
   Notifies-told count additional old source (Err error) new source' step ok = absurd (cc)
 
   -- how many are told where no tag is refused
-  pub Notifies-default : (count : ℕ) (additional : Bool) (old : Queue T W) (source : N) (reply : Result ℕ NotifyError) (new : Queue T W) (source' : N)
+  Notifies-default : (count : ℕ) (additional : Bool) (old : Queue T W) (source : N) (reply : Result ℕ NotifyError) (new : Queue T W) (source' : N)
       → Notifies gives count additional old source reply new source' → IsOk reply → IsFalse additional
       → length new.told ≡ max (length old.told) (min count (listeners_of old))
   Notifies-default count false old source reply new source' step ok kind =
       omega (arith, Notifies-told count false old source reply new source' step ok)
   Notifies-default count true old source reply new source' step ok kind = absurd (cc)
 
-  pub Notifies-additional : (count : ℕ) (additional : Bool) (old : Queue T W) (source : N) (reply : Result ℕ NotifyError) (new : Queue T W) (source' : N)
+  Notifies-additional : (count : ℕ) (additional : Bool) (old : Queue T W) (source : N) (reply : Result ℕ NotifyError) (new : Queue T W) (source' : N)
       → Notifies gives count additional old source reply new source' → IsOk reply → IsTrue additional
       → length new.told ≡ length old.told + min count (length old.waiting)
   Notifies-additional count true old source reply new source' step ok kind =
       omega (arith, Notifies-told count true old source reply new source' step ok)
   Notifies-additional count false old source reply new source' step ok kind = absurd (cc)
+
+  Notifies-serial : (count : ℕ) (additional : Bool) (old : Queue T W) (source : N) (reply : Result ℕ NotifyError) (new : Queue T W) (source' : N)
+      → Notifies gives count additional old source reply new source' → new.next_serial ≡ old.next_serial
+  Notifies-serial count additional old source (Ok told) new source' step = ap (λ q. q.next_serial) step.1.queue
+  Notifies-serial count additional old source (Err error) new source' step = ap (λ q. q.next_serial) step.1.tells.queue
+
+  Notifies-unrefused : (count : ℕ) (additional : Bool) (old : Queue T W) (source : N) (reply : Result ℕ NotifyError) (new : Queue T W) (source' : N)
+      → Notifies gives count additional old source reply new source' → NeverRefuses gives → IsOk reply
+  Notifies-unrefused count additional old source (Ok told) new source' step never = refl
+  Notifies-unrefused count additional old source (Err error) new source' step never =
+      absurd (never step.1.between source' step.1.refuses)
+
+  -- the laws of a notification follow from its step and its wakes
+  pub IsNotification-step : {S : Type 0} (woke : S → W → S → Type 0) (count : ℕ) (additional : Bool) (old : Queue T W) (source : N) (sink : S) (reply : Result ℕ NotifyError) (new : Queue T W)
+      (source' : N) (sink' : S) → IsQueue new → Notifies gives count additional old source reply new source' → FoldsTo woke sink (tasks_of (told_by reply) old) sink'
+      → IsNotification gives woke count additional old source sink reply new source' sink'
+  IsNotification-step woke count additional old source sink reply new source' sink' queue step wakes = record {
+    step = step;
+    wakes = wakes;
+    queue = queue;
+    order = Notifies-order count additional old source reply new source' step;
+    serial = Notifies-serial count additional old source reply new source' step;
+    default_leaves = Notifies-default count additional old source reply new source' step;
+    additional_tells = Notifies-additional count additional old source reply new source' step;
+    unrefused = Notifies-unrefused count additional old source reply new source' step;
+  }

@@ -1,9 +1,9 @@
 -- The insert step: a newcomer waits at the end of the queue.
-use Rattle.std.specs.Prelude.{◌≡◌, ◌+◌, ◌<◌, ◌^◌, [], ◌∷◌, ◌++◌, None, Result, Ok, Err}
+use Rattle.std.specs.Prelude.{◌≡◌, ◌+◌, ◌<◌, ◌≤◌, ◌^◌, [], ◌∷◌, ◌++◌, None, Result, Ok, Err, IfOk}
 use Rattle.event_queue.specs.declared.key.Key.{Key}
 use Rattle.event_queue.specs.declared.reply.ListenError.{ListenError}
 use Rattle.event_queue.specs.declared.reply.ListenError.TheVariants.{Memory, SerialsUsedUp}
-use Rattle.event_queue.specs.Queue.{Queue}
+use Rattle.event_queue.specs.Queue.{Queue, IsQueue, order_of}
 
 module _ {T W : Type 0} where
   -- the next serial is below the greatest `u64`, which no listener gets
@@ -31,3 +31,14 @@ module _ {T W : Type 0} where
   Inserts old (Ok key) new = Joins old key new
   Inserts old (Err Memory) new = HasSerialLeft old × (old.spare ≡ 0) × (new ≡ old)
   Inserts old (Err SerialsUsedUp) new = SerialsAreUsedUp old × (new ≡ old)
+
+  -- what holds of every insertion
+  pub record IsInsertion (old : Queue T W) (answer : Result Key ListenError) (new : Queue T W) : Type 0 where
+    -- what the call answers, and the queue that it leaves
+    pub step : Inserts old answer new
+    -- serials rise, and numbers fit
+    pub queue : IsQueue new
+    -- the newcomer is last, and the others keep their order
+    pub order : IfOk answer (λ key. order_of new ≡ order_of old ++ key ∷ [])
+    -- the next serial does not fall
+    pub serial : old.next_serial ≤ new.next_serial

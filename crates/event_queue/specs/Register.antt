@@ -4,8 +4,19 @@ use Rattle.std.specs.Map.{lookup, set_value}
 use Rattle.event_queue.specs.declared.key.Key.{Key}
 use Rattle.event_queue.specs.declared.reply.RegisterResult.{RegisterResult}
 use Rattle.event_queue.specs.declared.reply.RegisterResult.TheVariants.{Notified, Registered, NeverInserted}
-use Rattle.event_queue.specs.Key.{is_key}
-use Rattle.event_queue.specs.Queue.{Queue, IsAbsent, told_leaves}
+use Rattle.event_queue.specs.Key.{is_key, without}
+use Rattle.event_queue.specs.Queue.{Queue, IsQueue, IsAbsent, IsGone, order_of, told_leaves}
+
+-- what holds where the answer is a tag, and what holds where it is none
+abbrev pub OnNotified : {T : Type 0} → RegisterResult T → Type 0 → Type 0
+OnNotified (Notified tag) P = P
+OnNotified Registered P = Unit {0}
+OnNotified NeverInserted P = Unit {0}
+
+abbrev pub UnlessNotified : {T : Type 0} → RegisterResult T → Type 0 → Type 0
+UnlessNotified (Notified tag) P = Unit {0}
+UnlessNotified Registered P = P
+UnlessNotified NeverInserted P = P
 
 module _ {T W : Type 0} where
   -- the queue once the waiting listener of that key has stored the task, in place of an earlier one
@@ -20,13 +31,17 @@ module _ {T W : Type 0} where
       IsSome (lookup (is_key key) old.waiting) × (new ≡ after_storing key task old)
   Registers old key task NeverInserted new = IsAbsent key old × (new ≡ old)
 
--- what holds where the answer is a tag, and what holds where it is none
-abbrev pub OnNotified : {T : Type 0} → RegisterResult T → Type 0 → Type 0
-OnNotified (Notified tag) P = P
-OnNotified Registered P = Unit {0}
-OnNotified NeverInserted P = Unit {0}
-
-abbrev pub UnlessNotified : {T : Type 0} → RegisterResult T → Type 0 → Type 0
-UnlessNotified (Notified tag) P = Unit {0}
-UnlessNotified Registered P = P
-UnlessNotified NeverInserted P = P
+  -- what holds of every registration with this step, be the task given or exchanged
+  pub record IsRegistration (Step : Type 0) (old : Queue T W) (key : Key) (answer : RegisterResult T) (new : Queue T W) : Type 0 where
+    -- what the call answers, and the queue that it leaves
+    pub step : Step
+    -- serials rise, and numbers fit
+    pub queue : IsQueue new
+    -- a listener that took its tag is gone
+    pub gone : OnNotified answer (IsGone key new)
+    -- and the others keep their order
+    pub order_without : OnNotified answer (order_of new ≡ without key (order_of old))
+    -- if none took its tag, the order of listening is as it was
+    pub order_kept : UnlessNotified answer (order_of new ≡ order_of old)
+    -- the next serial is as it was
+    pub serial : new.next_serial ≡ old.next_serial

@@ -1,12 +1,13 @@
 -- The remove step: a listener leaves, and where it was told its notification may be passed on.
-use Rattle.std.specs.Prelude.{◌≡◌, Bool, true, false, List, [], ◌∷◌, take, Option, Some, None, IsSomeAnd}
+use Rattle.std.specs.Prelude.{◌≡◌, ◌-◌, min, max, Bool, true, false, IsTrue, List, [], ◌∷◌, length, take, Option, Some, None, IsSomeAnd, OnSome}
+use Rattle.std.specs.List.{FoldsTo}
 use Rattle.std.specs.Map.{keys_of, lookup}
 use Rattle.event_queue.specs.declared.key.Key.{Key}
 use Rattle.event_queue.specs.declared.notice.Notice.{Notice}
 use Rattle.event_queue.specs.declared.reply.State.{State}
 use Rattle.event_queue.specs.declared.reply.State.TheVariants.{Created, Notified, Task, Passed, Lost}
-use Rattle.event_queue.specs.Key.{is_key}
-use Rattle.event_queue.specs.Queue.{Queue, IsAbsent, how_many, after_telling, tasks_of, told_leaves, waiting_leaves}
+use Rattle.event_queue.specs.Key.{is_key, without}
+use Rattle.event_queue.specs.Queue.{Queue, IsQueue, IsAbsent, IsGone, IsToldAs, order_of, listeners_of, how_many, after_telling, tasks_of, told_leaves, waiting_leaves}
 
 module _ {T W : Type 0} where
   -- the queue once it has been notified of one, of that notice's kind and with its tag
@@ -62,3 +63,22 @@ module _ {T W : Type 0} where
 
   abbrev pub woken_by_removal : Key → Bool → Queue T W → List W
   woken_by_removal key propagate q = woken_by_leaving (lookup (is_key key) q.told) propagate key q
+
+  -- what holds of every removal
+  pub record IsRemoval {S : Type 0} (woke : S → W → S → Type 0) (old : Queue T W) (key : Key) (propagate : Bool) (sink : S) (answer : Option (State T W)) (new : Queue T W) (sink' : S) : Type 0 where
+    -- what the call answers, and the queue that it leaves
+    pub step : Removes old key propagate answer new
+    -- the sink was handed the woken tasks, in order
+    pub wakes : FoldsTo woke sink (woken_by_removal key propagate old) sink'
+    -- serials rise, and numbers fit
+    pub queue : IsQueue new
+    -- the others keep their order
+    pub order : order_of new ≡ without key (order_of old)
+    -- the listener is gone
+    pub gone : OnSome answer (IsGone key new)
+    -- the next serial is as it was
+    pub serial : new.next_serial ≡ old.next_serial
+    -- how many are notified once a default notification was propagated
+    pub drop_default : IsTrue propagate → IsToldAs key false old → length new.told ≡ max (length old.told - 1) (min 1 (listeners_of old - 1))
+    -- how many are once an additional one was
+    pub drop_additional : IsTrue propagate → IsToldAs key true old → length new.told ≡ min (length old.told) (listeners_of old - 1)

@@ -1,15 +1,15 @@
 //! The queue: listeners in order of listening, a front of them notified.
-ghost use Rattle.std.specs.Prelude.{◌≡◌, ◌≢◌, ◌+◌, ◌-◌, ◌<◌, ◌≤◌, ◌^◌, ◌↔◌, min, max, true, false, [], ◌∷◌, ◌++◌, length, take, IsTrue, IsFalse, IsOk, IsSome, OnOk, OnErr, IfOk, IfErr, IfSome, OnSome};
+ghost use Rattle.std.specs.Prelude.{◌≡◌, ◌+◌, ◌<◌, ◌≤◌, ◌↔◌, [], ◌∷◌, length, take, IsTrue, IsFalse, IsOk, IsSome, OnOk};
 ghost use Rattle.std.specs.List.{FoldsTo};
 ghost use Rattle.std.specs.Map.{keys_of, lookup};
-ghost use Rattle.event_queue.specs.Key.{is_key, without};
-ghost use Rattle.event_queue.specs.Queue.{IsQueue, IsGone, IsToldAs, order_of, listeners_of, how_many, after_telling, tasks_of};
-ghost use Rattle.event_queue.specs.Insert.{Inserts};
-ghost use Rattle.event_queue.specs.Register.{Registers, OnNotified, UnlessNotified};
+ghost use Rattle.event_queue.specs.Key.{is_key};
+ghost use Rattle.event_queue.specs.Queue.{IsQueue, how_many, after_telling, tasks_of};
+ghost use Rattle.event_queue.specs.Insert.{IsInsertion};
+ghost use Rattle.event_queue.specs.Register.{Registers, IsRegistration};
 ghost use Rattle.event_queue.specs.Exchange.{RegistersWith};
 ghost use Rattle.event_queue.specs.StoredTask.{RegistersBy};
-ghost use Rattle.event_queue.specs.Remove.{Removes, PassedAs, woken_by_removal, woken_by_passing, after_passing};
-ghost use Rattle.event_queue.specs.Notify.{Notifies, NeverRefuses, told_by};
+ghost use Rattle.event_queue.specs.Remove.{PassedAs, woken_by_passing, after_passing, IsRemoval};
+ghost use Rattle.event_queue.specs.Notify.{told_by, IsNotification};
 ghost use Rattle.event_queue.specs.Counts.{Opens, counted_on};
 ghost use Rattle.event_queue.specs.Visits.{visits_of_insertion, visits_of_registration, visits_of_removal};
 
@@ -102,10 +102,7 @@ impl<T, W> List<T, W> {
     /// queue as it was. It adds its visits to `steps`, three at most, and looks up no key.
     #[inline(always)]
     pub fn insert<L: Ledger>(&mut self, steps: &mut Steps<L>) -> Result<Key, ListenError>
-        ensures step { Inserts self.old result self.new }
-        ensures queue { IsQueue self.new }
-        ensures order { IfOk result (λ key. order_of self.new ≡ order_of self.old ++ key ∷ []) }
-        ensures serial { self.old.next_serial ≤ self.new.next_serial }
+        ensures law { IsInsertion self.old result self.new }
         ensures visits { steps.new.visits ≤ steps.old.visits + 3 }
         ensures counted { steps.new.visits ≡ steps.old.visits + visits_of_insertion result }
         ensures looks { steps.new.looks ≡ steps.old.looks }
@@ -142,35 +139,10 @@ impl<T, W> List<T, W> {
     ) -> RegisterResult<T>
     where
         W: Drop,
-        ensures step { Registers self.old key task result self.new }
-        ensures queue { IsQueue self.new }
-
-        // A listener that took its tag is gone; else the order of listening is as it was.
-        ensures gone { OnNotified result (IsGone key self.new) }
-        ensures order_without { OnNotified result (order_of self.new ≡ without key (order_of self.old)) }
-        ensures order_kept { UnlessNotified result (order_of self.new ≡ order_of self.old) }
-        ensures serial { self.new.next_serial ≡ self.old.next_serial }
+        ensures law { IsRegistration (Registers self.old key task result self.new) self.old key result self.new }
         ensures visits { steps.new.visits ≤ steps.old.visits + 3 }
         ensures counted { steps.new.visits ≡ steps.old.visits + visits_of_registration result }
         ensures looks { steps.new.looks ≤ steps.old.looks + 1 }
-        ensures looked { steps.new.looks ≡ counted_on steps.old.looks 1 }
-    {
-        self.register_step(key, task, steps)
-    }
-
-    #[inline(always)]
-    pub(crate) fn register_step<L: Ledger>(
-        &mut self,
-        key: Key,
-        task: W,
-        steps: &mut Steps<L>,
-    ) -> RegisterResult<T>
-    where
-        W: Drop,
-        ensures step { Registers self.old key task result self.new }
-        ensures was_queue { IsQueue self.old }
-        ensures queue { IsQueue self.new }
-        ensures counted { steps.new.visits ≡ steps.old.visits + visits_of_registration result }
         ensures looked { steps.new.looks ≡ counted_on steps.old.looks 1 }
     {
         self.register_by(key, Storing { task }, &mut None, steps)
@@ -188,9 +160,7 @@ impl<T, W> List<T, W> {
     ) -> RegisterResult<T>
     where
         M: Drop,
-        ensures step { RegistersBy (M.changes change) self.old key on.old result self.new on.new }
-        ensures was_queue { IsQueue self.old }
-        ensures queue { IsQueue self.new }
+        ensures law { IsRegistration (RegistersBy (M.changes change) self.old key on.old result self.new on.new) self.old key result self.new }
         ensures counted { steps.new.visits ≡ steps.old.visits + visits_of_registration result }
         ensures looked { steps.new.looks ≡ counted_on steps.old.looks 1 }
     {
@@ -217,33 +187,10 @@ impl<T, W> List<T, W> {
         on: &mut C,
         steps: &mut Steps<L>,
     ) -> RegisterResult<T>
-        ensures step { RegistersWith (X.exchanged exchange.now) self.old key on.old result self.new on.new }
-        ensures queue { IsQueue self.new }
-
-        // A listener that took its tag is gone; else the order of listening is as it was.
-        ensures gone { OnNotified result (IsGone key self.new) }
-        ensures order_without { OnNotified result (order_of self.new ≡ without key (order_of self.old)) }
-        ensures order_kept { UnlessNotified result (order_of self.new ≡ order_of self.old) }
-        ensures serial { self.new.next_serial ≡ self.old.next_serial }
+        ensures law { IsRegistration (RegistersWith (X.exchanged exchange.now) self.old key on.old result self.new on.new) self.old key result self.new }
         ensures visits { steps.new.visits ≤ steps.old.visits + 3 }
         ensures counted { steps.new.visits ≡ steps.old.visits + visits_of_registration result }
         ensures looks { steps.new.looks ≤ steps.old.looks + 1 }
-        ensures looked { steps.new.looks ≡ counted_on steps.old.looks 1 }
-    {
-        self.register_with_step(key, exchange, on, steps)
-    }
-
-    pub(crate) fn register_with_step<C, X: TaskExchange<W, C>, L: Ledger>(
-        &mut self,
-        key: Key,
-        exchange: &X,
-        on: &mut C,
-        steps: &mut Steps<L>,
-    ) -> RegisterResult<T>
-        ensures step { RegistersWith (X.exchanged exchange.now) self.old key on.old result self.new on.new }
-        ensures was_queue { IsQueue self.old }
-        ensures queue { IsQueue self.new }
-        ensures counted { steps.new.visits ≡ steps.old.visits + visits_of_registration result }
         ensures looked { steps.new.looks ≡ counted_on steps.old.looks 1 }
     {
         self.register_by(key, Exchanging { exchange }, on, steps)
@@ -264,40 +211,10 @@ impl<T, W> List<T, W> {
         sink: &mut S,
         steps: &mut Steps<L>,
     ) -> Option<State<T, W>>
-        ensures step { Removes self.old key propagate result self.new }
-        ensures wakes { FoldsTo S.woke sink.old (woken_by_removal key propagate self.old) sink.new }
-        ensures queue { IsQueue self.new }
-
-        // The others keep their order, and the listener is gone.
-        ensures order { order_of self.new ≡ without key (order_of self.old) }
-        ensures gone { OnSome result (IsGone key self.new) }
-        ensures serial { self.new.next_serial ≡ self.old.next_serial }
-
-        // How many are told once a told listener's notification was passed on.
-        ensures drop_default { IsTrue propagate → IsToldAs key false self.old → length self.new.told ≡ max (length self.old.told - 1) (min 1 (listeners_of self.old - 1)) }
-        ensures drop_additional { IsTrue propagate → IsToldAs key true self.old → length self.new.told ≡ min (length self.old.told) (listeners_of self.old - 1) }
-
+        ensures law { IsRemoval S.woke self.old key propagate sink.old result self.new sink.new }
         ensures visits { steps.new.visits ≤ steps.old.visits + 3 }
         ensures counted { steps.new.visits ≡ steps.old.visits + visits_of_removal result key self.old }
         ensures looks { steps.new.looks ≤ steps.old.looks + 1 }
-        ensures looked { steps.new.looks ≡ counted_on steps.old.looks 1 }
-    {
-        self.remove_step(key, propagate, sink, steps)
-    }
-
-    #[inline(always)]
-    pub(crate) fn remove_step<S: WakeSink<W>, L: Ledger>(
-        &mut self,
-        key: Key,
-        propagate: bool,
-        sink: &mut S,
-        steps: &mut Steps<L>,
-    ) -> Option<State<T, W>>
-        ensures step { Removes self.old key propagate result self.new }
-        ensures wakes { FoldsTo S.woke sink.old (woken_by_removal key propagate self.old) sink.new }
-        ensures was_queue { IsQueue self.old }
-        ensures queue { IsQueue self.new }
-        ensures counted { steps.new.visits ≡ steps.old.visits + visits_of_removal result key self.old }
         ensures looked { steps.new.looks ≡ counted_on steps.old.looks 1 }
     {
         match self.chain.take(key, steps)? {
@@ -391,36 +308,9 @@ impl<T, W> List<T, W> {
         steps: &mut Steps<L>,
     ) -> Result<usize, NotifyError>
         requires { N.can_tag n.old }
-        ensures step { Notifies N.tag_gives (N.count n.old) (N.is_additional n.old) self.old n.old result self.new n.new }
-        ensures wakes { FoldsTo S.woke sink.old (tasks_of (told_by result) self.old) sink.new }
-        ensures queue { IsQueue self.new }
-        ensures order { order_of self.new ≡ order_of self.old }
-        ensures serial { self.new.next_serial ≡ self.old.next_serial }
-
-        // How many are told where no tag is refused, and a source that never refuses one is answered `Ok`.
-        ensures default_leaves { IsOk result → IsFalse (N.is_additional n.old) → length self.new.told ≡ max (length self.old.told) (min (N.count n.old) (listeners_of self.old)) }
-        ensures additional_tells { IsOk result → IsTrue (N.is_additional n.old) → length self.new.told ≡ length self.old.told + min (N.count n.old) (length self.old.waiting) }
-        ensures unrefused { NeverRefuses N.tag_gives → IsOk result }
+        ensures law { IsNotification N.tag_gives S.woke (N.count n.old) (N.is_additional n.old) self.old n.old sink.old result self.new n.new sink.new }
 
         // One visit for each listener told, also where a tag is refused.
-        ensures visits { steps.new.visits ≡ steps.old.visits + told_by result }
-        ensures looks { steps.new.looks ≡ steps.old.looks }
-    {
-        self.notify_step(n, sink, steps)
-    }
-
-    #[inline(always)]
-    pub(crate) fn notify_step<N: Notification<Tag = T>, S: WakeSink<W>, L: Ledger>(
-        &mut self,
-        n: &mut N,
-        sink: &mut S,
-        steps: &mut Steps<L>,
-    ) -> Result<usize, NotifyError>
-        requires { N.can_tag n.old }
-        ensures step { Notifies N.tag_gives (N.count n.old) (N.is_additional n.old) self.old n.old result self.new n.new }
-        ensures wakes { FoldsTo S.woke sink.old (tasks_of (told_by result) self.old) sink.new }
-        ensures was_queue { IsQueue self.old }
-        ensures queue { IsQueue self.new }
         ensures visits { steps.new.visits ≡ steps.old.visits + told_by result }
         ensures looks { steps.new.looks ≡ steps.old.looks }
     {

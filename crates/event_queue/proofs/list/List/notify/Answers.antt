@@ -1,12 +1,19 @@
-use Rattle.std.proofs.Common.{rules}
-use Rattle.event_queue.proofs.NotifyLemmas.{Notifies-order, Notifies-default, Notifies-additional}
+use Rattle.std.proofs.Common.{arith, rules, ◌∙◌}
+use Rattle.event_queue.proofs.NotifyLemmas.{one_more_told, IsNotification-step}
 use Rattle.event_queue.proofs.list.List.notify.Goals as goal
 
-pub returns-clause-order : goal.returns-clause-order
-returns-clause-order g c = search (rules, Notifies-order)
+pub loop-told-preserved : goal.loop-told-preserved
+loop-told-preserved g c = record {
+  told = one_more_told _ _ _ _ _ _ _ _ _ _ _ c.in-Ok.tag _ _ _ c.loop-told.invariant.told c.in-Ok.ensures.gives
+      c.next_tag.ensures.again c.tell_next.ensures.told c.tell_next.ensures.wakes c.tell_next.ensures.queue;
+  visits = omega (arith, c.tell_next.ensures.visits, c.loop-told.invariant.visits);
+  looks = c.tell_next.ensures.looks ∙ c.loop-told.invariant.looks;
+}
 
-pub returns-clause-default_leaves : goal.returns-clause-default_leaves
-returns-clause-default_leaves g c = search (rules, Notifies-default)
+pub returns-in_default-clause-law : goal.returns-in_default-clause-law
+returns-in_default-clause-law g c =
+    IsNotification-step _ _ _ _ _ _ _ _ _ _ _ c.loop-told.invariant.told.queue (search rules) (search rules)
 
-pub returns-clause-additional_tells : goal.returns-clause-additional_tells
-returns-clause-additional_tells g c = search (rules, Notifies-additional)
+pub returns-clause-law : goal.returns-clause-law
+returns-clause-law g c =
+    IsNotification-step _ _ _ _ _ _ _ _ _ _ _ c.loop-told.invariant.told.queue (search rules) (search rules)

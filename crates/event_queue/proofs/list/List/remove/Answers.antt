@@ -1,21 +1,38 @@
-use Rattle.std.proofs.Common.{arith}
-use Rattle.event_queue.proofs.LawLemmas.{Removes-order, Removes-gone, Removes-drop_default, Removes-drop_additional}
+use Rattle.std.proofs.Common.{refl, arith, rules}
+use Rattle.event_queue.proofs.LawLemmas.{untold-waiting, IsRemoval-step}
+use Rattle.event_queue.proofs.Calls.Taken.{IsQueue-taken}
 use Rattle.event_queue.proofs.Calls.Bounds.{visits_of_removal-most}
 use Rattle.event_queue.proofs.list.List.remove.Goals as goal
 
-pub returns-clause-order : goal.returns-clause-order
-returns-clause-order g c = Removes-order _ _ _ _ _ c.remove_step.ensures.was_queue c.remove_step.ensures.step
+pub invariant_of-self-in-After : goal.invariant_of-self-in-After
+invariant_of-self-in-After g c =
+    IsQueue-taken _ _ _ _ _ c.self.invariant c.take.ensures.step
 
-pub returns-clause-gone : goal.returns-clause-gone
-returns-clause-gone g c = Removes-gone _ _ _ _ _ c.remove_step.ensures.was_queue c.remove_step.ensures.step
+pub invariant_of-self-then-propagate : goal.invariant_of-self-then-propagate
+invariant_of-self-then-propagate g c =
+    IsQueue-taken _ _ _ _ _ c.self.invariant c.take.ensures.step
 
-pub returns-clause-drop_default : goal.returns-clause-drop_default
-returns-clause-drop_default g c =
-    λ passes told. Removes-drop_default _ _ _ _ c.remove_step.ensures.was_queue (rw passes at c.remove_step.ensures.step) told
+pub invariant_of-self-else-propagate : goal.invariant_of-self-else-propagate
+invariant_of-self-else-propagate g c =
+    IsQueue-taken _ _ _ _ _ c.self.invariant c.take.ensures.step
 
-pub returns-clause-drop_additional : goal.returns-clause-drop_additional
-returns-clause-drop_additional g c =
-    λ passes told. Removes-drop_additional _ _ _ _ c.remove_step.ensures.was_queue (rw passes at c.remove_step.ensures.step) told
+pub returns-in_err-stored-clause-law : goal.returns-in_err-stored-clause-law
+returns-in_err-stored-clause-law g c =
+    let queue = IsQueue-taken _ _ _ _ _ c.self.invariant c.take.ensures.step in
+    IsRemoval-step _ _ _ _ _ _ _ _ (search rules) queue (search rules) (search rules)
 
-pub returns-clause-visits : goal.returns-clause-visits
-returns-clause-visits g c = omega (arith, c.remove_step.ensures.counted, visits_of_removal-most c.remove_step.result c.args.key c.args.self.now)
+pub returns-after-stored-clause-law : goal.returns-after-stored-clause-law
+returns-after-stored-clause-law g c =
+    let queue = IsQueue-taken _ _ _ _ _ c.self.invariant c.take.ensures.step in
+    let taken = rw (c.in_ok-stored.was, c.in-After.is) at c.take.ensures.step in
+    let untold = untold-waiting c.args.key _ c.in-After.stored c.self.invariant taken.0 in
+    IsRemoval-step _ _ _ _ _ _ _ _ (search rules) queue (search rules) (rw (← c.self.view_is, untold) refl)
+
+pub returns-then-propagate-clause-law : goal.returns-then-propagate-clause-law
+returns-then-propagate-clause-law g c =
+    IsRemoval-step _ _ _ _ _ _ _ _ (search rules) c.pass_on.ensures.queue (search rules) (search rules)
+
+pub returns-else-propagate-clause-law : goal.returns-else-propagate-clause-law
+returns-else-propagate-clause-law g c =
+    let queue = IsQueue-taken _ _ _ _ _ c.self.invariant c.take.ensures.step in
+    IsRemoval-step _ _ _ _ _ _ _ _ (search rules) queue (search rules) (search rules)

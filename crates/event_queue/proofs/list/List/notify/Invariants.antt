@@ -1,6 +1,6 @@
 use Rattle.std.proofs.Common.{◌≡◌, ◌+◌}
 use Rattle.event_queue.proofs.NotifyLemmas.{ToldSoFar}
-use Rattle.event_queue.proofs.list.List.notify_step.Given as goal
+use Rattle.event_queue.proofs.list.List.notify.Given as goal
 
 abbrev pub invariant-loop-told : goal.invariant-loop-told
 invariant-loop-told g l = record {
