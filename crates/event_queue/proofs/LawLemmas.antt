@@ -1,6 +1,6 @@
 -- What users rely on, from the steps: who is gone, in which order the others stand, and how many are told.
-use Rattle.std.proofs.Common.{◌≡◌, ◌+◌, ◌-◌, ◌≤◌, min, max, Bool, true, false, [], ◌∷◌, ◌++◌, take, length, refl, sym, ap, ◌∙◌, subst, arith, Option, Some, None, Result, Ok, Err}
-use Rattle.std.proofs.Common.{IfOk, IsSomeAnd, OnSome, length-take}
+use Rattle.std.proofs.Common.{◌≡◌, ◌+◌, ◌-◌, ◌≤◌, min, max, Bool, true, false, [], ◌∷◌, take, length, refl, sym, ap, ◌∙◌, subst, arith, Option, Some, None, Result, Ok, Err}
+use Rattle.std.proofs.Common.{IsSomeAnd, OnSome, length-take}
 use Rattle.std.specs.List.{FoldsTo}
 use Rattle.std.specs.Map.{keys_of, lookup}
 use Rattle.std.proofs.lemmas.Map.Entries.{length-keys_of}
@@ -15,7 +15,7 @@ use Rattle.event_queue.specs.Queue.{Queue, IsQueue, IsGone, IsToldAs, order_of, 
 use Rattle.event_queue.specs.Insert.{Inserts, IsInsertion}
 use Rattle.event_queue.specs.Remove.{Removes, PassesTo, told_by_passing, after_passing, woken_by_removal, IsRemoval}
 use Rattle.event_queue.proofs.OrderLemmas.{without-none, lookup-none_is, none_before, length-remove_entry}
-use Rattle.event_queue.proofs.QueueLemmas.{rises_along, order_of-push, order_of-told_leaves, order_of-waiting_leaves, order_of-after_storing, IsAbsent-none, IsGone-without}
+use Rattle.event_queue.proofs.QueueLemmas.{rises_along, order_of-push, order_of-told_leaves, order_of-waiting_leaves, IsAbsent-none, IsGone-without}
 use Rattle.event_queue.proofs.QueueLemmas.{told_serial, waiting_serial}
 use Rattle.event_queue.proofs.TellingLemmas.{order_of-after_telling, length-after_telling}
 

@@ -7,10 +7,10 @@ pub record Counts : Type 0 where
   pub visits : ℕ
   pub looks : ℕ
 
--- a count of looks once there were so many more: it stays at the greatest `u64`
+-- a count of looks with this many more: it stays at the greatest `u64`
 abbrev pub counted_on : ℕ → ℕ → ℕ
 counted_on looks more = min (looks + more) (2 ^ 64 - 1)
 
--- a ledger of this name, with so many parts, can be opened on the blank
+-- a ledger of this name and number of parts can be opened on the blank
 abbrev pub Opens : Blank → ℕ → ℕ → Type 0
 Opens blank name parts = (blank.name ≡ name) × (blank.parts ≡ parts) × (0 < blank.parts)

@@ -80,18 +80,18 @@ Spare A B = Placed (Entry A B)
 abbrev pub Slots : Type 0 → Type 0 → Type 0
 Slots A B = List (Option (ℕ × NodePtr (Entry A B)))
 
--- what a slot says: the serial that stands there and the place, or nothing beside the one that no entry gets
+-- what a slot says: its serial and its place, or nothing if the serial is the one that no entry gets
 abbrev pub shown : {A B : Type 0} → Slot A B → Option (ℕ × NodePtr (Entry A B))
 shown slot = cond (eqb slot.serial (2 ^ 64 - 1)) None (Some (slot.serial, slot.place))
 
 abbrev pub shown_in : {A B : Type 0} → List (Slot A B) → Slots A B
 shown_in slots = map shown slots
 
--- the place that stands beside this serial
+-- the place beside this serial, if a slot has it
 abbrev pub place_of : {E : Type 0} → ℕ → ℕ × NodePtr E → Option (NodePtr E)
 place_of serial used = cond (eqb used.0 serial) (Some used.1) None
 
--- the place that stands in the slot of a key, beside its serial
+-- the place in the slot of a key, if its serial is there
 abbrev pub node_at : {E : Type 0} → List (Option (ℕ × NodePtr E)) → Key → Option (NodePtr E)
 node_at slots key =
     option_and_then (place_of key.serial) (option_and_then (λ used. used) (slice_get slots key.slot))

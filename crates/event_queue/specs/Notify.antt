@@ -1,4 +1,4 @@
--- The notify step: the first of the waiting become told, each with the tag that the notification gives next.
+-- The notify step: the first that wait are notified, each with the tag that the notification gives next.
 use Rattle.std.specs.Prelude.{◌≡◌, ℕ, ◌+◌, ◌<◌, min, max, Bool, IsTrue, IsFalse, List, length, Result, Ok, Err, IsOk, alloc_error}
 use Rattle.std.specs.List.{FoldsTo}
 use Rattle.std.specs.declared.alloc.AllocError.{AllocError}
@@ -15,7 +15,7 @@ module _ {T N : Type 0} (gives : N → Result T AllocError → N → Type 0) whe
   NeverRefuses = (before after : N) → ¬ gives before (Err alloc_error) after
 
 module _ {T W N : Type 0} (gives : N → Result T AllocError → N → Type 0) where
-  -- the source was asked so many times and gave a tag each time, and the first waiting were told with them
+  -- the source was asked for this many tags and gave each, and the first that wait were notified with them
   pub record Tells (additional : Bool) (old : Queue T W) (source : N) (told : ℕ) (new : Queue T W) (source' : N) : Type 0 where
     pub tags : List T
     pub given : GivesTags gives source tags source'
@@ -36,7 +36,7 @@ module _ {T W N : Type 0} (gives : N → Result T AllocError → N → Type 0) w
       (error.told < how_many count additional old)
       × TellsThenRefuses additional old source error.told new source'
 
--- how many listeners a notification told, by its answer
+-- how many listeners a notification notified, by its answer
 abbrev pub told_by : Result ℕ NotifyError → ℕ
 told_by (Ok told) = told
 told_by (Err error) = error.told

@@ -1,4 +1,5 @@
--- What a contract sees of a `List`: two plain lists, the told and the waiting.
+-- What a contract sees of a `List`: two plain lists, of the notified listeners, which names call told, and of the others,
+-- which wait.
 use Rattle.std.specs.Prelude.{◌≡◌, ℕ, ◌+◌, ◌-◌, ◌^◌, ◌<◌, min, Bool, if◌then◌else◌, List, [], ◌∷◌, ◌++◌, length, take, drop, filter_map, Option, None, IsSomeAnd}
 use Rattle.std.specs.List.Sorted.{IsStrictlyIncreasing}
 use Rattle.std.specs.Map.{keys_of, lookup, remove_entry}
@@ -6,8 +7,8 @@ use Rattle.event_queue.specs.declared.key.Key.{Key}
 use Rattle.event_queue.specs.declared.notice.Notice.{Notice}
 use Rattle.event_queue.specs.Key.{is_key, serials}
 
--- the listeners told, the listeners waiting, each with its task if it has one, both in order of listening;
--- the serial that the next listener gets; how many more listeners fit with no allocation
+-- the notified listeners, each with the kind and the tag that it got, and those that wait, each with its task if it
+-- stored one, both in order of listening; the serial of the next listener; how many more fit with no allocation
 pub record Queue (T W : Type 0) : Type 0 where
   pub told : List (Key × Notice T)
   pub waiting : List (Key × Option W)
@@ -15,11 +16,11 @@ pub record Queue (T W : Type 0) : Type 0 where
   pub spare : ℕ
 
 module _ {T W : Type 0} where
-  -- the keys in order of listening: those of the told are its front
+  -- the keys in order of listening, those of the notified first
   abbrev pub order_of : Queue T W → List Key
   order_of q = keys_of q.told ++ keys_of q.waiting
 
-  -- how many listeners there are, told or waiting
+  -- how many listeners there are, notified or waiting
   abbrev pub listeners_of : Queue T W → ℕ
   listeners_of q = length q.told + length q.waiting
 
@@ -30,7 +31,7 @@ module _ {T W : Type 0} where
     pub serial_fits : q.next_serial < 2 ^ 64
     pub slots_fit : listeners_of q + q.spare < 2 ^ 64
 
-  -- a listener of that key is in neither list
+  -- neither list has a listener of that key
   pub record IsAbsent (key : Key) (q : Queue T W) : Type 0 where
     pub untold : lookup (is_key key) q.told ≡ None
     pub unwaiting : lookup (is_key key) q.waiting ≡ None
@@ -40,15 +41,15 @@ module _ {T W : Type 0} where
     pub absent : IsAbsent key q
     pub spent : key.serial < q.next_serial
 
-  -- the listener of that key is told, by a notification of that kind
+  -- the listener of that key is notified, by a notification of that kind
   abbrev pub IsToldAs : Key → Bool → Queue T W → Type 0
   IsToldAs key additional q = IsSomeAnd (lookup (is_key key) q.told) (λ notice. notice.additional ≡ additional)
 
-  -- how many listeners a notification wants told anew: its count, less those told where it is a default one
+  -- how many listeners a notification wants notified anew: its count, less those notified before if it is a default one
   abbrev pub wanted : ℕ → Bool → Queue T W → ℕ
   wanted count additional q = if additional then count else count - length q.told
 
-  -- how many it tells: as many as it wants and as are waiting
+  -- how many it notifies: as many as it wants, or all that wait if they are fewer
   abbrev pub how_many : ℕ → Bool → Queue T W → ℕ
   how_many count additional q = min (wanted count additional q) (length q.waiting)
 
@@ -59,18 +60,18 @@ module _ {T W : Type 0} where
   told_with additional (tag ∷ tags) (first ∷ rest) =
       (first.0, record { additional = additional; tag = tag }) ∷ told_with additional tags rest
 
-  -- the queue once as many waiting listeners as there are tags have gone to the end of the told
+  -- the queue once as many waiting listeners as there are tags have gone to the end of the notified
   abbrev pub after_telling : Bool → List T → Queue T W → Queue T W
   after_telling additional tags q = record q {
     told = q.told ++ told_with additional tags q.waiting;
     waiting = drop (length tags) q.waiting;
   }
 
-  -- the tasks of the first so many waiting listeners, of those that have one
+  -- the tasks of the first `count` that wait, of those that stored one
   abbrev pub tasks_of : ℕ → Queue T W → List W
   tasks_of count q = filter_map (λ entry. entry.1) (take count q.waiting)
 
-  -- the queue once the told listener of that key has left, and its slot is spare
+  -- the queue once the notified listener of that key has left, and its slot is spare
   abbrev pub told_leaves : Key → Queue T W → Queue T W
   told_leaves key q = record q { told = remove_entry (is_key key) q.told; spare = q.spare + 1 }
 

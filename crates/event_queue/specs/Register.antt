@@ -1,4 +1,4 @@
--- The register step: a told listener takes its tag and leaves, a waiting one stores the task.
+-- The register step: a notified listener takes its tag and leaves, a waiting one stores the task.
 use Rattle.std.specs.Prelude.{◌≡◌, Some, IsSome, IsSomeAnd}
 use Rattle.std.specs.Map.{lookup, set_value}
 use Rattle.event_queue.specs.declared.key.Key.{Key}

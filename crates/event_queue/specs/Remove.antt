@@ -1,4 +1,4 @@
--- The remove step: a listener leaves, and where it was told its notification may be passed on.
+-- The remove step: a listener leaves, and if it was notified its notification may be propagated.
 use Rattle.std.specs.Prelude.{◌≡◌, ◌-◌, min, max, Bool, true, false, IsTrue, List, [], ◌∷◌, length, take, Option, Some, None, IsSomeAnd, OnSome}
 use Rattle.std.specs.List.{FoldsTo}
 use Rattle.std.specs.Map.{keys_of, lookup}
@@ -19,17 +19,17 @@ module _ {T W : Type 0} where
   abbrev pub woken_by_passing : Notice T → Queue T W → List W
   woken_by_passing notice q = tasks_of (how_many 1 notice.additional q) q
 
-  -- the listeners that this tells: one, or none
+  -- the listener that this notifies, if there is one
   abbrev pub told_by_passing : Notice T → Queue T W → List Key
   told_by_passing notice q = keys_of (take (how_many 1 notice.additional q) q.waiting)
 
-  -- the notice was passed on: the queue was notified of one, and these were told by it
+  -- the notice was propagated: the queue was notified of one, which notified these
   pub record PassesTo (to : List Key) (notice : Notice T) (old new : Queue T W) : Type 0 where
     pub told : told_by_passing notice old ≡ to
     pub queue : new ≡ after_passing notice old
 
-  -- what a removal answers, and the queue that it leaves; a notification that is passed on went to the one listener
-  -- that was told by it, or nobody was, and it is lost
+  -- what a removal answers, and the queue that it leaves; a propagated notification went to the one
+  -- listener that it notified, or is lost if it notified none
   abbrev pub Removes : Queue T W → Key → Bool → Option (State T W) → Queue T W → Type 0
   Removes old key propagate None new = IsAbsent key old × (new ≡ old)
   Removes old key propagate (Some Created) new =
@@ -48,7 +48,7 @@ module _ {T W : Type 0} where
       × (lookup (is_key key) old.told ≡ Some (record { additional = additional; tag = tag }))
       × PassesTo [] (record { additional = additional; tag = tag }) (told_leaves key old) new
 
-  -- what is answered of a notice that was passed on: whom it told, or what it had
+  -- what is answered of a propagated notice: the listener that it notified, or its kind and tag if it notified none
   abbrev pub PassedAs : Notice T → Queue T W → State T W → Type 0
   PassedAs notice q (Passed to) = told_by_passing notice q ≡ to ∷ []
   PassedAs notice q (Lost additional tag) =

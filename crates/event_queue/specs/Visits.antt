@@ -11,24 +11,24 @@ use Rattle.event_queue.specs.declared.reply.State.TheVariants as state
 use Rattle.event_queue.specs.Key.{is_key}
 use Rattle.event_queue.specs.Queue.{Queue, how_many, told_leaves}
 
--- who stands last
+-- the last listener
 abbrev pub visits_of_insertion : Result Key ListenError → ℕ
 visits_of_insertion (Ok key) = 1
 visits_of_insertion (Err error) = 0
 
--- who stood before and who stood behind a told listener, which leaves
+-- the two neighbors of a notified listener, which leaves
 abbrev pub visits_of_registration : {T : Type 0} → RegisterResult T → ℕ
 visits_of_registration (registration.Notified tag) = 2
 visits_of_registration registration.Registered = 0
 visits_of_registration registration.NeverInserted = 0
 
 module _ {T W : Type 0} where
-  -- whom the notification of a told listener is passed on to, if there is somebody
+  -- the listener that a notification is propagated to, if there is one
   abbrev pub visits_of_passing : Option (Notice T) → Key → Queue T W → ℕ
   visits_of_passing None key q = 0
   visits_of_passing (Some notice) key q = how_many 1 notice.additional (told_leaves key q)
 
-  -- who stood before and behind; the first who waits too, if the listener waited; and whom a notification is passed on to
+  -- the two neighbors; the first that waits too, if the listener waited; and the one that a notification is propagated to
   abbrev pub visits_of_removal : Option (State T W) → Key → Queue T W → ℕ
   visits_of_removal None key q = 0
   visits_of_removal (Some state.Created) key q = 3

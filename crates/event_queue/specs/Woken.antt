@@ -15,7 +15,7 @@ module _ {W : Type 0} where
       then record kept { tasks = kept.tasks ++ task ∷ [] }
       else record kept { missed = min (kept.missed + 1) (2 ^ 64 - 1) }
 
-  -- the first so many of these tasks, and a count of the others
+  -- the first `room` of these tasks, and a count of the others
   abbrev pub first_of : ℕ → List W → Kept W
   first_of room tasks =
       record { tasks = take room tasks; room = room; missed = min (length tasks - room) (2 ^ 64 - 1) }

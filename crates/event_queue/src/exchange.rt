@@ -3,7 +3,7 @@ ghost use Rattle.std.specs.Prelude.{Option};
 /// Makes the task that a waiting listener stores next of the one that it stored before, if it stored one.
 ///
 /// Generic callers know an implementation by its relation `exchanged`: itself, what it works on before, the task that was
-/// stored, the task to store, and what it works on after. An implementation writes the clause of `exchange` at its own.
+/// stored, the task to store, and what it works on after. An implementation repeats the clause of `exchange`.
 pub trait TaskExchange<W, C> {
     ghost exchanged: { Self → C → Option W → W → C → Type 0 };
 

@@ -148,8 +148,8 @@ impl<T, W> List<T, W> {
         self.register_by(key, Storing { task }, &mut None, steps)
     }
 
-    // Registers a listener: one that was told takes its tag and leaves the queue, and `change` makes what one that waits
-    // stores next of what it stored.
+    // Registers a listener: a notified one takes its tag and leaves the queue, and one that waits stores what `change`
+    // makes of what it stored.
     #[inline(always)]
     fn register_by<C, M: Change<Option<W>, C>, L: Ledger>(
         &mut self,
@@ -232,9 +232,11 @@ impl<T, W> List<T, W> {
         }
     }
 
-    // Propagates a notification: notifies one, of that notice's kind and with its tag. The answer says who was told;
-    // where nobody was, it has what the notice had.
-    #[inline(always)]
+    // Propagates a notification: notifies one listener, with that kind and tag. Returns which one, or the kind and the
+    // tag if it notified none. It is never inlined, so that the drop of a listener, which is inlined in many places, stays
+    // short.
+    #[cold]
+    #[inline(never)]
     fn pass_on<S: WakeSink<W>, L: Ledger>(
         &mut self,
         notice: Notice<T>,
@@ -248,48 +250,12 @@ impl<T, W> List<T, W> {
         ensures visits { steps.new.visits ≡ steps.old.visits + how_many 1 notice.additional self.old }
         ensures looks { steps.new.looks ≡ steps.old.looks }
     {
-        if self.tells_one(notice.additional) {
-            let to = self.tell_apart(notice, sink, steps);
-            return State::Passed { to };
+        if self.how_many(1, notice.additional) == 0 {
+            let Notice { additional, tag } = notice;
+            return State::Lost { additional, tag };
         }
-        let Notice { additional, tag } = notice;
-        State::Lost { additional, tag }
-    }
-
-    // Whether a notification of one tells somebody: `how_many` answers the same, in more instructions.
-    #[inline(always)]
-    fn tells_one(&self, additional: bool) -> bool
-        ensures somebody { IsTrue result → how_many 1 additional self.now ≡ 1 }
-        ensures nobody { IsFalse result → how_many 1 additional self.now ≡ 0 }
-        ensures queue { IsQueue self.now }
-    {
-        let somebody_waits = self.chain.after_len() > 0;
-        if additional {
-            somebody_waits
-        } else {
-            somebody_waits && self.chain.before_len() == 0
-        }
-    }
-
-    // Tells the first waiting listener. It stands apart, so that the drop of a listener, which stands in many places, is
-    // short.
-    #[cold]
-    #[inline(never)]
-    fn tell_apart<S: WakeSink<W>, L: Ledger>(
-        &mut self,
-        notice: Notice<T>,
-        sink: &mut S,
-        steps: &mut Steps<L>,
-    ) -> Key
-        requires { 0 < length self.old.waiting }
-        ensures first { keys_of (take 1 self.old.waiting) ≡ result ∷ [] }
-        ensures told { self.new ≡ after_telling notice.additional (notice.tag ∷ []) self.old }
-        ensures wakes { FoldsTo S.woke sink.old (tasks_of 1 self.old) sink.new }
-        ensures queue { IsQueue self.new }
-        ensures visits { steps.new.visits ≡ steps.old.visits + 1 }
-        ensures looks { steps.new.looks ≡ steps.old.looks }
-    {
-        self.tell_next(notice, sink, steps)
+        let to = self.tell_next(notice, sink, steps);
+        State::Passed { to }
     }
 
     /// Notifies the first waiting listeners, as many as the notification is for, in order, each with the next tag
@@ -310,7 +276,7 @@ impl<T, W> List<T, W> {
         requires { N.can_tag n.old }
         ensures law { IsNotification N.tag_gives S.woke (N.count n.old) (N.is_additional n.old) self.old n.old sink.old result self.new n.new sink.new }
 
-        // One visit for each listener told, also where a tag is refused.
+        // One visit for each listener notified, even if a tag is refused.
         ensures visits { steps.new.visits ≡ steps.old.visits + told_by result }
         ensures looks { steps.new.looks ≡ steps.old.looks }
     {
@@ -325,7 +291,7 @@ impl<T, W> List<T, W> {
         Ok(count)
     }
 
-    // How many listeners a notification of that count and kind tells.
+    // How many listeners a notification of that count and kind notifies.
     #[inline(always)]
     fn how_many(&self, count: usize, additional: bool) -> usize
         ensures value { result ≡ how_many count additional self.now }
@@ -339,7 +305,7 @@ impl<T, W> List<T, W> {
         wanted.min(self.chain.after_len())
     }
 
-    // Tells the first waiting listener, and wakes its task if it has one. Its key is the answer.
+    // Notifies the first listener that waits, wakes its task if it stored one, and returns its key.
     #[inline(always)]
     fn tell_next<S: WakeSink<W>, L: Ledger>(
         &mut self,
@@ -362,7 +328,7 @@ impl<T, W> List<T, W> {
         key
     }
 
-    // What the type keeps, for code that reads none of its fields.
+    // Shows that this is an `IsQueue`, to a caller that reads no field.
     pub(crate) fn invariant_holds(&self)
         ensures { IsQueue self.now }
     {

@@ -270,8 +270,8 @@ impl<A, B> Chain<A, B> {
         Some(Side::Before(value))
     }
 
-    /// Moves the cursor past the first entry after it, which gets this value. Its key and the value that it had are
-    /// the answer.
+    /// Moves the cursor past the first entry after it, which gets this value. Returns its key and the value that it
+    /// had.
     #[inline(always)]
     pub fn advance<L: Ledger>(&mut self, value: A, steps: &mut Steps<L>) -> (Key, Option<B>)
         requires { 0 < length self.old.after }

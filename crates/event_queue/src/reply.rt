@@ -6,7 +6,7 @@ use thiserror::Error;
 pub enum State<T, W> {
     /// Waiting, and no task was stored.
     Created,
-    /// Notified, and its notification is the answer.
+    /// Notified, by this notification.
     Notified {
         /// Whether the notification was an additional one.
         additional: bool,

@@ -23,7 +23,7 @@ impl<W: Drop> Change<Option<W>, Option<W>> for Storing<W> {
     }
 }
 
-/// Stores what the task that was stored is exchanged for.
+/// Stores what the exchange makes of the stored task.
 #[derive(Drop)]
 pub(crate) struct Exchanging<'a, X> {
     pub(crate) exchange: &'a X,

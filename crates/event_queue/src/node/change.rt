@@ -3,8 +3,7 @@ ghost use Rattle.std.specs.Prelude.{◌≡◌};
 /// Makes the value that an entry carries next of the one that it carries.
 ///
 /// Generic callers know an implementation by its relation `changes`: itself, what it works on before, the value that the
-/// entry had, the one that it gets, and what it works on after. An implementation writes the clause of `change` at its
-/// own.
+/// entry had, the one that it gets, and what it works on after. An implementation repeats the clause of `change`.
 pub trait Change<B, C> {
     ghost changes: { Self → C → B → B → C → Type 0 };
 

@@ -10,7 +10,7 @@ use std::alloc::{AllocError, Global};
 use std::sync::ledger::Ledger;
 use std_alloc::room::Vacant;
 
-/// What a node carries: the slot that it keeps, and an entry's value. The entry's serial stands in that slot, and here
+/// What a node carries: the slot that it keeps, and an entry's value. The slot has the entry's serial, which is here
 /// for proofs alone.
 #[derive(Drop)]
 pub(super) struct Entry<A, B> {
@@ -148,7 +148,7 @@ impl<A, B> Entries<A, B> {
         matches!(entry.held, Held::After(_) | Held::AfterWithout)
     }
 
-    /// Links a spare node in at the end, with an entry after the cursor. Its slot and the node are the answer.
+    /// Links a spare node in at the end, with an entry after the cursor, and returns its slot and the node.
     ///
     /// If no other entry is after the cursor, the cursor moves to it.
     #[inline(always)]
@@ -211,7 +211,7 @@ impl<A, B> Entries<A, B> {
         self.ring.replace(own, entry).drop_spare();
     }
 
-    /// Takes a node out whose entry is before the cursor. Its value and its block are the answer.
+    /// Takes a node out whose entry is before the cursor, and returns its value and its block.
     #[inline(always)]
     pub(super) fn take_before<L: Ledger>(
         &mut self,
@@ -272,8 +272,8 @@ impl<A, B> Entries<A, B> {
         (first, slot)
     }
 
-    /// Moves the cursor past the first node after it, whose entry has this key and gets this value. The value that it
-    /// had is the answer.
+    /// Moves the cursor past the first node after it, whose entry has this key and gets this value. Returns the value
+    /// that it had.
     #[inline(always)]
     pub(super) fn advance(&mut self, first: NodeRef<Entry<A, B>>, key: Key, value: A) -> Option<B>
         requires node { IsAfterAt self.old.ring.nodes self.old.cursor.ptr }

@@ -16,7 +16,7 @@ mod steps;
 /// A node that a call may look at: the one that a look by key led to, once that look was counted, or another one, whose
 /// visit was.
 ///
-/// A [`NodePtr`] only says where a node stands: the functions that follow one are reached from this module alone. So a
+/// A [`NodePtr`] only says where a node is: the functions that follow one are reached from this module alone. So a
 /// call gets to a node by [`NodeRef::looked_up`] or by [`Ring::visit`], and keeps none for the next call.
 #[derive(Drop)]
 pub(super) struct NodeRef<E> {
@@ -24,7 +24,7 @@ pub(super) struct NodeRef<E> {
 }
 
 impl<E> NodeRef<E> {
-    /// The node that stands where a look by key led: the call's own one. The look is counted even if it led nowhere.
+    /// The node that a look by key led to: the call's own one. The look is counted even if it led nowhere.
     #[inline(always)]
     pub(super) fn looked_up<L: Ledger>(
         place: Option<NodePtr<E>>,
@@ -41,7 +41,7 @@ impl<E> NodeRef<E> {
         }
     }
 
-    /// Where the node stands.
+    /// Where the node is.
     #[inline(always)]
     pub(super) fn place(&self) -> NodePtr<E>
         ensures { result.ptr ≡ self.now.ptr }

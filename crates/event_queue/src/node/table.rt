@@ -11,8 +11,8 @@ use std::alloc::{AllocError, Global};
 use std::sync::ledger::Ledger;
 use std_alloc::room::Vacant;
 
-/// What stands in a slot: the serial of the entry that uses it, and the place of its node. While the node is spare the
-/// serial is `u64::MAX`, which no entry gets, and the place is followed by nobody.
+/// A slot: the serial of the entry that uses it, and the place of its node. While the node is spare the serial is
+/// `u64::MAX`, which no entry gets, so no key leads to the place.
 #[derive(Drop)]
 pub(super) struct Slot<A, B> {
     serial: u64,
@@ -35,7 +35,7 @@ impl<A, B> Slot<A, B> {
 
 /// A slot for each node but the root, and the nodes that no entry uses.
 ///
-/// A node keeps its slot for ever. While an entry uses it, the entry's serial stands there too, so that a key of no
+/// A node keeps its slot for ever. While an entry uses it, it has the entry's serial too, so that a key of no
 /// listener is recognized without a look at any node.
 #[derive(Drop)]
 pub(super) struct Table<A, B> {
@@ -84,7 +84,7 @@ impl<A, B> Table<A, B> {
         NodeRef::looked_up(self.place_of(key), steps)
     }
 
-    // Where the node of the key's entry stands, if there is one.
+    // Where the node of the key's entry is, if there is one.
     #[inline(always)]
     fn place_of(&self, key: Key) -> Option<NodePtr<Entry<A, B>>>
         ensures { result ≡ node_at (shown_in self.now.slots.items) key }
@@ -95,7 +95,7 @@ impl<A, B> Table<A, B> {
         }
     }
 
-    /// The serial that stands in a slot.
+    /// The serial in a slot.
     #[inline(always)]
     pub(super) fn serial_in(&self, slot: usize) -> u64
         requires { slot < length (shown_in self.now.slots.items) }

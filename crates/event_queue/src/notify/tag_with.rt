@@ -30,7 +30,7 @@ impl<N, F> TagWith<N, F> {
     }
 }
 
-// Stands in `Debug` for the function, which has no text of its own.
+// What `Debug` prints in place of the function, which has no text of its own.
 struct Ellipsis;
 
 impl Debug for Ellipsis {

@@ -21,7 +21,7 @@ pub struct Node<E> {
 /// A node's block with nothing in it.
 pub type Room<E> = Vacant<Node<E>, Global>;
 
-/// Where a node stands. It owns nothing.
+/// Where a node is. It owns nothing.
 pub struct NodePtr<E> {
     pub(super) ptr: *mut Node<E>,
 }
@@ -96,7 +96,7 @@ impl<E> Ring<E> {
         }
     }
 
-    /// Links a lone node in behind the last, and returns where it stands.
+    /// Links a lone node in behind the last, and returns where it is.
     #[inline(always)]
     pub(super) fn link_last(&mut self, node: Ring<E>) -> NodePtr<E>
         requires { node.nodes ≡ [] }
@@ -138,7 +138,7 @@ impl<E> Ring<E> {
         }
     }
 
-    /// A lone node in that room, and where it stands.
+    /// A lone node in that room, and where it is.
     pub fn alone(alloc: Global, room: Room<E>, entry: E) -> (Ring<E>, NodePtr<E>)
         ensures alone { (result.0.entry ≡ entry) × (result.0.nodes ≡ []) }
         ensures place { result.1.ptr ≡ result.0.at }
@@ -185,7 +185,7 @@ impl<E: Drop> Drop for Ring<E> {
 
 /// Nodes that are in no ring, each linked to the one that came before it.
 ///
-/// The drop of a pile gives no block back: whoever keeps one takes every node off first.
+/// The drop of a pile frees no node: its owner takes every node off first.
 #[derive(Drop)]
 pub struct Pile<E> {
     top: *mut Node<E>,
@@ -215,7 +215,7 @@ impl<E> Pile<E> {
         }
     }
 
-    /// Makes a node in the room, on top of the pile, and returns where it stands.
+    /// Makes a node in the room, on top of the pile, and returns where it is.
     #[inline(always)]
     pub(super) fn fill(&mut self, room: Room<E>, entry: E) -> NodePtr<E>
         ensures place { result.ptr ≡ room.ptr }

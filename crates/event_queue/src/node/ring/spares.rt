@@ -8,8 +8,8 @@ use std::marker::Model;
 
 /// Spare nodes. The one that became spare last is taken first, as it is the likeliest to be in a cache.
 ///
-/// Each leads to the one before it, so a node that becomes spare needs no memory. No entry stands on them, so visits of
-/// them are not counted: a call takes the last or adds one, and goes to no other.
+/// Each leads to the one before it, so a node that becomes spare needs no memory. No listener is on them, so looks at
+/// them are no visits: a call takes the last or adds one, and goes to no other.
 pub struct Spares<E> {
     pile: Pile<E>,
     len: usize,
@@ -57,7 +57,7 @@ impl<E> Spares<E> {
         Some(self.pile.take())
     }
 
-    /// Keeps one node more, which it makes in that room. Where the node stands is the answer.
+    /// Adds a node, which it makes in that room, and returns where it is.
     #[inline(always)]
     pub fn push(&mut self, room: Room<E>, entry: E) -> NodePtr<E>
         requires { length self.old + 1 < 2 ^ 64 }

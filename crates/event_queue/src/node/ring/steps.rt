@@ -5,16 +5,16 @@ ghost use Rattle.event_queue.specs.Counts.{counted_on};
 use std::marker::Model;
 use std::sync::ledger::{Blank, Book, Ledger, Share};
 
-/// Counts visits and looks by key: each look of a call at the node of another listener, and each time that it looks
-/// for the node of a key, which alone leads it to the node of its own listener.
+/// Counts visits, which are looks of a call at the nodes of other listeners, and looks by key, which are lookups of a
+/// key's node.
 ///
-/// A call of a [`List`](crate::List) that takes `steps` adds its visits and its looks, and nothing else changes the
+/// Only a look by key leads a call to the node of its own listener. A call of a [`List`](crate::List) that takes `steps` adds its visits and its looks, and nothing else changes the
 /// counts. Clauses see the visits as a number without a limit, and the looks as one that stays at `u64::MAX`.
 #[derive(Drop)]
 pub struct Steps<L: Ledger> {
     book: Book<L>,
     share: Share<L>,
-    // What the book has, for who runs the program.
+    // The total of the book, which only proofs can read, as far as a `u64` counts.
     visits: u64,
     looks: u64,
 }
@@ -65,7 +65,7 @@ impl<L: Ledger> Steps<L> {
         self.looks
     }
 
-    // Counts so many visits more. Only the ring counts.
+    // Counts `visits` more. Only the ring counts.
     #[inline(always)]
     pub(super) fn add(&mut self, visits: u64)
         ensures visits { self.new.visits ≡ self.old.visits + visits }

@@ -1,7 +1,6 @@
-use Rattle.std.proofs.Common.{refl, arith, rules}
+use Rattle.std.proofs.Common.{refl, rules}
 use Rattle.event_queue.proofs.LawLemmas.{untold-waiting, IsRemoval-step}
 use Rattle.event_queue.proofs.Calls.Taken.{IsQueue-taken}
-use Rattle.event_queue.proofs.Calls.Bounds.{visits_of_removal-most}
 use Rattle.event_queue.proofs.list.List.remove.Goals as goal
 
 pub invariant_of-self-in-After : goal.invariant_of-self-in-After
