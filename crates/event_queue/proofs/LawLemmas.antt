@@ -1,5 +1,5 @@
 -- What users rely on, from the steps: who is gone, in which order the others stand, and how many are told.
-use Rattle.std.proofs.Common.{◌≡◌, ◌+◌, ◌-◌, ◌≤◌, min, max, Bool, true, false, [], ◌∷◌, take, length, refl, sym, ap, ◌∙◌, subst, arith, Option, Some, None, Result, Ok, Err}
+use Rattle.std.proofs.Common.{◌≡◌, ◌+◌, ◌-◌, ◌≤◌, min, max, Bool, true, false, [], ◌∷◌, take, length, refl, sym, ap, ◌∙◌, subst, arith, rules, Option, Some, None, Result, Ok, Err}
 use Rattle.std.proofs.Common.{IsSomeAnd, OnSome, length-take}
 use Rattle.std.specs.List.{FoldsTo}
 use Rattle.std.specs.Map.{keys_of, lookup}
@@ -181,19 +181,6 @@ module _ {T W : Type 0} where
       let counts = Removes-drop old key reply new true queue step told in
       omega (arith, counts.0, counts.1)
 
-  serial-propagated : (old : Queue T W) (key : Key) (propagate : Bool) (new : Queue T W) → Propagates old key propagate new → new.next_serial ≡ old.next_serial
-  serial-propagated old key propagate new step = ap (λ q. q.next_serial) step.queue
-
-  Removes-serial : (old : Queue T W) (key : Key) (propagate : Bool) (reply : Option (State T W)) (new : Queue T W) → Removes old key propagate reply new → new.next_serial ≡ old.next_serial
-  Removes-serial old key propagate None new step = ap (λ q. q.next_serial) step.1
-  Removes-serial old key propagate (Some Created) new step = ap (λ q. q.next_serial) step.1
-  Removes-serial old key propagate (Some (Task task)) new step = ap (λ q. q.next_serial) step.1
-  Removes-serial old key propagate (Some (WasNotified additional tag)) new step = ap (λ q. q.next_serial) step.2
-  Removes-serial old key propagate (Some (Passed to)) new step =
-      serial-propagated old key propagate new (propagates-passed old key propagate to new step)
-  Removes-serial old key propagate (Some (Lost additional tag)) new step =
-      serial-propagated old key propagate new (propagates-lost old key propagate additional tag new step)
-
   -- the laws of a removal follow from its step and its wakes
   pub IsRemoval-step : {S : Type 0} (woke : S → W → S → Type 0) (old : Queue T W) (key : Key) (propagate : Bool) (sink : S) (reply : Option (State T W)) (new : Queue T W) (sink' : S)
       → IsQueue old → IsQueue new → Removes old key propagate reply new → FoldsTo woke sink (woken_by_removal key propagate old) sink'
@@ -204,7 +191,7 @@ module _ {T W : Type 0} where
     queue = queue;
     order = Removes-order old key propagate reply new was step;
     gone = Removes-gone old key propagate reply new was step;
-    serial = Removes-serial old key propagate reply new step;
+    serial = search rules;
     drop_default = λ passes told. Removes-drop_default old key reply new was (rw passes at step) told;
     drop_additional = λ passes told. Removes-drop_additional old key reply new was (rw passes at step) told;
   }

@@ -1,5 +1,5 @@
 -- What the loop of a notification keeps, and the laws of its step.
-use Rattle.std.proofs.Common.{◌≡◌, ℕ, ◌+◌, ◌<◌, ◌≤◌, min, max, Bool, true, false, [], ◌∷◌, ◌++◌, length, refl, sym, ap, ◌∙◌, arith, Result, Ok, Err, IsOk, IsTrue, IsFalse}
+use Rattle.std.proofs.Common.{◌≡◌, ℕ, ◌+◌, ◌<◌, ◌≤◌, min, max, Bool, true, false, [], ◌∷◌, ◌++◌, length, refl, sym, ap, ◌∙◌, arith, rules, Result, Ok, Err, IsOk, IsTrue, IsFalse}
 use Rattle.std.proofs.Common.{length-append, length-drop, append-nil}
 use Rattle.std.specs.List.{FoldsTo}
 use Rattle.std.specs.declared.alloc.AllocError.{AllocError}
@@ -83,17 +83,6 @@ module _ {T W N : Type 0} (gives : N → Result T AllocError → N → Type 0) w
       omega (arith, Notifies-told count true old source reply new source' step ok)
   Notifies-additional count false old source reply new source' step ok kind = absurd (cc)
 
-  Notifies-serial : (count : ℕ) (additional : Bool) (old : Queue T W) (source : N) (reply : Result ℕ NotifyError) (new : Queue T W) (source' : N)
-      → Notifies gives count additional old source reply new source' → new.next_serial ≡ old.next_serial
-  Notifies-serial count additional old source (Ok told) new source' step = ap (λ q. q.next_serial) step.1.queue
-  Notifies-serial count additional old source (Err error) new source' step = ap (λ q. q.next_serial) step.1.tells.queue
-
-  Notifies-unrefused : (count : ℕ) (additional : Bool) (old : Queue T W) (source : N) (reply : Result ℕ NotifyError) (new : Queue T W) (source' : N)
-      → Notifies gives count additional old source reply new source' → NeverRefuses gives → IsOk reply
-  Notifies-unrefused count additional old source (Ok told) new source' step never = refl
-  Notifies-unrefused count additional old source (Err error) new source' step never =
-      absurd (never step.1.between source' step.1.refuses)
-
   -- the laws of a notification follow from its step and its wakes
   pub IsNotification-step : {S : Type 0} (woke : S → W → S → Type 0) (count : ℕ) (additional : Bool) (old : Queue T W) (source : N) (sink : S) (reply : Result ℕ NotifyError) (new : Queue T W)
       (source' : N) (sink' : S) → IsQueue new → Notifies gives count additional old source reply new source' → FoldsTo woke sink (tasks_of (told_by reply) old) sink'
@@ -103,8 +92,8 @@ module _ {T W N : Type 0} (gives : N → Result T AllocError → N → Type 0) w
     wakes = wakes;
     queue = queue;
     order = Notifies-order count additional old source reply new source' step;
-    serial = Notifies-serial count additional old source reply new source' step;
+    serial = search rules;
     default_leaves = Notifies-default count additional old source reply new source' step;
     additional_tells = Notifies-additional count additional old source reply new source' step;
-    unrefused = Notifies-unrefused count additional old source reply new source' step;
+    unrefused = search rules;
   }
