@@ -1,5 +1,5 @@
 -- What a waiting listener stores next, and the laws of a registration.
-use Rattle.std.proofs.Common.{◌≡◌, ◌++◌, sym, ap, subst, ◌∙◌, Option, arith}
+use Rattle.std.proofs.Common.{◌≡◌, ◌++◌, sym, ap, subst, ◌∙◌, Option, arith, rules}
 use Rattle.std.specs.Map.{keys_of, set_value}
 use Rattle.std.proofs.lemmas.Map.{keys-set_value, length-set_value}
 use Rattle.event_queue.specs.declared.key.Key.{Key}
@@ -34,21 +34,9 @@ module _ {T W : Type 0} where
     gone = subst (IsGone key) (sym step.1) (took_tag-gone key old tag was step.0);
     order_without = ap order_of step.1 ∙ took_tag-order key old tag was step.0;
     order_kept = tt;
-    serial = ap (λ q. q.next_serial) step.1;
+    serial = search rules;
   }
-  IsRegistration-step changes old key before Registered new after was queue step = record {
-    step = step;
-    queue = queue;
-    gone = tt;
-    order_without = tt;
-    order_kept = ap order_of step.queue ∙ order_of-after_setting key step.stored old;
-    serial = ap (λ q. q.next_serial) step.queue;
-  }
-  IsRegistration-step changes old key before NeverInserted new after was queue step = record {
-    step = step;
-    queue = queue;
-    gone = tt;
-    order_without = tt;
-    order_kept = ap order_of step.1;
-    serial = ap (λ q. q.next_serial) step.1;
-  }
+  IsRegistration-step changes old key before Registered new after was queue step =
+      record { step = step; queue = queue; gone = tt; order_without = tt; order_kept = ap order_of step.queue ∙ order_of-after_setting key step.stored old; serial = search rules }
+  IsRegistration-step changes old key before NeverInserted new after was queue step =
+      record { step = step; queue = queue; gone = tt; order_without = tt; order_kept = ap order_of step.1; serial = search rules }
