@@ -7,12 +7,12 @@ mod debug;
 mod identity;
 mod shared;
 
-use crate::listener::{EventListener, InnerListener};
+use crate::listener::EventListener;
 use crate::locks::take_lock;
 use crate::task::Waking;
 use event_queue::{IntoNotification, ListenError, NotifyError};
 pub use identity::{EventId, EventIds, IdsUsedUp, given_numbers_are_distinct};
-pub(crate) use shared::Shared;
+pub use shared::Shared;
 use std::alloc::{AllocError, Global};
 use std::marker::Model;
 use std::sync::{Arc, OnceLock, Wait};
@@ -96,8 +96,8 @@ impl<T> Event<T> {
             return Err(ListenError::Memory);
         };
         let key = take_lock!(shared.queue(), rt).insert_uncounted()?;
-        let inner = InnerListener::new(key, self.id.number(), runtime, alloc);
-        Ok(EventListener::new(shared, inner))
+        let number = self.id.number();
+        Ok(EventListener::new(shared, key, number, runtime, alloc))
     }
 
     // A share of the queue, which is made. It stands apart, so that a share of one that is there is a few instructions.

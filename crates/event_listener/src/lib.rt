@@ -218,6 +218,8 @@ mod locks;
 mod recorded;
 mod task;
 
+#[doc(hidden)]
+pub use event::Shared;
 pub use event::{Event, EventId, EventIds, IdsUsedUp, given_numbers_are_distinct};
 pub use event_queue::{
     Additional, Call, IntoNotification, IntoTagged, Key, List, ListenError, Notification, Notify,
@@ -229,7 +231,8 @@ pub use event_queue::{
 #[doc(hidden)]
 pub use event_queue::{Notice, TagList};
 pub use listener::{
-    EventListener, Listener, NeverInserted, StackListener, StackSlot, WaitError, WaitReason,
+    EventListener, Hold, Limit, Listener, NeverInserted, QueueListener, StackListener, StackSlot,
+    WaitError, WaitReason,
 };
 pub use recorded::{
     CloseError, Entry, Former, Hand, Note, Record, RecordError, RecordedCall, RecordedEvent,

@@ -1,30 +1,30 @@
 //! Listeners.
-ghost use Rattle.std.specs.Prelude.{◌≡◌, ◌↔◌, ℕ, Bool, true, false, IsTrue, IsErr, IfOk, IfErr, OnErr};
+ghost use Rattle.std.specs.Prelude.{◌≡◌, ◌↔◌, ℕ, Bool, true, false, IsTrue, IsErr, IsSome, IfOk, IfErr, OnErr};
 ghost use Rattle.futures.specs.Poll.{IfReady, OnPending};
 ghost use Rattle.futures.specs.Task.{Covers, Keeps};
 ghost use Rattle.event_listener.specs.Waiting.{HandsBack};
+ghost use Rattle.event_listener.specs.declared.listener.limit.Limit.TheVariants.{Never};
 
-mod event_listener;
-mod future;
-mod inner_listener;
+mod hold;
+mod limit;
 mod macros;
 mod membership;
 mod polled;
-mod stack_listener;
+mod queue_listener;
 mod stack_slot;
 mod wait;
 mod wait_error;
 
 use crate::event::Event;
-pub use event_listener::EventListener;
 use futures::task::{Context, Poll, Waker};
-pub(crate) use inner_listener::InnerListener;
+pub use hold::Hold;
+pub use limit::Limit;
 pub(crate) use polled::poll_of;
-pub use stack_listener::StackListener;
+pub use queue_listener::{EventListener, QueueListener, StackListener};
 pub use stack_slot::StackSlot;
 use std::time::{Duration, Instant};
 use thiserror::Error;
-pub(crate) use wait::{Limit, WaitOutcome, WaitSteps, wait_in};
+pub(crate) use wait::{WaitSteps, answer_to_registration, wait_in};
 pub use wait_error::{WaitError, WaitReason};
 
 /// The listener is not in the queue: it has given its tag.
@@ -104,33 +104,43 @@ pub trait Listener<T>: Sized {
         ensures registered { IfOk result (λ polled. OnPending polled (Covers cx.new (λ s. s ≡ source self.new))) }
         ensures kept { Keeps cx.old cx.new };
 
-    /// Waits until the listener is notified, and returns the tag.
+    /// Waits until the listener is notified or the limit has passed, and returns the tag or `None`. The listener is out
+    /// of the queue then. A tag that comes after that time and before the removal is returned too, and not propagated.
     ///
     /// See [Waiting](Listener#waiting) for what it allocates, what it waits for, and what its errors leave.
+    fn wait_until(self, limit: Limit) -> Result<Option<T>, WaitError<Self>>
+        ensures finished { is_finished self ≡ true → IsErr result }
+        ensures memory { IfErr result (HandsBack self) }
+
+        // A wait without a limit ends with the tag or an error.
+        ensures unlimited { limit ≡ Never → IfOk result (λ tag. IsSome tag) };
+
+    /// Waits until the listener is notified, and returns the tag: [`wait_until`](Listener::wait_until) with
+    /// [`Limit::Never`].
     fn wait(self) -> Result<T, WaitError<Self>>
         ensures finished { is_finished self ≡ true → IsErr result }
-        ensures memory { IfErr result (HandsBack self) };
+        ensures memory { IfErr result (HandsBack self) }
+    {
+        match self.wait_until(Limit::Never)? {
+            Some(tag) => Ok(tag),
+            None => unreachable!(),
+        }
+    }
 
-    /// Waits until the listener is notified or the timeout has passed, and returns the tag or `None`. The listener is
-    /// out of the queue then. A tag that comes after that time and before the removal is returned too, and not
-    /// propagated.
-    ///
-    /// If the present moment and the timeout add up to one that can't be represented, it waits without a limit. A
-    /// clock that can't be read counts as one that shows the deadline. See [Waiting](Listener#waiting) for what it
-    /// allocates, what it waits for, and what its errors leave.
+    /// Waits until the listener is notified or the timeout has passed, and returns the tag or `None`:
+    /// [`wait_until`](Listener::wait_until) with [`Limit::after`], by the clock of the listener.
     fn wait_timeout(self, timeout: Duration) -> Result<Option<T>, WaitError<Self>>
         ensures finished { is_finished self ≡ true → IsErr result }
         ensures memory { IfErr result (HandsBack self) };
 
-    /// Waits until the listener is notified or that moment of its own clock has come, and returns the tag or `None`.
-    /// The listener is out of the queue then. A tag that comes after that moment and before the removal is returned
-    /// too, and not propagated.
-    ///
-    /// A clock that can't be read counts as one that shows the deadline. See [Waiting](Listener#waiting) for what it
-    /// allocates, what it waits for, and what its errors leave.
+    /// Waits until the listener is notified or that moment of its own clock has come, and returns the tag or `None`:
+    /// [`wait_until`](Listener::wait_until) with [`Limit::At`].
     fn wait_deadline(self, deadline: Instant) -> Result<Option<T>, WaitError<Self>>
         ensures finished { is_finished self ≡ true → IsErr result }
-        ensures memory { IfErr result (HandsBack self) };
+        ensures memory { IfErr result (HandsBack self) }
+    {
+        self.wait_until(Limit::At(deadline))
+    }
 
     /// Removes the listener from the queue without propagating a notification, and returns whether it was notified. A
     /// finished one returns `false`.

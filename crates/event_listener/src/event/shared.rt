@@ -2,14 +2,24 @@
 use crate::task::{EventSource, Task};
 use event_queue::List;
 use std::alloc::Global;
+use std::marker::Model;
 use std::sync::Mutex;
 
 /// The queue of one event, under a lock that no other event has.
+///
+/// A contract sees it as the number of the source at which a task registers that polls a listener.
 #[derive(Drop)]
-pub(crate) struct Shared<T> {
+pub struct Shared<T> {
     queue: Mutex<List<T, Task>>,
-    /// What a task that polls a listener registers at.
     pub(crate) source: EventSource,
+}
+
+impl<T> Model for Shared<T> {
+    ghost use Rattle.std.specs.Prelude.{ℕ};
+
+    ghost Value = { ℕ };
+
+    ghost view = { λ shared. shared.source.source.id };
 }
 
 impl<T> Shared<T> {

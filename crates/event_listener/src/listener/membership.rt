@@ -2,8 +2,10 @@
 ghost use Rattle.std.specs.Prelude.{◌≡◌, ◌≢◌, ◌+◌, ◌<◌, ◌^◌, true, false, None};
 ghost use Rattle.event_queue.specs.declared.reply.RegisterResult.TheVariants.{Registered, NeverInserted};
 ghost use Rattle.futures.specs.Task.{Covers, Keeps};
-ghost use Rattle.event_listener.specs.Waiting.{IsKept};
+ghost use Rattle.event_listener.specs.Waiting.{IsKept, EndsWait, StaysOrEnds};
 
+use super::wait::{WaitSteps, answer_to_registration, answer_to_removal};
+use super::wait_error::WaitReason;
 use crate::event::Shared;
 use crate::locks::take_lock;
 use crate::task::{Task, Waking};
@@ -94,7 +96,7 @@ impl Membership {
         ensures finished { self.old.is_finished ≡ true → result ≡ NeverInserted }
         ensures stays { result ≡ Registered → (self.old.is_finished ≡ false) × (self.new ≡ self.old) }
         ensures leaves { result ≢ Registered → self.new.is_finished ≡ true }
-        ensures registered { result ≡ Registered → Covers cx.new (λ s. s ≡ shared.now.source.source.id) }
+        ensures registered { result ≡ Registered → Covers cx.new (λ s. s ≡ shared.now) }
         ensures kept { Keeps cx.old cx.new }
     {
         if self.is_finished() {
@@ -105,10 +107,7 @@ impl Membership {
                 &shared.source,
                 cx,
             );
-            if matches!(
-                found,
-                RegisterResult::Notified(_) | RegisterResult::NeverInserted
-            ) {
+            if !matches!(found, RegisterResult::Registered) {
                 self.finish();
             }
             found
@@ -137,5 +136,34 @@ impl Membership {
         let former = take_lock!(shared.queue(), rt).remove_uncounted(key, propagate, &mut waking);
         waking.finish();
         former
+    }
+}
+
+impl<T: Drop> WaitSteps<T> for Membership {
+    type Queue = Shared<T>;
+
+    type Notes = ();
+
+    ghost attempts = { λ before answer after. StaysOrEnds before.0 answer after.0 };
+
+    ghost leaves = { λ before answer after. EndsWait before.0 answer after.0 };
+
+    fn attempt<R: Wait>(
+        &mut self,
+        rt: &R,
+        queue: &Shared<T>,
+        _notes: &mut (),
+        task: Task,
+    ) -> Result<Option<T>, WaitReason> {
+        answer_to_registration(self.register(rt, queue, task))
+    }
+
+    fn time_out<R: Wait>(
+        &mut self,
+        rt: &R,
+        queue: &Shared<T>,
+        _notes: &mut (),
+    ) -> Result<Option<T>, WaitReason> {
+        answer_to_removal(self.remove(rt, queue, false))
     }
 }

@@ -2,7 +2,6 @@
 ghost use Rattle.std.specs.Prelude.{◌≡◌, false, IfOk};
 
 use super::StackListener;
-use super::inner_listener::InnerListener;
 use crate::event::{Event, Shared};
 use crate::locks::take_lock;
 use event_queue::ListenError;
@@ -76,8 +75,7 @@ impl<'ev, T> StackSlot<'ev, T> {
             return Err(ListenError::Memory);
         };
         let key = take_lock!(self.shared.queue(), rt).insert_uncounted()?;
-        let inner = InnerListener::new(key, self.event_number, runtime, self.alloc);
-        Ok(StackListener::new(self.shared, inner))
+        Ok(StackListener::new(self.shared, key, self.event_number, runtime, self.alloc))
     }
 }
 

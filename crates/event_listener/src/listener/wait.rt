@@ -1,144 +1,112 @@
-//! How a listener of any kind waits: from the public call to what it returns.
-//!
-//! The public calls of the listeners of an [`Event`](crate::Event) are calls of [`wait_until_told`] and
-//! [`wait_within`]. For either kind of listener, these make [`InnerListener::wait`] with the queue of its event.
-//!
-//! That, and the wait of a recorded listener (`recorded/wait`), is [`wait_in`]: there is one wait, whatever it makes its
-//! steps on. [`WaitSteps`] is what it needs of a listener: an attempt, which registers, and the removal at the deadline.
-//! Both stand in `steps`; how long a wait goes on is in `deadline`, and how it ends in `outcome`.
-ghost use Rattle.std.specs.Prelude.{◌≡◌, ◌≢◌, ◌⊎◌, Bool, true, false, None, IsSome, IsErr, IfOk, IfErr};
-ghost use Rattle.event_listener.specs.declared.listener.wait.deadline.Limit.TheVariants.{Never};
-ghost use Rattle.event_listener.specs.declared.listener.wait.outcome.WaitOutcome.TheVariants.{TimedOut, Refused};
-ghost use Rattle.event_listener.specs.Waiting.{HandsBack, IsFault, IsKept, EndsWait};
+//! How a listener of any kind waits, be it of an [`Event`](crate::Event) or recorded: one loop, over the steps that the
+//! listener makes in its queue.
+ghost use Rattle.std.specs.Prelude.{◌≡◌, ◌≢◌, Option, Result};
+ghost use Rattle.event_listener.specs.declared.listener.limit.Limit.TheVariants.{Never};
+ghost use Rattle.event_listener.specs.Waiting.{IsKept, Waits, answer_to_registration, answer_to_removal};
 
-mod deadline;
-mod outcome;
-mod steps;
-
-use super::inner_listener::InnerListener;
-use super::membership::Membership;
-use super::{EventListener, StackListener, WaitError};
-use crate::event::Shared;
-use crate::task::Task;
-pub(crate) use deadline::Limit;
-use event_queue::State;
-pub(crate) use outcome::WaitOutcome;
+use super::limit::Limit;
+use super::wait_error::WaitReason;
+use crate::task::{Parker, Task};
+use event_queue::{RegisterResult, State};
+use std::alloc::Global;
 use std::sync::Wait;
 use std::time::Clock;
-pub(crate) use steps::{WaitSteps, wait_in};
 
-/// Waits until the listener is notified.
-pub(super) fn wait_until_told<T, L: WaitInPlace<T>>(listener: L) -> Result<T, WaitError<L>>
-    ensures finished { L.finished listener ≡ true → IsErr result }
-    ensures memory { IfErr result (HandsBack listener) }
-{
-    match wait_within(listener, Limit::Never)? {
-        Some(tag) => Ok(tag),
-        None => unreachable!(),
-    }
-}
+/// A listener's place in its queue, as a wait uses it: the two steps that it makes there, and what each does to the place
+/// and to the notes that are taken of it.
+pub(crate) trait WaitSteps<T>: Sized {
+    ghost use Rattle.event_listener.specs.declared.listener.wait_error.WaitReason.{WaitReason};
 
-/// Waits until the listener is notified or the limit has passed.
-pub(super) fn wait_within<T, L: WaitInPlace<T>>(
-    listener: L,
-    limit: Limit,
-) -> Result<Option<T>, WaitError<L>>
-    ensures finished { L.finished listener ≡ true → IsErr result }
-    ensures memory { IfErr result (HandsBack listener) }
-    ensures unlimited { limit ≡ Never → IfOk result (λ tag. IsSome tag) }
-{
-    let mut listener = listener;
-    let outcome = listener.wait_in_place(limit);
-    outcome.answer(listener)
-}
+    /// What stands behind the lock of the queue.
+    type Queue;
 
-/// A listener that can wait where it is.
-pub(super) trait WaitInPlace<T>: Drop + Sized {
-    ghost finished: { Self → Bool };
+    /// What notes are taken in.
+    type Notes;
 
-    /// Waits until the listener is notified or the limit has passed. The listener is out of the queue then, unless
-    /// memory ran out.
-    fn wait_in_place(&mut self, limit: Limit) -> WaitOutcome<T>
-        ensures finished { finished self.old ≡ true → IsFault result }
-        ensures refused { result ≡ Refused → self.new ≡ self.old }
-        ensures unlimited { limit ≡ Never → result ≢ TimedOut };
-}
+    // What a registration with this answer does.
+    ghost attempts: { Self × Self.Notes → Result (Option T) WaitReason → Self × Self.Notes → Type 0 };
 
-impl<T: Drop, R: Wait + Clock + Clone> WaitInPlace<T> for EventListener<T, R> {
-    ghost finished = { λ listener. listener.is_finished };
+    // What the removal at the limit with this answer does.
+    ghost leaves: { Self × Self.Notes → Result (Option T) WaitReason → Self × Self.Notes → Type 0 };
 
-    fn wait_in_place(&mut self, limit: Limit) -> WaitOutcome<T> {
-        self.inner.wait(&self.shared, limit)
-    }
-}
-
-impl<T: Drop, R: Wait + Clock + Clone> WaitInPlace<T> for StackListener<'_, T, R> {
-    ghost finished = { λ listener. listener.is_finished };
-
-    fn wait_in_place(&mut self, limit: Limit) -> WaitOutcome<T> {
-        self.inner.wait(self.shared, limit)
-    }
-}
-
-impl<R: Wait + Clock + Clone> InnerListener<R> {
-    // Waits until the listener is told or the limit has passed. The listener is out of the queue then, unless memory
-    // was refused.
-    fn wait<T: Drop>(&mut self, shared: &Shared<T>, limit: Limit) -> WaitOutcome<T>
-        ensures finished { self.old.membership.is_finished ≡ true → IsFault result }
-        ensures refused { result ≡ Refused → self.new ≡ self.old }
-        ensures over { (result ≡ Refused) ⊎ (self.new.membership.is_finished ≡ true) }
-        ensures unlimited { limit ≡ Never → result ≢ TimedOut }
-    {
-        wait_in(
-            &mut self.membership,
-            &self.runtime,
-            self.alloc,
-            shared,
-            &mut (),
-            limit,
-        )
-    }
-}
-
-impl<T: Drop> WaitSteps<T> for Membership {
-    type Queue = Shared<T>;
-
-    type Notes = ();
-
-    ghost goes_on = { λ before after. (before.0.is_finished ≡ false) × (after ≡ before) };
-
-    ghost ends = { λ before outcome after. EndsWait (before.0.is_finished ≡ true) (after.0.is_finished ≡ true) outcome × (outcome ≢ TimedOut) };
-
-    ghost leaves = { λ before outcome after. EndsWait (before.0.is_finished ≡ true) (after.0.is_finished ≡ true) outcome };
-
+    /// Takes the tag if the listener was notified, and returns it; else stores the task and returns `None`. With the tag
+    /// or an error the wait ends.
     fn attempt<R: Wait>(
         &mut self,
         rt: &R,
-        queue: &Shared<T>,
-        _notes: &mut (),
+        queue: &Self::Queue,
+        notes: &mut Self::Notes,
         task: Task,
-    ) -> Option<WaitOutcome<T>> {
-        WaitOutcome::of_registration(self.register(rt, queue, task))
-    }
+    ) -> Result<Option<T>, WaitReason>
+        ensures { attempts (self.old, notes.old) result (self.new, notes.new) };
 
-    fn time_out<R: Wait>(&mut self, rt: &R, queue: &Shared<T>, _notes: &mut ()) -> WaitOutcome<T> {
-        let former = self.remove_at_deadline(rt, queue);
-        WaitOutcome::at_deadline(former)
+    /// Removes the listener at the limit of its wait, without propagating a notification. Returns the tag that came since
+    /// it last attempted.
+    fn time_out<R: Wait>(
+        &mut self,
+        rt: &R,
+        queue: &Self::Queue,
+        notes: &mut Self::Notes,
+    ) -> Result<Option<T>, WaitReason>
+        ensures { leaves (self.old, notes.old) result (self.new, notes.new) };
+}
+
+/// Blocks the calling thread until the listener is notified, and returns its tag, or until the limit has passed, and
+/// returns `None`. The listener has left the queue then, unless the wait failed for memory.
+///
+/// Each round stores the parker's task before it looks at the time: a listener that was notified before the limit gets
+/// its tag, however late it looks.
+pub(crate) fn wait_in<T, S: WaitSteps<T>, R: Wait + Clock>(
+    steps: &mut S,
+    rt: &R,
+    alloc: Global,
+    queue: &S::Queue,
+    notes: &mut S::Notes,
+    limit: Limit,
+) -> Result<Option<T>, WaitReason>
+    ensures { Waits S.attempts S.leaves (limit ≢ Never) (steps.old, notes.old) result (steps.new, notes.new) }
+{
+    let Ok(parker) = Parker::new(alloc) else {
+        return Err(WaitReason::Memory);
+    };
+    for _ in rt.forever() {
+        let Ok(task) = Task::from_parker(&parker) else {
+            return Err(WaitReason::Memory);
+        };
+        if let Some(tag) = steps.attempt(rt, queue, notes, task)? {
+            return Ok(Some(tag));
+        }
+        match limit.left(rt) {
+            None => parker.park(rt),
+            Some(left) if left.is_zero() => return steps.time_out(rt, queue, notes),
+            Some(left) => parker.park_timeout(rt, left),
+        }
+    }
+    unreachable!()
+}
+
+/// What a wait is answered whose registration found this.
+pub(crate) fn answer_to_registration<T>(found: RegisterResult<T>) -> Result<Option<T>, WaitReason>
+    ensures { result ≡ answer_to_registration found }
+{
+    match found {
+        RegisterResult::Notified(tag) => Ok(Some(tag)),
+        RegisterResult::Registered => Ok(None),
+        RegisterResult::NeverInserted => Err(WaitReason::NeverInserted),
     }
 }
 
-impl Membership {
-    // At a deadline the listener leaves without passing a notification on. A tag that came since it last looked stays
-    // its own.
-    fn remove_at_deadline<T, R: Wait>(
-        &mut self,
-        rt: &R,
-        shared: &Shared<T>,
-    ) -> Option<State<T, Task>>
-        ensures finished { self.old.is_finished ≡ true → result ≡ None }
-        ensures leaves { self.new.is_finished ≡ true }
-        ensures kept { IsKept result }
-    {
-        self.remove(rt, shared, false)
+/// What a wait is answered whose listener was this when it left the queue at its limit.
+pub(super) fn answer_to_removal<T, W: Drop>(
+    former: Option<State<T, W>>,
+) -> Result<Option<T>, WaitReason>
+    requires kept { IsKept former }
+    ensures { result ≡ answer_to_removal former }
+{
+    match former {
+        Some(State::Notified { additional: _, tag }) => Ok(Some(tag)),
+        Some(State::Created | State::Task(_)) => Ok(None),
+        Some(State::Passed { .. } | State::Lost { .. }) => unreachable!(),
+        None => Err(WaitReason::NeverInserted),
     }
 }

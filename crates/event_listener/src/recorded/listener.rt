@@ -8,7 +8,7 @@ use super::call::StepCall;
 use super::event::RecordedEvent;
 use super::hand::Hand;
 use super::reply::{Former, RecordedReply};
-use super::wait::wait_within;
+use super::wait::wait_until;
 use crate::listener::{Limit, WaitError, poll_of};
 use crate::locks::take_lock;
 use crate::task::{Task, Waking};
@@ -135,7 +135,7 @@ impl<'ev, T: Copy + Eq, R: Wait + Clock + Clone> RecordedListener<'ev, T, R> {
         requires { Owns self.event hand.old }
         ensures noted { NotesWait ⊥ self.entry hand.old (as_some result) hand.new }
     {
-        match wait_within(self, hand, Limit::Never)? {
+        match wait_until(self, hand, Limit::Never)? {
             Some(tag) => Ok(tag),
             None => unreachable!(),
         }
@@ -156,7 +156,8 @@ impl<'ev, T: Copy + Eq, R: Wait + Clock + Clone> RecordedListener<'ev, T, R> {
         requires { Owns self.event hand.old }
         ensures noted { NotesWait ⊤ self.entry hand.old result hand.new }
     {
-        wait_within(self, hand, Limit::After(timeout))
+        let limit = Limit::after(&self.runtime, timeout);
+        wait_until(self, hand, limit)
     }
 
     /// Waits until the listener is notified or that moment of its own clock has come, and returns the tag or `None`.
@@ -173,7 +174,7 @@ impl<'ev, T: Copy + Eq, R: Wait + Clock + Clone> RecordedListener<'ev, T, R> {
         requires { Owns self.event hand.old }
         ensures noted { NotesWait ⊤ self.entry hand.old result hand.new }
     {
-        wait_within(self, hand, Limit::At(deadline))
+        wait_until(self, hand, Limit::At(deadline))
     }
 
     // Ends a listener that has left the queue, with no call on the queue.

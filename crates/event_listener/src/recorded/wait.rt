@@ -1,15 +1,15 @@
 //! How a recorded listener waits: as any listener does, with a note of each step.
 ghost use Rattle.std.specs.Prelude.{◌≡◌, ◌≢◌};
-ghost use Rattle.event_listener.specs.declared.listener.wait.deadline.Limit.TheVariants.{Never};
+ghost use Rattle.event_listener.specs.declared.listener.limit.Limit.TheVariants.{Never};
 ghost use Rattle.event_listener.specs.recording.Wait.{NotesWait};
-ghost use Rattle.event_listener.specs.recording.WaitSteps.{GoesOn, EndsRound, EndsRemoval};
+ghost use Rattle.event_listener.specs.recording.WaitSteps.{NotesAttempt, NotesRemoval};
 
 use super::call::StepCall;
 use super::hand::Hand;
 use super::listener::RecordedListener;
 use super::reply::{Former, RecordedReply};
 use super::state::RecordedState;
-use crate::listener::{Limit, WaitError, WaitOutcome, WaitSteps, wait_in};
+use crate::listener::{Limit, WaitError, WaitReason, WaitSteps, answer_to_registration, wait_in};
 use crate::task::Task;
 use event_queue::Key;
 use std::sync::{Mutex, Wait};
@@ -26,11 +26,9 @@ impl<T: Copy + Eq> WaitSteps<T> for RecordedPlace {
 
     type Notes = Hand<T>;
 
-    ghost goes_on = { λ before after. (after.0 ≡ before.0) × GoesOn before.0.key before.1 after.1 };
+    ghost attempts = { λ before answer after. (after.0 ≡ before.0) × NotesAttempt before.0.key before.1 answer after.1 };
 
-    ghost ends = { λ before outcome after. (after.0 ≡ before.0) × EndsRound before.0.key before.1 outcome after.1 };
-
-    ghost leaves = { λ before outcome after. (after.0 ≡ before.0) × EndsRemoval before.0.key before.1 outcome after.1 };
+    ghost leaves = { λ before answer after. (after.0 ≡ before.0) × NotesRemoval before.0.key before.1 answer after.1 };
 
     fn attempt<R: Wait>(
         &mut self,
@@ -38,12 +36,12 @@ impl<T: Copy + Eq> WaitSteps<T> for RecordedPlace {
         queue: &Mutex<RecordedState<T>>,
         notes: &mut Hand<T>,
         task: Task,
-    ) -> Option<WaitOutcome<T>> {
+    ) -> Result<Option<T>, WaitReason> {
         let key = self.key;
         match notes.perform(rt, queue, StepCall::Register { key, task }) {
-            Ok(RecordedReply::Registered(found)) => WaitOutcome::of_registration(found),
+            Ok(RecordedReply::Registered(found)) => answer_to_registration(found),
             Ok(_) => unreachable!(),
-            Err(_) => Some(WaitOutcome::Refused),
+            Err(_) => Err(WaitReason::Memory),
         }
     }
 
@@ -52,25 +50,23 @@ impl<T: Copy + Eq> WaitSteps<T> for RecordedPlace {
         rt: &R,
         queue: &Mutex<RecordedState<T>>,
         notes: &mut Hand<T>,
-    ) -> WaitOutcome<T> {
+    ) -> Result<Option<T>, WaitReason> {
         let key = self.key;
         let propagate = false;
         match notes.perform(rt, queue, StepCall::Remove { key, propagate }) {
             Ok(RecordedReply::Removed(Some(Former::Notified { additional: _, tag }))) => {
-                WaitOutcome::Told(tag)
+                Ok(Some(tag))
             }
-            Ok(RecordedReply::Removed(Some(Former::Created | Former::Task))) => {
-                WaitOutcome::TimedOut
-            }
-            Ok(RecordedReply::Removed(None)) => WaitOutcome::Absent,
+            Ok(RecordedReply::Removed(Some(Former::Created | Former::Task))) => Ok(None),
+            Ok(RecordedReply::Removed(None)) => Err(WaitReason::NeverInserted),
             Ok(_) => unreachable!(),
-            Err(_) => WaitOutcome::Refused,
+            Err(_) => Err(WaitReason::Memory),
         }
     }
 }
 
-// Waits until the listener is told or the limit has passed.
-pub(super) fn wait_within<'ev, T: Copy + Eq, R: Wait + Clock + Clone>(
+// Waits until the listener is notified or the limit has passed.
+pub(super) fn wait_until<'ev, T: Copy + Eq, R: Wait + Clock + Clone>(
     listener: RecordedListener<'ev, T, R>,
     hand: &mut Hand<T>,
     limit: Limit,
@@ -80,20 +76,15 @@ pub(super) fn wait_within<'ev, T: Copy + Eq, R: Wait + Clock + Clone>(
     let mut place = RecordedPlace { key: listener.key };
     let (rt, state) = (&listener.runtime, listener.event.state());
     let alloc = listener.event.alloc();
-    let outcome = wait_in(&mut place, rt, alloc, state, hand, limit);
-    match outcome {
-        WaitOutcome::Refused => Err(WaitError::Memory(listener)),
-        WaitOutcome::Told(tag) => {
+    match wait_in(&mut place, rt, alloc, state, hand, limit) {
+        Ok(tag) => {
             listener.forget();
-            Ok(Some(tag))
+            Ok(tag)
         }
-        WaitOutcome::TimedOut => {
-            listener.forget();
-            Ok(None)
-        }
-        WaitOutcome::Absent => {
+        Err(WaitReason::NeverInserted) => {
             listener.forget();
             Err(WaitError::NeverInserted)
         }
+        Err(WaitReason::Memory) => Err(WaitError::Memory(listener)),
     }
 }

@@ -1,6 +1,6 @@
 //! Waits against a deadline, which are tried again where they are refused memory.
 use crate::support::{check, listen, new_id, now, tell};
-use event_listener::{Event, Listener, NeverInserted, WaitError, WaitReason};
+use event_listener::{Event, Limit, Listener, NeverInserted, WaitError, WaitReason};
 use example_events::timed::tag_within;
 use futures::task::{Context, Poll, Waker};
 use std::cell::Cell;
@@ -52,24 +52,25 @@ impl<L: Listener<u32> + Drop> Listener<u32> for Refusing<'_, L> {
         self.listener.poll_in(cx)
     }
 
-    fn wait(self) -> Result<u32, WaitError<Self>> {
-        self.deadline.set(None);
-        self.listener.wait().map_err(|_| WaitError::NeverInserted)
+    fn wait_until(self, limit: Limit) -> Result<Option<u32>, WaitError<Self>> {
+        if let Limit::At(deadline) = limit {
+            self.deadline.set(Some(deadline));
+            if let Some(left) = self.refusals.get().checked_sub(1) {
+                self.refusals.set(left);
+                return Err(WaitError::Memory(self));
+            }
+        } else {
+            self.deadline.set(None);
+        }
+        match self.listener.wait() {
+            Ok(tag) => Ok(Some(tag)),
+            Err(_) => Err(WaitError::NeverInserted),
+        }
     }
 
     // Nobody is to ask for that.
     fn wait_timeout(self, _timeout: Duration) -> Result<Option<u32>, WaitError<Self>> {
         Err(WaitError::NeverInserted)
-    }
-
-    fn wait_deadline(self, deadline: Instant) -> Result<Option<u32>, WaitError<Self>> {
-        self.deadline.set(Some(deadline));
-        if let Some(left) = self.refusals.get().checked_sub(1) {
-            self.refusals.set(left);
-            return Err(WaitError::Memory(self));
-        }
-        let tag = self.listener.wait().map(Some);
-        tag.map_err(|_| WaitError::NeverInserted)
     }
 
     fn discard(self) -> bool {
