@@ -3,7 +3,7 @@ use Rattle.std.proofs.Common.{refl, ℕ, zero, suc, Option, Some, None, IfSome, 
 use Rattle.futures.specs.declared.task.Poll.{Poll}
 use Rattle.futures.specs.declared.task.Poll.TheVariants.{Ready, Pending}
 use Rattle.futures.specs.Poll.{OnPending}
-use Rattle.event_until.specs.Attempts.{FailsTimes, SomeFail, FailsAtLeast, SucceedsAfter, SucceedsOrFails}
+use Rattle.event_until.specs.Attempts.{FailsTimes, SomeFail, FailsAtLeast, SucceedsAfter, Succeeded, SucceedsOrFails}
 
 module _ {S : Type 0} (fails : S → S → Type 0) where
   pub SomeFail-append : (times : ℕ) (before between after : S) → SomeFail fails before between → FailsTimes fails times between after → SomeFail fails before after
@@ -54,17 +54,17 @@ module _ {S : Type 0} (fails : S → S → Type 0) where
         SomeFail-join before between after some then
 
     -- some attempts failed, and then a last one was made
-    pub SucceedsAfter-last : (before between : S) (answer : Option T) (after : S) → SomeFail fails before between → IfSome answer (λ output. succeeds between output after) → IfSome answer (λ output. SucceedsAfter fails succeeds before output after)
-    SucceedsAfter-last before between None after failed last = tt
-    SucceedsAfter-last before between (Some output) after failed last =
+    pub Succeeded-last : (E : Type 0) (before between : S) (answer : Option T) (after : S) → SomeFail fails before between → IfSome answer (λ output. succeeds between output after) → Succeeded fails succeeds {E = E} before (Ok answer) after
+    Succeeded-last E before between None after failed last = tt
+    Succeeded-last E before between (Some output) after failed last =
         record { between = between; failed = failed; succeeded = last }
 
-    -- one failed, and then others until one succeeded, where there is an output
-    pub IfSome-first : {E : Type 0} (before between : S) (answer : Result (Option T) E) (after : S) → fails before between → IfOk answer (λ given. IfSome given (λ output. SucceedsAfter fails succeeds between output after)) → IfOk answer (λ given. IfSome given (λ output. SucceedsAfter fails succeeds before output after))
-    IfSome-first before between (Ok None) after failed then = tt
-    IfSome-first before between (Ok (Some output)) after failed then =
+    -- one failed, and then others until one succeeded, if there is an output
+    pub Succeeded-first : {E : Type 0} (before between : S) (answer : Result (Option T) E) (after : S) → fails before between → Succeeded fails succeeds between answer after → Succeeded fails succeeds before answer after
+    Succeeded-first before between (Ok None) after failed then = tt
+    Succeeded-first before between (Ok (Some output)) after failed then =
         SucceedsAfter-append before between output after (1, (before, refl, failed)) then
-    IfSome-first before between (Err error) after failed then = tt
+    Succeeded-first before between (Err error) after failed then = tt
 
     -- what a later poll gives, after one that was pending
     pub OnPending-gives : {X : Type 0} (E : Type 0) (polled : Poll X) (before between : S) → OnPending polled (SomeFail fails before between) → OnPending polled ((output : Result T E) → ((after : S) × SucceedsOrFails fails succeeds between output after) → (after : S) × SucceedsOrFails fails succeeds before output after)

@@ -1,8 +1,8 @@
 -- What attempts did, one after another.
-use Rattle.std.specs.Prelude.{◌≡◌, ℕ, zero, suc, Result, Ok, Err}
+use Rattle.std.specs.Prelude.{◌≡◌, ℕ, zero, suc, Option, Some, None, Result, Ok, Err, ⊤}
 
 module _ {S : Type 0} (fails : S → S → Type 0) where
-  -- so many attempts failed, one after another
+  -- this many attempts failed, one after another
   abbrev pub FailsTimes : ℕ → S → S → Type 0
   FailsTimes zero before after = after ≡ before
   FailsTimes (suc attempts) before after = (between : S) × FailsTimes attempts before between × fails between after
@@ -11,7 +11,7 @@ module _ {S : Type 0} (fails : S → S → Type 0) where
   abbrev pub SomeFail : S → S → Type 0
   SomeFail before after = (attempts : ℕ) × FailsTimes attempts before after
 
-  -- so many attempts failed, or more
+  -- this many attempts failed, or more
   abbrev pub FailsAtLeast : ℕ → S → S → Type 0
   FailsAtLeast least before after = (between : S) × SomeFail before between × FailsTimes least between after
 
@@ -22,7 +22,12 @@ module _ {S : Type 0} (fails : S → S → Type 0) where
       pub failed : SomeFail before between
       pub succeeded : succeeds between output after
 
-    -- where there is an output, an attempt succeeded with it; where there is an error, all attempts failed
+    -- if a wait returned an output, an attempt succeeded with it, after some that failed, or none
+    abbrev pub Succeeded : {E : Type 0} → S → Result (Option T) E → S → Type 0
+    Succeeded before (Ok (Some output)) after = SucceedsAfter before output after
+    Succeeded before _ after = ⊤
+
+    -- with an output, an attempt succeeded, after some that failed, or none; with an error, all attempts failed
     abbrev pub SucceedsOrFails : {E : Type 0} → S → Result T E → S → Type 0
     SucceedsOrFails before (Ok output) after = SucceedsAfter before output after
     SucceedsOrFails before (Err error) after = SomeFail before after

@@ -3,12 +3,13 @@ ghost use Rattle.std.specs.Prelude.{◌≡◌, ⊤, IfSome, IfNone};
 
 /// What [`Until`](crate::Until) attempts, again and again, until it succeeds: to take a lock, to find a value set.
 ///
-/// Its value is the state of the attempts: what they look at, and what they count. Whoever makes a later attempt succeed
-/// notifies the event that `Until` listens to, after that. A contract knows an implementation by its ghost relations,
-/// which may be left out: `succeeds`, between the state before an attempt, its output and the state after, and `fails`,
-/// between the states before and after an attempt that fails.
+/// Its value is the state of the attempts: what they look at, and what they count. Whoever changes what makes the next
+/// attempt succeed notifies the event that `Until` listens to, after the change.
+///
+/// A contract knows an implementation by its ghost relations, which may be left out: `succeeds`, between the state before
+/// an attempt, its output and the state after, and `fails`, between the states before and after an attempt that fails.
 pub trait Attempt {
-    /// What an attempt gives that succeeds.
+    /// What an attempt returns that succeeds.
     type Output;
 
     // What an attempt that succeeds does. Nothing is known of it by default.
@@ -19,8 +20,8 @@ pub trait Attempt {
 
     /// One attempt: the output, or `None` if it fails.
     ///
-    /// It should not wait for what a thread or task that waits by `Until` holds: it is made while a listener stands in
-    /// the queue of the event. It may notify the event.
+    /// It is made while a listener is in the queue of the event, so it should not wait for what another thread or task
+    /// holds that waits by `Until`. It may notify the event.
     fn attempt(&mut self) -> Option<Self::Output>
         ensures succeeded { IfSome result (λ output. succeeds self.old output self.new) }
         ensures failed { IfNone result (fails self.old self.new) };

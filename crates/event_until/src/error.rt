@@ -6,18 +6,18 @@ use thiserror::Error;
 /// Why [`Until`](crate::Until) gave no output. No listener is left, and it may be waited or polled again.
 #[derive(Clone, Copy, Debug, PartialEq, Eq, Error)]
 pub enum UntilError {
-    /// Nobody could listen: memory was refused, or serial numbers are used up.
+    /// Listening failed: memory ran out, or the serial numbers are used up.
     #[error("{0}")]
     Listen(#[from] ListenError),
     /// There was no memory for what the thread parks on.
     #[error("no memory for a parker")]
     Parker,
-    /// A listener was not in the queue. `Until` keeps no listener that has given its tag, so it is not known to return
-    /// this.
+    /// A listener was not in the queue. `Until` keeps no listener that has given its tag, so it should never return this;
+    /// no clause says so.
     #[error("{0}")]
     NeverInserted(#[from] NeverInserted),
-    /// There was no memory for what an attempt makes, as a guard's clone of the runtime value. `Until` itself does not
-    /// return this.
+    /// There was no memory for what an attempt makes, as a guard's clone of the runtime value. `Until` itself never returns
+    /// this: an `AllocError` converts into it.
     #[error("no memory for an attempt")]
     Memory,
 }
@@ -42,7 +42,7 @@ impl From<WaitReason> for UntilError {
     }
 }
 
-/// Drops the listener, which passes its notification on if it was told.
+/// Drops the listener, which propagates its notification if it was notified.
 impl<L: Drop> From<WaitError<L>> for UntilError {
     fn from(error: WaitError<L>) -> UntilError {
         UntilError::from(error.reason())

@@ -1,7 +1,7 @@
 //! Until it succeeds: the loop that every lock, semaphore and channel over an [`Event`](event_listener::Event) has.
 //!
-//! Attempt, listen, attempt again, wait until told, and begin anew. An [`Attempt`] is what one try does, and [`Until`]
-//! makes such tries until one succeeds: it blocks a thread, for some time at most if it is to, or it is awaited.
+//! Attempt, listen, attempt again, wait until notified, and begin anew. An [`Attempt`] is one try, and [`Until`] makes such
+//! tries until one succeeds: it blocks a thread, with or without a limit, or it is awaited.
 #![tactic(auto)]
 
 mod attempt;

@@ -16,23 +16,23 @@ use std::time::Clock;
 impl<'a, A: Attempt, R: Wait + Clock + Clone> Until<'a, A, R> {
     /// Attempts until one succeeds, or until it has to wait: then the task that polls is registered at the event.
     ///
-    /// A poll that is pending leaves a listener in the queue. The next poll attempts only if that was told, so a task
-    /// that is polled for another reason takes nothing from those before it in the queue.
+    /// A pending poll leaves a listener in the queue. The next poll attempts only if that was notified, so a task that is
+    /// polled for another reason takes nothing from those before it in the queue.
     ///
-    /// With the output, or an error, no listener is left. [`UntilError`] says what it allocates and what is left. The
-    /// call may wait for the lock of the event.
+    /// With the output, or an error, no listener is left. [`UntilError`] says which errors there are. The call allocates
+    /// if listening does. It may wait for the lock of the event.
     #[must_use = "it may be the output"]
     pub fn poll_in(&mut self, cx: &mut Context<'_>) -> Poll<Result<A::Output, UntilError>>
         ensures ready { IfReady result (λ output. SucceedsOrFails A.fails A.succeeds self.old.attempt output self.new.attempt) }
         ensures pending { OnPending result (SomeFail A.fails self.old.attempt self.new.attempt) }
 
-        // Where no listener was left, a pending poll has attempted before it listened, and again after that.
+        // If no listener was left, a pending poll has attempted before it listened, and again after that.
         ensures attempted { self.old.listener ≡ None → OnPending result (FailsAtLeast A.fails 2 self.old.attempt self.new.attempt) }
 
-        // A pending poll leaves all as it was, the listener in its place, or has attempted twice or more.
+        // A pending poll leaves all as it was, with the listener in its place, or has attempted twice at least.
         ensures stays { OnPending result (((self.new.attempt ≡ self.old.attempt) × (self.new.listener ≡ self.old.listener)) ⊎ FailsAtLeast A.fails 2 self.old.attempt self.new.attempt) }
 
-        // A poll that is pending has left a listener of the event, and registered at its source.
+        // A pending poll has left a listener of the event, and registered at its source.
         ensures listens { OnPending result (IsSomeAnd self.new.listener (λ listener. listener.event_number ≡ self.new.event_number)) }
         ensures registered { OnPending result (IsSomeAnd self.new.listener (λ listener. Covers cx.new (λ s. s ≡ listener.source))) }
         ensures unlistened { IfReady result (λ _. self.new.listener ≡ None) }

@@ -13,7 +13,7 @@ use std::alloc::Global;
 use std::sync::Wait;
 use std::time::Clock;
 
-/// What an attempt led to that was made while a listener was in the queue.
+/// What came of an attempt that was made while a listener was in the queue.
 pub(crate) enum Turn<T, L> {
     /// It succeeded. The listener is gone.
     Succeeded(T),
@@ -21,7 +21,7 @@ pub(crate) enum Turn<T, L> {
     Listens(L),
 }
 
-/// Listens, and attempts once the listener is in the queue: what came before that told nobody.
+/// Listens, and attempts once the listener is in the queue: a notification that came before that did not reach it.
 #[inline(always)]
 pub(super) fn listen_and_attempt<'a, A, R>(
     attempt: &mut A,
@@ -39,16 +39,16 @@ where
     let slot = StackSlot::new(rt, alloc, event)?;
     let listener = slot.listen(rt)?;
     match attempt.attempt() {
-        // The listener is dropped here, which passes its notification on if it was told.
+        // The listener is dropped here, which propagates its notification if it was notified.
         Some(output) => Ok(Turn::Succeeded(output)),
         None => Ok(Turn::Listens(listener)),
     }
 }
 
 /// Attempts, listens and attempts again until an attempt succeeds, or a listener is left that has registered the task which
-/// polls. The one that an earlier poll left is polled first, and keeps its place in the queue.
+/// polls. A listener that an earlier poll left is polled first, and keeps its place in the queue.
 ///
-/// It is polled where it is left, since each move of a listener costs a copy. An error may leave one that is finished.
+/// A listener is polled where it is left, since each move costs a copy. An error may leave a finished one.
 #[inline(always)]
 pub(super) fn poll_turns<'a, A, R>(
     attempt: &mut A,
