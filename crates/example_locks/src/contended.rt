@@ -15,14 +15,13 @@ mod waiting;
 
 use client::Client;
 pub(crate) use client::Trying;
-use event_listener::{Event, EventId, ListenError};
+use event_listener::{Event, EventId, Limit, ListenError};
 use event_worlds::News;
 pub use held::{Held, Owed, Releasing, Taken};
 use std::alloc::Global;
 use std::marker::Model;
 use std::sync::Wait;
 use std::time::{Clock, Duration};
-use waiting::Limit;
 pub(crate) use waiting::{Parked, Registered, Waiting};
 
 /// What clients want: a lock, or one of a semaphore's permits.
@@ -58,7 +57,7 @@ impl Model for Clients {
 }
 
 impl Clients {
-    /// Nobody yet.
+    /// No clients yet.
     ///
     /// The call neither allocates nor waits.
     pub fn new(id: EventId) -> Self
@@ -88,7 +87,8 @@ pub fn try_once<'a, C: Contended<'a>>(contended: C) -> Option<Held<'a, C::Taken>
 
 /// Blocks the calling thread until it has taken what is wanted.
 ///
-/// Where a listener, or what the thread parks on, is refused, the error is that refusal, and no listener is left.
+/// Returns the error of listening, or [`ListenError::Memory`] if there is no memory for what the thread parks on. Either
+/// leaves no listener.
 pub fn take<'a, C, R>(
     contended: C,
     rt: &R,
@@ -105,10 +105,9 @@ where
     }
 }
 
-/// Blocks the calling thread until it has taken what is wanted or so much time has passed. Then the answer is `None`.
+/// Blocks the calling thread until it has taken what is wanted, or returns `None` once the timeout has passed.
 ///
-/// Where the present moment and the timeout add up to one that can't be represented, it waits without a limit. A clock
-/// that can't be read counts as one that shows the deadline. Refusals are those of [`take`].
+/// The time begins with the call, as [`Limit::after`] says. The errors are those of [`take`].
 pub fn take_timeout<'a, C, R>(
     contended: C,
     rt: &R,
@@ -123,7 +122,7 @@ where
     take_within(contended, rt, alloc, Limit::after(rt, timeout))
 }
 
-// Every wait has the same limit, however often the client is told and comes too late.
+// All waits have the one limit, however often the client is notified and comes too late.
 fn take_within<'a, C, R>(
     contended: C,
     rt: &R,
@@ -150,14 +149,14 @@ where
     unreachable!()
 }
 
-/// What a client has after it tried twice and listened in between.
+/// What a client has once it has tried twice and listened in between.
 pub(crate) enum Turn<'a, V, R: Wait + Clock + Clone> {
     Holds(Held<'a, V>),
     Waits(Waiting<R>),
 }
 
-/// Tries, listens, and tries again: it may have been freed before the listener was in the queue, and then nobody told
-/// it.
+/// Tries, listens, and tries again: if it was freed before the listener was in the queue, that notification did not reach
+/// the listener.
 pub(crate) fn try_twice<'a, C, R>(
     contended: C,
     rt: &R,

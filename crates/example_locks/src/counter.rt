@@ -18,12 +18,12 @@ pub enum CountError {
     /// A thread was not given a permit.
     #[error("{0}")]
     Permit(#[from] SemaphoreError),
-    /// Memory for a thread was refused, or for a share of the counter, or a thread did not start.
+    /// There was no memory for a thread or for a share of the counter, or a thread did not start.
     #[error("no memory for the program")]
     Memory(#[from] AllocError),
 }
 
-/// Starts so many threads, each of which locks a counter and adds 1. Returns the count once all have ended.
+/// Starts that many threads, each of which locks a counter and adds 1. Returns the count once all have ended.
 pub fn count<R>(rt: R, alloc: Global, id: EventId, threads: usize) -> Result<u64, CountError>
 where
     R: Threads + Wait + Clock + Copy + Send + Sync + 'static,
@@ -31,8 +31,8 @@ where
     count_on(rt, alloc, Mutex::new(id, 0), threads)
 }
 
-/// Starts so many threads, each of which takes a permit, and one more if one is free, and adds 1 to a counter. Returns
-/// the count once all have ended.
+/// Starts that many threads, each of which takes a permit, and one more if one is free, and adds 1 to a counter.
+/// Returns the count once all have ended.
 pub fn count_with_permits<R>(
     rt: R,
     alloc: Global,
@@ -130,7 +130,7 @@ where
     counter.value(&rt, alloc)
 }
 
-// Starts so many threads that add 1. The list has those that were started, also where another one was refused.
+// Starts that many threads, which add 1 each. The list has those that were started, also if a later one did not start.
 fn start<R, C: Counter>(
     rt: R,
     alloc: Global,

@@ -20,7 +20,7 @@ use std::time::{Clock, Duration};
 /// A contract sees it as the number of its event.
 #[derive(Drop)]
 pub struct Mutex<T> {
-    // Nobody waits for this lock: it is only tried.
+    // No thread waits for this lock: it is only tried.
     value: sync::Mutex<T>,
     clients: Clients,
 }
@@ -57,7 +57,7 @@ impl<T> Mutex<T> {
 
     /// Blocks the calling thread until it has the lock.
     ///
-    /// Where a listener, or what the thread parks on, is refused, the answer is that refusal, and no listener is left.
+    /// Returns an error if it can't listen or there is no memory for what the thread parks on. Either leaves no listener.
     pub fn lock<'a, R>(
         &'a self,
         rt: &'a R,

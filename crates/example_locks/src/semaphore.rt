@@ -32,7 +32,7 @@ impl Model for Semaphore {
 }
 
 impl Semaphore {
-    /// So many permits, all of them free.
+    /// A semaphore with that many permits, all of them free.
     ///
     /// The call neither allocates nor waits.
     pub fn new(id: EventId, permits: usize) -> Self
@@ -57,7 +57,7 @@ impl Semaphore {
 
     /// Blocks the calling thread until it has a permit.
     ///
-    /// Where a listener, or what the thread parks on, is refused, the answer is that refusal, and no listener is left.
+    /// Returns an error if it can't listen or there is no memory for what the thread parks on. Either leaves no listener.
     pub fn acquire<'a, R>(
         &'a self,
         rt: &'a R,
@@ -102,7 +102,7 @@ impl Semaphore {
         before.is_ok()
     }
 
-    // Gives so many permits back, in one step.
+    // Gives that many permits back, in one step.
     fn give_back(&self, permits: usize) {
         self.free.fetch_add(permits, Ordering::SeqCst);
     }

@@ -43,7 +43,7 @@ impl Client {
         self.goes_on(news);
     }
 
-    /// Drops its listener, and hears that. If it was told, that tells another one.
+    /// Drops its listener, and hears that. If it was notified, that notifies another one.
     pub(super) fn drops<R: Wait + Clock + Clone>(&mut self, listener: EventListener<(), R>)
         requires { IsSome (place_after self.old news.Dropped) }
         ensures { place_after self.old news.Dropped ≡ Some self.new }
@@ -85,7 +85,7 @@ impl Trying {
         Trying { client }
     }
 
-    /// A client that registers, and finds that it was told. It has no listener any more.
+    /// A client that registers, and finds that it was notified. It has no listener any more.
     pub(super) fn told(client: Client) -> Self
         requires { client ≡ place.ToRegister }
     {

@@ -11,9 +11,9 @@ use std::sync::Wait;
 /// Whom to notify of something that was freed.
 #[derive(Clone, Copy, Debug, PartialEq, Eq)]
 pub enum Owed {
-    /// One of those who wait, unless somebody is told already.
+    /// One of those that wait, unless one is notified already.
     One,
-    /// So many of those who wait, whoever is told already.
+    /// This many of those that wait, whichever are notified already.
     Additional(usize),
 }
 

@@ -1,13 +1,13 @@
-//! A client that listens, and waits to be told.
+//! A client that listens, and waits to be notified.
 ghost use Rattle.std.specs.Prelude.{◌≡◌, IsSome, IfOk};
 ghost use Rattle.event_worlds.specs.declared.world.place.Place.TheVariants as place;
 
 use super::client::{Client, Trying};
-use event_listener::{EventListener, ListenError, Listener, NeverInserted, WaitError};
+use event_listener::{EventListener, Limit, ListenError, Listener, NeverInserted, WaitError};
 use event_worlds::News;
 use futures::task::{Poll, Waker};
 use std::sync::Wait;
-use std::time::{Clock, Duration, Instant};
+use std::time::Clock;
 
 /// A client that found nothing free twice, and listened in between. It is about to register. Dropping it drops its
 /// listener.
@@ -26,32 +26,10 @@ pub(crate) struct Parked<R: Wait + Clock + Clone> {
 
 /// What a client found when it registered.
 pub(crate) enum Registered<R: Wait + Clock + Clone> {
-    /// It was told, and tries again.
+    /// It was notified, and tries again.
     Told(Trying),
     /// It was not, and its task is stored.
     Stored(Parked<R>),
-}
-
-/// How long a client waits.
-#[derive(Clone, Copy)]
-pub(super) enum Limit {
-    Never,
-    At(Instant),
-    Past,
-}
-
-impl Limit {
-    /// The moment so long from now. One that can't be represented never comes, and a clock that can't be read counts as
-    /// one that shows a later time.
-    pub(super) fn after<R: Clock>(clock: &R, timeout: Duration) -> Self {
-        match Instant::now(clock) {
-            Ok(now) => match now.checked_add(timeout) {
-                Some(moment) => Limit::At(moment),
-                None => Limit::Never,
-            },
-            Err(_) => Limit::Past,
-        }
-    }
 }
 
 impl<R: Wait + Clock + Clone> Waiting<R> {
@@ -61,7 +39,7 @@ impl<R: Wait + Clock + Clone> Waiting<R> {
         Waiting { client, listener }
     }
 
-    /// Blocks the calling thread until the client is told, or until the limit: then the answer is `None`.
+    /// Blocks the calling thread until the client is notified, or returns `None` once the limit has passed.
     pub(super) fn wait(self, limit: Limit) -> Result<Option<Trying>, ListenError>
         ensures { limit ≡ Limit.Never → IfOk result IsSome }
     {
@@ -69,13 +47,8 @@ impl<R: Wait + Clock + Clone> Waiting<R> {
             mut client,
             listener,
         } = self;
-        let answer = match limit {
-            Limit::Never => listener.wait().map(Some),
-            Limit::At(deadline) => listener.wait_deadline(deadline),
-            Limit::Past => listener.wait_timeout(Duration::ZERO),
-        };
-        match answer {
-            // A listener that is not in the queue was told before.
+        match listener.wait_until(limit) {
+            // A listener that is not in the queue was notified before.
             Ok(Some(())) | Err(WaitError::NeverInserted) => Ok(Some(Trying::told(client))),
             Ok(None) => {
                 client.hears(News::Registered);
@@ -91,14 +64,14 @@ impl<R: Wait + Clock + Clone> Waiting<R> {
         }
     }
 
-    /// Stores the waker, unless the client was told.
+    /// Stores the waker, unless the client was notified.
     pub(crate) fn register(self, waker: Waker) -> Registered<R> {
         let Waiting {
             mut client,
             mut listener,
         } = self;
         match listener.poll(waker) {
-            // A listener that is not in the queue was told before.
+            // A listener that is not in the queue was notified before.
             Ok(Poll::Ready(())) | Err(NeverInserted) => Registered::Told(Trying::told(client)),
             Ok(Poll::Pending) => {
                 client.hears(News::Registered);

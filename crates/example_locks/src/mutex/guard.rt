@@ -3,7 +3,7 @@ use crate::contended::Held;
 use std::ops::{Deref, DerefMut};
 use std::sync::{self, Wait};
 
-/// The lock, and by it the value. Dropping it frees the lock, and then notifies one listener, if none is told.
+/// The lock, and by it the value. Dropping it frees the lock, and then notifies one listener, if none is notified yet.
 ///
 /// It keeps the runtime value for its drop, which may wait for the lock of the event.
 #[must_use = "the lock is free once its guard is dropped"]

@@ -9,7 +9,8 @@ use std::mem;
 use std::sync::{self, Wait};
 use std::time::Clock;
 
-/// A lock that is polled until it gives its guard. Dropping it before that gives up: if it was told, another one is.
+/// A lock that is polled until it gives its guard. Dropping it before that gives up: if it was notified, another client
+/// is.
 #[must_use = "nothing is locked before it is polled"]
 #[derive(Drop)]
 pub struct PolledLock<'a, T, R: Wait + Clock + Clone> {
@@ -63,7 +64,7 @@ impl<'a, T, R: Wait + Clock + Clone> PolledLock<'a, T, R> {
         }
     }
 
-    // Registers, and tries again if it was told.
+    // Registers, and tries again if it was notified.
     fn register(
         &mut self,
         waiting: Waiting<R>,

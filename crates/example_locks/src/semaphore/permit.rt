@@ -7,7 +7,7 @@ use std::marker::Model;
 use std::sync::Wait;
 
 /// One permit of a semaphore or more. Dropping it frees all of them in one step, and then notifies as many listeners
-/// more, whoever is told already.
+/// more, whichever are notified already.
 ///
 /// It keeps the runtime value for its drop, which may wait for the lock of the event. A contract sees it as how many
 /// permits it holds.
