@@ -5,7 +5,7 @@ use Rattle.event_queue.specs.declared.reply.NotifyError.{NotifyError}
 use Rattle.event_queue.specs.Notify.{GivesTags}
 
 module _ {T N : Type 0} (gives : N → Result T AllocError → N → Type 0) where
-  -- the source gave a tag so many times, one after another, and was left as that
+  -- the source gave this many tags, one after another, and was left as that
   pub record GaveTags (source : N) (told : ℕ) (source' : N) : Type 0 where
     pub tags : List T
     pub given : GivesTags gives source tags source'
@@ -18,8 +18,8 @@ module _ {T N : Type 0} (gives : N → Result T AllocError → N → Type 0) whe
     pub gave : GaveTags source told between
     pub refused : gives between (Err alloc_error) after
 
-  -- A notification tells at most its count of listeners, and gives a tag for each. It fails only where it refused the
-  -- tag of a listener that its count still asked for.
+  -- a notification notifies at most its count of listeners, and gives a tag for each; it fails only if it refused the
+  -- tag of a listener that its count still asked for
   abbrev pub TellsSome : ℕ → N → Result ℕ NotifyError → Type 0
   TellsSome count source (Ok told) = (told ≤ count) × ((source' : N) × GaveTags source told source')
   TellsSome count source (Err error) = (error.told < count) × GaveThenRefused source error.told

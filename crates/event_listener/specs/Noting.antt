@@ -10,7 +10,7 @@ pub record Recorded : Type 0 where
   pub number : ℕ
   pub hands : ℕ
 
--- a recorded listener: its event, and by which key it stands in the queue there
+-- a recorded listener: its event, and its key in the queue there
 pub record RecordedListening : Type 0 where
   pub event : Recorded
   pub key : Key

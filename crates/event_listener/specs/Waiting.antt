@@ -61,7 +61,7 @@ module _ {T : Type 0} where
   StaysOrEnds before answer after = EndsWait before answer after
 
 module _ {S T : Type 0} (attempts leaves : S → Result (Option T) WaitReason → S → Type 0) where
-  -- so many registrations found the listener waiting
+  -- this many registrations found the listener waiting
   abbrev pub Rounds : ℕ → S → S → Type 0
   Rounds zero before after = after ≡ before
   Rounds (suc rounds) before after = (between : S) × Rounds rounds before between × attempts between (Ok None) after

@@ -20,12 +20,12 @@ use std::time::Clock;
 
 /// What others listen to, and are notified of.
 ///
-/// Its listeners stand in one queue, in order of listening. The first of them, or the first
+/// Its listeners are in one queue, in order of listening. The first of them, or the first
 /// [`StackSlot`](crate::StackSlot), makes the queue. Each call that reads or changes the queue is one step under a lock
 /// that no other event has, and may wait for that lock. Inside that step tags are made and tasks are woken: calling the
 /// same event from a tag's function or clone there deadlocks. A lost tag is dropped after the step.
 ///
-/// A contract sees an event as the number of its identity. No contract can name what stands in its queue, since other
+/// A contract sees an event as the number of its identity. No contract can name what is in its queue, since other
 /// threads may change it at any time.
 #[derive(Drop)]
 pub struct Event<T = ()> {
@@ -100,7 +100,8 @@ impl<T> Event<T> {
         Ok(EventListener::new(shared, key, number, runtime, alloc))
     }
 
-    // A share of the queue, which is made. It stands apart, so that a share of one that is there is a few instructions.
+    // Makes the queue, and a share of it. It is a function of its own, so that a share of a queue that is there is a few
+    // instructions.
     #[cold]
     #[inline(never)]
     fn first_share<R: Wait>(&self, rt: &R, alloc: Global) -> Result<Arc<Shared<T>>, AllocError>
@@ -125,7 +126,7 @@ impl<T> Event<T> {
         }
     }
 
-    // Makes the queue. Where two threads make it at once, the second drops its own and takes that of the first.
+    // Makes the queue. If two threads make it at once, the second drops its own and takes that of the first.
     #[cold]
     #[inline(never)]
     fn make_queue<R: Wait>(&self, rt: &R, alloc: Global) -> Result<&Arc<Shared<T>>, AllocError>
@@ -248,7 +249,7 @@ impl Event<()> {
         self.notify_unrefused(rt, n.additional().relaxed())
     }
 
-    // A notification that refuses no tag returns no error.
+    // The call of a notification that refuses no tag, which returns no error.
     #[inline(always)]
     fn notify_unrefused<R: Wait, N: IntoNotification<Tag = ()>>(&self, rt: &R, n: N) -> usize
     where

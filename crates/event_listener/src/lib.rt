@@ -162,8 +162,8 @@
 //!
 //! # A wait against a deadline
 //!
-//! At the deadline the listener leaves the queue, and the answer is `None`. [`WaitError::Memory`] returns the listener,
-//! which may wait again.
+//! At the deadline the listener leaves the queue, and the wait returns `None`. [`WaitError::Memory`] returns the
+//! listener, which may wait again.
 //!
 //! ```rust
 //! ghost use Rattle.std.specs.Prelude.{◌≡◌, true, IsErr, IfErr};

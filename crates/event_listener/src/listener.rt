@@ -44,15 +44,16 @@ pub struct NeverInserted;
 ///
 /// # Waiting
 ///
-/// [`wait`](Listener::wait), [`wait_timeout`](Listener::wait_timeout) and [`wait_deadline`](Listener::wait_deadline)
-/// block the calling thread, in this order:
+/// [`wait_until`](Listener::wait_until) blocks the calling thread until a [`Limit`], and
+/// [`wait`](Listener::wait), [`wait_timeout`](Listener::wait_timeout) and [`wait_deadline`](Listener::wait_deadline) are
+/// calls of it. They go in this order:
 ///
-/// 1. `wait_timeout` reads the clock, which fixes its deadline.
+/// 1. `wait_timeout` reads the clock, which fixes its limit.
 /// 2. The wait allocates what the thread parks on, and takes a share of that.
 /// 3. If the listener was notified, the wait takes the tag and returns it. Else it stores the share in the queue.
-/// 4. It reads the clock, if it has a deadline. If that has passed, it removes the listener and propagates nothing; a
-///    tag that came since the last step is returned.
-/// 5. The thread parks until it is woken or the deadline comes. Then the wait takes a new share, and goes on at 3.
+/// 4. It reads the clock, if its limit is a moment. If the limit has passed, it removes the listener and propagates
+///    nothing; a tag that came since the last step is returned.
+/// 5. The thread parks until it is woken or the limit comes. Then the wait takes a new share, and goes on at 3.
 ///
 /// So a listener that was notified already gives its tag, however late it is. Steps 3 and 4 may wait for the lock of
 /// the event. The clock is that of the runtime value which the listener keeps, and no lock is held while it is read. No
@@ -104,8 +105,9 @@ pub trait Listener<T>: Sized {
         ensures registered { IfOk result (λ polled. OnPending polled (Covers cx.new (λ s. s ≡ source self.new))) }
         ensures kept { Keeps cx.old cx.new };
 
-    /// Waits until the listener is notified or the limit has passed, and returns the tag or `None`. The listener is out
-    /// of the queue then. A tag that comes after that time and before the removal is returned too, and not propagated.
+    /// Waits until the listener is notified or the limit has passed, and returns the tag or `None`. The listener has left
+    /// the queue then. A tag that comes after the limit and before the listener leaves is returned too, and not
+    /// propagated.
     ///
     /// See [Waiting](Listener#waiting) for what it allocates, what it waits for, and what its errors leave.
     fn wait_until(self, limit: Limit) -> Result<Option<T>, WaitError<Self>>

@@ -17,7 +17,7 @@ macro_rules! take_lock {
 
 pub(crate) use take_lock;
 
-// It stands apart, so that taking a free lock is a few instructions in whoever takes it.
+// It is a function of its own, so that taking a free lock is a few instructions.
 #[cold]
 #[inline(never)]
 pub(crate) fn wait_for_lock<'a, T, R: Wait>(mutex: &'a Mutex<T>, rt: &R) -> MutexGuard<'a, T> {

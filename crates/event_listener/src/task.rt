@@ -38,7 +38,7 @@ impl Task {
         Ok(Task(TaskKind::Parked(parker.unparker()?)))
     }
 
-    // Wakes the task. For a thread that is to have its token set; the signal that ends its sleep is left to the caller.
+    // Wakes the task. Of a thread it sets the token, and leaves the signal that ends its sleep to the caller.
     #[inline(always)]
     fn wake<R: Wait>(self, rt: &R) -> Option<Signal> {
         let Task(kind) = self;
@@ -60,8 +60,8 @@ impl Task {
 /// lock that woke it: [`finish`](Waking::finish) gives it, once the lock is given back. One signal is held at a time, so
 /// nothing is allocated: the one before is given when the next comes.
 ///
-/// It is no `Drop`, and neither is a signal, so whoever makes one has to finish it. Its relation says nothing, since no
-/// contract can name what sleeps. Tests show that it wakes.
+/// It is no `Drop`, and neither is a signal, so whoever makes one has to finish it. Its relation `woke` says nothing, since
+/// no contract can name a thread or task that sleeps. Tests show that it wakes.
 pub(crate) struct Waking<'r, R> {
     rt: &'r R,
     held_back: Option<Signal>,

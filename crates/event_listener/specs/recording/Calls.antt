@@ -17,13 +17,13 @@ use Rattle.event_listener.specs.declared.recorded.reply.Former.TheVariants as fo
 use Rattle.event_listener.specs.declared.recorded.reply.RecordedReply.TheVariants as reply
 use Rattle.event_listener.specs.Noting.{HandNotes, RecordedListening, noted}
 
--- what was removed was a told listener, whose notification was not passed on
+-- what was removed was a notified listener, whose notification was not propagated
 abbrev pub was_told : {T : Type 0} → Option (Former T) → Bool
 was_told (Some (former.Notified additional tag)) = true
 was_told _ = false
 
 module _ {T : Type 0} where
-  -- a call notes itself with its answer, or, where memory was refused, nothing
+  -- a call notes itself with its answer, or nothing if it failed for memory
   abbrev pub Listens : {L : Type 0} → (key_of : L → Key) → HandNotes T → Result L RecordError → HandNotes T → Type 0
   Listens key_of old (Ok listener) new = new ≡ noted old call.Listen (reply.Listened (Ok (key_of listener)))
   Listens key_of old (Err record_error.SerialsUsedUp) new =
@@ -51,8 +51,8 @@ module _ {T : Type 0} where
       new ≡ noted old (call.Register key) (reply.Registered register.NeverInserted)
   Polls key old (Err poll_error.Memory) new = new ≡ old
 
-  -- a discard notes a removal of the listener's key with no propagation; where memory is refused it hands the same
-  -- listener back
+  -- a discard notes a removal of the listener's key with no propagation; if it fails for memory it returns the same
+  -- listener
   abbrev pub Discards : RecordedListening → HandNotes T → Result Bool (WaitError RecordedListening) → HandNotes T → Type 0
   Discards listener old (Ok told) new =
       (answer : Option (Former T)) × (new ≡ noted old (call.Remove listener.key false) (reply.Removed answer)) × (told ≡ was_told answer)

@@ -19,7 +19,7 @@ use Rattle.event_listener.specs.declared.recorded.reply.Former.{Former}
 use Rattle.event_listener.specs.declared.recorded.reply.Former.TheVariants as former
 use Rattle.event_listener.specs.declared.recorded.entry.Entry.{Entry}
 
--- a queue as a record knows it: the listeners told, the listeners waiting, each with whether it has a task, and the next
+-- a queue as a record knows it: the listeners notified, the listeners waiting, each with whether it has a task, and the next
 -- serial
 pub record Shape (T : Type 0) : Type 0 where
   pub told : List (Key × Notice T)
@@ -44,12 +44,12 @@ module _ {T : Type 0} where
   abbrev pub newcomer : Shape T → ℕ → Key
   newcomer shape slot = record { slot = slot; serial = shape.next_serial }
 
-  -- how many listeners a notification tells
+  -- how many listeners a notification notifies
   abbrev pub tells : ℕ → Bool → Shape T → ℕ
   tells count additional shape =
       min (if additional then count else count - length shape.told) (length shape.waiting)
 
-  -- what is found of a key, among the told and among the waiting
+  -- what is found of a key, among the notified and among the waiting
   abbrev pub told_at : Key → Shape T → Option (Notice T)
   told_at key shape = lookup (is_key key) shape.told
 
@@ -62,15 +62,15 @@ module _ {T : Type 0} where
   registered None (Some has_task) = register.Registered
   registered None None = register.NeverInserted
 
-  -- once the told listener of that key has left
+  -- once the notified listener of that key has left
   abbrev pub without_told : Key → Shape T → Shape T
   without_told key shape = record shape { told = remove_entry (is_key key) shape.told }
 
-  -- the listeners that are told once a notice is passed on: one, or none
+  -- the listeners that a notice notifies once it is propagated: one, or none
   abbrev pub told_by_passing_at : Notice T → Shape T → List Key
   told_by_passing_at notice shape = keys_of (take (tells 1 notice.additional shape) shape.waiting)
 
-  -- what is said of a notice that was passed on, by whom it told
+  -- what a removal answers of a notice that was propagated, by whom that notified
   abbrev pub passed : Notice T → List Key → Former T
   passed notice [] = former.Lost notice.additional notice.tag
   passed notice (to ∷ _) = former.Passed to
@@ -94,19 +94,19 @@ module _ {T : Type 0} where
   answer_at shape slot call.TotalListeners = reply.TotalListeners (length shape.told + length shape.waiting)
   answer_at shape slot call.IsNotified = reply.IsNotified (nat_lt 0 (length shape.told))
 
-  -- once the first so many of the waiting were told with that notice
+  -- once the first of the waiting, this many, were notified with that notice
   abbrev pub after_notice : ℕ → Notice T → Shape T → Shape T
   after_notice count notice shape = record shape {
     told = shape.told ++ map (λ entry. (entry.0, notice)) (take count shape.waiting);
     waiting = drop count shape.waiting;
   }
 
-  -- once the task of that key was registered, by what is found among the told
+  -- once the task of that key was registered, by what is found among the notified
   abbrev pub after_register : Key → Option (Notice T) → Shape T → Shape T
   after_register key (Some notice) shape = without_told key shape
   after_register key None shape = record shape { waiting = set_value (is_key key) shape.waiting true }
 
-  -- once the listener of that key was removed, by what is found among the told
+  -- once the listener of that key was removed, by what is found among the notified
   abbrev pub after_removal : Key → Bool → Option (Notice T) → Shape T → Shape T
   after_removal key true (Some notice) shape =
       let left = without_told key shape in after_notice (tells 1 notice.additional left) notice left
@@ -181,7 +181,7 @@ module _ {T : Type 0} where
     replay_from shape [] = Some shape
     replay_from shape (entry ∷ rest) = option_and_then (λ next. replay_from next rest) (replay_entry shape entry)
 
-    -- the record replays to a queue: to its listeners, told and waiting, with whether they have tasks, and to its next
+    -- the record replays to a queue: to its listeners, notified and waiting, with whether they have tasks, and to its next
     -- serial
     abbrev pub ReplaysTo : {W : Type 0} → List (Entry T) → Queue T W → Type 0
     ReplaysTo entries q = replay_from empty_shape entries ≡ Some (shape_of q)

@@ -11,7 +11,7 @@ abbrev pub empty_queue : {T W : Type 0} → Queue T W
 empty_queue = record { told = []; waiting = []; next_serial = 0; spare = 0 }
 
 module _ {T W : Type 0} (eq : T → T → Bool) where
-  -- the entry is a step from one queue to the other, with some task where it registers one: the queue's reply is the
+  -- the entry is a step from one queue to the other, with some task if it registers one: the queue's reply is the
   -- entry's, by `same_reply`
   pub record IsStep (old : Queue T W) (entry : Entry T) (new : Queue T W) : Type 0 where
     pub task : Option W

@@ -52,7 +52,7 @@ module _ {T W : Type 0} where
     pub answered : answer ≡ option_map former_of was
     pub removes : Removes old key propagate was new
 
-  -- what a call answers, and the queue that it leaves; each listener told gets the one tag; no call has the reply of
+  -- what a call answers, and the queue that it leaves; each listener notified gets the one tag; no call has the reply of
   -- another, and only a registration comes with a task
   abbrev pub Steps : Queue T W → RecordedCall T → Option W → RecordedReply T → Queue T W → Type 0
   Steps old call.Listen None (reply.Listened answer) new = Inserts old answer new
@@ -77,13 +77,13 @@ module _ {T W : Type 0} where
   woken_by_call (call.Notify count additional tag) old = tasks_of (how_many count additional old) old
   woken_by_call _ old = []
 
--- a removal that answers this passed no notification on
+-- a removal that answers this propagated no notification
 abbrev pub WasKept : {T : Type 0} → Option (Former T) → Type 0
 WasKept (Some (former.Passed to)) = ⊥
 WasKept (Some (former.Lost additional tag)) = ⊥
 WasKept _ = ⊤
 
--- the reply is one that a record has of this call: room is made first, so no listener is refused for memory, and only a
+-- the reply is one that a record has of this call: room is made first, so no insertion fails for memory, and only a
 -- removal that propagates answers where a notification went
 abbrev pub IsReplyTo : {T : Type 0} → RecordedCall T → RecordedReply T → Type 0
 IsReplyTo call.Listen (reply.Listened answer) = answer ≢ Err Memory

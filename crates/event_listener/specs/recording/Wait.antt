@@ -33,7 +33,7 @@ module _ {T : Type 0} where
     pub registered : 1 ≤ rounds
     pub removal : last ≡ note (call.Remove key false) (reply.Removed answer) ∷ []
 
-  -- what a wait answers by its last note; where memory was refused it hands the same listener back
+  -- what a wait answers by its last note; if it failed for memory it returns the same listener
   abbrev pub EndsBy : Type 0 → RecordedListening → ℕ → List (Note T) → Result (Option T) (WaitError RecordedListening) → Type 0
   EndsBy may_end listener rounds last (Ok (Some tag)) =
       RegistersLast listener.key (register.Notified tag) last

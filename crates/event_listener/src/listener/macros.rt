@@ -2,7 +2,7 @@
 
 /// Makes a [`StackListener`](crate::StackListener) of an event, under a name that the rest of the block has.
 ///
-/// `listener!(rt, alloc; event => l)` stands in a function's body. It makes the calls [`StackSlot::new`] and
+/// `listener!(rt, alloc; event => l)` is a statement. It makes the calls [`StackSlot::new`] and
 /// [`StackSlot::listen`]: `rt` is a reference to the runtime value, `alloc` is the allocator, and `event` is the
 /// event or a reference to it. Its two calls end in `?`, so it works wherever a `ListenError` can be turned into the
 /// function's error. It allocates, waits and returns errors as they do.

@@ -14,10 +14,10 @@ use futures::task::Context;
 use std::marker::Model;
 use std::sync::Wait;
 
-/// By which key a listener stands in the queue of its event, and whether it has left the queue by a call of its own.
+/// A listener's key in the queue of its event, and whether the listener has left the queue by a call of its own.
 ///
-/// The key is private to this file. So whatever takes the listener out of the queue is one of the three calls below, and
-/// each of them notes that it did: a listener that is not finished after a call was not taken out by that call.
+/// The key is private to this file. So only the three calls below take the listener out of the queue, and each of them
+/// notes that it did: a listener that is not finished after a call was not taken out by that call.
 ///
 /// The note is in the key itself: a finished listener has the greatest `u64` for its serial, which no queue gives. A
 /// `bool` beside the key would be seven bytes of padding in each listener, and a listener is moved often.
@@ -100,18 +100,17 @@ impl Membership {
         ensures kept { Keeps cx.old cx.new }
     {
         if self.is_finished() {
-            RegisterResult::NeverInserted
-        } else {
-            let found = take_lock!(shared.queue(), rt).register_with_uncounted(
-                self.key,
-                &shared.source,
-                cx,
-            );
-            if !matches!(found, RegisterResult::Registered) {
-                self.finish();
-            }
-            found
+            return RegisterResult::NeverInserted;
         }
+        let found = take_lock!(shared.queue(), rt).register_with_uncounted(
+            self.key,
+            &shared.source,
+            cx,
+        );
+        if !matches!(found, RegisterResult::Registered) {
+            self.finish();
+        }
+        found
     }
 
     /// Takes the listener out of the queue, if it is there, and returns what it was. With `propagate` its notification

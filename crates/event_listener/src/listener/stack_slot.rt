@@ -13,11 +13,11 @@ use std::time::Clock;
 
 /// What a [`StackListener`] is made of: the queue of an event that lives as long as the borrow.
 ///
-/// [`listen`](StackSlot::listen) consumes the slot, which cannot be cloned. So a slot listens once. No listener stands
-/// in the queue for a slot that is dropped.
+/// [`listen`](StackSlot::listen) consumes the slot, which cannot be cloned. So a slot listens once. A slot that is
+/// dropped has put no listener into the queue.
 ///
 /// A contract sees a slot as the number of its event.
-#[must_use = "no listener stands in the queue before the slot listens"]
+#[must_use = "no listener is in the queue before the slot listens"]
 #[derive(Drop)]
 pub struct StackSlot<'ev, T> {
     shared: &'ev Shared<T>,

@@ -100,7 +100,7 @@ impl<T> Hand<T> {
     }
 }
 
-// So many hands of that event, which have the numbers from 0 on.
+// This many hands of that event, which have the numbers from 0 on.
 pub(super) fn new_hands<T>(
     count: usize,
     event_number: u64,

@@ -42,8 +42,8 @@ pub enum RecordedPollError {
 /// listened. The drop of a listener that has left the queue records nothing. It does not allocate, and may wait for the
 /// lock of the event.
 ///
-/// It is no [`Listener`](crate::Listener), since each call takes a hand. A contract sees it as its event, and the key
-/// by which it stands in the queue there.
+/// It is no [`Listener`](crate::Listener), since each call takes a hand. A contract sees it as its event, and its key
+/// in the queue there.
 #[must_use = "a listener that is dropped waits for nothing"]
 pub struct RecordedListener<'ev, T: Copy + Eq, R: Wait + Clock + Clone> {
     pub(super) event: &'ev RecordedEvent<T>,
@@ -141,13 +141,12 @@ impl<'ev, T: Copy + Eq, R: Wait + Clock + Clone> RecordedListener<'ev, T, R> {
         }
     }
 
-    /// Waits until the listener is notified or the timeout has passed, and returns the tag or `None`. The listener is
-    /// out of the queue then. At the deadline it is removed, which is recorded and noted too; a tag that comes before
-    /// that is returned, and not propagated.
+    /// Waits until the listener is notified or the timeout has passed, and returns the tag or `None`. The listener has
+    /// left the queue then. At its limit, which is that of [`Limit::after`], it is removed, which is recorded and noted
+    /// too; a tag that comes before that is returned, and not propagated.
     ///
-    /// A deadline that can't be represented never comes, and a clock that can't be read shows the deadline. What it
-    /// records, allocates and waits for, and its errors, are those of [`wait`](RecordedListener::wait); the removal may
-    /// fail for memory, too.
+    /// What it records, allocates and waits for, and its errors, are those of [`wait`](RecordedListener::wait); the
+    /// removal may fail for memory, too.
     pub fn wait_timeout(
         self,
         hand: &mut Hand<T>,
@@ -161,10 +160,10 @@ impl<'ev, T: Copy + Eq, R: Wait + Clock + Clone> RecordedListener<'ev, T, R> {
     }
 
     /// Waits until the listener is notified or that moment of its own clock has come, and returns the tag or `None`.
-    /// The listener is out of the queue then. At the deadline it is removed, which is recorded and noted too; a tag
+    /// The listener has left the queue then. At the deadline it is removed, which is recorded and noted too; a tag
     /// that comes before that is returned, and not propagated.
     ///
-    /// A clock that can't be read shows the deadline. What it records, allocates and waits for, and its errors, are
+    /// A clock that can't be read counts as one that shows the deadline. What it records, allocates and waits for, and its errors, are
     /// those of [`wait`](RecordedListener::wait); the removal may fail for memory, too.
     pub fn wait_deadline(
         self,

@@ -18,7 +18,7 @@ use std::alloc::{AllocError, Global};
 /// the serials used up.
 ///
 /// The call allocates two vectors of the listeners, and returns an error if that fails. It does not wait. Each
-/// entry takes one pass at most over the listeners that stand in the queue by then, to find a key or to move those
+/// entry takes one pass at most over the listeners that are in the queue by then, to find a key or to move those
 /// notified.
 pub fn replays<T: Copy + Eq>(alloc: Global, entries: &[Entry<T>]) -> Result<bool, AllocError>
     ensures { IfOk result (λ answer. answer ≡ replays T.eq entries.now) }
@@ -33,7 +33,7 @@ pub fn replays<T: Copy + Eq>(alloc: Global, entries: &[Entry<T>]) -> Result<bool
     Ok(true)
 }
 
-// The slot that a newcomer got, by the reply; any number where the reply is none of a newcomer.
+// The slot that a newcomer got, by the reply; any number if the reply is not that of a newcomer.
 fn slot_in<T>(reply: &RecordedReply<T>) -> usize
     ensures { result ≡ slot_in reply.now }
 {

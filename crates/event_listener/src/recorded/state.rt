@@ -22,7 +22,7 @@ use std::marker::Model;
 /// A queue and the record of every step that it made: what stands under the lock of a recorded event.
 ///
 /// The type keeps that the record replays to the queue, that each entry of no hand is the end of a listener, and room to
-/// record the end of each listener that stands in the queue. Only [`apply`](RecordedState::apply),
+/// record the end of each listener in the queue. Only [`apply`](RecordedState::apply),
 /// [`apply_end`](RecordedState::apply_end) and the polls of this crate change it; each makes one step of the queue and
 /// records it. No call takes a lock, and none waits unless its sink does. A contract sees a state as its entries and its
 /// queue, but for how much is spare.
@@ -43,7 +43,7 @@ impl<T: Copy + Eq> Model for RecordedState<T> {
     ghost invariant = { λ state. IsRecording T.eq state.entries.items (record state.list { spare = 0 }) (vec_len state.entries) (vec_capacity state.entries) };
 }
 
-// Makes room for so many new entries, and for one for each listener.
+// Makes room for this many new entries, and for one more for each listener.
 fn make_room<T>(
     entries: &mut Vec<Entry<T>>,
     listeners: usize,
@@ -160,7 +160,7 @@ impl<T: Copy + Eq> RecordedState<T> {
         ensures ends { ¬ IsAbsent key self.old.queue → Ends self.old key self.new }
         ensures wakes { FoldsTo S.woke sink.old (woken_by_removal key true self.old.queue) sink.new }
 
-        // A key of nobody changes nothing.
+        // A key that no listener has changes nothing.
         ensures unchanged { IsAbsent key self.old.queue → self.new ≡ self.old }
         ensures sink_unchanged { IsAbsent key self.old.queue → sink.new ≡ sink.old }
     {

@@ -96,7 +96,7 @@ fn perform_removal_apart<T: Copy, S: WakeSink<Task>>(
     perform_removal(list, key, propagate, sink)
 }
 
-// Notifies with copies of one tag, and returns how many listeners were told. No copy is refused.
+// Notifies with copies of one tag, and returns how many listeners were notified. No copy fails.
 fn perform_notification<T: Copy, S: WakeSink<Task>>(
     list: &mut List<T, Task>,
     mut source: CopiedTag<T>,

@@ -15,7 +15,7 @@ use event_queue::Key;
 use std::sync::{Mutex, Wait};
 use std::time::Clock;
 
-// By which key a recorded listener stands in its queue, as a wait uses it.
+// A recorded listener as a wait uses it: its key in the queue.
 #[derive(Drop)]
 struct RecordedPlace {
     key: Key,

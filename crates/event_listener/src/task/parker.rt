@@ -3,7 +3,7 @@ use std::alloc::{AllocError, Global};
 use std::sync::{Arc, Condvar, CondvarTimeouts, Mutex, Wait};
 use std::time::{Clock, Duration};
 
-// One token: an unpark sets it, and several are one; a park waits for it and takes it.
+// What a park waits for and takes, and an unpark sets. Several unparks set it once.
 #[derive(Drop)]
 struct Token {
     is_set: Mutex<bool>,
@@ -27,7 +27,7 @@ impl Parker {
         Ok(Parker { token })
     }
 
-    /// What sets the token from elsewhere, by a share of it. It returns an error if no share can be made.
+    /// What sets the token from elsewhere: a share of it. The call returns an error if no share can be made.
     pub(crate) fn unparker(&self) -> Result<Unparker, AllocError> {
         let token = Arc::try_clone(&self.token)?;
         Ok(Unparker { token })

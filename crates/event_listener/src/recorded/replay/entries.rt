@@ -6,7 +6,7 @@ ghost use Rattle.event_queue.specs.Key.{is_key};
 
 use event_queue::Key;
 
-// Where that key stands, if it does.
+// At which index that key is, if it is there.
 fn find<X>(entries: &[(Key, X)], key: Key) -> Option<usize>
     ensures { result ≡ position (λ entry. is_key key entry.0) entries.now }
 {

@@ -119,7 +119,7 @@ impl<T: Copy> ReplayedQueue<T> {
         })
     }
 
-    // Passes a notification on, and returns where it went.
+    // Propagates a notification, and returns where it went.
     fn pass_on(&mut self, additional: bool, tag: T) -> Result<Former<T>, AllocError>
         ensures answer { IfOk result (λ former. former ≡ passed (record { additional = additional; tag = tag }) (told_by_passing_at (record { additional = additional; tag = tag }) self.old)) }
         ensures shape { OnOk result (self.new ≡ after_notice (tells 1 additional self.old) (record { additional = additional; tag = tag }) self.old) }
@@ -132,7 +132,7 @@ impl<T: Copy> ReplayedQueue<T> {
         })
     }
 
-    // Tells the first of the waiting, as many as the notification is for, and returns how many.
+    // Notifies the first of the waiting, as many as the notification is for, and returns how many.
     fn notify(&mut self, count: usize, additional: bool, tag: T) -> Result<usize, AllocError>
         ensures answer { IfOk result (λ told. told ≡ tells count additional self.old) }
         ensures shape { OnOk result (self.new ≡ after_notice (tells count additional self.old) (record { additional = additional; tag = tag }) self.old) }
@@ -155,7 +155,7 @@ impl<T: Copy> ReplayedQueue<T> {
     }
 }
 
-// Moves the first so many of the waiting to the end of the told, which has room for them.
+// Moves the first of the waiting, as many as that, to the end of the notified, which has room for them.
 fn tell_first<T: Copy>(
     told: &mut Vec<(Key, Notice<T>)>,
     waiting: &mut Vec<(Key, bool)>,
