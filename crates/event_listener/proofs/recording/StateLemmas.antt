@@ -28,6 +28,7 @@ use Rattle.event_listener.specs.declared.recorded.entry.Entry.{Entry}
 use Rattle.event_listener.specs.declared.recorded.reply.RecordedReply.{RecordedReply}
 use Rattle.event_listener.specs.declared.recorded.reply.RecordedReply.TheVariants as reply
 use Rattle.event_listener.specs.declared.recorded.reply.Former.{Former}
+use Rattle.event_listener.specs.recording.Exchange.{StepsBeside}
 use Rattle.event_listener.specs.recording.Step.{Steps, StepsAnySpare, RemovesAs, IsReplyTo, WasKept, former_of, newcomers_of}
 use Rattle.event_listener.specs.recording.Replay.{ReplaysTo, shape_of}
 use Rattle.event_listener.specs.recording.State.{IsRecording, IsEnd, HandlessAreEnds, unspared}
@@ -120,6 +121,16 @@ module _ {T W : Type 0} where
   no_more_than_newcomers old call.IsNotified None (reply.IsNotified told) new step =
       omega (arith, ap listeners_of step.1)
   no_more_than_newcomers old _ _ _ new step = absurd step
+
+-- a step with what is beside the queue, after room was made for it
+pub steps_beside : {T C : Type 0} (steps : Queue T Task × C → RecordedReply T → Queue T Task × C → Type 0) (old mid new : Queue T Task) (before after : C) (reply : RecordedReply T)
+    → mid ≡ record old { spare = mid.spare } → steps (mid, before) reply (new, after)
+    → StepsBeside steps (unspared old) before reply (unspared new) after
+steps_beside steps old mid new before after reply same step = record {
+  spare = mid.spare;
+  spare' = new.spare;
+  step = subst (λ q. steps (q, before) reply (new, after)) same step;
+}
 
 module _ {T W : Type 0} where
   pub with_no_spare : (q : Queue T W) → IsQueue q → IsQueue (unspared q)

@@ -73,6 +73,7 @@ pub enum RecordedCall<T> {
 
 impl<T: Copy> StepCall<T> {
     /// The call without its task. It neither allocates nor waits.
+    #[inline(always)]
     pub fn recorded(&self) -> RecordedCall<T>
         ensures { result ≡ without_task self.now }
     {
@@ -96,12 +97,15 @@ impl<T: Copy> StepCall<T> {
             StepCall::IsNotified => RecordedCall::IsNotified,
         }
     }
+}
 
+impl<T> RecordedCall<T> {
     // How many listeners the call may insert.
+    #[inline(always)]
     pub(super) fn newcomers(&self) -> usize
-        ensures value { result ≡ newcomers_of (without_task self.now) }
+        ensures value { result ≡ newcomers_of self.now }
         ensures at_most { result ≤ 1 }
     {
-        usize::from(matches!(self, StepCall::Listen))
+        usize::from(matches!(self, RecordedCall::Listen))
     }
 }

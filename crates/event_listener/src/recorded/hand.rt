@@ -1,18 +1,17 @@
 //! Those that call a recorded event, and what they note.
 ghost use Rattle.std.specs.Prelude.{◌≡◌, [], OnErr, IfErr, IfOk};
 ghost use Rattle.event_listener.specs.recording.Step.{IsReplyTo, without_task};
-ghost use Rattle.event_listener.specs.recording.Exchange.{ExchangesIfWaiting};
+ghost use Rattle.event_listener.specs.recording.Exchange.{StepsOfSome};
 ghost use Rattle.event_listener.specs.Noting.{note, noted, new_hands};
-ghost use Rattle.event_listener.specs.declared.recorded.call.RecordedCall.TheVariants.{Register};
 
 use super::call::{RecordedCall, StepCall};
 use super::entry::Entry;
 use super::error::RecordError;
 use super::reply::RecordedReply;
 use super::state::RecordedState;
+use super::step::MakesStep;
 use crate::locks::take_lock;
-use crate::task::{Task, Waking};
-use event_queue::{Key, TaskExchange};
+use crate::task::Waking;
 use std::alloc::{AllocError, Global};
 use std::marker::Model;
 use std::sync::{Mutex, Wait};
@@ -116,8 +115,7 @@ pub(super) fn new_hands<T>(
 }
 
 impl<T: Copy + Eq> Hand<T> {
-    // Performs one call under the lock, and notes it with its reply. Room for the note is made first, so a refusal leaves
-    // queue, record and notes as they were.
+    // Performs one call, and notes it with its reply. What it wakes is woken once the lock is given back.
     #[inline(always)]
     pub(super) fn perform<R: Wait>(
         &mut self,
@@ -130,34 +128,31 @@ impl<T: Copy + Eq> Hand<T> {
         ensures unchanged { OnErr result (self.new ≡ self.old) }
         ensures memory { IfErr result (λ error. error ≡ RecordError.Memory) }
     {
-        self.notes.reserve(1)?;
         let mut waking = Waking::new(rt);
-        let recorded = take_lock!(state, rt).record_step(self.number, call, &mut waking);
+        let reply = self.perform_step(rt, state, call, &mut waking);
         waking.finish();
-        let entry = recorded?;
-        self.notes.push_reserved(Note::of(&entry));
-        Ok(entry.reply)
+        reply
     }
 
-    // Performs a registration whose task is made of the one that is stored, and notes it with its reply. As in
-    // `perform`, a refusal leaves everything as it was.
-    pub(super) fn perform_exchange<R: Wait, C, X: TaskExchange<Task, C>>(
+    // Makes one step under the lock, and notes it with its reply. Room for the note is made first, so a failure leaves
+    // queue, record and notes as they were.
+    #[inline(always)]
+    pub(super) fn perform_step<R: Wait, C, P: MakesStep<T, C>>(
         &mut self,
         rt: &R,
         state: &Mutex<RecordedState<T>>,
-        key: Key,
-        exchange: &X,
-        on: &mut C,
+        step: P,
+        beside: &mut C,
     ) -> Result<RecordedReply<T>, RecordError>
-        ensures noted { IfOk result (λ reply. self.new ≡ noted self.old (Register key) reply) }
-        ensures kind { IfOk result (λ reply. IsReplyTo (Register key) reply) }
-        ensures exchanged { IfOk result (λ reply. ExchangesIfWaiting (X.exchanged exchange.now) on.old reply on.new) }
+        ensures noted { IfOk result (λ reply. self.new ≡ noted self.old (P.call step) reply) }
+        ensures kind { IfOk result (λ reply. IsReplyTo (P.call step) reply) }
+        ensures step { IfOk result (λ reply. StepsOfSome (P.steps step) beside.old reply beside.new) }
         ensures unchanged { OnErr result (self.new ≡ self.old) }
-        ensures untouched { OnErr result (on.new ≡ on.old) }
+        ensures beside_unchanged { OnErr result (beside.new ≡ beside.old) }
         ensures memory { IfErr result (λ error. error ≡ RecordError.Memory) }
     {
         self.notes.reserve(1)?;
-        let entry = take_lock!(state, rt).record_exchange(self.number, key, exchange, on)?;
+        let entry = take_lock!(state, rt).record_step(self.number, step, beside)?;
         self.notes.push_reserved(Note::of(&entry));
         Ok(entry.reply)
     }

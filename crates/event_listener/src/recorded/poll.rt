@@ -8,6 +8,7 @@ ghost use Rattle.event_listener.specs.recording.Calls.{Polls};
 use super::hand::Hand;
 use super::listener::{RecordedListener, RecordedPollError};
 use super::reply::RecordedReply;
+use super::step::PollStep;
 use crate::listener::poll_of;
 use crate::task::EventSource;
 use futures::task::{Context, Poll};
@@ -32,8 +33,11 @@ impl<T: Copy + Eq, R: Wait + Clock + Clone> RecordedListener<'_, T, R> {
         ensures kept { Keeps cx.old cx.new }
     {
         let source = EventSource::new();
-        let state = self.event.state();
-        let Ok(reply) = hand.perform_exchange(&self.runtime, state, self.key, &source, cx) else {
+        let step = PollStep {
+            key: self.key,
+            exchange: &source,
+        };
+        let Ok(reply) = hand.perform_step(&self.runtime, self.event.state(), step, cx) else {
             return Err(RecordedPollError::Memory);
         };
         match reply {

@@ -4,18 +4,17 @@ ghost use Rattle.std.specs.List.{FoldsTo};
 ghost use Rattle.event_queue.specs.Queue.{IsQueue, IsAbsent};
 ghost use Rattle.event_queue.specs.Remove.{woken_by_removal};
 ghost use Rattle.event_listener.specs.recording.Step.{StepsAnySpare, IsReplyTo, without_task, task_of, woken_by_call};
-ghost use Rattle.event_listener.specs.recording.Exchange.{RegistersSomeAnySpare, ExchangesIfWaiting};
+ghost use Rattle.event_listener.specs.recording.Exchange.{StepsBeside};
 ghost use Rattle.event_listener.specs.recording.Replay.{ReplaysTo, replays};
 ghost use Rattle.event_listener.specs.recording.State.{Ends, HandlessAreEnds};
-ghost use Rattle.event_listener.specs.declared.recorded.call.RecordedCall.TheVariants.{Register};
 
 use super::call::{RecordedCall, StepCall};
 use super::entry::Entry;
 use super::error::RecordError;
 use super::reply::RecordedReply;
-use super::step::{perform_exchange, perform_removal, perform_step};
+use super::step::{MakesStep, perform_removal};
 use crate::task::Task;
-use event_queue::{Key, List, TaskExchange, WakeSink};
+use event_queue::{Key, List, WakeSink};
 use std::alloc::Global;
 use std::marker::Model;
 
@@ -100,56 +99,29 @@ impl<T: Copy + Eq> RecordedState<T> {
         Ok(self.record_step(hand, call, sink)?.reply)
     }
 
-    // Does what `apply` does, and returns the entry that it made.
+    // Makes one step, records it as a call of that hand, and returns the entry. A failure leaves everything as it was.
     #[inline(always)]
-    pub(super) fn record_step<S: WakeSink<Task>>(
+    pub(super) fn record_step<C, P: MakesStep<T, C>>(
         &mut self,
         hand: usize,
-        call: StepCall<T>,
-        sink: &mut S,
+        step: P,
+        beside: &mut C,
     ) -> Result<Entry<T>, RecordError>
-        ensures step { IfOk result (λ entry. StepsAnySpare self.old.queue (without_task call) (task_of call) entry.reply self.new.queue) }
-        ensures wakes { OnOk result (FoldsTo S.woke sink.old (woken_by_call (without_task call) self.old.queue) sink.new) }
-        ensures recorded { IfOk result (λ entry. self.new.entries ≡ self.old.entries ++ record { hand = Some hand; call = without_task call; reply = entry.reply } ∷ []) }
-        ensures entry { IfOk result (λ entry. entry ≡ record { hand = Some hand; call = without_task call; reply = entry.reply }) }
-        ensures kind { IfOk result (λ entry. IsReplyTo (without_task call) entry.reply) }
+        ensures step { IfOk result (λ entry. StepsBeside (P.steps step) self.old.queue beside.old entry.reply self.new.queue beside.new) }
+        ensures recorded { IfOk result (λ entry. self.new.entries ≡ self.old.entries ++ entry ∷ []) }
+        ensures entry { IfOk result (λ entry. entry ≡ record { hand = Some hand; call = P.call step; reply = entry.reply }) }
+        ensures kind { IfOk result (λ entry. IsReplyTo (P.call step) entry.reply) }
         ensures memory { IfErr result (λ error. error ≡ RecordError.Memory) }
         ensures unchanged { OnErr result (self.new ≡ self.old) }
-        ensures sink_unchanged { OnErr result (sink.new ≡ sink.old) }
+        ensures beside_unchanged { OnErr result (beside.new ≡ beside.old) }
     {
+        let call = step.recorded();
         let newcomers = call.newcomers();
         let listeners = self.list.total_listeners();
         make_room(&mut self.entries, listeners, 1 + newcomers)?;
         self.list.reserve(newcomers)?;
-        let recorded = call.recorded();
-        let reply = perform_step(&mut self.list, call, sink);
-        let entry = Entry::by_hand(hand, recorded, reply);
-        self.entries.push_reserved(entry);
-        Ok(entry)
-    }
-
-    // Registers a listener, with a task that is made of the one that it stored, records that as a call of this hand, and
-    // returns the entry. A refusal leaves everything as it was.
-    pub(super) fn record_exchange<C, X: TaskExchange<Task, C>>(
-        &mut self,
-        hand: usize,
-        key: Key,
-        exchange: &X,
-        on: &mut C,
-    ) -> Result<Entry<T>, RecordError>
-        ensures step { IfOk result (λ entry. RegistersSomeAnySpare self.old.queue key entry.reply self.new.queue) }
-        ensures exchanged { IfOk result (λ entry. ExchangesIfWaiting (X.exchanged exchange.now) on.old entry.reply on.new) }
-        ensures recorded { IfOk result (λ entry. self.new.entries ≡ self.old.entries ++ record { hand = Some hand; call = Register key; reply = entry.reply } ∷ []) }
-        ensures entry { IfOk result (λ entry. entry ≡ record { hand = Some hand; call = Register key; reply = entry.reply }) }
-        ensures kind { IfOk result (λ entry. IsReplyTo (Register key) entry.reply) }
-        ensures memory { IfErr result (λ error. error ≡ RecordError.Memory) }
-        ensures unchanged { OnErr result (self.new ≡ self.old) }
-        ensures untouched { OnErr result (on.new ≡ on.old) }
-    {
-        let listeners = self.list.total_listeners();
-        make_room(&mut self.entries, listeners, 1)?;
-        let reply = perform_exchange(&mut self.list, key, exchange, on);
-        let entry = Entry::by_hand(hand, RecordedCall::Register { key }, reply);
+        let reply = step.make(&mut self.list, beside);
+        let entry = Entry::by_hand(hand, call, reply);
         self.entries.push_reserved(entry);
         Ok(entry)
     }

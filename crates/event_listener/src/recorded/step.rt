@@ -4,64 +4,98 @@ ghost use Rattle.std.specs.List.{FoldsTo};
 ghost use Rattle.event_queue.specs.Queue.{IsQueue, how_many, after_telling, tasks_of};
 ghost use Rattle.event_queue.specs.Remove.{woken_by_removal};
 ghost use Rattle.event_listener.specs.recording.Step.{Steps, RemovesAs, without_task, task_of, woken_by_call};
-ghost use Rattle.event_listener.specs.recording.Exchange.{RegistersSome, ExchangesIfWaiting};
+ghost use Rattle.event_listener.specs.recording.Exchange.{StepsWithSome, ExchangesIfWaiting};
 ghost use Rattle.event_listener.specs.recording.State.{unspared};
+ghost use Rattle.event_listener.specs.declared.recorded.call.RecordedCall.TheVariants.{Register};
 
-use super::call::StepCall;
+use super::call::{RecordedCall, StepCall};
 use super::copied_tag::CopiedTag;
 use super::reply::{Former, RecordedReply};
 use crate::task::Task;
 use event_queue::{Key, List, TaskExchange, WakeSink};
 
-/// Performs the call, and returns what the queue returned. It allocates if an insertion does, and never waits.
-#[inline(always)]
-pub(super) fn perform_step<T: Copy, S: WakeSink<Task>>(
-    list: &mut List<T, Task>,
-    call: StepCall<T>,
-    sink: &mut S,
-) -> RecordedReply<T>
-    ensures step { Steps list.old (without_task call) (task_of call) result list.new }
-    ensures wakes { FoldsTo S.woke sink.old (woken_by_call (without_task call) (unspared list.old)) sink.new }
-    ensures queue { IsQueue list.new }
-{
-    match call {
-        StepCall::Listen => RecordedReply::Listened(list.insert_uncounted()),
-        StepCall::Register { key, task } => RecordedReply::Registered(list.register_uncounted(
-            key, task,
-        )),
-        StepCall::Remove { key, propagate } => {
-            RecordedReply::Removed(perform_removal_apart(list, key, propagate, sink))
-        }
-        StepCall::Notify {
-            count,
-            additional,
-            tag,
-        } => {
-            let source = CopiedTag {
+/// What makes one step of a recorded queue: a call, with the sink of the tasks that it wakes beside the queue, or a
+/// [`PollStep`], with the context of the task that polls.
+pub(super) trait MakesStep<T: Copy, C>: Drop {
+    ghost use Rattle.event_queue.specs.Queue.{Queue};
+    ghost use Rattle.event_listener.specs.declared.task.Task.{Task};
+    ghost use Rattle.event_listener.specs.declared.recorded.call.RecordedCall.{RecordedCall};
+    ghost use Rattle.event_listener.specs.declared.recorded.reply.RecordedReply.{RecordedReply};
+
+    // The call that a record keeps of it.
+    ghost call: { Self → RecordedCall T };
+
+    // The step, from the queue and what is beside it to both afterwards, by its reply.
+    ghost steps: { Self → Queue T Task × C → RecordedReply T → Queue T Task × C → Type 0 };
+
+    /// The call that a record keeps of it.
+    fn recorded(&self) -> RecordedCall<T>
+        ensures { result ≡ call self.now };
+
+    /// Makes the step, and returns what the queue returned. It allocates if an insertion does.
+    fn make(self, list: &mut List<T, Task>, beside: &mut C) -> RecordedReply<T>
+        ensures steps { steps self (list.old, beside.old) result (list.new, beside.new) }
+        ensures is_step { StepsWithSome list.old (call self) result list.new }
+        ensures queue { IsQueue list.new };
+}
+
+impl<T: Copy, S: WakeSink<Task>> MakesStep<T, S> for StepCall<T> {
+    ghost call = { λ call. without_task call };
+
+    ghost steps = { λ call before reply after. Steps before.0 (without_task call) (task_of call) reply after.0 × FoldsTo S.woke before.1 (woken_by_call (without_task call) before.0) after.1 };
+
+    #[inline(always)]
+    fn recorded(&self) -> RecordedCall<T> {
+        StepCall::recorded(self)
+    }
+
+    #[inline(always)]
+    fn make(self, list: &mut List<T, Task>, sink: &mut S) -> RecordedReply<T> {
+        match self {
+            StepCall::Listen => RecordedReply::Listened(list.insert_uncounted()),
+            StepCall::Register { key, task } => RecordedReply::Registered(list.register_uncounted(
+                key, task,
+            )),
+            StepCall::Remove { key, propagate } => {
+                RecordedReply::Removed(perform_removal_apart(list, key, propagate, sink))
+            }
+            StepCall::Notify {
                 count,
                 additional,
                 tag,
-            };
-            RecordedReply::Notified(perform_notification(list, source, sink))
+            } => {
+                let source = CopiedTag {
+                    count,
+                    additional,
+                    tag,
+                };
+                RecordedReply::Notified(perform_notification(list, source, sink))
+            }
+            StepCall::TotalListeners => RecordedReply::TotalListeners(list.total_listeners()),
+            StepCall::IsNotified => RecordedReply::IsNotified(list.is_notified()),
         }
-        StepCall::TotalListeners => RecordedReply::TotalListeners(list.total_listeners()),
-        StepCall::IsNotified => RecordedReply::IsNotified(list.is_notified()),
     }
 }
 
-/// Registers a listener, with a task that is made of the one that it stored. It allocates and waits if the exchange
-/// does.
-pub(super) fn perform_exchange<T: Copy, C, X: TaskExchange<Task, C>>(
-    list: &mut List<T, Task>,
-    key: Key,
-    exchange: &X,
-    on: &mut C,
-) -> RecordedReply<T>
-    ensures step { RegistersSome list.old key result list.new }
-    ensures exchanged { ExchangesIfWaiting (X.exchanged exchange.now) on.old result on.new }
-    ensures queue { IsQueue list.new }
-{
-    RecordedReply::Registered(list.register_with_uncounted(key, exchange, on))
+/// Registers a listener, with a task that is made of the one that it stored.
+#[derive(Drop)]
+pub(super) struct PollStep<'x, X> {
+    pub(super) key: Key,
+    pub(super) exchange: &'x X,
+}
+
+impl<T: Copy, C, X: TaskExchange<Task, C>> MakesStep<T, C> for PollStep<'_, X> {
+    ghost call = { λ step. Register step.key };
+
+    ghost steps = { λ step before reply after. ExchangesIfWaiting (X.exchanged step.exchange.now) before.1 reply after.1 };
+
+    fn recorded(&self) -> RecordedCall<T> {
+        RecordedCall::Register { key: self.key }
+    }
+
+    fn make(self, list: &mut List<T, Task>, on: &mut C) -> RecordedReply<T> {
+        RecordedReply::Registered(list.register_with_uncounted(self.key, self.exchange, on))
+    }
 }
 
 /// Removes a listener, and returns what it was without its task. It neither allocates nor waits.
