@@ -31,15 +31,15 @@ module _ (state : ChannelState) (client : ℕ) where
   none-sent None = sym (append-nil state.messages)
   none-sent (Some to) = refl
 
-  sender-leaves : (place : Place) (act : ChannelAct) (found : Found) (own : ChannelClient) (line other : Line) → sent_to (passed place act found) (from place act true client own found line other) ≡ state.messages ++ option_to_list (passed place act found)
-  sender-leaves (First woken) Go (One message) own line other = refl
-  sender-leaves Second Go (One message) own line other = refl
-  sender-leaves place act found own line other = none-sent (from place act true client own found line other)
+  sender-leaves : (act : ChannelAct) (place : Place) (found : Found) (own : ChannelClient) (line other : Line) → sent_to (passed act place found) (from act place true client own found line other) ≡ state.messages ++ option_to_list (passed act place found)
+  sender-leaves Go (First woken) (One message) own line other = refl
+  sender-leaves Go Second (One message) own line other = refl
+  sender-leaves act place found own line other = none-sent (from act place true client own found line other)
 
-  sender-order : (act : ChannelAct) (o : Option ChannelClient) → (unwrap_or (option_and_then (step_of_sender client act state) o) state).messages ≡ state.messages ++ option_to_list (option_and_then (λ own. passed own.place act (room_found own.message state)) o)
+  sender-order : (act : ChannelAct) (o : Option ChannelClient) → (unwrap_or (option_and_then (step_of_sender client act state) o) state).messages ≡ state.messages ++ option_to_list (option_and_then (λ own. passed act own.place (room_found own.message state)) o)
   sender-order act None = sym (append-nil state.messages)
   sender-order act (Some own) =
-      sender-leaves own.place act (room_found own.message state) own state.senders.line state.receivers.line
+      sender-leaves act own.place (room_found own.message state) own state.senders.line state.receivers.line
 
   -- what a receiver's step leaves in the channel
 
@@ -61,16 +61,16 @@ module _ (state : ChannelState) (client : ℕ) where
   first-is [] false = refl
   first-is (message ∷ rest) closed = refl
 
-  receiver-leaves : (place : Place) (act : ChannelAct) (found : Found) (own : ChannelClient) (line other : Line) → IsFirst state.messages found → option_to_list (passed place act found) ++ received_to (passed place act found) (from place act false client own found line other) ≡ state.messages
-  receiver-leaves (First woken) Go (One message) own line other first = first
-  receiver-leaves Second Go (One message) own line other first = first
-  receiver-leaves place act found own line other first =
-      none-received (from place act false client own found line other)
+  receiver-leaves : (act : ChannelAct) (place : Place) (found : Found) (own : ChannelClient) (line other : Line) → IsFirst state.messages found → option_to_list (passed act place found) ++ received_to (passed act place found) (from act place false client own found line other) ≡ state.messages
+  receiver-leaves Go (First woken) (One message) own line other first = first
+  receiver-leaves Go Second (One message) own line other first = first
+  receiver-leaves act place found own line other first =
+      none-received (from act place false client own found line other)
 
-  receiver-order : (act : ChannelAct) (o : Option ChannelClient) → option_to_list (option_and_then (λ own. passed own.place act (message_found state)) o) ++ (unwrap_or (option_and_then (step_of_receiver client act state) o) state).messages ≡ state.messages
+  receiver-order : (act : ChannelAct) (o : Option ChannelClient) → option_to_list (option_and_then (λ own. passed act own.place (message_found state)) o) ++ (unwrap_or (option_and_then (step_of_receiver client act state) o) state).messages ≡ state.messages
   receiver-order act None = refl
   receiver-order act (Some own) =
-      receiver-leaves own.place act (message_found state) own state.receivers.line state.senders.line (first-is state.messages (is_closed state.closer))
+      receiver-leaves act own.place (message_found state) own state.receivers.line state.senders.line (first-is state.messages (is_closed state.closer))
 
 closer-leaves : (state : ChannelState) (closer : CloserPlace) → (unwrap_or (next_of_closer closer state) state).messages ≡ state.messages
 closer-leaves state ToClose = refl

@@ -1,7 +1,7 @@
 -- Each step of the channel world's tables keeps the world's invariant.
 use Rattle.std.proofs.Common.{◌≡◌, ℕ, ◌+◌, ◌-◌, ◌≤◌, true, false, nat_lt, List, [], ◌∷◌, ◌++◌, length, drop, slice_get, Option, Some, None, if◌then◌else◌, refl, sym, ◌∙◌, subst, arith, length-append, length-drop}
 use Rattle.std.proofs.lemmas.Bool.{cond_both}
-use Rattle.std.proofs.lemmas.List.{append-nil}
+use Rattle.std.proofs.lemmas.List.{append-nil, length-replicate}
 use Rattle.std.specs.Prelude.{option_to_list}
 use borrow.Author.Tests.{ltb-true, ltb-false}
 use Rattle.event_worlds.specs.declared.world.acts.ChannelAct.{ChannelAct}
@@ -19,9 +19,10 @@ use Rattle.event_worlds.specs.Channel.{Side, ChannelState, start, idle, idle_sid
 use Rattle.event_worlds.specs.ChannelSafety.{all_owed, room}
 use Rattle.event_worlds.specs.ChannelInvariant.{place_of, places_of, OwnFits, SendersMayTake, ReceiversMayTake, IsSideSound, IsSound}
 use Rattle.event_worlds.proofs.PlacedClients.{places-same, all-same}
+use Rattle.event_worlds.proofs.ChannelSafetyLemmas.{senders-none, receivers-none}
 use Rattle.event_worlds.proofs.ChannelSides.{Says, sides-keep}
 use Rattle.event_worlds.proofs.ServedSteps.{served-all, served-start}
-use Rattle.event_worlds.proofs.StandingLemmas.{notified-kind, notified-everybody}
+use Rattle.event_worlds.proofs.StandingLemmas.{notified-flags, notified-kind, notified-everybody}
 
 -- what may be taken once a sender has sent that, if anything, and once a receiver has received that
 
@@ -82,9 +83,9 @@ none-fits messages capacity (One message) fits = omega (arith, fits, length-appe
 none-fits messages capacity Nothing fits = omega (arith, fits, length-append messages [])
 none-fits messages capacity Over fits = omega (arith, fits, length-append messages [])
 
-sent-fits : (place : Place) (act : ChannelAct) (found : Found) (messages : List ℕ) (capacity : ℕ) → FoundFits messages capacity found → length (messages ++ option_to_list (passed place act found)) ≤ capacity
-sent-fits (First woken) Go (One message) messages capacity fits = omega (arith, fits, length-append messages (message ∷ []))
-sent-fits Second Go (One message) messages capacity fits = omega (arith, fits, length-append messages (message ∷ []))
+sent-fits : (act : ChannelAct) (place : Place) (found : Found) (messages : List ℕ) (capacity : ℕ) → FoundFits messages capacity found → length (messages ++ option_to_list (passed act place found)) ≤ capacity
+sent-fits Go (First woken) (One message) messages capacity fits = omega (arith, fits, length-append messages (message ∷ []))
+sent-fits Go Second (One message) messages capacity fits = omega (arith, fits, length-append messages (message ∷ []))
 sent-fits _ _ found messages capacity fits = none-fits messages capacity found fits
 
 -- a side of which fewer may be taken
@@ -92,6 +93,7 @@ side-fewer : (Had Has : ℕ → Type 0) (owed : ℕ) (side : Side) → ((free : 
 side-fewer Had Has owed side fewer sound = record {
   served = λ free may. sound.served free (fewer free may);
   owns = sound.owns;
+  flags = sound.flags;
   kind = sound.kind;
 }
 
@@ -102,12 +104,13 @@ side-notified Had Has owed side may line sound = record {
       λ free _.
       served-all 0 owed free owed everybody (places_of side.clients) side.line (notified-everybody side.line line) (sound.served 0 may);
   owns = sound.owns;
+  flags = notified-flags everybody side.line ∙ sound.flags;
   kind = notified-kind everybody side.line ∙ sound.kind;
 }
 
 module _ (state : ChannelState) (sound : IsSound state) where
   -- the step of a sender
-  pub sound-sender : (client : ℕ) (own : ChannelClient) → slice_get state.senders.clients client ≡ Some own → (act : ChannelAct) (to : ChannelClient × Line × Line) → from own.place act true client own (room_found own.message state) state.senders.line state.receivers.line ≡ Some to → IsSound (sender_goes client (passed own.place act (room_found own.message state)) state to)
+  pub sound-sender : (client : ℕ) (own : ChannelClient) → slice_get state.senders.clients client ≡ Some own → (act : ChannelAct) (to : ChannelClient × Line × Line) → from act own.place true client own (room_found own.message state) state.senders.line state.receivers.line ≡ Some to → IsSound (sender_goes client (passed act own.place (room_found own.message state)) state to)
   sound-sender client own at act to is =
       let all : state.messages ++ [] ≡ state.messages = append-nil state.messages in
       let senders : IsSideSound (SendersMayTake state.closer (room_left state.capacity state.messages None)) (all_owed state.receivers) state.senders =
@@ -116,23 +119,23 @@ module _ (state : ChannelState) (sound : IsSound state) where
       subst (λ (ms : List ℕ). IsSideSound (ReceiversMayTake state.closer (length ms)) (all_owed state.senders) state.receivers) (sym all) sound.receivers in
       let found = room_found own.message state in
       let (own_side, far_side) =
-      sides-keep (λ sent. SendersMayTake state.closer (room_left state.capacity state.messages sent)) (λ sent. ReceiversMayTake state.closer (sent_into state.messages sent)) state.senders state.receivers client own at senders receivers act true found to (look-says state.closer state.messages state.capacity own.message) is in
+      sides-keep (λ sent. SendersMayTake state.closer (room_left state.capacity state.messages sent)) (λ sent. ReceiversMayTake state.closer (sent_into state.messages sent)) (λ sent. senders-none state.closer (room_left state.capacity state.messages sent)) state.senders state.receivers client own at senders receivers act true found to (look-says state.closer state.messages state.capacity own.message) is in
       record {
         senders = own_side;
         receivers = far_side;
-        fits = sent-fits own.place act found state.messages state.capacity (look-fits state.closer state.messages state.capacity own.message sound.fits);
+        fits = sent-fits act own.place found state.messages state.capacity (look-fits state.closer state.messages state.capacity own.message sound.fits);
       }
 
   -- the step of a receiver
-  pub sound-receiver : (client : ℕ) (own : ChannelClient) → slice_get state.receivers.clients client ≡ Some own → (act : ChannelAct) (to : ChannelClient × Line × Line) → from own.place act false client own (message_found state) state.receivers.line state.senders.line ≡ Some to → IsSound (receiver_goes client (passed own.place act (message_found state)) state to)
+  pub sound-receiver : (client : ℕ) (own : ChannelClient) → slice_get state.receivers.clients client ≡ Some own → (act : ChannelAct) (to : ChannelClient × Line × Line) → from act own.place false client own (message_found state) state.receivers.line state.senders.line ≡ Some to → IsSound (receiver_goes client (passed act own.place (message_found state)) state to)
   sound-receiver client own at act to is =
       let found = message_found state in
       let (own_side, far_side) =
-      sides-keep (λ received. ReceiversMayTake state.closer (left_in state.messages received)) (λ received. SendersMayTake state.closer (room_made state.capacity state.messages received)) state.receivers state.senders client own at sound.receivers sound.senders act false found to (first-says state.messages state.closer state.capacity) is in
+      sides-keep (λ received. ReceiversMayTake state.closer (left_in state.messages received)) (λ received. SendersMayTake state.closer (room_made state.capacity state.messages received)) (λ received. receivers-none state.closer (left_in state.messages received)) state.receivers state.senders client own at sound.receivers sound.senders act false found to (first-says state.messages state.closer state.capacity) is in
       record {
         senders = far_side;
         receivers = own_side;
-        fits = omega (arith, sound.fits, length-drop (length (option_to_list (passed own.place act found))) state.messages);
+        fits = omega (arith, sound.fits, length-drop (length (option_to_list (passed act own.place found))) state.messages);
       }
 
   -- the steps of closing
@@ -172,6 +175,7 @@ side-start MayTake owed clients = record {
       λ free _.
       subst (λ (ps : List Place). IsServed free owed ps (idle_side clients).line) (sym (places-same place_of idle clients)) (served-start free owed true clients 0);
   owns = all-same OwnFits idle (record { owed = λ _. refl }) clients;
+  flags = length-replicate clients false ∙ sym (length-replicate clients idle);
   kind = refl;
 }
 

@@ -7,13 +7,15 @@ use Rattle.std.proofs.lemmas.Map.{keys-set_value}
 use Rattle.std.proofs.lemmas.Option.{same_Some}
 use Rattle.event_worlds.specs.declared.world.flag.FlagPlace.{FlagPlace}
 use Rattle.event_worlds.specs.declared.world.flag.FlagPlace.TheVariants.{Check1, ToListen, Check2, Dropping, ToRegister, Parked, Done}
+use Rattle.event_worlds.specs.declared.world.flag.SetterMove.{SetterMove}
 use Rattle.event_worlds.specs.declared.world.flag.SetterPlace.{SetterPlace}
 use Rattle.event_worlds.specs.declared.world.flag.SetterPlace.TheVariants.{ToSet, ToNotify, Done as IsDone}
 use Rattle.event_worlds.specs.Line.{Line, IsLine, everybody, is_told, has_wake, has_serial_left, joined, registered, told_left, waiting_left, wake_lost, first_told_of, first_told, tell, wanted, notified, dropped}
 use Rattle.event_worlds.specs.Standing.{times, standing, Fits, FitsAt, number}
 use Rattle.event_worlds.specs.Flag.{FlagState, start, from, from_setter, goes, setter_goes}
 use Rattle.event_worlds.specs.FlagSafety.{is_listening}
-use Rattle.event_worlds.specs.FlagInvariant.{is_parked, is_past_second, is_to_notify, IsSettled, IsSound}
+use Rattle.event_worlds.specs.FlagInvariant.{is_parked, is_past_second, is_to_notify, IsSettled, IsSound, MayBeAt}
+use Rattle.event_worlds.proofs.InLineLemmas.{out_at}
 use Rattle.event_worlds.proofs.PlaceLemmas.{slice_get-set, slice_get-set_other, number-at}
 use Rattle.event_worlds.proofs.StandingLemmas.{IsSame, same-joined, same-registered, same-told_left, same-waiting_left, same-wake_lost, fits-joined, fits-registered, fits-told_left, fits-waiting_left, fits-wake_lost, fit-changed, fit-notified, fit-start, same-itself, notified-flags, notified-kind, notified-everybody}
 
@@ -72,6 +74,11 @@ module _ (state : FlagState) (client : ℕ) (sound : IsSound state) where
     -- who waits past its second look does not wait once the flag is set and all setters have notified
     not_waiting : is_past_second p ≡ true → state.flag ≡ true → number is_to_notify state.setters ≡ 0 → times client (keys_of state.line.waiting) ≡ 0
     not_waiting past flag none = sound.settled flag none client p at past
+
+  -- who is about to listen is not in line
+  pub may_be_at : (place : FlagPlace) → slice_get state.places client ≡ Some place → MayBeAt place client state.line
+  may_be_at place at listens =
+      out_at is_listening is_parked state.places state.line sound.fit client place at (ap is_listening listens)
 
   -- what a step of the table keeps
   abbrev Keeps : Option (FlagPlace × Line) → Type 0
@@ -150,10 +157,10 @@ module _ (state : FlagState) (client : ℕ) (sound : IsSound state) where
 -- setters
 
 module _ (state : FlagState) (setter : ℕ) (sound : IsSound state) where
-  abbrev SetterKeeps : Option (SetterPlace × Bool × Line) → Type 0
-  SetterKeeps to = IfSome to (λ t. IsLine t.2 → IsSound (setter_goes setter state t))
+  abbrev SetterKeeps : Option (SetterMove × Line) → Type 0
+  SetterKeeps to = IfSome to (λ t. IsLine t.1 → IsSound (setter_goes setter state t))
 
-  sound-sets : slice_get state.setters setter ≡ Some ToSet → IsSound (setter_goes setter state (ToNotify, true, state.line))
+  sound-sets : slice_get state.setters setter ≡ Some ToSet → IsSound (setter_goes setter state (record { place = ToNotify; flag = true }, state.line))
   sound-sets at =
       let some = number-at is_to_notify (set state.setters setter ToNotify) setter ToNotify (slice_get-set state.setters setter ToSet ToNotify at) refl in
       record {
@@ -164,7 +171,7 @@ module _ (state : FlagState) (setter : ℕ) (sound : IsSound state) where
         kind = sound.kind;
       }
 
-  sound-notifies : IsLine (notified everybody state.line) → IsSound (setter_goes setter state (IsDone, state.flag, notified everybody state.line))
+  sound-notifies : IsLine (notified everybody state.line) → IsSound (setter_goes setter state (record { place = IsDone; flag = state.flag }, notified everybody state.line))
   sound-notifies is_line = record {
     fit = fit-notified is_listening is_parked everybody state.places state.line sound.flags sound.fit;
     settled =
@@ -181,8 +188,8 @@ module _ (state : FlagState) (setter : ℕ) (sound : IsSound state) where
   sound-from_setter IsDone at = tt
 
   -- the move that the code makes
-  pub sound-setter_moves : (p q : SetterPlace) (flag : Bool) (line : Line) → slice_get state.setters setter ≡ Some p → from_setter p state.flag state.line ≡ Some (q, flag, line) → IsLine line → IsSound (setter_goes setter state (q, flag, line))
-  sound-setter_moves p q flag line at moves is_line = subst SetterKeeps moves (sound-from_setter p at) is_line
+  pub sound-setter_moves : (p : SetterPlace) (to : SetterMove × Line) → slice_get state.setters setter ≡ Some p → from_setter p state.flag state.line ≡ Some to → IsLine to.1 → IsSound (setter_goes setter state to)
+  sound-setter_moves p to at moves is_line = subst SetterKeeps moves (sound-from_setter p at) is_line
 
 -- the start
 

@@ -11,14 +11,11 @@ pub mod MadeLemmas
 pub mod ServedSteps
 pub mod PlacedClients
 pub mod SemaphoreSteps
-pub mod SemaphoreMoves
 pub mod SemaphoreSafetyLemmas
 pub mod MutexParts
 pub mod MutexSteps
 pub mod MutexSafetyLemmas
-pub mod MutexMoves
 pub mod FlagSteps
-pub mod FlagMoves
 pub mod FlagSafetyLemmas
 pub mod ChannelSides
 pub mod ChannelSteps

@@ -1,18 +1,21 @@
 -- What each step of a client of a lock does to what its clients keep, whatever the lock: what can be taken, what is
 -- still to come, the client's place and the line.
-use Rattle.std.proofs.Common.{◌≡◌, ◌≢◌, ℕ, zero, suc, ◌+◌, ◌-◌, ◌<◌, ◌≤◌, min, ◌⊎◌, Bool, true, false, cond, List, [], ◌∷◌, length, set, replicate, slice_get, Option, Some, refl, sym, ap, ◌∙◌, subst, arith, inl, inr, length-set, length-append}
+use Rattle.std.proofs.Common.{◌≡◌, ◌≢◌, ℕ, zero, suc, ◌+◌, ◌-◌, ◌<◌, ◌≤◌, min, ◌⊎◌, Bool, true, false, cond, List, [], ◌∷◌, length, set, replicate, slice_get, Option, Some, None, IfSome, refl, sym, ap, ◌∙◌, subst, arith, inl, inr, length-set, length-append}
 use Rattle.std.proofs.lemmas.Bool.{cases_eq, cond_both, false_from_ne_true}
 use Rattle.std.proofs.lemmas.Option.{none-some, same_Some}
 use Rattle.std.proofs.lemmas.List.{length-replicate}
 use Rattle.std.specs.Map.{keys_of}
+use Rattle.event_worlds.specs.declared.world.acts.Act.{Act}
+use Rattle.event_worlds.specs.declared.world.acts.Act.TheVariants.{Go, Poll, TimeOut, Cancel}
 use Rattle.event_worlds.specs.declared.world.place.Place.{Place}
 use Rattle.event_worlds.specs.declared.world.place.Place.TheVariants.{Idle, First, ToListen, Second, Ending, ToRegister, Parked, Holding, Releasing}
 use Rattle.event_worlds.specs.ClientTable.{is_listening, is_woken}
-use Rattle.event_worlds.specs.Line.{Line, empty_line, is_told, joined, registered, told_left, waiting_left, wake_lost, first_told_of, first_told, tell, wanted, notified, dropped}
+use Rattle.event_worlds.specs.Line.{Line, empty_line, is_told, has_wake, has_serial_left, joined, registered, told_left, waiting_left, wake_lost, first_told_of, first_told, tell, wanted, notified, dropped}
 use Rattle.event_worlds.specs.Standing.{times, standing, Fits, FitsAt, number}
-use Rattle.event_worlds.specs.Served.{is_parked, is_past_second, IsServed}
+use Rattle.event_worlds.specs.Served.{is_parked, is_inside, is_releasing, is_past_second, IsServed}
+use Rattle.event_worlds.specs.Waiting.{waits}
 use Rattle.event_worlds.proofs.PlaceLemmas.{slice_get-set, slice_get-set_other, number-set}
-use Rattle.event_worlds.proofs.StandingLemmas.{times-any, times-none, times-append, times-le-length, IsSame, same-joined, same-registered, same-told_left, same-waiting_left, same-wake_lost, fits-joined, fits-registered, fits-told_left, fits-waiting_left, fits-wake_lost, fit-changed, fit-notified, fit-start, same-itself, length-without_one, notified-flags}
+use Rattle.event_worlds.proofs.StandingLemmas.{times-any, times-none, times-append, times-le-length, IsSame, same-joined, same-registered, same-told_left, same-waiting_left, same-wake_lost, fits-joined, fits-registered, fits-told_left, fits-waiting_left, fits-wake_lost, fit-changed, fit-notified, fit-start, same-itself, length-without, length-without_one, tell-lengths, notified-flags, dropped-kind}
 
 at_most_one : (b : Bool) → cond {A = ℕ} b 1 0 ≤ 1
 at_most_one true = omega arith
@@ -123,6 +126,53 @@ served-all free owed free' owed' n places line nobody served = record {
     fit : (client : ℕ) → FitsAt is_listening is_parked (slice_get places client) (standing client (notified n line))
     fit = fit-notified is_listening is_parked n places line served.flags served.fit
 
+-- the places of a try: where it is made, and where the client is if it took one, and if it found none
+pub record IsTry (p got busy : Place) : Type 0 where
+  pub got_listens : is_listening got ≡ is_listening p
+  pub got_parked : is_parked got ≡ is_parked p
+  pub got_woken : is_woken got ≡ false
+  pub got_past : is_past_second got ≡ false
+  pub got_inside : is_inside got ≡ true
+  pub got_releasing : is_releasing got ≡ false
+  pub busy_listens : is_listening busy ≡ is_listening p
+  pub busy_parked : is_parked busy ≡ is_parked p
+  pub busy_inside : is_inside busy ≡ false
+  pub busy_releasing : is_releasing busy ≡ false
+  pub inside : is_inside p ≡ false
+  pub releasing : is_releasing p ≡ false
+
+pub first_try : (woken : Bool) → IsTry (First woken) Holding ToListen
+first_try woken = record {
+  got_listens = refl;
+  got_parked = refl;
+  got_woken = refl;
+  got_past = refl;
+  got_inside = refl;
+  got_releasing = refl;
+  busy_listens = refl;
+  busy_parked = refl;
+  busy_inside = refl;
+  busy_releasing = refl;
+  inside = refl;
+  releasing = refl;
+}
+
+pub second_try : IsTry Second Ending ToRegister
+second_try = record {
+  got_listens = refl;
+  got_parked = refl;
+  got_woken = refl;
+  got_past = refl;
+  got_inside = refl;
+  got_releasing = refl;
+  busy_listens = refl;
+  busy_parked = refl;
+  busy_inside = refl;
+  busy_releasing = refl;
+  inside = refl;
+  releasing = refl;
+}
+
 module _ (free owed : ℕ) (places : List Place) (line : Line) (client : ℕ) (served : IsServed free owed places line) where
   module _ (p : Place) (at : slice_get places client ≡ Some p) where
     fits_here : Fits (is_listening p) (is_parked p) (standing client line)
@@ -147,131 +197,169 @@ module _ (free owed : ℕ) (places : List Place) (line : Line) (client : ℕ) (s
       flags = flags ∙ (served.flags ∙ sym (length-set places client q));
     }
 
-    -- the same where the line stays
-    served-stays : (q : Place) (free' owed' : ℕ) → Fits (is_listening q) (is_parked q) (standing client line) → (free ≤ length line.told + number is_woken places + owed → free' ≤ length line.told + number is_woken (set places client q) + owed') → (is_past_second q ≡ true → is_told client line ≡ false → free' ≤ length line.told + number is_woken (set places client q) + owed') → IsServed free' owed' (set places client q) line
-    served-stays q free' owed' fits others own =
-        served-changed q line free' owed' (λ other _. same-itself (standing other line)) fits refl others own
+    -- the client goes on, and the line stays
 
-  module _ (free' owed' : ℕ) where
-    pub served-begins : slice_get places client ≡ Some Idle → free' ≤ free → owed ≤ owed' → IsServed free' owed' (set places client (First false)) line
-    served-begins at less more =
-        let ways = number-set is_woken places client Idle (First false) at in
-        served-stays Idle at (First false) free' owed' (fits_here Idle at) (λ had. omega arith) (λ past untold. absurd (cc))
+    module _ (q : Place) (free' owed' : ℕ) (listens : is_listening q ≡ is_listening p) (parks : is_parked q ≡ is_parked p) where
+      served-stays : (free ≤ length line.told + number is_woken places + owed → free' ≤ length line.told + number is_woken (set places client q) + owed') → (is_past_second q ≡ true → free' ≤ length line.told + number is_woken (set places client q) + owed') → IsServed free' owed' (set places client q) line
+      served-stays others own =
+          served-changed q line free' owed' (λ other _. same-itself (standing other line)) (subst (λ (b : Bool). Fits b (is_parked q) (standing client line)) (sym listens) (subst (λ (b : Bool). Fits (is_listening p) b (standing client line)) (sym parks) fits_here)) refl others (λ past _. own past)
 
-    -- a first try takes one
-    pub served-gets : (woken : Bool) → slice_get places client ≡ Some (First woken) → free' ≤ free - 1 → owed ≤ owed' → IsServed free' owed' (set places client Holding) line
-    served-gets woken at less more =
-        let ways = number-set is_woken places client (First woken) Holding at in
-        served-stays (First woken) at Holding free' owed' (fits_here (First woken) at) (λ had. omega (arith, at_most_one woken)) (λ past untold. absurd (cc))
+      pub served-goes_on : is_woken q ≡ false → is_past_second q ≡ false → ((ways : ℕ) → free ≤ ways + cond (is_woken p) 1 0 + owed → free' ≤ ways + owed') → IsServed free' owed' (set places client q) line
+      served-goes_on unwoken unpast enough =
+          let ways = number-set is_woken places client p q at in
+          let none : cond {A = ℕ} (is_woken q) 1 0 ≡ 0 = ap (λ (b : Bool). cond {A = ℕ} b 1 0) unwoken in
+          served-stays (λ had. enough (length line.told + number is_woken (set places client q)) (omega arith)) (λ past. absurd (cc))
 
-    -- a first try finds none
-    pub served-finds_none : (woken : Bool) → slice_get places client ≡ Some (First woken) → free' ≡ 0 → IsServed free' owed' (set places client ToListen) line
-    served-finds_none woken at none =
-        served-stays (First woken) at ToListen free' owed' (fits_here (First woken) at) (λ had. omega arith) (λ past untold. absurd (cc))
+    -- a try takes one, or finds none
 
-    pub served-listens : slice_get places client ≡ Some ToListen → free' ≤ free → owed ≤ owed' → IsServed free' owed' (set places client Second) (joined client line)
-    served-listens at less more =
-        let ways = number-set is_woken places client ToListen Second at in
-        served-changed ToListen at Second (joined client line) free' owed' (λ other differs. same-joined client other line differs) (fits-joined client line false (fits_here ToListen at)) (length-set line.awake client false) (λ had. omega arith) (λ past untold. absurd (cc))
+    module _ (got busy : Place) (try : IsTry p got busy) (free' owed' : ℕ) where
+      pub served-gets : free' ≤ free - 1 → owed ≤ owed' → IsServed free' owed' (set places client got) line
+      served-gets less more =
+          let one = at_most_one (is_woken p) in
+          served-goes_on got free' owed' try.got_listens try.got_parked try.got_woken try.got_past (λ ways had. omega arith)
 
-    pub served-refused : slice_get places client ≡ Some ToListen → free' ≤ free → owed ≤ owed' → IsServed free' owed' (set places client Idle) line
-    served-refused at less more =
-        let ways = number-set is_woken places client ToListen Idle at in
-        served-stays ToListen at Idle free' owed' (fits_here ToListen at) (λ had. omega arith) (λ past untold. absurd (cc))
+      pub served-finds_none : free' ≡ 0 → IsServed free' owed' (set places client busy) line
+      served-finds_none none =
+          served-stays busy free' owed' try.busy_listens try.busy_parked (λ had. omega arith) (λ past. omega arith)
 
-    -- a second try takes one
-    pub served-gets_second : slice_get places client ≡ Some Second → free' ≤ free - 1 → owed ≤ owed' → IsServed free' owed' (set places client Ending) line
-    served-gets_second at less more =
-        let ways = number-set is_woken places client Second Ending at in
-        served-stays Second at Ending free' owed' (fits_here Second at) (λ had. omega arith) (λ past untold. absurd (cc))
+    -- a client leaves the line, from a place where it listens
 
-    -- a second try finds none
-    pub served-finds_none_second : slice_get places client ≡ Some Second → free' ≡ 0 → IsServed free' owed' (set places client ToRegister) line
-    served-finds_none_second at none =
-        served-stays Second at ToRegister free' owed' (fits_here Second at) (λ had. omega arith) (λ past untold. omega arith)
-
-    -- a told client leaves, and is about to try
-    pub served-told : (p : Place) → slice_get places client ≡ Some p → is_listening p ≡ true → is_woken p ≡ false → is_told client line ≡ true → free' ≤ free → owed ≤ owed' → IsServed free' owed' (set places client (First true)) (told_left client line)
-    served-told p at listens unwoken told less more =
-        let fits : Fits true (is_parked p) (standing client line) =
-        subst (λ (b : Bool). Fits b (is_parked p) (standing client line)) listens (fits_here p at) in
-        let none : cond {A = ℕ} (is_woken p) 1 0 ≡ 0 = ap (λ (b : Bool). cond {A = ℕ} b 1 0) unwoken in
-        let ways = number-set is_woken places client p (First true) at in
-        let left = length-without_one client line.told (times-any client line.told told) in
-        served-changed p at (First true) (told_left client line) free' owed' (λ other differs. same-told_left client other line differs) (fits-told_left client line (is_parked p) fits told) refl (λ had. omega arith) (λ past untold. absurd (cc))
-
-    pub served-registers : slice_get places client ≡ Some ToRegister → is_told client line ≡ false → free' ≤ free → owed ≤ owed' → IsServed free' owed' (set places client Parked) (registered client line)
-    served-registers at untold less more =
-        let ways = number-set is_woken places client ToRegister Parked at in
-        let had = served.enough client ToRegister at refl untold in
-        served-changed ToRegister at Parked (registered client line) free' owed' (λ other differs. same-registered client other line differs) (fits-registered client line false (fits_here ToRegister at) untold) refl (λ had. omega arith) (λ past untold. omega arith)
-
-    pub served-wakes : slice_get places client ≡ Some Parked → free' ≤ free → owed ≤ owed' → IsServed free' owed' (set places client ToRegister) (wake_lost client line)
-    served-wakes at less more =
-        let ways = number-set is_woken places client Parked ToRegister at in
-        served-changed Parked at ToRegister (wake_lost client line) free' owed' (λ other differs. same-wake_lost client other line differs) (fits-wake_lost client line true (fits_here Parked at)) (length-set line.awake client false) (λ had. omega arith) (λ past untold.
-        let had = served.enough client Parked at refl untold in omega arith)
-
-    -- a client leaves the line, from a place where it listens to one where it does not
-
-    module _ (p q : Place) (at : slice_get places client ≡ Some p) (listens : is_listening p ≡ true) (unwoken : is_woken p ≡ false) (unlistening : is_listening q ≡ false) (unparked : is_parked q ≡ false) (unpast : is_past_second q ≡ false) where
-      fits_out : (new : Line) → Fits false false (standing client new) → Fits (is_listening q) (is_parked q) (standing client new)
-      fits_out new fits =
-          subst (λ (b : Bool). Fits (is_listening q) b (standing client new)) (sym unparked) (subst (λ (b : Bool). Fits b false (standing client new)) (sym unlistening) fits)
-
+    module _ (listens : is_listening p ≡ true) (unwoken : is_woken p ≡ false) where
       fits_in : Fits true (is_parked p) (standing client line)
-      fits_in = subst (λ (b : Bool). Fits b (is_parked p) (standing client line)) listens (fits_here p at)
+      fits_in = subst (λ (b : Bool). Fits b (is_parked p) (standing client line)) listens fits_here
 
       none : cond {A = ℕ} (is_woken p) 1 0 ≡ 0
       none = ap (λ (b : Bool). cond {A = ℕ} b 1 0) unwoken
 
-      pub served-leaves : is_told client line ≡ false → free' ≤ free → owed ≤ owed' → IsServed free' owed' (set places client q) (waiting_left client line)
-      served-leaves untold less more =
-          let ways = number-set is_woken places client p q at in
-          served-changed p at q (waiting_left client line) free' owed' (λ other differs. same-waiting_left client other line differs) (fits_out (waiting_left client line) (fits-waiting_left client line (is_parked p) fits_in untold)) refl (λ had. omega (arith, none)) (λ past _. absurd (cc))
-
-      -- a told client leaves, and its notification is to be passed on
-      served-to_pass : is_told client line ≡ true → free' ≤ free → owed ≤ owed' → IsServed free' (owed' + 1) (set places client q) (told_left client line)
-      served-to_pass told less more =
-          let ways = number-set is_woken places client p q at in
+      -- told, it is about to try
+      served-told : is_told client line ≡ true → IsServed free owed (set places client (First true)) (told_left client line)
+      served-told told =
+          let ways = number-set is_woken places client p (First true) at in
           let left = length-without_one client line.told (times-any client line.told told) in
-          served-changed p at q (told_left client line) free' (owed' + 1) (λ other differs. same-told_left client other line differs) (fits_out (told_left client line) (fits-told_left client line (is_parked p) fits_in told)) refl (λ had. omega (arith, none)) (λ past _. absurd (cc))
+          served-changed (First true) (told_left client line) free owed (λ other differs. same-told_left client other line differs) (fits-told_left client line (is_parked p) fits_in told) refl (λ had. omega (arith, none)) (λ past untold. absurd (cc))
 
-      pub served-drops : (line.additional ≡ true) ⊎ (free' ≤ 1) → free' ≤ free → owed ≤ owed' → IsServed free' owed' (set places client q) (dropped client line)
-      served-drops kind less more =
-          cond_both (is_told client line) (notified 1 (told_left client line)) (waiting_left client line) (λ (new : Line). IsServed free' owed' (set places client q) new) (λ told. served-notified free' owed' 1 (set places client q) (told_left client line) kind (served-to_pass told less more)) (λ untold. served-leaves untold less more)
+      module _ (q : Place) (unlistening : is_listening q ≡ false) (unparked : is_parked q ≡ false) (unpast : is_past_second q ≡ false) where
+        fits_out : (new : Line) → Fits false false (standing client new) → Fits (is_listening q) (is_parked q) (standing client new)
+        fits_out new fits =
+            subst (λ (b : Bool). Fits (is_listening q) b (standing client new)) (sym unparked) (subst (λ (b : Bool). Fits b false (standing client new)) (sym unlistening) fits)
 
-    -- a client takes one more
-    pub served-takes_more : slice_get places client ≡ Some Holding → free' ≤ free → owed ≤ owed' → IsServed free' owed' (set places client Holding) line
-    served-takes_more at less more =
-        let ways = number-set is_woken places client Holding Holding at in
-        served-stays Holding at Holding free' owed' (fits_here Holding at) (λ had. omega arith) (λ past untold. absurd (cc))
+        served-leaves : is_told client line ≡ false → IsServed free owed (set places client q) (waiting_left client line)
+        served-leaves untold =
+            let ways = number-set is_woken places client p q at in
+            served-changed q (waiting_left client line) free owed (λ other differs. same-waiting_left client other line differs) (fits_out (waiting_left client line) (fits-waiting_left client line (is_parked p) fits_in untold)) refl (λ had. omega (arith, none)) (λ past _. absurd (cc))
 
-    -- a client that is about to drop its listener stays where it is
-    pub served-lingers : slice_get places client ≡ Some Ending → free' ≤ free → owed ≤ owed' → IsServed free' owed' (set places client Ending) line
-    served-lingers at less more =
-        let ways = number-set is_woken places client Ending Ending at in
-        served-stays Ending at Ending free' owed' (fits_here Ending at) (λ had. omega arith) (λ past untold. absurd (cc))
+        -- told, its notification is to be passed on
+        served-to_pass : is_told client line ≡ true → IsServed free (owed + 1) (set places client q) (told_left client line)
+        served-to_pass told =
+            let ways = number-set is_woken places client p q at in
+            let left = length-without_one client line.told (times-any client line.told told) in
+            served-changed q (told_left client line) free (owed + 1) (λ other differs. same-told_left client other line differs) (fits_out (told_left client line) (fits-told_left client line (is_parked p) fits_in told)) refl (λ had. omega (arith, none)) (λ past _. absurd (cc))
 
-    -- a client that has no listener is done
-    pub served-ends : slice_get places client ≡ Some Holding → free' ≤ free → owed ≤ owed' → IsServed free' owed' (set places client Idle) line
-    served-ends at less more =
-        let ways = number-set is_woken places client Holding Idle at in
-        served-stays Holding at Idle free' owed' (fits_here Holding at) (λ had. omega arith) (λ past untold. absurd (cc))
+        served-drops : (line.additional ≡ true) ⊎ (free ≤ 1) → IsServed free owed (set places client q) (dropped client line)
+        served-drops kind =
+            cond_both (is_told client line) (notified 1 (told_left client line)) (waiting_left client line) (λ (new : Line). IsServed free owed (set places client q) new) (λ told. served-notified free owed 1 (set places client q) (told_left client line) kind (served-to_pass told)) served-leaves
 
-    -- a client frees some, and is to notify of as many
-    pub served-frees : (n : ℕ) → slice_get places client ≡ Some Holding → free' ≤ free + n → owed + n ≤ owed' → IsServed free' owed' (set places client Releasing) line
-    served-frees n at less more =
-        let ways = number-set is_woken places client Holding Releasing at in
-        served-stays Holding at Releasing free' owed' (fits_here Holding at) (λ had. omega arith) (λ past untold. absurd (cc))
+  served-listens : slice_get places client ≡ Some ToListen → IsServed free owed (set places client Second) (joined client line)
+  served-listens at =
+      let ways = number-set is_woken places client ToListen Second at in
+      served-changed ToListen at Second (joined client line) free owed (λ other differs. same-joined client other line differs) (fits-joined client line false (fits_here ToListen at)) (length-set line.awake client false) (λ had. omega arith) (λ past untold. absurd (cc))
 
-    -- it notifies of them
-    pub served-notifies : (n : ℕ) → slice_get places client ≡ Some Releasing → (line.additional ≡ true) ⊎ (free' ≤ n) → free' ≤ free → owed ≤ owed' + n → IsServed free' owed' (set places client Idle) (notified n line)
-    served-notifies n at kind less more =
-        let ways = number-set is_woken places client Releasing Idle at in
-        let still : IsServed free' (owed' + n) (set places client Idle) line =
-        served-stays Releasing at Idle free' (owed' + n) (fits_here Releasing at) (λ had. omega arith) (λ past untold. absurd (cc)) in
-        served-notified free' owed' n (set places client Idle) line kind still
+  served-registers : slice_get places client ≡ Some ToRegister → is_told client line ≡ false → IsServed free owed (set places client Parked) (registered client line)
+  served-registers at untold =
+      let ways = number-set is_woken places client ToRegister Parked at in
+      let had = served.enough client ToRegister at refl untold in
+      served-changed ToRegister at Parked (registered client line) free owed (λ other differs. same-registered client other line differs) (fits-registered client line false (fits_here ToRegister at) untold) refl (λ had. omega arith) (λ past untold. omega arith)
+
+  served-wakes : slice_get places client ≡ Some Parked → IsServed free owed (set places client ToRegister) (wake_lost client line)
+  served-wakes at =
+      let ways = number-set is_woken places client Parked ToRegister at in
+      served-changed Parked at ToRegister (wake_lost client line) free owed (λ other differs. same-wake_lost client other line differs) (fits-wake_lost client line true (fits_here Parked at)) (length-set line.awake client false) (λ had. omega arith) (λ past untold.
+      let had = served.enough client Parked at refl untold in omega arith)
+
+  -- the steps that are the same in each lock
+
+  abbrev Keeps : Place × Line → Type 0
+  Keeps to = IsServed free owed (set places client to.0) to.1
+
+  served-waits_at : (act : Act) (p : Place) → slice_get places client ≡ Some p → (line.additional ≡ true) ⊎ (free ≤ 1) → IfSome (waits act p client line) Keeps
+  served-waits_at Go Idle at kind =
+      served-goes_on Idle at (First false) free owed refl refl refl refl (λ ways had. omega arith)
+  served-waits_at Go ToListen at kind =
+      cond_both (has_serial_left line) (Second, joined client line) (Idle, line) Keeps (λ _. served-listens at) (λ _. served-goes_on ToListen at Idle free owed refl refl refl refl (λ ways had. omega arith))
+  served-waits_at Go Ending at kind = served-drops Ending at refl refl Holding refl refl refl kind
+  served-waits_at Go ToRegister at kind =
+      cond_both (is_told client line) (First true, told_left client line) (Parked, registered client line) Keeps (served-told ToRegister at refl refl) (served-registers at)
+  served-waits_at Go Parked at kind =
+      cond_both (has_wake client line) (Some (ToRegister, wake_lost client line)) None (λ (o : Option (Place × Line)). IfSome o Keeps) (λ _. served-wakes at) (λ _. tt)
+  served-waits_at Poll Parked at kind = served-wakes at
+  served-waits_at TimeOut Parked at kind =
+      cond_both (is_told client line) (First true, told_left client line) (Idle, waiting_left client line) Keeps (served-told Parked at refl refl) (served-leaves Parked at refl refl Idle refl refl refl)
+  served-waits_at Cancel ToRegister at kind = served-drops ToRegister at refl refl Idle refl refl refl kind
+  served-waits_at Cancel Parked at kind = served-drops Parked at refl refl Idle refl refl refl kind
+  served-waits_at _ _ at kind = tt
+
+  pub served-waits : (act : Act) (p : Place) → slice_get places client ≡ Some p → (line.additional ≡ true) ⊎ (free ≤ 1) → (to : Place × Line) → waits act p client line ≡ Some to → Keeps to
+  served-waits act p at kind to is =
+      subst (λ (o : Option (Place × Line)). IfSome o Keeps) is (served-waits_at act p at kind)
+
+-- what these steps leave as it was
+
+pub record Waited (p : Place) (line : Line) (to : Place × Line) : Type 0 where
+  pub inside : is_inside to.0 ≡ is_inside p
+  pub releasing : is_releasing p ≡ false
+  pub kind : to.1.additional ≡ line.additional
+  pub one_told : line.additional ≡ false → length line.told ≤ 1 → length to.1.told ≤ 1
+
+-- a default notification of one leaves at most one told where there was at most one
+pub notified-one_told : (line : Line) → line.additional ≡ false → length line.told ≤ 1 → length (notified 1 line).told ≤ 1
+notified-one_told line default one =
+    let rest : wanted 1 line ≡ 1 - length line.told = rw default refl in
+    let (flags, more, few) = tell-lengths (min (wanted 1 line) (length line.waiting)) line in
+    omega arith
+
+module _ (client : ℕ) (line : Line) where
+  -- nobody is told anew
+  plain : (p q : Place) (new : Line) → is_inside q ≡ is_inside p → is_releasing p ≡ false → new.additional ≡ line.additional → length new.told ≤ length line.told → Waited p line (q, new)
+  plain p q new inside releasing kind fewer = record {
+    inside = inside;
+    releasing = releasing;
+    kind = kind;
+    one_told = λ default one. omega arith;
+  }
+
+  left : (p : Place) → false ≡ is_inside p → is_releasing p ≡ false → Waited p line (First true, told_left client line)
+  left p outside releasing =
+      plain p (First true) (told_left client line) outside releasing refl (length-without client line.told)
+
+  drops : (p q : Place) → is_inside q ≡ is_inside p → is_releasing p ≡ false → Waited p line (q, dropped client line)
+  drops p q inside releasing = record {
+    inside = inside;
+    releasing = releasing;
+    kind = dropped-kind client line;
+    one_told =
+        λ default one.
+        cond_both (is_told client line) (notified 1 (told_left client line)) (waiting_left client line) (λ (new : Line). length new.told ≤ 1) (λ _.
+        notified-one_told (told_left client line) default (omega (arith, length-without client line.told))) (λ _. one);
+  }
+
+  waited_at : (act : Act) (p : Place) → IfSome (waits act p client line) (Waited p line)
+  waited_at Go Idle = plain Idle (First false) line refl refl refl (omega arith)
+  waited_at Go ToListen =
+      cond_both (has_serial_left line) (Second, joined client line) (Idle, line) (Waited ToListen line) (λ _. plain ToListen Second (joined client line) refl refl refl (omega arith)) (λ _. plain ToListen Idle line refl refl refl (omega arith))
+  waited_at Go Ending = drops Ending Holding refl refl
+  waited_at Go ToRegister =
+      cond_both (is_told client line) (First true, told_left client line) (Parked, registered client line) (Waited ToRegister line) (λ _. left ToRegister refl refl) (λ _. plain ToRegister Parked (registered client line) refl refl refl (omega arith))
+  waited_at Go Parked =
+      cond_both (has_wake client line) (Some (ToRegister, wake_lost client line)) None (λ (o : Option (Place × Line)). IfSome o (Waited Parked line)) (λ _. plain Parked ToRegister (wake_lost client line) refl refl refl (omega arith)) (λ _. tt)
+  waited_at Poll Parked = plain Parked ToRegister (wake_lost client line) refl refl refl (omega arith)
+  waited_at TimeOut Parked =
+      cond_both (is_told client line) (First true, told_left client line) (Idle, waiting_left client line) (Waited Parked line) (λ _. left Parked refl refl) (λ _. plain Parked Idle (waiting_left client line) refl refl refl (omega arith))
+  waited_at Cancel ToRegister = drops ToRegister Idle refl refl
+  waited_at Cancel Parked = drops Parked Idle refl refl
+  waited_at _ _ = tt
+
+  pub waited : (act : Act) (p : Place) (to : Place × Line) → waits act p client line ≡ Some to → Waited p line to
+  waited act p to is = subst (λ (o : Option (Place × Line)). IfSome o (Waited p line)) is (waited_at act p)
 
 -- nobody has come yet
 

@@ -1,6 +1,7 @@
 -- The channel world: the senders and the receivers of a bounded channel, each side in a line of its own, who closes it,
 -- and the tables of their steps.
-use Rattle.std.specs.Prelude.{ℕ, ◌+◌, Bool, true, false, nat_lt, if◌then◌else◌, List, [], ◌∷◌, ◌++◌, length, drop, replicate, slice_get, slice_set, Option, Some, None, option_to_list, is_some, unwrap_or, option_and_then, option_map}
+use Rattle.std.specs.Prelude.{ℕ, Bool, true, false, nat_lt, if◌then◌else◌, List, [], ◌∷◌, ◌++◌, length, drop, replicate, slice_get, slice_set, Option, Some, None, option_to_list, option_and_then, option_map}
+use Rattle.event_worlds.specs.declared.world.acts.Act.TheVariants as act
 use Rattle.event_worlds.specs.declared.world.acts.ChannelAct.{ChannelAct}
 use Rattle.event_worlds.specs.declared.world.acts.ChannelAct.TheVariants.{Go, Send, Poll, TimeOut, Cancel}
 use Rattle.event_worlds.specs.declared.world.acts.ChannelActor.{ChannelActor}
@@ -12,9 +13,11 @@ use Rattle.event_worlds.specs.declared.world.channel.CloserPlace.TheVariants.{To
 use Rattle.event_worlds.specs.declared.world.channel.Found.{Found}
 use Rattle.event_worlds.specs.declared.world.channel.Found.TheVariants.{One, Nothing, Over}
 use Rattle.event_worlds.specs.declared.world.place.Place.{Place}
-use Rattle.event_worlds.specs.declared.world.place.Place.TheVariants.{Idle, First, ToListen, Second, Ending, ToRegister, Parked, Holding}
+use Rattle.event_worlds.specs.declared.world.place.Place.TheVariants.{Idle, First, ToListen, Second, Ending, ToRegister, Holding}
 use Rattle.event_worlds.specs.Buffer.{Buffer}
-use Rattle.event_worlds.specs.Line.{Line, empty_line, everybody, is_told, has_wake, has_serial_left, joined, registered, told_left, waiting_left, wake_lost, notified, dropped}
+use Rattle.event_worlds.specs.Line.{Line, empty_line, everybody, notified, dropped}
+use Rattle.event_worlds.specs.Steps.{after_step, after_steps, steps_taken}
+use Rattle.event_worlds.specs.Waiting.{waits}
 
 -- the senders, or the receivers: of each, by its number, its place, how many notifications of the other side it owes,
 -- and its message; who is told, who waits and who has its wake-up
@@ -77,59 +80,53 @@ first_found (message ∷ _) closed = One message
 abbrev pub message_found : ChannelState → Found
 message_found state = first_found state.messages (is_closed state.closer)
 
--- a client that is at another place, and is otherwise as it was
-abbrev pub moved : Place → ChannelClient → ChannelClient
-moved place own = record own { place = place }
-
 -- a client that has looked. It goes to the first place, if it found one or it is over, and to the second, if it found
 -- nothing; with one it owes the other side one notification
 abbrev pub looked : Place → Place → ChannelClient → Found → ChannelClient
 looked got busy own (One message) = record { place = got; owed = 1; message = message }
-looked got busy own Nothing = moved busy own
-looked got busy own Over = moved got own
+looked got busy own Nothing = record own { place = busy }
+looked got busy own Over = record own { place = got }
 
 -- a client that owes nothing, and is at another place
 abbrev pub paid : Place → ChannelClient → ChannelClient
 paid place own = record own { place = place; owed = 0 }
 
+-- the client is at another place
+abbrev pub moved : ChannelClient → Line → Place × Line → ChannelClient × Line × Line
+moved own other to = (record own { place = to.0 }, to.1, other)
+
 -- the table of both sides: what this act of a client at this place, whose look finds that, makes of the client, of its
 -- line and of the other side's; none where it is no step. A sender begins with a message, and a receiver without
-abbrev pub from : Place → ChannelAct → Bool → ℕ → ChannelClient → Found → Line → Line → Option (ChannelClient × Line × Line)
-from Idle Go sends client own found line other =
-    if sends then None else Some (moved (First false) own, line, other)
-from Idle (Send message) sends client own found line other =
+abbrev pub from : ChannelAct → Place → Bool → ℕ → ChannelClient → Found → Line → Line → Option (ChannelClient × Line × Line)
+from Go Idle sends client own found line other =
+    if sends then None else Some (record own { place = First false }, line, other)
+from Go (First woken) sends client own found line other = Some (looked Holding ToListen own found, line, other)
+from Go Second sends client own found line other = Some (looked Ending ToRegister own found, line, other)
+from Go Ending sends client own found line other =
+    if nat_lt 0 own.owed
+    then Some (paid Ending own, line, notified own.owed other)
+    else Some (record own { place = Holding }, dropped client line, other)
+from Go Holding sends client own found line other = Some (paid Idle own, line, notified own.owed other)
+from (Send message) Idle sends client own found line other =
     if sends then Some (record own { place = First false; message = message }, line, other) else None
-from (First woken) Go sends client own found line other = Some (looked Holding ToListen own found, line, other)
-from ToListen Go sends client own found line other =
-    Some (if has_serial_left line
-    then (moved Second own, joined client line, other)
-    else (moved Idle own, line, other))
-from Second Go sends client own found line other = Some (looked Ending ToRegister own found, line, other)
-from Ending Go sends client own found line other =
-    Some (if nat_lt 0 own.owed
-    then (paid Ending own, line, notified own.owed other)
-    else (moved Holding own, dropped client line, other))
-from ToRegister Go sends client own found line other =
-    Some (if is_told client line
-    then (moved (First true) own, told_left client line, other)
-    else (moved Parked own, registered client line, other))
-from ToRegister Cancel sends client own found line other = Some (moved Idle own, dropped client line, other)
-from Parked Go sends client own found line other =
-    if has_wake client line then Some (moved ToRegister own, wake_lost client line, other) else None
-from Parked Poll sends client own found line other = Some (moved ToRegister own, wake_lost client line, other)
-from Parked TimeOut sends client own found line other =
-    Some (if is_told client line
-    then (moved (First true) own, told_left client line, other)
-    else (moved Idle own, waiting_left client line, other))
-from Parked Cancel sends client own found line other = Some (moved Idle own, dropped client line, other)
-from Holding Go sends client own found line other = Some (paid Idle own, line, notified own.owed other)
-from _ _ sends client own found line other = None
+from (Send message) _ sends client own found line other = None
+from Go place sends client own found line other = option_map (moved own other) (waits act.Go place client line)
+from Poll place sends client own found line other = option_map (moved own other) (waits act.Poll place client line)
+from TimeOut place sends client own found line other =
+    option_map (moved own other) (waits act.TimeOut place client line)
+from Cancel place sends client own found line other =
+    option_map (moved own other) (waits act.Cancel place client line)
+
+-- the message that a look finds, if it finds one
+abbrev pub message_in : Found → Option ℕ
+message_in (One message) = Some message
+message_in _ = None
 
 -- the message that this act of a client at this place takes, if its look finds that: a sender's goes into the channel,
 -- and a receiver's out of it
-abbrev pub passed : Place → ChannelAct → Found → Option ℕ
-passed (First woken) Go (One message) = Some message
-passed Second Go (One message) = Some message
+abbrev pub passed : ChannelAct → Place → Found → Option ℕ
+passed Go (First woken) found = message_in found
+passed Go Second found = message_in found
 passed _ _ _ = None
 
 -- the state once this sender has sent that, if anything, and the sender and both lines are these
@@ -152,11 +149,11 @@ receiver_goes client received state to = record state {
 
 abbrev pub step_of_sender : ℕ → ChannelAct → ChannelState → ChannelClient → Option ChannelState
 step_of_sender client act state own =
-    option_map (sender_goes client (passed own.place act (room_found own.message state)) state) (from own.place act true client own (room_found own.message state) state.senders.line state.receivers.line)
+    option_map (sender_goes client (passed act own.place (room_found own.message state)) state) (from act own.place true client own (room_found own.message state) state.senders.line state.receivers.line)
 
 abbrev pub step_of_receiver : ℕ → ChannelAct → ChannelState → ChannelClient → Option ChannelState
 step_of_receiver client act state own =
-    option_map (receiver_goes client (passed own.place act (message_found state)) state) (from own.place act false client own (message_found state) state.receivers.line state.senders.line)
+    option_map (receiver_goes client (passed act own.place (message_found state)) state) (from act own.place false client own (message_found state) state.receivers.line state.senders.line)
 
 abbrev pub next_of_sender : ℕ → ChannelAct → ChannelState → Option ChannelState
 next_of_sender client act state =
@@ -188,32 +185,31 @@ next (Receiver client) act state = next_of_receiver client act state
 next Closer Go state = next_of_closer state.closer state
 next Closer _ state = None
 
+abbrev pub next_of : ChannelStep → ChannelState → Option ChannelState
+next_of step = next step.actor step.act
+
 -- the state after this act of this actor, where what is no step changes nothing
 abbrev pub after : ChannelActor → ChannelAct → ChannelState → ChannelState
-after actor act state = unwrap_or (next actor act state) state
+after actor = after_step (next actor)
 
--- the state after a schedule
+-- the state after a schedule, and how many of its steps are steps of the tables
+
 abbrev pub after_all : List ChannelStep → ChannelState → ChannelState
-after_all [] state = state
-after_all (step ∷ steps) state = after_all steps (after step.actor step.act state)
+after_all = after_steps next_of
 
--- how many steps of a schedule are steps of the tables
 abbrev pub taken : List ChannelStep → ChannelState → ℕ
-taken [] state = 0
-taken (step ∷ steps) state =
-    (if is_some (next step.actor step.act state) then 1 else 0)
-    + taken steps (after step.actor step.act state)
+taken = steps_taken next_of
 
 -- the message that this act of this actor sends, if it sends one
 abbrev pub sent_by : ChannelActor → ChannelAct → ChannelState → List ℕ
 sent_by (Sender client) act state =
-    option_to_list (option_and_then (λ own. passed own.place act (room_found own.message state)) (slice_get state.senders.clients client))
+    option_to_list (option_and_then (λ own. passed act own.place (room_found own.message state)) (slice_get state.senders.clients client))
 sent_by _ act state = []
 
 -- the message that it receives, if it receives one
 abbrev pub received_by : ChannelActor → ChannelAct → ChannelState → List ℕ
 received_by (Receiver client) act state =
-    option_to_list (option_and_then (λ own. passed own.place act (message_found state)) (slice_get state.receivers.clients client))
+    option_to_list (option_and_then (λ own. passed act own.place (message_found state)) (slice_get state.receivers.clients client))
 received_by _ act state = []
 
 -- the messages that a schedule sends, and those that it receives, one after another

@@ -1,14 +1,12 @@
 -- What the channel world keeps in its type: each step of the tables keeps it, and what `ChannelSafety` says follows. No
 -- public clause cites this module.
-use Rattle.std.specs.Prelude.{◌≡◌, ℕ, ◌≤◌, Bool, true, false, List, map, length, slice_get, Option, Some, None, IfSome}
-use Rattle.event_worlds.specs.declared.world.acts.ChannelAct.{ChannelAct}
+use Rattle.std.specs.Prelude.{◌≡◌, ℕ, ◌≤◌, true, false, List, map, length, slice_get, Option, Some, None, IfSome}
 use Rattle.event_worlds.specs.declared.world.channel.ChannelClient.{ChannelClient}
 use Rattle.event_worlds.specs.declared.world.channel.CloserPlace.{CloserPlace}
 use Rattle.event_worlds.specs.declared.world.channel.CloserPlace.TheVariants.{ToClose, ToNotifySenders, ToNotifyReceivers, Done}
-use Rattle.event_worlds.specs.declared.world.channel.Found.{Found}
 use Rattle.event_worlds.specs.declared.world.place.Place.{Place}
 use Rattle.event_worlds.specs.Line.{Line}
-use Rattle.event_worlds.specs.Channel.{Side, ChannelState, from}
+use Rattle.event_worlds.specs.Channel.{Side, ChannelState}
 use Rattle.event_worlds.specs.ChannelSafety.{all_owed, room, MessagesFit}
 use Rattle.event_worlds.specs.Served.{is_inside, IsServed}
 
@@ -42,6 +40,7 @@ ReceiversMayTake Done now free = 0 ≤ free
 pub record IsSideSound (MayTake : ℕ → Type 0) (owed : ℕ) (side : Side) : Type 0 where
   pub served : (free : ℕ) → MayTake free → IsServed free owed (places_of side.clients) side.line
   pub owns : (client : ℕ) → IfSome (slice_get side.clients client) OwnFits
+  pub flags : length side.line.awake ≡ length side.clients
   pub kind : side.line.additional ≡ true
 
 pub record IsSound (state : ChannelState) : Type 0 where
@@ -49,9 +48,7 @@ pub record IsSound (state : ChannelState) : Type 0 where
   pub receivers : IsSideSound (ReceiversMayTake state.closer (length state.messages)) (all_owed state.senders) state.receivers
   pub fits : MessagesFit state
 
--- the table's step leaves this client and these lines; where it is none, the lines stay
-abbrev pub Moves : Bool → ChannelClient → Found → ℕ → ChannelAct → Line → Line → Option ChannelClient → Line → Line → Type 0
-Moves sends own found client act line other None new new_other =
-    (from own.place act sends client own found line other ≡ None) × (new ≡ line) × (new_other ≡ other)
-Moves sends own found client act line other (Some made) new new_other =
-    from own.place act sends client own found line other ≡ Some (made, new, new_other)
+-- the step of a client leaves this client and these lines; where it is none, the lines stay
+abbrev pub Moves : Option (ChannelClient × Line × Line) → Line → Line → Option ChannelClient → Line → Line → Type 0
+Moves step line other None new new_other = (step ≡ None) × (new ≡ line) × (new_other ≡ other)
+Moves step line other (Some made) new new_other = step ≡ Some (made, new, new_other)

@@ -1,13 +1,15 @@
 -- The flag world: clients that wait until a flag is set, setters that set it, and the tables of their steps.
-use Rattle.std.specs.Prelude.{ℕ, ◌+◌, ◌-◌, Bool, true, false, nat_lt, if◌then◌else◌, List, [], ◌∷◌, length, replicate, slice_get, slice_set, Option, Some, None, is_some, unwrap_or, option_and_then, option_map}
+use Rattle.std.specs.Prelude.{ℕ, ◌-◌, Bool, true, false, nat_lt, if◌then◌else◌, List, length, replicate, slice_get, slice_set, Option, Some, None, option_and_then, option_map}
 use Rattle.event_worlds.specs.declared.world.acts.Act.{Act}
 use Rattle.event_worlds.specs.declared.world.acts.Act.TheVariants.{Go}
 use Rattle.event_worlds.specs.declared.world.acts.Step.{Step}
 use Rattle.event_worlds.specs.declared.world.flag.FlagPlace.{FlagPlace}
 use Rattle.event_worlds.specs.declared.world.flag.FlagPlace.TheVariants.{Check1, ToListen, Check2, Dropping, ToRegister, Parked, Done}
+use Rattle.event_worlds.specs.declared.world.flag.SetterMove.{SetterMove}
 use Rattle.event_worlds.specs.declared.world.flag.SetterPlace.{SetterPlace}
 use Rattle.event_worlds.specs.declared.world.flag.SetterPlace.TheVariants.{ToSet, ToNotify, Done as IsDone}
 use Rattle.event_worlds.specs.Line.{Line, empty_line, everybody, is_told, has_wake, has_serial_left, joined, registered, told_left, wake_lost, notified, dropped}
+use Rattle.event_worlds.specs.Steps.{after_step, after_steps, steps_taken}
 
 -- whether the flag is set; the place of each client, by its number; the place of each setter; who is told, who
 -- waits and who has a wake-up
@@ -47,17 +49,18 @@ abbrev pub goes : ℕ → FlagState → FlagPlace × Line → FlagState
 goes client state to = record state { places = slice_set state.places client to.0; line = to.1 }
 
 -- the table of a setter: from this place, with the flag set or not, where it goes, and the flag and the line then
-abbrev pub from_setter : SetterPlace → Bool → Line → Option (SetterPlace × Bool × Line)
-from_setter ToSet flag line = Some (ToNotify, true, line)
-from_setter ToNotify flag line = Some (IsDone, flag, notified everybody line)
+abbrev pub from_setter : SetterPlace → Bool → Line → Option (SetterMove × Line)
+from_setter ToSet flag line = Some (record { place = ToNotify; flag = true }, line)
+from_setter ToNotify flag line = Some (record { place = IsDone; flag = flag }, notified everybody line)
 from_setter IsDone flag line = None
 
--- the state once this setter has gone there, and the flag and the line are these
-abbrev pub setter_goes : ℕ → FlagState → SetterPlace × Bool × Line → FlagState
+-- the state once this setter has made this move, and the line is this
+abbrev pub setter_goes : ℕ → FlagState → SetterMove × Line → FlagState
 setter_goes setter state to =
-    record state { flag = to.1; setters = slice_set state.setters setter to.0; line = to.2 }
+    record state { flag = to.0.flag; setters = slice_set state.setters setter to.0.place; line = to.1 }
 
 -- the state after the step of a client, and of a setter
+
 abbrev pub next_of_client : ℕ → FlagState → Option FlagState
 next_of_client client state =
     option_and_then (λ place. option_map (goes client state) (from place client state.flag state.line)) (slice_get state.places client)
@@ -75,18 +78,17 @@ next actor Go state =
     else next_of_setter (actor - length state.places) state
 next actor _ state = None
 
+abbrev pub next_of : Step → FlagState → Option FlagState
+next_of step = next step.client step.act
+
 -- the state after this act of this actor, where what is no step changes nothing
 abbrev pub after : ℕ → Act → FlagState → FlagState
-after actor act state = unwrap_or (next actor act state) state
+after actor = after_step (next actor)
 
--- the state after a schedule
+-- the state after a schedule, and how many of its steps are steps of the tables
+
 abbrev pub after_all : List Step → FlagState → FlagState
-after_all [] state = state
-after_all (step ∷ steps) state = after_all steps (after step.client step.act state)
+after_all = after_steps next_of
 
--- how many steps of a schedule are steps of the tables
 abbrev pub taken : List Step → FlagState → ℕ
-taken [] state = 0
-taken (step ∷ steps) state =
-    (if is_some (next step.client step.act state) then 1 else 0)
-    + taken steps (after step.client step.act state)
+taken = steps_taken next_of

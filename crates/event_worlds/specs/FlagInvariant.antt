@@ -1,6 +1,6 @@
 -- What the flag world keeps in its type: each step of the tables keeps it, and what `FlagSafety` says follows. No
 -- public clause cites this module.
-use Rattle.std.specs.Prelude.{◌≡◌, ℕ, Bool, true, false, List, length, slice_get, Option, Some, None}
+use Rattle.std.specs.Prelude.{◌≡◌, ℕ, Bool, true, false, List, length, slice_get, Some}
 use Rattle.std.specs.Map.{keys_of}
 use Rattle.event_worlds.specs.declared.world.flag.FlagPlace.{FlagPlace}
 use Rattle.event_worlds.specs.declared.world.flag.FlagPlace.TheVariants.{ToListen, ToRegister, Parked}
@@ -8,8 +8,7 @@ use Rattle.event_worlds.specs.declared.world.flag.SetterPlace.{SetterPlace}
 use Rattle.event_worlds.specs.declared.world.flag.SetterPlace.TheVariants.{ToNotify}
 use Rattle.event_worlds.specs.Line.{Line, IsLine, is_in_line}
 use Rattle.event_worlds.specs.Standing.{times, AllFit, number}
-use Rattle.event_worlds.specs.declared.world.flag.SetterMove.{SetterMove}
-use Rattle.event_worlds.specs.Flag.{FlagState, from, from_setter}
+use Rattle.event_worlds.specs.Flag.{FlagState}
 use Rattle.event_worlds.specs.FlagSafety.{is_listening, NotifiesDefault}
 
 abbrev pub is_parked : FlagPlace → Bool
@@ -47,13 +46,3 @@ pub record IsSound (state : FlagState) : Type 0 where
 -- the client may be at this place: where it is about to listen, it is not in line
 abbrev pub MayBeAt : FlagPlace → ℕ → Line → Type 0
 MayBeAt place client line = place ≡ ToListen → is_in_line client line ≡ false
-
--- the table's step goes to this place, and leaves this line; where it is none, the line stays
-abbrev pub Moves : FlagPlace → ℕ → Bool → Line → Option FlagPlace → Line → Type 0
-Moves place client flag old None new = (from place client flag old ≡ None) × (new ≡ old)
-Moves place client flag old (Some to) new = from place client flag old ≡ Some (to, new)
-
--- the same of a setter
-abbrev pub SetterMoves : SetterPlace → Bool → Line → Option SetterMove → Line → Type 0
-SetterMoves place flag old None new = (from_setter place flag old ≡ None) × (new ≡ old)
-SetterMoves place flag old (Some to) new = from_setter place flag old ≡ Some (to.place, to.flag, new)

@@ -1,12 +1,13 @@
 pub mod ClientTable
 pub mod Line
+pub mod Steps
+pub mod Waiting
 pub mod LineKeys
 pub mod Standing
 pub mod Served
 pub mod Mutex
 pub mod MutexSafety
 pub mod MutexInvariant
-pub mod MutexMove
 pub mod Semaphore
 pub mod SemaphoreSafety
 pub mod SemaphoreInvariant

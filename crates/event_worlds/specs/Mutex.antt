@@ -1,11 +1,14 @@
 -- The mutex world: the clients of one lock, who stand in one line, and the table of their steps.
-use Rattle.std.specs.Prelude.{ℕ, ◌+◌, Bool, true, false, if◌then◌else◌, List, [], ◌∷◌, replicate, slice_get, slice_set, Option, Some, None, is_some, is_none, unwrap_or, option_and_then}
+use Rattle.std.specs.Prelude.{ℕ, false, if◌then◌else◌, List, replicate, slice_get, slice_set, Option, Some, None, is_none, option_and_then, option_map}
 use Rattle.event_worlds.specs.declared.world.acts.Act.{Act}
-use Rattle.event_worlds.specs.declared.world.acts.Act.TheVariants.{Go, Poll, TimeOut, Cancel}
+use Rattle.event_worlds.specs.declared.world.acts.Act.TheVariants.{Go}
 use Rattle.event_worlds.specs.declared.world.acts.Step.{Step}
+use Rattle.event_worlds.specs.declared.world.mutex.Move.{Move}
 use Rattle.event_worlds.specs.declared.world.place.Place.{Place}
-use Rattle.event_worlds.specs.declared.world.place.Place.TheVariants.{Idle, First, ToListen, Second, Ending, ToRegister, Parked, Holding, Releasing}
-use Rattle.event_worlds.specs.Line.{Line, empty_line, is_told, has_wake, has_serial_left, joined, registered, told_left, waiting_left, wake_lost, notified, dropped}
+use Rattle.event_worlds.specs.declared.world.place.Place.TheVariants.{Idle, First, ToListen, Second, Ending, ToRegister, Holding, Releasing}
+use Rattle.event_worlds.specs.Line.{Line, empty_line, notified}
+use Rattle.event_worlds.specs.Steps.{after_step, after_steps, steps_taken}
+use Rattle.event_worlds.specs.Waiting.{waits}
 
 -- who has the lock; the place of each client, by its number; who is told, who waits and who has its wake-up
 pub record MutexState : Type 0 where
@@ -18,77 +21,47 @@ abbrev pub start : ℕ → ℕ → MutexState
 start clients first =
     record { holder = None; places = replicate clients Idle; line = empty_line false clients first }
 
--- nobody has the lock
-abbrev pub is_free : MutexState → Bool
-is_free state = is_none state.holder
+-- the client is at another place
+abbrev pub moved : Option ℕ → Place × Line → Move × Line
+moved holder to = (record { holder = holder; place = to.0 }, to.1)
 
--- the client goes to another place, and the line changes
-abbrev pub goes : ℕ → Place → Line → MutexState → MutexState
-goes client place line state =
-    record state { places = slice_set state.places client place; line = line }
+-- a try: whoever finds the lock free takes it, and goes to the first place, and else to the second
+abbrev pub tried : Place → Place → ℕ → Option ℕ → Move
+tried got busy client holder =
+    if is_none holder
+    then record { holder = Some client; place = got }
+    else record { holder = holder; place = busy }
 
--- the client takes the lock, and goes to another place
-abbrev pub takes : ℕ → Place → MutexState → MutexState
-takes client place state =
-    record state { holder = Some client; places = slice_set state.places client place }
+-- the table: who has the lock after this act of a client at this place, where the client is, and the line; none where
+-- it is no step
+abbrev pub from : Act → Place → ℕ → Option ℕ → Line → Option (Move × Line)
+from Go (First woken) client holder line = Some (tried Holding ToListen client holder, line)
+from Go Second client holder line = Some (tried Ending ToRegister client holder, line)
+from Go Holding client holder line = Some (moved None (Releasing, line))
+from Go Releasing client holder line = Some (moved holder (Idle, notified 1 line))
+from act place client holder line = option_map (moved holder) (waits act place client line)
 
--- the client frees the lock, and goes to another place
-abbrev pub frees : ℕ → Place → MutexState → MutexState
-frees client place state =
-    record state { holder = None; places = slice_set state.places client place }
-
--- the table: what this act of a client at this place leads to; none where it is no step
-abbrev pub from : Place → Act → ℕ → MutexState → Option MutexState
-from Idle Go client state = Some (goes client (First false) state.line state)
-from (First woken) Go client state =
-    Some (if is_free state
-    then takes client Holding state
-    else goes client ToListen state.line state)
-from ToListen Go client state =
-    Some (if has_serial_left state.line
-    then goes client Second (joined client state.line) state
-    else goes client Idle state.line state)
-from Second Go client state =
-    Some (if is_free state
-    then takes client Ending state
-    else goes client ToRegister state.line state)
-from Ending Go client state = Some (goes client Holding (dropped client state.line) state)
-from ToRegister Go client state =
-    Some (if is_told client state.line
-    then goes client (First true) (told_left client state.line) state
-    else goes client Parked (registered client state.line) state)
-from Parked Go client state =
-    if has_wake client state.line
-    then Some (goes client ToRegister (wake_lost client state.line) state)
-    else None
-from Parked Poll client state = Some (goes client ToRegister (wake_lost client state.line) state)
-from Holding Go client state = Some (frees client Releasing state)
-from Releasing Go client state = Some (goes client Idle (notified 1 state.line) state)
-from Parked TimeOut client state =
-    Some (if is_told client state.line
-    then goes client (First true) (told_left client state.line) state
-    else goes client Idle (waiting_left client state.line) state)
-from Parked Cancel client state = Some (goes client Idle (dropped client state.line) state)
-from ToRegister Cancel client state = Some (goes client Idle (dropped client state.line) state)
-from _ _ client state = None
+-- the state once the client has made this move, and the line is this
+abbrev pub goes : ℕ → MutexState → Move × Line → MutexState
+goes client state to =
+    record { holder = to.0.holder; places = slice_set state.places client to.0.place; line = to.1 }
 
 -- the state after this act of this client, or none where it is no step
 abbrev pub next : ℕ → Act → MutexState → Option MutexState
 next client act state =
-    option_and_then (λ place. from place act client state) (slice_get state.places client)
+    option_and_then (λ place. option_map (goes client state) (from act place client state.holder state.line)) (slice_get state.places client)
+
+abbrev pub next_of : Step → MutexState → Option MutexState
+next_of step = next step.client step.act
 
 -- the state after this act of this client, where what is no step changes nothing
 abbrev pub after : ℕ → Act → MutexState → MutexState
-after client act state = unwrap_or (next client act state) state
+after client = after_step (next client)
 
--- the state after a schedule
+-- the state after a schedule, and how many of its steps are steps of the table
+
 abbrev pub after_all : List Step → MutexState → MutexState
-after_all [] state = state
-after_all (step ∷ steps) state = after_all steps (after step.client step.act state)
+after_all = after_steps next_of
 
--- how many steps of a schedule are steps of the table
 abbrev pub taken : List Step → MutexState → ℕ
-taken [] state = 0
-taken (step ∷ steps) state =
-    (if is_some (next step.client step.act state) then 1 else 0)
-    + taken steps (after step.client step.act state)
+taken = steps_taken next_of

@@ -1,12 +1,9 @@
 -- What the semaphore world keeps in its type: each step of the table keeps it, and what `SemaphoreSafety` says
 -- follows. No public clause cites this module.
-use Rattle.std.specs.Prelude.{◌≡◌, ℕ, false, List, map, slice_get, Option, Some, None, IfSome}
-use Rattle.event_worlds.specs.declared.world.acts.SemAct.{SemAct}
+use Rattle.std.specs.Prelude.{◌≡◌, ℕ, false, List, map, slice_get, IfSome}
 use Rattle.event_worlds.specs.declared.world.place.Place.{Place}
 use Rattle.event_worlds.specs.declared.world.semaphore.SemaphoreClient.{SemaphoreClient}
-use Rattle.event_worlds.specs.declared.world.semaphore.SemaphoreMove.{SemaphoreMove}
-use Rattle.event_worlds.specs.Line.{Line}
-use Rattle.event_worlds.specs.Semaphore.{SemaphoreState, from}
+use Rattle.event_worlds.specs.Semaphore.{SemaphoreState}
 use Rattle.event_worlds.specs.SemaphoreSafety.{PermitsAddUp, NotifiesAdditional, all_owed}
 use Rattle.event_worlds.specs.Served.{is_inside, is_releasing, IsServed}
 
@@ -26,9 +23,3 @@ pub record IsSound (state : SemaphoreState) : Type 0 where
   pub added : PermitsAddUp state
   pub owns : (client : ℕ) → IfSome (slice_get state.clients client) OwnFits
   pub kind : NotifiesAdditional state
-
--- the table's step leaves this client, these free permits and this line; where it is none, the line stays
-abbrev pub Moves : SemaphoreClient → ℕ → ℕ → SemAct → Line → Option SemaphoreMove → Line → Type 0
-Moves own free client act old None new = (from own.place act client own free old ≡ None) × (new ≡ old)
-Moves own free client act old (Some made) new =
-    from own.place act client own free old ≡ Some (made.own, made.free, new)

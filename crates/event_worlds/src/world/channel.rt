@@ -1,19 +1,19 @@
-ghost use Rattle.std.specs.Prelude.{◌≡◌, ℕ, ◌<◌, Bool, true, false, nat_lt, is_some, unwrap_or, if◌then◌else◌, Some, length, slice_get, IfOk, IsSome};
-ghost use Rattle.event_worlds.specs.declared.world.acts.ChannelAct.TheVariants.{Go, Send, Poll, TimeOut, Cancel};
+ghost use Rattle.std.specs.Prelude.{◌≡◌, ℕ, ◌<◌, nat_lt, is_some, unwrap_or, if◌then◌else◌, Some, length, slice_get, IfOk, IsSome};
+ghost use Rattle.event_worlds.specs.declared.world.acts.ChannelAct.TheVariants.{Go, Send};
 ghost use Rattle.event_worlds.specs.declared.world.channel.Found.{Found};
 ghost use Rattle.event_worlds.specs.declared.world.channel.Found.TheVariants.{One, Nothing, Over};
-ghost use Rattle.event_worlds.specs.declared.world.place.Place.TheVariants.{Idle};
 ghost use Rattle.event_worlds.specs.declared.world.place.News.TheVariants.{Got, Busy};
 ghost use Rattle.event_worlds.specs.ClientTable.{place_after};
 ghost use Rattle.event_worlds.specs.Line.{Line, is_told, has_wake, notified};
-ghost use Rattle.event_worlds.specs.Channel.{channel_of, start, is_closed, first_found, passed, looked, moved, paid, next, next_of_sender, next_of_receiver, next_of_closer, after, after_all, taken, sent_by, received_by, sent, received};
-ghost use Rattle.event_worlds.specs.ChannelInvariant.{IsSound, Moves};
+ghost use Rattle.event_worlds.specs.Channel.{channel_of, start, is_closed, first_found, passed, looked, paid, from, next, next_of_sender, next_of_receiver, next_of_closer, after, after_all, taken, sent_by, received_by, sent, received};
+ghost use Rattle.event_worlds.specs.ChannelInvariant.{Moves};
 ghost use Rattle.event_worlds.specs.ChannelSafety.{IsSafe, MessagesFit, NotifiesAdditional, InLineAreListening, InOrder};
 ghost use Rattle.event_worlds.specs.Served.{MayBeAt};
+ghost use Rattle.event_worlds.specs.Steps.{Takes};
 
-use super::acts::{ChannelAct, ChannelActor, ChannelStep};
+use super::acts::{Act, ChannelAct, ChannelActor, ChannelStep};
 use super::buffer::Buffer;
-use super::client::{drops_out, hears, listens, registers, times_out, wakes};
+use super::client::{find, next_place, wait};
 use super::line::ClientLine;
 use super::place::{News, Place};
 use std::alloc::{AllocError, Global};
@@ -42,15 +42,6 @@ pub struct ChannelClient {
     pub owed: usize,
     /// The message that a sender sends or sent last, or that a receiver received last; 0 before the first.
     pub message: usize,
-}
-
-impl ChannelClient {
-    // The client at another place.
-    fn at(self, place: Place) -> Self
-        ensures { result ≡ moved place self }
-    {
-        ChannelClient { place, ..self }
-    }
 }
 
 // What a client finds when it looks at the channel.
@@ -114,18 +105,6 @@ impl ChannelWorld {
         ensures notifies_additional { IfOk result NotifiesAdditional }
         ensures in_line_are_those_listening { IfOk result InLineAreListening }
     {
-        Self::make(alloc, senders, receivers, capacity)
-    }
-
-    fn make(
-        alloc: Global,
-        senders: usize,
-        receivers: usize,
-        capacity: usize,
-    ) -> Result<Self, AllocError>
-        ensures start { IfOk result (λ world. world ≡ start senders receivers capacity) }
-        ensures sound { IfOk result IsSound }
-    {
         let idle = ChannelClient {
             place: Place::Idle,
             owed: 0,
@@ -136,14 +115,16 @@ impl ChannelWorld {
         let sender_line = ClientLine::new(alloc, true, senders, 0)?;
         let receivers_idle = vec![in alloc; idle; receivers]?;
         let receiver_line = ClientLine::new(alloc, true, receivers, 0)?;
-        Ok(ChannelWorld {
+        let world = ChannelWorld {
             buffer,
             closer: CloserPlace::ToClose,
             senders: senders_idle,
             sender_line,
             receivers: receivers_idle,
             receiver_line,
-        })
+        };
+        world.reveal_invariant();
+        Ok(world)
     }
 
     /// Makes a step of one actor, and returns whether it was one: an act that the tables of steps have at the place of
@@ -157,35 +138,31 @@ impl ChannelWorld {
         ensures notifies_additional { NotifiesAdditional self.new }
         ensures in_line_are_those_listening { InLineAreListening self.new }
     {
-        self.take_step(actor, act)
+        let taken = self.take_step(actor, act);
+        self.reveal_invariant();
+        taken
     }
 
     fn take_step(&mut self, actor: ChannelActor, act: ChannelAct) -> bool
-        ensures step { self.new ≡ after actor act self.old }
-        ensures answer { result ≡ is_some (next actor act self.old) }
-        ensures sound { IsSound self.new }
+        ensures takes { Takes (next actor act self.old) self.old result self.new }
     {
         match actor {
-            ChannelActor::Sender(client) => self.sender_goes(client, act),
-            ChannelActor::Receiver(client) => self.receiver_goes(client, act),
+            ChannelActor::Sender(client) => self.take_sender_step(client, act),
+            ChannelActor::Receiver(client) => self.take_receiver_step(client, act),
             ChannelActor::Closer => match act {
-                ChannelAct::Go => self.closer_goes(),
-                _ => self.stays(),
+                ChannelAct::Go => self.take_closer_step(),
+                _ => false,
             },
         }
     }
 
-    fn sender_goes(&mut self, client: usize, act: ChannelAct) -> bool
-        ensures step { self.new ≡ unwrap_or (next_of_sender client act self.old) self.old }
-        ensures answer { result ≡ is_some (next_of_sender client act self.old) }
-        ensures sound { IsSound self.new }
+    fn take_sender_step(&mut self, client: usize, act: ChannelAct) -> bool
+        ensures takes { Takes (next_of_sender client act self.old) self.old result self.new }
     {
-        let _line = &self.sender_line;
-        if client >= self.senders.len() {
+        let Some(own) = find(&self.senders, client) else {
             return false;
-        }
-        let own = self.senders[client];
-        let found = looks_for_room(own.message, self.closer, &self.buffer);
+        };
+        let found = look_for_room(own.message, self.closer, &self.buffer);
         match moves(
             true,
             own,
@@ -196,7 +173,7 @@ impl ChannelWorld {
             &mut self.receiver_line,
         ) {
             Some(made) => {
-                self.buffer.push(passes(own.place, act, found));
+                self.buffer.push(message_passed(own.place, act, found));
                 self.senders[client] = made;
                 true
             }
@@ -204,17 +181,13 @@ impl ChannelWorld {
         }
     }
 
-    fn receiver_goes(&mut self, client: usize, act: ChannelAct) -> bool
-        ensures step { self.new ≡ unwrap_or (next_of_receiver client act self.old) self.old }
-        ensures answer { result ≡ is_some (next_of_receiver client act self.old) }
-        ensures sound { IsSound self.new }
+    fn take_receiver_step(&mut self, client: usize, act: ChannelAct) -> bool
+        ensures takes { Takes (next_of_receiver client act self.old) self.old result self.new }
     {
-        let _line = &self.receiver_line;
-        if client >= self.receivers.len() {
+        let Some(own) = find(&self.receivers, client) else {
             return false;
-        }
-        let own = self.receivers[client];
-        let found = looks_for_message(self.closer, &self.buffer);
+        };
+        let found = look_for_message(self.closer, &self.buffer);
         match moves(
             false,
             own,
@@ -225,7 +198,7 @@ impl ChannelWorld {
             &mut self.sender_line,
         ) {
             Some(made) => {
-                self.buffer.pop(passes(own.place, act, found));
+                self.buffer.pop(message_passed(own.place, act, found));
                 self.receivers[client] = made;
                 true
             }
@@ -233,11 +206,9 @@ impl ChannelWorld {
         }
     }
 
-    // The closer's step: the channel is closed, then all senders are notified, then all receivers.
-    fn closer_goes(&mut self) -> bool
-        ensures step { self.new ≡ unwrap_or (next_of_closer self.old.closer self.old) self.old }
-        ensures answer { result ≡ is_some (next_of_closer self.old.closer self.old) }
-        ensures sound { IsSound self.new }
+    // The channel is closed, then all senders are notified, then all receivers.
+    fn take_closer_step(&mut self) -> bool
+        ensures takes { Takes (next_of_closer self.old.closer self.old) self.old result self.new }
     {
         match self.closer {
             CloserPlace::ToClose => {
@@ -258,16 +229,6 @@ impl ChannelWorld {
         }
     }
 
-    // No step.
-    fn stays(&mut self) -> bool
-        ensures step { self.new ≡ self.old }
-        ensures answer { result ≡ false }
-        ensures sound { IsSound self.new }
-    {
-        self.is_sound();
-        false
-    }
-
     /// Makes the steps of a schedule, one after another, and returns how many were steps of the tables.
     pub fn run(&mut self, steps: &[ChannelStep]) -> usize
         ensures state { self.new ≡ after_all steps.now self.old }
@@ -278,17 +239,20 @@ impl ChannelWorld {
         ensures notifies_additional { NotifiesAdditional self.new }
         ensures in_line_are_those_listening { InLineAreListening self.new }
     {
-        self.is_sound();
         let mut taken = 0;
         for step in steps {
             taken += usize::from(self.take_step(step.actor, step.act));
         }
+        self.reveal_invariant();
         taken
     }
 
-    // What the type keeps, for code that reads none of its fields.
-    fn is_sound(&self)
-        ensures { IsSound self.now }
+    // What follows from what the type keeps, which is known where a field is read.
+    fn reveal_invariant(&self)
+        ensures safe { IsSafe self.now }
+        ensures messages_fit { MessagesFit self.now }
+        ensures notifies_additional { NotifiesAdditional self.now }
+        ensures in_line_are_those_listening { InLineAreListening self.now }
     {
         let _line = &self.sender_line;
     }
@@ -396,14 +360,12 @@ fn has_closed(closer: CloserPlace) -> bool
 {
     match closer {
         CloserPlace::ToClose => false,
-        CloserPlace::ToNotifySenders => true,
-        CloserPlace::ToNotifyReceivers => true,
-        CloserPlace::Done => true,
+        CloserPlace::ToNotifySenders | CloserPlace::ToNotifyReceivers | CloserPlace::Done => true,
     }
 }
 
 // What a sender with this message finds.
-fn looks_for_room(message: usize, closer: CloserPlace, buffer: &Buffer) -> Found
+fn look_for_room(message: usize, closer: CloserPlace, buffer: &Buffer) -> Found
     ensures { result ≡ (if is_closed closer then Over else (if nat_lt (length buffer.now.messages) buffer.now.capacity then One message else Nothing)) }
 {
     if has_closed(closer) {
@@ -416,7 +378,7 @@ fn looks_for_room(message: usize, closer: CloserPlace, buffer: &Buffer) -> Found
 }
 
 // What a receiver finds.
-fn looks_for_message(closer: CloserPlace, buffer: &Buffer) -> Found
+fn look_for_message(closer: CloserPlace, buffer: &Buffer) -> Found
     ensures { result ≡ first_found buffer.now.messages (is_closed closer) }
 {
     match buffer.message(0) {
@@ -432,12 +394,11 @@ fn looks_for_message(closer: CloserPlace, buffer: &Buffer) -> Found
 }
 
 // The message that this act takes, if it takes one.
-fn passes(place: Place, act: ChannelAct, found: Found) -> Option<usize>
-    ensures { result ≡ passed place act found }
+fn message_passed(place: Place, act: ChannelAct, found: Found) -> Option<usize>
+    ensures { result ≡ passed act place found }
 {
     match (place, act, found) {
-        (Place::First { .. }, ChannelAct::Go, Found::One(message)) => Some(message),
-        (Place::Second, ChannelAct::Go, Found::One(message)) => Some(message),
+        (Place::First { .. } | Place::Second, ChannelAct::Go, Found::One(message)) => Some(message),
         _ => None,
     }
 }
@@ -455,18 +416,19 @@ fn moves(
 ) -> Option<ChannelClient>
     requires client { client < length line.old.awake }
     requires may_be_at { MayBeAt own.place client line.old }
-    ensures moves { Moves sends own found client act line.old other.old result line.new other.new }
+    ensures moves { Moves (from act own.place sends client own found line.old other.old) line.old other.old result line.new other.new }
 {
-    match act {
-        ChannelAct::Go => goes(sends, own, found, client, line, other),
-        ChannelAct::Send(message) => begins(sends, own, message),
-        ChannelAct::Poll => is_polled(own, client, line),
-        ChannelAct::TimeOut => is_late(own, client, line),
-        ChannelAct::Cancel => cancels(own, client, line),
-    }
+    let place = match act {
+        ChannelAct::Go => return go(sends, own, found, client, line, other),
+        ChannelAct::Send(message) => return begin(sends, own, message),
+        ChannelAct::Poll => wait(own.place, Act::Poll, client, line)?,
+        ChannelAct::TimeOut => wait(own.place, Act::TimeOut, client, line)?,
+        ChannelAct::Cancel => wait(own.place, Act::Cancel, client, line)?,
+    };
+    Some(ChannelClient { place, ..own })
 }
 
-fn goes(
+fn go(
     sends: bool,
     own: ChannelClient,
     found: Found,
@@ -476,30 +438,30 @@ fn goes(
 ) -> Option<ChannelClient>
     requires client { client < length line.old.awake }
     requires may_be_at { MayBeAt own.place client line.old }
-    ensures moves { Moves sends own found client Go line.old other.old result line.new other.new }
+    ensures moves { Moves (from Go own.place sends client own found line.old other.old) line.old other.old result line.new other.new }
 {
-    let place = match own.place {
-        Place::Idle if sends => return None,
-        Place::Idle => hears(own.place, News::Begin),
-        Place::First { .. } => return Some(looks(own, found)),
-        Place::ToListen => listens(client, line),
-        Place::Second => return Some(looks(own, found)),
-        Place::Ending if own.owed > 0 => return Some(pays(own, own.place, other)),
-        Place::Ending => drops_out(own.place, client, line),
-        Place::ToRegister => registers(client, line),
-        Place::Parked if line.has_wake(client) => wakes(client, line),
-        Place::Parked => return None,
+    match own.place {
+        Place::First { .. } | Place::Second => Some(look(own, found)),
         Place::Holding => {
-            let idle = hears(hears(own.place, News::Freed), News::Notified);
-            return Some(pays(own, idle, other));
+            let idle = next_place(next_place(own.place, News::Freed), News::Notified);
+            Some(pay(own, idle, other))
         }
-        Place::Releasing => return None,
-    };
-    Some(own.at(place))
+        Place::Idle if sends => None,
+        Place::Ending if own.owed > 0 => Some(pay(own, own.place, other)),
+        Place::Idle
+        | Place::ToListen
+        | Place::Ending
+        | Place::ToRegister
+        | Place::Parked
+        | Place::Releasing => {
+            let place = wait(own.place, Act::Go, client, line)?;
+            Some(ChannelClient { place, ..own })
+        }
+    }
 }
 
 // The client notifies the other side of what it owes, and goes to this place.
-fn pays(own: ChannelClient, place: Place, other: &mut ClientLine) -> ChannelClient
+fn pay(own: ChannelClient, place: Place, other: &mut ClientLine) -> ChannelClient
     ensures made { result ≡ paid place own }
     ensures line { other.new ≡ notified own.owed other.old }
 {
@@ -512,63 +474,38 @@ fn pays(own: ChannelClient, place: Place, other: &mut ClientLine) -> ChannelClie
 }
 
 // A look, which takes one if there is one.
-fn looks(own: ChannelClient, found: Found) -> ChannelClient
+fn look(own: ChannelClient, found: Found) -> ChannelClient
     requires may_get { IsSome (place_after own.place Got) }
     requires may_be_busy { IsSome (place_after own.place Busy) }
     ensures { result ≡ looked (unwrap_or (place_after own.place Got) own.place) (unwrap_or (place_after own.place Busy) own.place) own found }
 {
     match found {
         Found::One(message) => ChannelClient {
-            place: hears(own.place, News::Got),
+            place: next_place(own.place, News::Got),
             owed: 1,
             message,
         },
-        Found::Nothing => own.at(hears(own.place, News::Busy)),
-        Found::Over => own.at(hears(own.place, News::Got)),
+        Found::Nothing => ChannelClient {
+            place: next_place(own.place, News::Busy),
+            ..own
+        },
+        Found::Over => ChannelClient {
+            place: next_place(own.place, News::Got),
+            ..own
+        },
     }
 }
 
 // A sender begins to send this message.
-fn begins(sends: bool, own: ChannelClient, message: usize) -> Option<ChannelClient>
-    ensures moves { (found : Found) (client : ℕ) (line other : Line) → Moves sends own found client (Send message) line other result line other }
+fn begin(sends: bool, own: ChannelClient, message: usize) -> Option<ChannelClient>
+    ensures moves { (found : Found) (client : ℕ) (line other : Line) → Moves (from (Send message) own.place sends client own found line other) line other result line other }
 {
     match own.place {
         Place::Idle if sends => Some(ChannelClient {
-            place: hears(own.place, News::Begin),
+            place: next_place(own.place, News::Begin),
             message,
             ..own
         }),
-        _ => None,
-    }
-}
-
-fn is_polled(own: ChannelClient, client: usize, line: &mut ClientLine) -> Option<ChannelClient>
-    requires client { client < length line.old.awake }
-    ensures moves { (sends : Bool) (found : Found) (other : Line) → Moves sends own found client Poll line.old other result line.new other }
-{
-    match own.place {
-        Place::Parked => Some(own.at(wakes(client, line))),
-        _ => None,
-    }
-}
-
-fn is_late(own: ChannelClient, client: usize, line: &mut ClientLine) -> Option<ChannelClient>
-    requires client { client < length line.old.awake }
-    ensures moves { (sends : Bool) (found : Found) (other : Line) → Moves sends own found client TimeOut line.old other result line.new other }
-{
-    match own.place {
-        Place::Parked => Some(own.at(times_out(client, line))),
-        _ => None,
-    }
-}
-
-fn cancels(own: ChannelClient, client: usize, line: &mut ClientLine) -> Option<ChannelClient>
-    requires client { client < length line.old.awake }
-    ensures moves { (sends : Bool) (found : Found) (other : Line) → Moves sends own found client Cancel line.old other result line.new other }
-{
-    match own.place {
-        Place::ToRegister => Some(own.at(drops_out(own.place, client, line))),
-        Place::Parked => Some(own.at(drops_out(own.place, client, line))),
         _ => None,
     }
 }

@@ -1,12 +1,13 @@
-ghost use Rattle.std.specs.Prelude.{◌≡◌, ◌<◌, is_some, unwrap_or, if◌then◌else◌, length, slice_get, Some, IfOk, IsFalse};
+ghost use Rattle.std.specs.Prelude.{◌≡◌, ◌<◌, is_some, if◌then◌else◌, length, slice_get, Some, IfOk, IsFalse};
 ghost use Rattle.event_worlds.specs.declared.world.flag.FlagPlace.TheVariants.{Check1, Check2, Done, Parked};
-ghost use Rattle.event_worlds.specs.declared.world.acts.Act.TheVariants.{Go};
 ghost use Rattle.event_worlds.specs.Line.{IsLine, is_told, is_in_line, has_wake, has_serial_left, joined, registered, told_left};
-ghost use Rattle.event_worlds.specs.Flag.{start, next, next_of_setter, after, after_all, taken};
-ghost use Rattle.event_worlds.specs.FlagInvariant.{IsSound, MayBeAt, Moves, SetterMoves};
+ghost use Rattle.event_worlds.specs.Flag.{start, from, from_setter, next, next_of_client, next_of_setter, after, after_all, taken};
+ghost use Rattle.event_worlds.specs.FlagInvariant.{MayBeAt};
 ghost use Rattle.event_worlds.specs.FlagSafety.{IsSafe, NotifiesDefault, InLineAreListening};
+ghost use Rattle.event_worlds.specs.Steps.{Moves, Takes};
 
 use super::acts::{Act, Step};
+use super::client::find;
 use super::line::ClientLine;
 use std::alloc::{AllocError, Global};
 use std::marker::Model;
@@ -98,22 +99,17 @@ impl FlagWorld {
         ensures notifies_default { IfOk result NotifiesDefault }
         ensures in_line_are_those_listening { IfOk result InLineAreListening }
     {
-        Self::make(alloc, clients, setters, first)
-    }
-
-    fn make(alloc: Global, clients: usize, setters: usize, first: u64) -> Result<Self, AllocError>
-        ensures start { IfOk result (λ world. world ≡ start clients setters first) }
-        ensures sound { IfOk result IsSound }
-    {
         let places = vec![in alloc; FlagPlace::Check1; clients]?;
         let setters = vec![in alloc; SetterPlace::ToSet; setters]?;
         let line = ClientLine::new(alloc, false, clients, first)?;
-        Ok(FlagWorld {
+        let world = FlagWorld {
             flag: false,
             places,
             setters,
             line,
-        })
+        };
+        world.reveal_invariant();
+        Ok(world)
     }
 
     /// Makes a step of one actor, and returns whether it was one: an act that the tables of steps have at the place of
@@ -126,36 +122,33 @@ impl FlagWorld {
         ensures notifies_default { NotifiesDefault self.new }
         ensures in_line_are_those_listening { InLineAreListening self.new }
     {
-        self.take_step(actor, act)
+        let taken = self.take_step(actor, act);
+        self.reveal_invariant();
+        taken
     }
 
     fn take_step(&mut self, actor: usize, act: Act) -> bool
-        ensures step { self.new ≡ after actor act self.old }
-        ensures answer { result ≡ is_some (next actor act self.old) }
-        ensures sound { IsSound self.new }
+        ensures takes { Takes (next actor act self.old) self.old result self.new }
     {
         let clients = self.places.len();
         match act {
             Act::Go => {
                 if actor < clients {
-                    self.client_goes(actor)
+                    self.take_client_step(actor)
                 } else {
-                    self.setter_goes(actor - clients)
+                    self.take_setter_step(actor - clients)
                 }
             }
-            Act::Poll => false,
-            Act::TimeOut => false,
-            Act::Cancel => false,
+            Act::Poll | Act::TimeOut | Act::Cancel => false,
         }
     }
 
-    fn client_goes(&mut self, client: usize) -> bool
-        requires client { client < length self.old.places }
-        ensures step { self.new ≡ after client Go self.old }
-        ensures answer { result ≡ is_some (next client Go self.old) }
-        ensures sound { IsSound self.new }
+    fn take_client_step(&mut self, client: usize) -> bool
+        ensures takes { Takes (next_of_client client self.old) self.old result self.new }
     {
-        let place = self.places[client];
+        let Some(place) = find(&self.places, client) else {
+            return false;
+        };
         match moves(place, client, self.flag, &mut self.line) {
             Some(place) => {
                 self.places[client] = place;
@@ -165,16 +158,12 @@ impl FlagWorld {
         }
     }
 
-    fn setter_goes(&mut self, setter: usize) -> bool
-        ensures step { self.new ≡ unwrap_or (next_of_setter setter self.old) self.old }
-        ensures answer { result ≡ is_some (next_of_setter setter self.old) }
-        ensures sound { IsSound self.new }
+    fn take_setter_step(&mut self, setter: usize) -> bool
+        ensures takes { Takes (next_of_setter setter self.old) self.old result self.new }
     {
-        let _line = &self.line;
-        if setter >= self.setters.len() {
+        let Some(place) = find(&self.setters, setter) else {
             return false;
-        }
-        let place = self.setters[setter];
+        };
         match setter_moves(place, self.flag, &mut self.line) {
             Some(made) => {
                 self.flag = made.flag;
@@ -194,17 +183,19 @@ impl FlagWorld {
         ensures notifies_default { NotifiesDefault self.new }
         ensures in_line_are_those_listening { InLineAreListening self.new }
     {
-        self.is_sound();
         let mut taken = 0;
         for step in steps {
             taken += usize::from(self.take_step(step.client, step.act));
         }
+        self.reveal_invariant();
         taken
     }
 
-    // What the type keeps, for code that reads none of its fields.
-    fn is_sound(&self)
-        ensures { IsSound self.now }
+    // What follows from what the type keeps, which is known where a field is read.
+    fn reveal_invariant(&self)
+        ensures safe { IsSafe self.now }
+        ensures notifies_default { NotifiesDefault self.now }
+        ensures in_line_are_those_listening { InLineAreListening self.now }
     {
         let _line = &self.line;
     }
@@ -267,7 +258,7 @@ impl FlagWorld {
 fn moves(place: FlagPlace, client: usize, flag: bool, line: &mut ClientLine) -> Option<FlagPlace>
     requires client { client < length line.old.awake }
     requires may_be_at { MayBeAt place client line.old }
-    ensures moves { Moves place client flag line.old result line.new }
+    ensures moves { Moves (from place client flag line.old) line.old result line.new }
     ensures line { IsLine line.old → IsLine line.new }
 {
     match place {
@@ -328,7 +319,7 @@ fn registers(client: usize, line: &mut ClientLine) -> FlagPlace
 
 // The table of a setter: where it goes from this place, if it has a step. The line changes with it.
 fn setter_moves(place: SetterPlace, flag: bool, line: &mut ClientLine) -> Option<SetterMove>
-    ensures moves { SetterMoves place flag line.old result line.new }
+    ensures moves { Moves (from_setter place flag line.old) line.old result line.new }
     ensures line { IsLine line.old → IsLine line.new }
 {
     match place {

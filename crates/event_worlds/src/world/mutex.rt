@@ -1,17 +1,15 @@
-ghost use Rattle.std.specs.Prelude.{◌≡◌, ◌<◌, true, is_some, is_none, unwrap_or, if◌then◌else◌, Some, length, slice_get, IfOk, IsFalse, IsSome};
-ghost use Rattle.event_worlds.specs.declared.world.acts.Act.TheVariants.{Go, Poll, TimeOut, Cancel};
-ghost use Rattle.event_worlds.specs.declared.world.place.Place.TheVariants.{Idle, First, Second, Parked};
-ghost use Rattle.event_worlds.specs.declared.world.place.News.TheVariants.{Got, Busy, Dropped};
+ghost use Rattle.std.specs.Prelude.{◌≡◌, ◌<◌, is_some, unwrap_or, Some, length, slice_get, IfOk, IsSome};
+ghost use Rattle.event_worlds.specs.declared.world.acts.Act.TheVariants.{Go};
+ghost use Rattle.event_worlds.specs.declared.world.place.News.TheVariants.{Got, Busy};
 ghost use Rattle.event_worlds.specs.ClientTable.{place_after};
-ghost use Rattle.event_worlds.specs.Line.{is_told, is_in_line, has_wake, has_serial_left, joined, registered, told_left, waiting_left, dropped};
-ghost use Rattle.event_worlds.specs.Mutex.{start, next, after, after_all, taken};
-ghost use Rattle.event_worlds.specs.MutexInvariant.{IsSound};
-ghost use Rattle.event_worlds.specs.MutexMove.{Moves};
+ghost use Rattle.event_worlds.specs.Line.{is_told, has_wake};
+ghost use Rattle.event_worlds.specs.Mutex.{start, tried, from, next, after, after_all, taken};
 ghost use Rattle.event_worlds.specs.MutexSafety.{IsSafe, HolderIsInside, AtMostOneTold, NotifiesDefault, InLineAreListening};
 ghost use Rattle.event_worlds.specs.Served.{MayBeAt};
+ghost use Rattle.event_worlds.specs.Steps.{Moves, Takes};
 
 use super::acts::{Act, Step};
-use super::client::{drops_out, hears, listens, registers, times_out, wakes};
+use super::client::{find, next_place, wait};
 use super::line::ClientLine;
 use super::place::{News, Place};
 use std::alloc::{AllocError, Global};
@@ -46,14 +44,6 @@ struct Move {
     place: Place,
 }
 
-impl Move {
-    fn to(place: Place, holder: Option<usize>) -> Self
-        ensures { result ≡ record { holder = holder; place = place } }
-    {
-        Move { holder, place }
-    }
-}
-
 impl MutexWorld {
     /// A free lock and that many clients, none of whom wants it. The first that listens gets the serial 0.
     ///
@@ -79,20 +69,15 @@ impl MutexWorld {
         ensures notifies_default { IfOk result NotifiesDefault }
         ensures in_line_are_those_listening { IfOk result InLineAreListening }
     {
-        Self::make(alloc, clients, first)
-    }
-
-    fn make(alloc: Global, clients: usize, first: u64) -> Result<Self, AllocError>
-        ensures start { IfOk result (λ world. world ≡ start clients first) }
-        ensures sound { IfOk result IsSound }
-    {
         let places = vec![in alloc; Place::Idle; clients]?;
         let line = ClientLine::new(alloc, false, clients, first)?;
-        Ok(MutexWorld {
+        let world = MutexWorld {
             holder: None,
             places,
             line,
-        })
+        };
+        world.reveal_invariant();
+        Ok(world)
     }
 
     /// Makes a step of one client, and returns whether it was one: an act that the table of steps has at the place of
@@ -106,19 +91,17 @@ impl MutexWorld {
         ensures notifies_default { NotifiesDefault self.new }
         ensures in_line_are_those_listening { InLineAreListening self.new }
     {
-        self.take_step(client, act)
+        let taken = self.take_step(client, act);
+        self.reveal_invariant();
+        taken
     }
 
     fn take_step(&mut self, client: usize, act: Act) -> bool
-        ensures step { self.new ≡ after client act self.old }
-        ensures answer { result ≡ is_some (next client act self.old) }
-        ensures sound { IsSound self.new }
+        ensures takes { Takes (next client act self.old) self.old result self.new }
     {
-        let _line = &self.line;
-        if client >= self.places.len() {
+        let Some(place) = find(&self.places, client) else {
             return false;
-        }
-        let place = self.places[client];
+        };
         match moves(self.holder, place, client, act, &mut self.line) {
             Some(made) => {
                 self.holder = made.holder;
@@ -139,17 +122,21 @@ impl MutexWorld {
         ensures notifies_default { NotifiesDefault self.new }
         ensures in_line_are_those_listening { InLineAreListening self.new }
     {
-        self.is_sound();
         let mut taken = 0;
         for step in steps {
             taken += usize::from(self.take_step(step.client, step.act));
         }
+        self.reveal_invariant();
         taken
     }
 
-    // What the type keeps, for code that reads none of its fields.
-    fn is_sound(&self)
-        ensures { IsSound self.now }
+    // What follows from what the type keeps, which is known where a field is read.
+    fn reveal_invariant(&self)
+        ensures safe { IsSafe self.now }
+        ensures holder_is_the_one_inside { HolderIsInside self.now }
+        ensures at_most_one_told { AtMostOneTold self.now }
+        ensures notifies_default { NotifiesDefault self.now }
+        ensures in_line_are_those_listening { InLineAreListening self.now }
     {
         let _line = &self.line;
     }
@@ -203,97 +190,56 @@ fn moves(
 ) -> Option<Move>
     requires client { client < length line.old.awake }
     requires may_be_at { MayBeAt place client line.old }
-    ensures moves { Moves holder place client act line.old result line.new }
+    ensures moves { Moves (from act place client holder line.old) line.old result line.new }
 {
     match act {
-        Act::Go => goes(holder, place, client, line),
-        Act::Poll => is_polled(holder, place, client, line),
-        Act::TimeOut => is_late(holder, place, client, line),
-        Act::Cancel => cancels(holder, place, client, line),
+        Act::Go => go(holder, place, client, line),
+        Act::Poll | Act::TimeOut | Act::Cancel => {
+            let place = wait(place, act, client, line)?;
+            Some(Move { holder, place })
+        }
     }
 }
 
-fn goes(holder: Option<usize>, place: Place, client: usize, line: &mut ClientLine) -> Option<Move>
+fn go(holder: Option<usize>, place: Place, client: usize, line: &mut ClientLine) -> Option<Move>
     requires client { client < length line.old.awake }
     requires may_be_at { MayBeAt place client line.old }
-    ensures moves { Moves holder place client Go line.old result line.new }
+    ensures moves { Moves (from Go place client holder line.old) line.old result line.new }
 {
     match place {
-        Place::Idle => Some(Move::to(hears(place, News::Begin), holder)),
-        Place::First { .. } => Some(tries(holder, place, client)),
-        Place::ToListen => Some(Move::to(listens(client, line), holder)),
-        Place::Second => Some(tries(holder, place, client)),
-        Place::Ending => Some(Move::to(drops_out(place, client, line), holder)),
-        Place::ToRegister => Some(Move::to(registers(client, line), holder)),
-        Place::Parked => {
-            if line.has_wake(client) {
-                Some(Move::to(wakes(client, line), holder))
-            } else {
-                None
-            }
-        }
-        Place::Holding => Some(Move::to(hears(place, News::Freed), None)),
+        Place::First { .. } | Place::Second => Some(try_lock(holder, place, client)),
+        Place::Holding => Some(Move {
+            holder: None,
+            place: next_place(place, News::Freed),
+        }),
         Place::Releasing => {
             line.notify(1);
-            Some(Move::to(hears(place, News::Notified), holder))
+            Some(Move {
+                holder,
+                place: next_place(place, News::Notified),
+            })
+        }
+        Place::Idle | Place::ToListen | Place::Ending | Place::ToRegister | Place::Parked => {
+            let place = wait(place, Act::Go, client, line)?;
+            Some(Move { holder, place })
         }
     }
 }
 
 // A try of the lock, which takes it if it is free.
-fn tries(holder: Option<usize>, place: Place, client: usize) -> Move
+fn try_lock(holder: Option<usize>, place: Place, client: usize) -> Move
     requires may_get { IsSome (place_after place Got) }
     requires may_be_busy { IsSome (place_after place Busy) }
-    ensures { result ≡ (if is_none holder then record { holder = Some client; place = unwrap_or (place_after place Got) place } else record { holder = holder; place = unwrap_or (place_after place Busy) place }) }
+    ensures { result ≡ tried (unwrap_or (place_after place Got) place) (unwrap_or (place_after place Busy) place) client holder }
 {
     match holder {
-        None => Move::to(hears(place, News::Got), Some(client)),
-        Some(_) => Move::to(hears(place, News::Busy), holder),
-    }
-}
-
-fn is_polled(
-    holder: Option<usize>,
-    place: Place,
-    client: usize,
-    line: &mut ClientLine,
-) -> Option<Move>
-    requires client { client < length line.old.awake }
-    ensures moves { Moves holder place client Poll line.old result line.new }
-{
-    match place {
-        Place::Parked => Some(Move::to(wakes(client, line), holder)),
-        _ => None,
-    }
-}
-
-fn is_late(
-    holder: Option<usize>,
-    place: Place,
-    client: usize,
-    line: &mut ClientLine,
-) -> Option<Move>
-    requires client { client < length line.old.awake }
-    ensures moves { Moves holder place client TimeOut line.old result line.new }
-{
-    match place {
-        Place::Parked => Some(Move::to(times_out(client, line), holder)),
-        _ => None,
-    }
-}
-
-fn cancels(
-    holder: Option<usize>,
-    place: Place,
-    client: usize,
-    line: &mut ClientLine,
-) -> Option<Move>
-    requires client { client < length line.old.awake }
-    ensures moves { Moves holder place client Cancel line.old result line.new }
-{
-    match place {
-        Place::ToRegister => Some(Move::to(drops_out(place, client, line), holder)),
-        Place::Parked => Some(Move::to(drops_out(place, client, line), holder)),
-        _ => None,
+        None => Move {
+            holder: Some(client),
+            place: next_place(place, News::Got),
+        },
+        Some(_) => Move {
+            holder,
+            place: next_place(place, News::Busy),
+        },
     }
 }

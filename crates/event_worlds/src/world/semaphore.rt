@@ -1,15 +1,15 @@
-ghost use Rattle.std.specs.Prelude.{◌≡◌, ◌+◌, ◌-◌, ◌^◌, ◌<◌, nat_lt, is_some, unwrap_or, if◌then◌else◌, Some, length, slice_get, IfOk, IsSome, IsSomeAnd};
-ghost use Rattle.event_worlds.specs.declared.world.acts.SemAct.TheVariants.{Go, More, TimeOut, Cancel};
+ghost use Rattle.std.specs.Prelude.{◌≡◌, ℕ, ◌+◌, ◌^◌, ◌<◌, is_some, unwrap_or, length, slice_get, IfOk, IsSome, IsSomeAnd};
+ghost use Rattle.event_worlds.specs.declared.world.acts.SemAct.TheVariants.{Go, More};
 ghost use Rattle.event_worlds.specs.declared.world.place.News.TheVariants.{Got, Busy, Freed, Notified};
 ghost use Rattle.event_worlds.specs.ClientTable.{place_after};
-ghost use Rattle.event_worlds.specs.Line.{is_told, has_wake, notified};
-ghost use Rattle.event_worlds.specs.Semaphore.{start, next, after, after_all, taken, moved, got};
-ghost use Rattle.event_worlds.specs.SemaphoreInvariant.{IsSound, Moves};
+ghost use Rattle.event_worlds.specs.Line.{Line, is_told, has_wake, notified};
+ghost use Rattle.event_worlds.specs.Semaphore.{start, tried, freed, paid, from, next, after, after_all, taken};
 ghost use Rattle.event_worlds.specs.SemaphoreSafety.{IsSafe, PermitsAddUp, NotifiesAdditional, InLineAreListening};
 ghost use Rattle.event_worlds.specs.Served.{MayBeAt};
+ghost use Rattle.event_worlds.specs.Steps.{Moves, Takes};
 
-use super::acts::{SemAct, SemStep};
-use super::client::{drops_out, hears, listens, registers, times_out, wakes};
+use super::acts::{Act, SemAct, SemStep};
+use super::client::{find, next_place, wait};
 use super::line::ClientLine;
 use super::place::{News, Place};
 use std::alloc::{AllocError, Global};
@@ -21,15 +21,6 @@ struct SemaphoreClient {
     place: Place,
     held: usize,
     owed: usize,
-}
-
-impl SemaphoreClient {
-    // The client at another place.
-    fn at(self, place: Place) -> Self
-        ensures { result ≡ moved place self }
-    {
-        SemaphoreClient { place, ..self }
-    }
 }
 
 /// A semaphore with its clients, and the line in which they wait for its permits.
@@ -75,13 +66,6 @@ impl SemaphoreWorld {
         ensures notifies_additional { IfOk result NotifiesAdditional }
         ensures in_line_are_those_listening { IfOk result InLineAreListening }
     {
-        Self::make(alloc, clients, permits)
-    }
-
-    fn make(alloc: Global, clients: usize, permits: usize) -> Result<Self, AllocError>
-        ensures start { IfOk result (λ world. world ≡ start clients permits) }
-        ensures sound { IfOk result IsSound }
-    {
         let idle = SemaphoreClient {
             place: Place::Idle,
             held: 0,
@@ -89,12 +73,14 @@ impl SemaphoreWorld {
         };
         let clients_idle = vec![in alloc; idle; clients]?;
         let line = ClientLine::new(alloc, true, clients, 0)?;
-        Ok(SemaphoreWorld {
+        let world = SemaphoreWorld {
             permits,
             free: permits,
             clients: clients_idle,
             line,
-        })
+        };
+        world.reveal_invariant();
+        Ok(world)
     }
 
     /// Makes a step of one client, and returns whether it was one: an act that the table of steps has at the place of
@@ -107,19 +93,17 @@ impl SemaphoreWorld {
         ensures notifies_additional { NotifiesAdditional self.new }
         ensures in_line_are_those_listening { InLineAreListening self.new }
     {
-        self.take_step(client, act)
+        let taken = self.take_step(client, act);
+        self.reveal_invariant();
+        taken
     }
 
     fn take_step(&mut self, client: usize, act: SemAct) -> bool
-        ensures step { self.new ≡ after client act self.old }
-        ensures answer { result ≡ is_some (next client act self.old) }
-        ensures sound { IsSound self.new }
+        ensures takes { Takes (next client act self.old) self.old result self.new }
     {
-        let _line = &self.line;
-        if client >= self.clients.len() {
+        let Some(own) = find(&self.clients, client) else {
             return false;
-        }
-        let own = self.clients[client];
+        };
         match moves(own, self.free, client, act, &mut self.line) {
             Some(made) => {
                 self.free = made.free;
@@ -139,17 +123,20 @@ impl SemaphoreWorld {
         ensures notifies_additional { NotifiesAdditional self.new }
         ensures in_line_are_those_listening { InLineAreListening self.new }
     {
-        self.is_sound();
         let mut taken = 0;
         for step in steps {
             taken += usize::from(self.take_step(step.client, step.act));
         }
+        self.reveal_invariant();
         taken
     }
 
-    // What the type keeps, for code that reads none of its fields.
-    fn is_sound(&self)
-        ensures { IsSound self.now }
+    // What follows from what the type keeps, which is known where a field is read.
+    fn reveal_invariant(&self)
+        ensures safe { IsSafe self.now }
+        ensures permits_add_up { PermitsAddUp self.now }
+        ensures notifies_additional { NotifiesAdditional self.now }
+        ensures in_line_are_those_listening { InLineAreListening self.now }
     {
         let _line = &self.line;
     }
@@ -228,17 +215,21 @@ fn moves(
     requires client { client < length line.old.awake }
     requires may_be_at { MayBeAt own.place client line.old }
     requires fits { free + own.held < 2 ^ 64 }
-    ensures moves { Moves own free client act line.old result line.new }
+    ensures moves { Moves (from act own.place client own free line.old) line.old result line.new }
 {
-    match act {
-        SemAct::Go => goes(own, free, client, line),
-        SemAct::More => takes_more(own, free, client, line),
-        SemAct::TimeOut => is_late(own, free, client, line),
-        SemAct::Cancel => cancels(own, free, client, line),
-    }
+    let place = match act {
+        SemAct::Go => return go(own, free, client, line),
+        SemAct::More => return take_more(own, free),
+        SemAct::TimeOut => wait(own.place, Act::TimeOut, client, line)?,
+        SemAct::Cancel => wait(own.place, Act::Cancel, client, line)?,
+    };
+    Some(SemaphoreMove {
+        own: SemaphoreClient { place, ..own },
+        free,
+    })
 }
 
-fn goes(
+fn go(
     own: SemaphoreClient,
     free: usize,
     client: usize,
@@ -247,40 +238,32 @@ fn goes(
     requires client { client < length line.old.awake }
     requires may_be_at { MayBeAt own.place client line.old }
     requires fits { free + own.held < 2 ^ 64 }
-    ensures moves { Moves own free client Go line.old result line.new }
+    ensures moves { Moves (from Go own.place client own free line.old) line.old result line.new }
 {
-    let place = match own.place {
-        Place::Idle => hears(own.place, News::Begin),
-        Place::First { .. } => return Some(tries(own, free)),
-        Place::ToListen => listens(client, line),
-        Place::Second => return Some(tries(own, free)),
-        Place::Ending => drops_out(own.place, client, line),
-        Place::ToRegister => registers(client, line),
-        Place::Parked => {
-            if !line.has_wake(client) {
-                return None;
-            }
-            wakes(client, line)
+    match own.place {
+        Place::First { .. } | Place::Second => Some(try_acquire(own, free)),
+        Place::Holding => Some(release(own, free)),
+        Place::Releasing => Some(notify(own, free, line)),
+        Place::Idle | Place::ToListen | Place::Ending | Place::ToRegister | Place::Parked => {
+            let place = wait(own.place, Act::Go, client, line)?;
+            Some(SemaphoreMove {
+                own: SemaphoreClient { place, ..own },
+                free,
+            })
         }
-        Place::Holding => return Some(frees(own, free)),
-        Place::Releasing => return Some(notifies(own, free, line)),
-    };
-    Some(SemaphoreMove {
-        own: own.at(place),
-        free,
-    })
+    }
 }
 
 // A try, which takes a permit if one is free.
-fn tries(own: SemaphoreClient, free: usize) -> SemaphoreMove
+fn try_acquire(own: SemaphoreClient, free: usize) -> SemaphoreMove
     requires may_get { IsSome (place_after own.place Got) }
     requires may_be_busy { IsSome (place_after own.place Busy) }
-    ensures { result ≡ (if nat_lt 0 free then record { own = got (unwrap_or (place_after own.place Got) own.place) own; free = free - 1 } else record { own = moved (unwrap_or (place_after own.place Busy) own.place) own; free = free }) }
+    ensures { result ≡ tried (unwrap_or (place_after own.place Got) own.place) (unwrap_or (place_after own.place Busy) own.place) own free }
 {
     if free > 0 {
         SemaphoreMove {
             own: SemaphoreClient {
-                place: hears(own.place, News::Got),
+                place: next_place(own.place, News::Got),
                 held: 1,
                 ..own
             },
@@ -288,21 +271,24 @@ fn tries(own: SemaphoreClient, free: usize) -> SemaphoreMove
         }
     } else {
         SemaphoreMove {
-            own: own.at(hears(own.place, News::Busy)),
+            own: SemaphoreClient {
+                place: next_place(own.place, News::Busy),
+                ..own
+            },
             free,
         }
     }
 }
 
 // All permits that the client holds become free, in one step. As many notifications are to come.
-fn frees(own: SemaphoreClient, free: usize) -> SemaphoreMove
+fn release(own: SemaphoreClient, free: usize) -> SemaphoreMove
     requires may_free { IsSome (place_after own.place Freed) }
     requires fits { free + own.held < 2 ^ 64 }
-    ensures { result ≡ record { own = record { place = unwrap_or (place_after own.place Freed) own.place; held = 0; owed = own.held }; free = free + own.held } }
+    ensures { result ≡ freed (unwrap_or (place_after own.place Freed) own.place) own free }
 {
     SemaphoreMove {
         own: SemaphoreClient {
-            place: hears(own.place, News::Freed),
+            place: next_place(own.place, News::Freed),
             held: 0,
             owed: own.held,
         },
@@ -311,15 +297,15 @@ fn frees(own: SemaphoreClient, free: usize) -> SemaphoreMove
 }
 
 // The client notifies of all permits that it freed.
-fn notifies(own: SemaphoreClient, free: usize, line: &mut ClientLine) -> SemaphoreMove
+fn notify(own: SemaphoreClient, free: usize, line: &mut ClientLine) -> SemaphoreMove
     requires may_notify { IsSome (place_after own.place Notified) }
-    ensures made { result ≡ record { own = record own { place = unwrap_or (place_after own.place Notified) own.place; owed = 0 }; free = free } }
+    ensures made { result ≡ paid (unwrap_or (place_after own.place Notified) own.place) own free }
     ensures line { line.new ≡ notified own.owed line.old }
 {
     line.notify(own.owed);
     SemaphoreMove {
         own: SemaphoreClient {
-            place: hears(own.place, News::Notified),
+            place: next_place(own.place, News::Notified),
             owed: 0,
             ..own
         },
@@ -327,14 +313,10 @@ fn notifies(own: SemaphoreClient, free: usize, line: &mut ClientLine) -> Semapho
     }
 }
 
-fn takes_more(
-    own: SemaphoreClient,
-    free: usize,
-    client: usize,
-    line: &mut ClientLine,
-) -> Option<SemaphoreMove>
+// A client that holds a permit takes one more, if one is free.
+fn take_more(own: SemaphoreClient, free: usize) -> Option<SemaphoreMove>
     requires fits { free + own.held < 2 ^ 64 }
-    ensures moves { Moves own free client More line.old result line.new }
+    ensures moves { (client : ℕ) (line : Line) → Moves (from More own.place client own free line) line result line }
 {
     match own.place {
         Place::Holding if free > 0 => Some(SemaphoreMove {
@@ -343,46 +325,6 @@ fn takes_more(
                 ..own
             },
             free: free - 1,
-        }),
-        _ => None,
-    }
-}
-
-fn is_late(
-    own: SemaphoreClient,
-    free: usize,
-    client: usize,
-    line: &mut ClientLine,
-) -> Option<SemaphoreMove>
-    requires client { client < length line.old.awake }
-    ensures moves { Moves own free client TimeOut line.old result line.new }
-{
-    match own.place {
-        Place::Parked => Some(SemaphoreMove {
-            own: own.at(times_out(client, line)),
-            free,
-        }),
-        _ => None,
-    }
-}
-
-fn cancels(
-    own: SemaphoreClient,
-    free: usize,
-    client: usize,
-    line: &mut ClientLine,
-) -> Option<SemaphoreMove>
-    requires client { client < length line.old.awake }
-    ensures moves { Moves own free client Cancel line.old result line.new }
-{
-    match own.place {
-        Place::ToRegister => Some(SemaphoreMove {
-            own: own.at(drops_out(own.place, client, line)),
-            free,
-        }),
-        Place::Parked => Some(SemaphoreMove {
-            own: own.at(drops_out(own.place, client, line)),
-            free,
         }),
         _ => None,
     }

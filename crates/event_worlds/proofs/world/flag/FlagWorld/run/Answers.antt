@@ -1,8 +1,0 @@
-use Rattle.event_worlds.proofs.FlagSafetyLemmas.{safe, in_line_are_listening}
-use Rattle.event_worlds.proofs.world.flag.FlagWorld.run.Goals as goal
-
-pub returns-clause-safe : goal.returns-clause-safe
-returns-clause-safe c = safe c.loop-step.self c.loop-step.invariant.sound
-
-pub returns-clause-in_line_are_those_listening : goal.returns-clause-in_line_are_those_listening
-returns-clause-in_line_are_those_listening c = in_line_are_listening c.loop-step.self c.loop-step.invariant.sound
