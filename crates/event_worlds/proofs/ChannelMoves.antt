@@ -1,5 +1,5 @@
 -- From a move of one client to the step of the channel world.
-use Rattle.std.proofs.Common.{◌≡◌, ℕ, ◌++◌, true, false, min, List, length, drop, slice_get, slice_set, Option, Some, None, sym, ap, ◌∙◌, subst, arith}
+use Rattle.std.proofs.Common.{◌≡◌, ℕ, ◌++◌, true, false, List, length, drop, slice_get, slice_set, Option, Some, None, sym, ap, ◌∙◌, subst}
 use Rattle.std.specs.Prelude.{option_to_list}
 use Rattle.event_worlds.specs.declared.world.acts.ChannelAct.{ChannelAct}
 use Rattle.event_worlds.specs.declared.world.channel.ChannelClient.{ChannelClient}
@@ -7,7 +7,7 @@ use Rattle.event_worlds.specs.declared.world.channel.CloserPlace.{CloserPlace}
 use Rattle.event_worlds.specs.declared.world.channel.Found.{Found}
 use Rattle.event_worlds.specs.Buffer.{Buffer}
 use Rattle.event_worlds.specs.ClientTable.{is_listening}
-use Rattle.event_worlds.specs.Line.{Line, IsLine, wanted, notified}
+use Rattle.event_worlds.specs.Line.{Line}
 use Rattle.event_worlds.specs.Served.{is_parked, MayBeAt}
 use Rattle.event_worlds.specs.Steps.{Takes}
 use Rattle.event_worlds.specs.Channel.{Side, ChannelState, channel_of, room_found, message_found, from, passed, sender_goes, receiver_goes, next_of_sender, next_of_receiver}
@@ -18,7 +18,6 @@ use Rattle.event_worlds.proofs.PlacedClients.{place-at}
 use Rattle.event_worlds.proofs.ChannelSafetyLemmas.{senders-none, receivers-none}
 use Rattle.event_worlds.proofs.ChannelSteps.{sound-sender, sound-receiver}
 use Rattle.event_worlds.proofs.InLineLemmas.{out_at}
-use Rattle.event_worlds.proofs.ServedSteps.{tell-counts}
 
 -- from the code's move of one client to the step of the world that it is
 
@@ -78,9 +77,3 @@ module _ (state : ChannelState) (sound : IsSound state) where
   pub receiver_may_be_at : (client : ℕ) (own : ChannelClient) → slice_get state.receivers.clients client ≡ Some own → MayBeAt own.place client state.receivers.line
   receiver_may_be_at =
       side_may_be_at (ReceiversMayTake state.closer (length state.messages)) (all_owed state.senders) state.receivers sound.receivers (receivers-none state.closer (length state.messages))
-
--- what a notification leaves is a line, so it was one before
-pub line-before : (n : ℕ) (line : Line) → IsLine (notified n line) → IsLine line
-line-before n line is =
-    let (told, waiting) = tell-counts (min (wanted n line) (length line.waiting)) line (omega arith) in
-    record { clients_fit = omega (arith, is.clients_fit) }

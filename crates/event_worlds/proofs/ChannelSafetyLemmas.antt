@@ -9,7 +9,7 @@ use Rattle.event_worlds.specs.ClientTable.{is_listening, is_woken}
 use Rattle.event_worlds.specs.Line.{has_wake}
 use Rattle.event_worlds.specs.Served.{is_parked}
 use Rattle.event_worlds.specs.Channel.{Side, ChannelState, is_closed}
-use Rattle.event_worlds.specs.ChannelSafety.{IsAt, SomeUntoldWaits, clients_woken, all_owed, room, ToldRun, EnoughAreOnTheirWay, senders_notified, receivers_notified, IsSafe, MessagesFit, NotifiesAdditional, SideIsListening, InLineAreListening}
+use Rattle.event_worlds.specs.ChannelSafety.{IsAt, SomeUntoldWaits, clients_woken, all_owed, room, ToldRun, EnoughAreOnTheirWay, senders_notified, receivers_notified, IsSafe, SideIsListening, InLineAreListening}
 use Rattle.event_worlds.specs.ChannelInvariant.{place_of, places_of, SendersMayTake, ReceiversMayTake, IsSideSound, IsSound}
 use Rattle.event_worlds.proofs.PlacedClients.{place-some, some-place, number-places}
 use Rattle.event_worlds.proofs.InLineLemmas.{awake_at, in_line_are}
@@ -118,12 +118,6 @@ module _ (state : ChannelState) (sound : IsSound state) where
     told_senders =
         told_run SendersMay (all_owed state.receivers) state.senders sound.senders (senders-none state.closer (room state));
   }
-
-  pub messages_fit : MessagesFit state
-  messages_fit = sound.fits
-
-  pub notifies_additional : NotifiesAdditional state
-  notifies_additional = (sound.senders.kind, sound.receivers.kind)
 
   pub in_line_are_listening : InLineAreListening state
   in_line_are_listening = (

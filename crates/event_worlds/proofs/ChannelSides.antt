@@ -88,7 +88,7 @@ module _ (Own Far : Option ℕ → ℕ → Type 0) (own_none : (message : Option
 
   sides-waits : (act : Act) (to : Place × Line) → waits act own.place client side.line ≡ Some to → Leads None (moved own far.line to)
   sides-waits act to is =
-      let keeps : Waited own.place side.line to = waited client side.line act own.place to is in
+      let keeps : Waited client own.place side.line to = waited client side.line act own.place to is in
       sides-move (record own { place = to.0 }) to.1 refl (λ outside. fits.owed (sym keeps.inside ∙ outside)) (λ free may.
       served-waits free (all_owed far) places side.line client (sound.served free may) act own.place at_place (inl sound.kind) to is) (keeps.kind ∙ sound.kind)
 

@@ -12,8 +12,8 @@ use Rattle.event_worlds.specs.declared.world.channel.CloserPlace.TheVariants.{To
 use Rattle.event_worlds.specs.declared.world.channel.Found.{Found}
 use Rattle.event_worlds.specs.declared.world.channel.Found.TheVariants.{One, Nothing, Over}
 use Rattle.event_worlds.specs.declared.world.place.Place.{Place}
-use Rattle.event_worlds.specs.declared.world.place.Place.TheVariants.{First, Second}
-use Rattle.event_worlds.specs.Line.{Line, IsLine, everybody, notified}
+use Rattle.event_worlds.specs.declared.world.place.Place.TheVariants.{Idle, First, Second}
+use Rattle.event_worlds.specs.Line.{Line, everybody, notified}
 use Rattle.event_worlds.specs.Served.{IsServed}
 use Rattle.event_worlds.specs.Channel.{Side, ChannelState, start, idle, idle_side, is_closed, room_found, first_found, message_found, from, passed, sender_goes, receiver_goes}
 use Rattle.event_worlds.specs.ChannelSafety.{all_owed, room}
@@ -22,7 +22,7 @@ use Rattle.event_worlds.proofs.PlacedClients.{places-same, all-same}
 use Rattle.event_worlds.proofs.ChannelSafetyLemmas.{senders-none, receivers-none}
 use Rattle.event_worlds.proofs.ChannelSides.{Says, sides-keep}
 use Rattle.event_worlds.proofs.ServedSteps.{served-all, served-start}
-use Rattle.event_worlds.proofs.StandingLemmas.{notified-flags, notified-kind, notified-everybody}
+use Rattle.event_worlds.proofs.StandingLemmas.{notified-flags, notified-kind}
 
 -- what may be taken once a sender has sent that, if anything, and once a receiver has received that
 
@@ -98,11 +98,11 @@ side-fewer Had Has owed side fewer sound = record {
 }
 
 -- a side all of which was notified
-side-notified : (Had Has : ℕ → Type 0) (owed : ℕ) (side : Side) → Had 0 → IsLine side.line → IsSideSound Had owed side → IsSideSound Has owed (record { clients = side.clients; line = notified everybody side.line })
-side-notified Had Has owed side may line sound = record {
+side-notified : (Had Has : ℕ → Type 0) (owed : ℕ) (side : Side) → Had 0 → (notified everybody side.line).waiting ≡ [] → IsSideSound Had owed side → IsSideSound Has owed (record { clients = side.clients; line = notified everybody side.line })
+side-notified Had Has owed side may nobody sound = record {
   served =
       λ free _.
-      served-all 0 owed free owed everybody (places_of side.clients) side.line (notified-everybody side.line line) (sound.served 0 may);
+      served-all 0 owed free owed everybody (places_of side.clients) side.line nobody (sound.served 0 may);
   owns = sound.owns;
   flags = notified-flags everybody side.line ∙ sound.flags;
   kind = notified-kind everybody side.line ∙ sound.kind;
@@ -149,21 +149,21 @@ module _ (state : ChannelState) (sound : IsSound state) where
     fits = sound.fits;
   }
 
-  pub sound-notifies_senders : state.closer ≡ ToNotifySenders → IsLine state.senders.line → IsSound (record state { closer = ToNotifyReceivers; senders = record { clients = state.senders.clients; line = notified everybody state.senders.line } })
-  sound-notifies_senders is line = record {
+  pub sound-notifies_senders : state.closer ≡ ToNotifySenders → (notified everybody state.senders.line).waiting ≡ [] → IsSound (record state { closer = ToNotifyReceivers; senders = record { clients = state.senders.clients; line = notified everybody state.senders.line } })
+  sound-notifies_senders is nobody = record {
     senders =
-        side-notified (SendersMayTake state.closer (room state)) (SendersMayTake ToNotifyReceivers (room state)) (all_owed state.receivers) state.senders (subst (λ (c : CloserPlace). SendersMayTake c (room state) 0) (sym is) (omega arith)) line sound.senders;
+        side-notified (SendersMayTake state.closer (room state)) (SendersMayTake ToNotifyReceivers (room state)) (all_owed state.receivers) state.senders (subst (λ (c : CloserPlace). SendersMayTake c (room state) 0) (sym is) (omega arith)) nobody sound.senders;
     receivers =
         side-fewer (ReceiversMayTake state.closer (length state.messages)) (ReceiversMayTake ToNotifyReceivers (length state.messages)) (all_owed state.senders) state.receivers (λ free may. subst (λ (c : CloserPlace). ReceiversMayTake c (length state.messages) free) (sym is) (omega arith)) sound.receivers;
     fits = sound.fits;
   }
 
-  pub sound-notifies_receivers : state.closer ≡ ToNotifyReceivers → IsLine state.receivers.line → IsSound (record state { closer = Done; receivers = record { clients = state.receivers.clients; line = notified everybody state.receivers.line } })
-  sound-notifies_receivers is line = record {
+  pub sound-notifies_receivers : state.closer ≡ ToNotifyReceivers → (notified everybody state.receivers.line).waiting ≡ [] → IsSound (record state { closer = Done; receivers = record { clients = state.receivers.clients; line = notified everybody state.receivers.line } })
+  sound-notifies_receivers is nobody = record {
     senders =
         side-fewer (SendersMayTake state.closer (room state)) (SendersMayTake Done (room state)) (all_owed state.receivers) state.senders (λ free may. subst (λ (c : CloserPlace). SendersMayTake c (room state) free) (sym is) (omega arith)) sound.senders;
     receivers =
-        side-notified (ReceiversMayTake state.closer (length state.messages)) (ReceiversMayTake Done (length state.messages)) (all_owed state.senders) state.receivers (subst (λ (c : CloserPlace). ReceiversMayTake c (length state.messages) 0) (sym is) (omega arith)) line sound.receivers;
+        side-notified (ReceiversMayTake state.closer (length state.messages)) (ReceiversMayTake Done (length state.messages)) (all_owed state.senders) state.receivers (subst (λ (c : CloserPlace). ReceiversMayTake c (length state.messages) 0) (sym is) (omega arith)) nobody sound.receivers;
     fits = sound.fits;
   }
 
@@ -173,7 +173,7 @@ side-start : (MayTake : ℕ → Type 0) (owed clients : ℕ) → IsSideSound May
 side-start MayTake owed clients = record {
   served =
       λ free _.
-      subst (λ (ps : List Place). IsServed free owed ps (idle_side clients).line) (sym (places-same place_of idle clients)) (served-start free owed true clients 0);
+      subst (λ (ps : List Place). IsServed free owed ps (idle_side clients).line) (sym (places-same place_of idle clients)) (served-start Idle refl refl free owed true clients 0);
   owns = all-same OwnFits idle (record { owed = λ _. refl }) clients;
   flags = length-replicate clients false ∙ sym (length-replicate clients idle);
   kind = refl;

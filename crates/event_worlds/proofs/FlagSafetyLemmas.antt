@@ -1,17 +1,21 @@
 -- What the flag world keeps implies that it is safe.
-use Rattle.std.proofs.Common.{◌≡◌, ℕ, true, Some, IsTrue, refl, ap, ◌∙◌, arith, inl, inr}
+use Rattle.std.proofs.Common.{◌≡◌, ℕ, true, slice_get, Some, IsTrue, refl, ap, ◌∙◌, arith, inl, inr}
 use Rattle.std.proofs.lemmas.Bool.{cases_lt}
 use Rattle.event_worlds.specs.declared.world.flag.FlagPlace.{FlagPlace}
 use Rattle.event_worlds.specs.declared.world.flag.FlagPlace.TheVariants.{ToRegister, Parked}
 use Rattle.event_worlds.specs.declared.world.flag.SetterPlace.{SetterPlace}
 use Rattle.event_worlds.specs.declared.world.flag.SetterPlace.TheVariants.{ToSet, ToNotify, Done as IsDone}
+use Rattle.event_worlds.specs.declared.world.place.Place.TheVariants as lock
+use Rattle.event_worlds.specs.ClientTable.{is_listening}
 use Rattle.event_worlds.specs.Line.{is_told, has_wake}
+use Rattle.event_worlds.specs.Served.{is_parked}
 use Rattle.event_worlds.specs.Standing.{number}
-use Rattle.event_worlds.specs.Flag.{FlagState}
-use Rattle.event_worlds.specs.FlagSafety.{IsAt, NoSetterNotifies, IsSafe, NotifiesDefault, is_listening, InLineAreListening}
-use Rattle.event_worlds.specs.FlagInvariant.{is_parked, is_past_second, is_to_notify, IsSound}
+use Rattle.event_worlds.specs.Flag.{FlagState, lock_place}
+use Rattle.event_worlds.specs.FlagSafety.{IsAt, NoSetterNotifies, IsSafe, InLineAreListening}
+use Rattle.event_worlds.specs.FlagInvariant.{places_of, is_to_notify, IsSound}
 use Rattle.event_worlds.proofs.PlaceLemmas.{number-found}
-use Rattle.event_worlds.proofs.InLineLemmas.{told_if, once_at, awake_at, in_line_are}
+use Rattle.event_worlds.proofs.PlacedClients.{place-at, place-some, some-place}
+use Rattle.event_worlds.proofs.InLineLemmas.{awake_at, in_line_are}
 
 notifies_is : (place : SetterPlace) → is_to_notify place ≡ true → place ≡ ToNotify
 notifies_is ToSet notifies = absurd (cc)
@@ -28,26 +32,24 @@ module _ (state : FlagState) (sound : IsSound state) where
         | inr no_more ↦ omega arith
       ]
 
-  told_at : (client : ℕ) (place : FlagPlace) → IsAt client place state → is_listening place ≡ true → is_past_second place ≡ true → state.flag ≡ true → NoSetterNotifies state → is_told client state.line ≡ true
-  told_at client place at listens past flag none =
-      let waiting = sound.settled flag (none-notify none) client place at past in
-      let once = once_at is_listening is_parked state.places state.line sound.fit client place at listens in
-      told_if client state.line (omega arith)
+  there : (client : ℕ) (place : FlagPlace) → IsAt client place state → slice_get (places_of state.places) client ≡ Some (lock_place place)
+  there client place at = place-at lock_place state.places client place at
 
   awake : (client : ℕ) → is_told client state.line ≡ true → IsAt client Parked state → IsTrue (has_wake client state.line)
   awake client told parked =
-      awake_at is_listening is_parked state.places state.line sound.fit client Parked parked refl told
+      awake_at is_listening is_parked (places_of state.places) state.line sound.served.fit client lock.Parked (there client Parked parked) refl told
 
   pub safe : IsSafe state
   safe flag none client (inl at) =
-      let told = told_at client ToRegister at refl refl flag none in
+      let told = sound.settled flag (none-notify none) client lock.ToRegister (there client ToRegister at) refl in
       (told, awake client told)
   safe flag none client (inr at) =
-      let told = told_at client Parked at refl refl flag none in
+      let told = sound.settled flag (none-notify none) client lock.Parked (there client Parked at) refl in
       (told, awake client told)
 
-  pub notifies_default : NotifiesDefault state
-  notifies_default = sound.kind
-
   pub in_line_are_listening : InLineAreListening state
-  in_line_are_listening client = in_line_are is_listening is_parked state.places state.line sound.fit client
+  in_line_are_listening client =
+      let are = in_line_are is_listening is_parked (places_of state.places) state.line sound.served.fit client in (
+        λ in_line. place-some lock_place (λ p. IsTrue (is_listening p)) state.places client (are.0 in_line),
+        λ listens. are.1 (some-place lock_place (λ p. IsTrue (is_listening p)) state.places client listens),
+      )

@@ -1,5 +1,5 @@
 -- What the mutex world keeps implies that it is safe.
-use Rattle.std.proofs.Common.{◌≡◌, ℕ, ◌+◌, ◌<◌, ◌≤◌, ◌⊎◌, true, false, length, slice_get, Option, Some, None, IsTrue, refl, sym, ap, ◌∙◌, arith, inl, inr, eq-eqb, eqb-true}
+use Rattle.std.proofs.Common.{◌≡◌, ℕ, ◌+◌, ◌<◌, ◌≤◌, ◌⊎◌, true, false, length, Some, IsTrue, refl, ap, ◌∙◌, arith, inl, inr}
 use Rattle.std.proofs.lemmas.Bool.{cases_Bool, cases_lt, false_from_ne_true}
 use Rattle.event_worlds.specs.declared.world.place.Place.{Place}
 use Rattle.event_worlds.specs.declared.world.place.Place.TheVariants.{Idle, First, ToListen, Second, Ending, ToRegister, Parked, Holding, Releasing}
@@ -8,8 +8,8 @@ use Rattle.event_worlds.specs.Line.{is_told, has_wake}
 use Rattle.event_worlds.specs.Standing.{number}
 use Rattle.event_worlds.specs.Served.{is_parked, is_releasing}
 use Rattle.event_worlds.specs.Mutex.{MutexState}
-use Rattle.event_worlds.specs.MutexSafety.{IsAt, SomeClientIsAt, IsSafe, HolderIsInside, AtMostOneTold, NotifiesDefault, InLineAreListening}
-use Rattle.event_worlds.specs.MutexInvariant.{is_inside_at, is_holder, free_of, IsSound}
+use Rattle.event_worlds.specs.MutexSafety.{IsAt, SomeClientIsAt, IsSafe, InLineAreListening}
+use Rattle.event_worlds.specs.MutexInvariant.{free_of, IsSound}
 use Rattle.event_worlds.proofs.PlaceLemmas.{number-found}
 use Rattle.event_worlds.proofs.StandingLemmas.{times-any, times-le-length}
 use Rattle.event_worlds.proofs.InLineLemmas.{awake_at, in_line_are}
@@ -77,40 +77,6 @@ module _ (state : MutexState) (sound : IsSound state) where
             let few = enough someone (omega arith) in
             inr (some_way (omega arith))
       ]
-
-  -- the holder
-
-  inside_is : (place : Option Place) → is_inside_at place ≡ true → (place ≡ Some Ending) ⊎ (place ≡ Some Holding)
-  inside_is None inside = absurd (cc)
-  inside_is (Some Idle) inside = absurd (cc)
-  inside_is (Some (First woken)) inside = absurd (cc)
-  inside_is (Some ToListen) inside = absurd (cc)
-  inside_is (Some Second) inside = absurd (cc)
-  inside_is (Some Ending) inside = inl refl
-  inside_is (Some ToRegister) inside = absurd (cc)
-  inside_is (Some Parked) inside = absurd (cc)
-  inside_is (Some Holding) inside = inr refl
-  inside_is (Some Releasing) inside = absurd (cc)
-
-  holder_is : (client : ℕ) (holder : Option ℕ) → is_holder client holder ≡ true → holder ≡ Some client
-  holder_is client None holds = absurd (cc)
-  holder_is client (Some holder) holds = ap Some (sym (eqb-true client holder holds))
-
-  inside_holds : (client : ℕ) → IsAt client Ending state ⊎ IsAt client Holding state → is_inside_at (slice_get state.places client) ≡ true
-  inside_holds client (inl at) = ap is_inside_at at
-  inside_holds client (inr at) = ap is_inside_at at
-
-  pub holder_is_inside : HolderIsInside state
-  holder_is_inside client = (
-    λ holds. inside_is (slice_get state.places client) (sym (sound.inside client) ∙ (ap (is_holder client) holds ∙ eq-eqb client client refl)),
-    λ inside. holder_is client state.holder (sound.inside client ∙ inside_holds client inside),
-  )
-
-  pub at_most_one_told : AtMostOneTold state
-  at_most_one_told = sound.one_told
-
-  pub notifies_default : NotifiesDefault state
-  notifies_default = sound.kind
 
   pub in_line_are_listening : InLineAreListening state
   in_line_are_listening client =

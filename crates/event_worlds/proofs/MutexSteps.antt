@@ -55,7 +55,7 @@ module _ (state : MutexState) (client : ℕ) (sound : IsSound state) (p : Place)
 
   sound-waits : (act : Act) (to : Place × Line) → waits act p client state.line ≡ Some to → Leads (moved state.holder to)
   sound-waits act to is =
-      let keeps : Waited p state.line to = waited client state.line act p to is in
+      let keeps : Waited client p state.line to = waited client state.line act p to is in
       let served = served-waits free owed state.places state.line client sound.served act p at (inr (few_free state.holder)) to is in
       record {
         served = served-owes free owed free (owed_at to.0) (set state.places client to.0) to.1 (omega (arith, owes_as_before to.0 keeps.releasing)) served;
@@ -126,7 +126,7 @@ idle-outside (suc clients) (suc client) = idle-outside clients client
 
 pub start-sound : (clients first : ℕ) → IsSound (start clients first)
 start-sound clients first = record {
-  served = served-start 1 (number is_releasing (replicate clients Idle)) false clients first;
+  served = served-start Idle refl refl 1 (number is_releasing (replicate clients Idle)) false clients first;
   inside = idle-outside clients;
   one_told = omega arith;
   kind = refl;

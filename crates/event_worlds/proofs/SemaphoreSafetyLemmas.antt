@@ -7,7 +7,7 @@ use Rattle.event_worlds.specs.ClientTable.{is_listening, is_woken}
 use Rattle.event_worlds.specs.Line.{has_wake}
 use Rattle.event_worlds.specs.Served.{is_parked}
 use Rattle.event_worlds.specs.Semaphore.{SemaphoreState}
-use Rattle.event_worlds.specs.SemaphoreSafety.{IsAt, SomeUntoldWaits, clients_woken, all_owed, ToldRun, IsSafe, PermitsAddUp, NotifiesAdditional, InLineAreListening}
+use Rattle.event_worlds.specs.SemaphoreSafety.{IsAt, SomeUntoldWaits, clients_woken, all_owed, ToldRun, IsSafe, InLineAreListening}
 use Rattle.event_worlds.specs.SemaphoreInvariant.{place_of, places_of, IsSound}
 use Rattle.event_worlds.proofs.PlacedClients.{place-some, some-place, number-places}
 use Rattle.event_worlds.proofs.InLineLemmas.{awake_at, in_line_are}
@@ -38,12 +38,6 @@ module _ (state : SemaphoreState) (sound : IsSound state) where
 
   pub safe : IsSafe state
   safe = (enough, told_run)
-
-  pub permits_add_up : PermitsAddUp state
-  permits_add_up = sound.added
-
-  pub notifies_additional : NotifiesAdditional state
-  notifies_additional = sound.kind
 
   pub in_line_are_listening : InLineAreListening state
   in_line_are_listening client =

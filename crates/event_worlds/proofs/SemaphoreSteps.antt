@@ -60,7 +60,7 @@ module _ (state : SemaphoreState) (client : ℕ) (sound : IsSound state) (own : 
 
   sound-waits : (act : Act) (to : Place × Line) → waits act own.place client state.line ≡ Some to → Leads (moved own state.free to)
   sound-waits act to is =
-      let keeps : Waited own.place state.line to = waited client state.line act own.place to is in
+      let keeps : Waited client own.place state.line to = waited client state.line act own.place to is in
       let served = served-waits state.free (all_owed state) places state.line client sound.served act own.place at_place (inl sound.kind) to is in
       let none = fits.owed keeps.releasing in
       sound-goes (record { own = record own { place = to.0 }; free = state.free }) to.1 (λ owed same. served-owes state.free (all_owed state) state.free owed (set places client to.0) to.1 (omega arith) served) refl (record {
@@ -149,7 +149,7 @@ module _ (state : SemaphoreState) (client : ℕ) (sound : IsSound state) (own : 
 pub start-sound : (clients permits : ℕ) → IsSound (start clients permits)
 start-sound clients permits = record {
   served =
-      subst (λ (ps : List Place). IsServed permits (all_owed (start clients permits)) ps (start clients permits).line) (sym (places-same place_of idle clients)) (served-start permits (all_owed (start clients permits)) true clients 0);
+      subst (λ (ps : List Place). IsServed permits (all_owed (start clients permits)) ps (start clients permits).line) (sym (places-same place_of idle clients)) (served-start Idle refl refl permits (all_owed (start clients permits)) true clients 0);
   added = omega (arith, sum-same {C = SemaphoreClient} (λ c. c.held) idle clients refl);
   owns = all-same OwnFits idle (record { held = λ _. refl; owed = λ _. refl }) clients;
   kind = refl;

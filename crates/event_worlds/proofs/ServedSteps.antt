@@ -15,7 +15,7 @@ use Rattle.event_worlds.specs.Standing.{times, standing, Fits, FitsAt, number}
 use Rattle.event_worlds.specs.Served.{is_parked, is_inside, is_releasing, is_past_second, IsServed}
 use Rattle.event_worlds.specs.Waiting.{waits}
 use Rattle.event_worlds.proofs.PlaceLemmas.{slice_get-set, slice_get-set_other, number-set}
-use Rattle.event_worlds.proofs.StandingLemmas.{times-any, times-none, times-append, times-le-length, IsSame, same-joined, same-registered, same-told_left, same-waiting_left, same-wake_lost, fits-joined, fits-registered, fits-told_left, fits-waiting_left, fits-wake_lost, fit-changed, fit-notified, fit-start, same-itself, length-without, length-without_one, tell-lengths, notified-flags, dropped-kind}
+use Rattle.event_worlds.proofs.StandingLemmas.{times-any, times-none, times-append, times-without_other, times-le-length, IsSame, same-joined, same-registered, same-told_left, same-waiting_left, same-wake_lost, fits-joined, fits-registered, fits-told_left, fits-waiting_left, fits-wake_lost, fit-changed, fit-notified, fit-start, same-itself, length-without, length-without_one, tell-lengths, notified-flags, dropped-kind}
 
 at_most_one : (b : Bool) → cond {A = ℕ} b 1 0 ≤ 1
 at_most_one true = omega arith
@@ -255,7 +255,7 @@ module _ (free owed : ℕ) (places : List Place) (line : Line) (client : ℕ) (s
             let left = length-without_one client line.told (times-any client line.told told) in
             served-changed q (told_left client line) free (owed + 1) (λ other differs. same-told_left client other line differs) (fits_out (told_left client line) (fits-told_left client line (is_parked p) fits_in told)) refl (λ had. omega (arith, none)) (λ past _. absurd (cc))
 
-        served-drops : (line.additional ≡ true) ⊎ (free ≤ 1) → IsServed free owed (set places client q) (dropped client line)
+        pub served-drops : (line.additional ≡ true) ⊎ (free ≤ 1) → IsServed free owed (set places client q) (dropped client line)
         served-drops kind =
             cond_both (is_told client line) (notified 1 (told_left client line)) (waiting_left client line) (λ (new : Line). IsServed free owed (set places client q) new) (λ told. served-notified free owed 1 (set places client q) (told_left client line) kind (served-to_pass told)) served-leaves
 
@@ -304,11 +304,13 @@ module _ (free owed : ℕ) (places : List Place) (line : Line) (client : ℕ) (s
 
 -- what these steps leave as it was
 
-pub record Waited (p : Place) (line : Line) (to : Place × Line) : Type 0 where
+pub record Waited (client : ℕ) (p : Place) (line : Line) (to : Place × Line) : Type 0 where
   pub inside : is_inside to.0 ≡ is_inside p
   pub releasing : is_releasing p ≡ false
   pub kind : to.1.additional ≡ line.additional
   pub one_told : line.additional ≡ false → length line.told ≤ 1 → length to.1.told ≤ 1
+  pub others_told : (other : ℕ) → other ≢ client → times other line.told ≤ times other to.1.told
+  pub own_told : is_past_second to.0 ≡ true → (is_past_second p ≡ true) × (to.1.told ≡ line.told)
 
 -- a default notification of one leaves at most one told where there was at most one
 pub notified-one_told : (line : Line) → line.additional ≡ false → length line.told ≤ 1 → length (notified 1 line).told ≤ 1
@@ -318,59 +320,79 @@ notified-one_told line default one =
     omega arith
 
 module _ (client : ℕ) (line : Line) where
-  -- nobody is told anew
-  plain : (p q : Place) (new : Line) → is_inside q ≡ is_inside p → is_releasing p ≡ false → new.additional ≡ line.additional → length new.told ≤ length line.told → Waited p line (q, new)
-  plain p q new inside releasing kind fewer = record {
-    inside = inside;
+  -- the told stay as they are
+  plain : (p q : Place) (new : Line) → is_inside q ≡ is_inside p → is_releasing p ≡ false → (is_past_second q ≡ true → is_past_second p ≡ true) → new.additional ≡ line.additional → new.told ≡ line.told → Waited client p line (q, new)
+  plain p q new inside releasing past kind told =
+      let same = ap (λ (ts : List ℕ). length ts) told in
+      record {
+        inside = inside;
+        releasing = releasing;
+        kind = kind;
+        one_told = λ default one. omega arith;
+        others_told = λ other apart. let same_times = ap (times other) told in omega arith;
+        own_told = λ is_past. (past is_past, told);
+      }
+
+  left : (p : Place) → is_inside p ≡ false → is_releasing p ≡ false → Waited client p line (First true, told_left client line)
+  left p outside releasing = record {
+    inside = sym outside;
     releasing = releasing;
-    kind = kind;
-    one_told = λ default one. omega arith;
+    kind = refl;
+    one_told = λ default one. omega (arith, length-without client line.told);
+    others_told = λ other apart. omega (arith, times-without_other client other line.told apart);
+    own_told = λ past. absurd (cc);
   }
 
-  left : (p : Place) → false ≡ is_inside p → is_releasing p ≡ false → Waited p line (First true, told_left client line)
-  left p outside releasing =
-      plain p (First true) (told_left client line) outside releasing refl (length-without client line.told)
-
-  drops : (p q : Place) → is_inside q ≡ is_inside p → is_releasing p ≡ false → Waited p line (q, dropped client line)
-  drops p q inside releasing = record {
+  drops : (p q : Place) → is_inside q ≡ is_inside p → is_releasing p ≡ false → is_past_second q ≡ false → Waited client p line (q, dropped client line)
+  drops p q inside releasing unpast = record {
     inside = inside;
     releasing = releasing;
     kind = dropped-kind client line;
     one_told =
         λ default one.
-        cond_both (is_told client line) (notified 1 (told_left client line)) (waiting_left client line) (λ (new : Line). length new.told ≤ 1) (λ _.
-        notified-one_told (told_left client line) default (omega (arith, length-without client line.told))) (λ _. one);
+        cond_both (is_told client line) (notified 1 gone) (waiting_left client line) (λ (new : Line). length new.told ≤ 1) (λ _.
+        notified-one_told gone default (omega (arith, length-without client line.told))) (λ _. one);
+    others_told =
+        λ other apart.
+        cond_both (is_told client line) (notified 1 gone) (waiting_left client line) (λ (new : Line). times other line.told ≤ times other new.told) (λ _.
+        omega (arith, times-without_other client other line.told apart, tell-still other (min (wanted 1 gone) (length gone.waiting)) gone)) (λ _. omega arith);
+    own_told = λ past. absurd (cc);
   }
+    where
+      gone : Line
+      gone = told_left client line
 
-  waited_at : (act : Act) (p : Place) → IfSome (waits act p client line) (Waited p line)
-  waited_at Go Idle = plain Idle (First false) line refl refl refl (omega arith)
+  waited_at : (act : Act) (p : Place) → IfSome (waits act p client line) (Waited client p line)
+  waited_at Go Idle = plain Idle (First false) line refl refl (λ past. absurd (cc)) refl refl
   waited_at Go ToListen =
-      cond_both (has_serial_left line) (Second, joined client line) (Idle, line) (Waited ToListen line) (λ _. plain ToListen Second (joined client line) refl refl refl (omega arith)) (λ _. plain ToListen Idle line refl refl refl (omega arith))
-  waited_at Go Ending = drops Ending Holding refl refl
+      cond_both (has_serial_left line) (Second, joined client line) (Idle, line) (Waited client ToListen line) (λ _. plain ToListen Second (joined client line) refl refl (λ past. absurd (cc)) refl refl) (λ _. plain ToListen Idle line refl refl (λ past. absurd (cc)) refl refl)
+  waited_at Go Ending = drops Ending Holding refl refl refl
   waited_at Go ToRegister =
-      cond_both (is_told client line) (First true, told_left client line) (Parked, registered client line) (Waited ToRegister line) (λ _. left ToRegister refl refl) (λ _. plain ToRegister Parked (registered client line) refl refl refl (omega arith))
+      cond_both (is_told client line) (First true, told_left client line) (Parked, registered client line) (Waited client ToRegister line) (λ _. left ToRegister refl refl) (λ _. plain ToRegister Parked (registered client line) refl refl (λ _. refl) refl refl)
   waited_at Go Parked =
-      cond_both (has_wake client line) (Some (ToRegister, wake_lost client line)) None (λ (o : Option (Place × Line)). IfSome o (Waited Parked line)) (λ _. plain Parked ToRegister (wake_lost client line) refl refl refl (omega arith)) (λ _. tt)
-  waited_at Poll Parked = plain Parked ToRegister (wake_lost client line) refl refl refl (omega arith)
+      cond_both (has_wake client line) (Some (ToRegister, wake_lost client line)) None (λ (o : Option (Place × Line)). IfSome o (Waited client Parked line)) (λ _. plain Parked ToRegister (wake_lost client line) refl refl (λ _. refl) refl refl) (λ _. tt)
+  waited_at Poll Parked = plain Parked ToRegister (wake_lost client line) refl refl (λ _. refl) refl refl
   waited_at TimeOut Parked =
-      cond_both (is_told client line) (First true, told_left client line) (Idle, waiting_left client line) (Waited Parked line) (λ _. left Parked refl refl) (λ _. plain Parked Idle (waiting_left client line) refl refl refl (omega arith))
-  waited_at Cancel ToRegister = drops ToRegister Idle refl refl
-  waited_at Cancel Parked = drops Parked Idle refl refl
+      cond_both (is_told client line) (First true, told_left client line) (Idle, waiting_left client line) (Waited client Parked line) (λ _. left Parked refl refl) (λ _. plain Parked Idle (waiting_left client line) refl refl (λ past. absurd (cc)) refl refl)
+  waited_at Cancel ToRegister = drops ToRegister Idle refl refl refl
+  waited_at Cancel Parked = drops Parked Idle refl refl refl
   waited_at _ _ = tt
 
-  pub waited : (act : Act) (p : Place) (to : Place × Line) → waits act p client line ≡ Some to → Waited p line to
-  waited act p to is = subst (λ (o : Option (Place × Line)). IfSome o (Waited p line)) is (waited_at act p)
+  pub waited : (act : Act) (p : Place) (to : Place × Line) → waits act p client line ≡ Some to → Waited client p line to
+  waited act p to is =
+      subst (λ (o : Option (Place × Line)). IfSome o (Waited client p line)) is (waited_at act p)
 
 -- nobody has come yet
 
-idle-place : (clients client : ℕ) (place : Place) → slice_get (replicate clients Idle) client ≡ Some place → is_past_second place ≡ true → ⊥
-idle-place zero client place at past = none-some place at
-idle-place (suc clients) zero place at past = let same = ap is_past_second (same_Some Idle place at) in absurd (cc)
-idle-place (suc clients) (suc client) place at past = idle-place clients client place at past
+unpast_place : (start : Place) (clients client : ℕ) (place : Place) → is_past_second start ≡ false → slice_get (replicate clients start) client ≡ Some place → is_past_second place ≡ true → ⊥
+unpast_place start zero client place unpast at past = none-some place at
+unpast_place start (suc clients) zero place unpast at past =
+    let same = ap is_past_second (same_Some start place at) in absurd (cc)
+unpast_place start (suc clients) (suc client) place unpast at past = unpast_place start clients client place unpast at past
 
-pub served-start : (free owed : ℕ) (kind : Bool) (clients first : ℕ) → IsServed free owed (replicate clients Idle) (empty_line kind clients first)
-served-start free owed kind clients first = record {
-  fit = fit-start is_listening is_parked Idle refl kind clients first;
-  enough = λ client place at past untold. absurd (idle-place clients client place at past);
-  flags = length-replicate clients false ∙ sym (length-replicate clients Idle);
+pub served-start : (start : Place) → is_listening start ≡ false → is_past_second start ≡ false → (free owed : ℕ) (kind : Bool) (clients first : ℕ) → IsServed free owed (replicate clients start) (empty_line kind clients first)
+served-start start unlistening unpast free owed kind clients first = record {
+  fit = fit-start is_listening is_parked start unlistening kind clients first;
+  enough = λ client place at past untold. absurd (unpast_place start clients client place unpast at past);
+  flags = length-replicate clients false ∙ sym (length-replicate clients start);
 }

@@ -14,10 +14,10 @@ use Rattle.event_queue.specs.Register.{after_storing}
 use Rattle.event_queue.specs.Remove.{Removes, woken_by_removal}
 use Rattle.event_queue.specs.Notify.{Notifies, told_by}
 use Rattle.event_queue.proofs.LawLemmas.{untold-waiting}
-use Rattle.event_worlds.specs.Line.{Line, IsLine, is_told, is_in_line, has_serial_left, joined, registered, told_left, waiting_left, wake_lost, notified, dropped}
+use Rattle.event_worlds.specs.Line.{Line, Leaves, is_told, is_in_line, has_serial_left, joined, registered, told_left, waiting_left, wake_lost, notified, dropped}
 use Rattle.event_worlds.specs.LineKeys.{line_of, IsTied}
 use Rattle.event_worlds.proofs.KeyLemmas.{read_key}
-use Rattle.event_worlds.proofs.LineLemmas.{IsOut, Changed, moves, kept, out-keyless, out-absent, told-found, stores, told-leaves, keyless-out, line_is, out-registers}
+use Rattle.event_worlds.proofs.LineLemmas.{IsOut, Changed, moves, kept, out-keyless, out-absent, told-found, stores, told-leaves, keyless-out, out-registers}
 use Rattle.event_worlds.proofs.NotifyLemmas.{Wakes, found_value, notifies, leaves-line, drops-line}
 use Rattle.event_worlds.proofs.JoinLemmas.{is_out, joins-line, refused-line, joined-if}
 
@@ -36,15 +36,16 @@ same_test true b both = sym (both.0 refl)
 same_test false true both = both.1 refl
 same_test false false both = refl
 
--- an answer, and the line that the call leaves
+-- an answer, and what the call leaves
 pub record Answered (given asked kind : Bool) (q : Queue Unit ℕ) (keys : List (Option Key)) (awake : List Bool) (line : Line) : Type 0 where
-  pub answer : given ≡ asked
-  pub changed : Changed kind q keys awake line
+  pub tied : IsTied kind q keys awake
+  pub leaves : Leaves asked line given (line_of kind q keys awake)
+
+answered : (given asked kind : Bool) (q : Queue Unit ℕ) (keys : List (Option Key)) (awake : List Bool) (line : Line) → given ≡ asked → Changed kind q keys awake line → Answered given asked kind q keys awake line
+answered given asked kind q keys awake line same changed =
+    record { tied = changed.tied; leaves = record { answered = same; line = changed.is } }
 
 module _ (kind : Bool) (q : Queue Unit ℕ) (keys : List (Option Key)) (awake : List Bool) (tied : IsTied kind q keys awake) (now : Line) (view_is : line_of kind q keys awake ≡ now) where
-  pub is_line : IsLine now
-  is_line = subst IsLine view_is (line_is kind q keys awake tied.queue)
-
   pub clears : (awake' : List Bool) (client : ℕ) → awake' ≡ set awake client false → Changed kind q keys awake' (wake_lost client now)
   clears awake' client cleared = record {
     tied = kept kind q keys awake tied q awake' tied.queue refl refl refl tied.tasks tied.kinds (ap length cleared ∙ length-set awake client false);
@@ -63,9 +64,6 @@ module _ (kind : Bool) (q : Queue Unit ℕ) (keys : List (Option Key)) (awake : 
     pub key-within : client < length keys
     key-within = omega (arith, within, ap (λ (l : Line). length l.awake) view_is, tied.flags)
 
-    pub wake-within : client < length awake
-    wake-within = omega (arith, within, ap (λ (l : Line). length l.awake) view_is)
-
     -- joining
     module _ (absent : is_in_line client now ≡ false) where
       keyless : get_or keys client None ≡ None
@@ -76,20 +74,14 @@ module _ (kind : Bool) (q : Queue Unit ℕ) (keys : List (Option Key)) (awake : 
       refused-now error q' step =
           let refused = refused-line kind q keys awake tied client key-within keyless error q' step in
           let none : has_serial_left now ≡ false = ap has_serial_left (sym view_is) ∙ refused.0 in
-          record {
-            answer = sym none;
-            changed = rw none (moves kind q q' keys awake awake (line_of kind q keys awake) now refused.1 refl view_is (record { tied = tied; is = refl }));
-          }
+          answered _ _ _ _ _ _ _ (sym none) (rw none (moves kind q q' keys awake awake (line_of kind q keys awake) now refused.1 refl view_is (record { tied = tied; is = refl })))
 
       pub joins-now : (key : Key) (q' : Queue Unit ℕ) (awake' : List Bool) → IsQueue q' → Joins q key q' → order_of q' ≡ order_of q ++ key ∷ [] → awake' ≡ set awake client false → Answered true (has_serial_left now) kind q' (set keys client (Some key)) awake' (if has_serial_left now then joined client now else now)
       joins-now key q' awake' queue joins order cleared =
           let changed = joins-line kind q keys awake tied client key-within keyless key q' awake' queue joins order cleared in
           let next = ap (λ (l : Line). l.next) view_is in
           let has = joined-if client now (omega (arith, joins.serial_left, next)) in
-          record {
-            answer = sym has.0;
-            changed = record { tied = changed.tied; is = changed.is ∙ (ap (joined client) view_is ∙ has.1) };
-          }
+          answered _ _ _ _ _ _ _ (sym has.0) (record { tied = changed.tied; is = changed.is ∙ (ap (joined client) view_is ∙ has.1) })
 
     -- what needs the client's key
     module _ (held : Option Key) (read : held ≡ get_or keys client held) where
@@ -109,28 +101,19 @@ module _ (kind : Bool) (q : Queue Unit ℕ) (keys : List (Option Key)) (awake : 
             let (notice, found, _) = found_value (lookup (is_key key) q.told) (λ notice. notice.tag ≡ tag) step.0 in
             let told : is_told client now ≡ true = told-now ∙ ap is_some found in
             let changed = told-leaves kind q keys awake tied client key (at ∙ some) notice key-within found in
-            record {
-              answer = sym told;
-              changed = rw told (moves kind (told_leaves key q) q' (set keys client None) awake awake (told_left client (line_of kind q keys awake)) (told_left client now) step.1 refl (ap (told_left client) view_is) changed);
-            }
+            answered _ _ _ _ _ _ _ (sym told) (rw told (moves kind (told_leaves key q) q' (set keys client None) awake awake (told_left client (line_of kind q keys awake)) (told_left client now) step.1 refl (ap (told_left client) view_is) changed))
 
         pub registers-waiting : (q' : Queue Unit ℕ) → IsSome (lookup (is_key key) q.waiting) × (q' ≡ after_storing key client q) → Answered false (is_told client now) kind q' keys awake (if is_told client now then told_left client now else registered client now)
         registers-waiting q' step =
             let (task, found) = some_value (lookup (is_key key) q.waiting) step.0 in
             let untold : is_told client now ≡ false = told-now ∙ ap is_some (untold-waiting key q task tied.queue found) in
             let changed = stores kind q keys awake tied client key (at ∙ some) task found in
-            record {
-              answer = sym untold;
-              changed = rw untold (moves kind (after_storing key client q) q' keys awake awake (registered client (line_of kind q keys awake)) (registered client now) step.1 refl (ap (registered client) view_is) changed);
-            }
+            answered _ _ _ _ _ _ _ (sym untold) (rw untold (moves kind (after_storing key client q) q' keys awake awake (registered client (line_of kind q keys awake)) (registered client now) step.1 refl (ap (registered client) view_is) changed))
 
         pub registers-absent : (q' : Queue Unit ℕ) → IsAbsent key q × (q' ≡ q) → Answered false (is_told client now) kind q' keys awake (if is_told client now then told_left client now else registered client now)
         registers-absent q' step =
             let out : IsOut client now = subst (IsOut client) view_is (out-absent kind q keys awake tied client key (at ∙ some) step.0) in
-            record {
-              answer = sym out.untold;
-              changed = moves kind q q' keys awake awake (line_of kind q keys awake) _ step.1 refl (view_is ∙ out-registers client now out) (record { tied = tied; is = refl });
-            }
+            answered _ _ _ _ _ _ _ (sym out.untold) (moves kind q q' keys awake awake (line_of kind q keys awake) _ step.1 refl (view_is ∙ out-registers client now out) (record { tied = tied; is = refl }))
 
         pub leaves-now : (result : Option (State Unit ℕ)) (q' : Queue Unit ℕ) (awake' : List Bool) → Removes q key false result q' → FoldsTo Wakes awake (woken_by_removal key false q) awake' → Changed kind q' (set keys client None) awake' (if is_told client now then told_left client now else waiting_left client now)
         leaves-now result q' awake' step wakes =

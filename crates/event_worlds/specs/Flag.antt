@@ -8,8 +8,12 @@ use Rattle.event_worlds.specs.declared.world.flag.FlagPlace.TheVariants.{Check1,
 use Rattle.event_worlds.specs.declared.world.flag.SetterMove.{SetterMove}
 use Rattle.event_worlds.specs.declared.world.flag.SetterPlace.{SetterPlace}
 use Rattle.event_worlds.specs.declared.world.flag.SetterPlace.TheVariants.{ToSet, ToNotify, Done as IsDone}
-use Rattle.event_worlds.specs.Line.{Line, empty_line, everybody, is_told, has_wake, has_serial_left, joined, registered, told_left, wake_lost, notified, dropped}
+use Rattle.event_worlds.specs.declared.world.place.Place.{Place}
+use Rattle.event_worlds.specs.declared.world.place.Place.TheVariants as lock
+use Rattle.event_worlds.specs.declared.world.place.Place.TheVariants.{Idle, First, Second, Ending}
+use Rattle.event_worlds.specs.Line.{Line, empty_line, everybody, notified, dropped}
 use Rattle.event_worlds.specs.Steps.{after_step, after_steps, steps_taken}
+use Rattle.event_worlds.specs.Waiting.{waits}
 
 -- whether the flag is set; the place of each client, by its number; the place of each setter; who is told, who
 -- waits and who has a wake-up
@@ -28,21 +32,39 @@ start clients setters first = record {
   line = empty_line false clients first;
 }
 
+-- the same place in the loop of a client of a lock
+
+abbrev pub lock_place : FlagPlace → Place
+lock_place Check1 = First true
+lock_place ToListen = lock.ToListen
+lock_place Check2 = Second
+lock_place Dropping = Ending
+lock_place ToRegister = lock.ToRegister
+lock_place Parked = lock.Parked
+lock_place Done = Idle
+
+-- and back
+abbrev pub flag_place : Place → FlagPlace
+flag_place (First woken) = Check1
+flag_place lock.ToListen = ToListen
+flag_place Second = Check2
+flag_place Ending = Dropping
+flag_place lock.ToRegister = ToRegister
+flag_place lock.Parked = Parked
+flag_place _ = Done
+
+-- the client is at that place
+abbrev pub moved : Place × Line → FlagPlace × Line
+moved to = (flag_place to.0, to.1)
+
 -- the table of a client: from this place, with the flag set or not, where it goes, and the line then; none where
 -- it has no step
 abbrev pub from : FlagPlace → ℕ → Bool → Line → Option (FlagPlace × Line)
-from Check1 client flag line = Some (if flag then (Done, line) else (ToListen, line))
-from ToListen client flag line =
-    Some (if has_serial_left line then (Check2, joined client line) else (Done, line))
-from Check2 client flag line = Some (if flag then (Dropping, line) else (ToRegister, line))
+from Check1 client flag line = Some (if flag then Done else ToListen, line)
+from Check2 client flag line = Some (if flag then Dropping else ToRegister, line)
 from Dropping client flag line = Some (Done, dropped client line)
-from ToRegister client flag line =
-    Some (if is_told client line
-    then (Check1, told_left client line)
-    else (Parked, registered client line))
-from Parked client flag line =
-    if has_wake client line then Some (ToRegister, wake_lost client line) else None
 from Done client flag line = None
+from place client flag line = option_map moved (waits Go (lock_place place) client line)
 
 -- the state once this client has gone there, and the line is this
 abbrev pub goes : ℕ → FlagState → FlagPlace × Line → FlagState

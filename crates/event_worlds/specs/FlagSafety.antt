@@ -1,10 +1,11 @@
 -- What holds of the flag world after every schedule.
 use Rattle.std.specs.Prelude.{◌≡◌, ◌↔◌, ◌⊎◌, ℕ, Bool, true, false, slice_get, Some, IsTrue, IsSomeAnd}
 use Rattle.event_worlds.specs.declared.world.flag.FlagPlace.{FlagPlace}
-use Rattle.event_worlds.specs.declared.world.flag.FlagPlace.TheVariants.{Check2, Dropping, ToRegister, Parked}
+use Rattle.event_worlds.specs.declared.world.flag.FlagPlace.TheVariants.{ToRegister, Parked}
 use Rattle.event_worlds.specs.declared.world.flag.SetterPlace.TheVariants.{ToNotify}
+use Rattle.event_worlds.specs.ClientTable as lock
 use Rattle.event_worlds.specs.Line.{is_told, is_waiting, has_wake}
-use Rattle.event_worlds.specs.Flag.{FlagState}
+use Rattle.event_worlds.specs.Flag.{FlagState, lock_place}
 
 -- this client is at this place
 abbrev pub IsAt : ℕ → FlagPlace → FlagState → Type 0
@@ -30,11 +31,7 @@ NotifiesDefault state = state.line.additional ≡ false
 
 -- a client at this place has a listener
 abbrev pub is_listening : FlagPlace → Bool
-is_listening Check2 = true
-is_listening Dropping = true
-is_listening ToRegister = true
-is_listening Parked = true
-is_listening _ = false
+is_listening place = lock.is_listening (lock_place place)
 
 -- the clients told or waiting are exactly those at listening places
 abbrev pub InLineAreListening : FlagState → Type 0

@@ -1,5 +1,5 @@
 -- What a contract sees of a `ClientLine`: the clients that stand in a queue of listeners, by their numbers.
-use Rattle.std.specs.Prelude.{ℕ, zero, suc, ◌+◌, ◌-◌, ◌^◌, ◌<◌, min, Bool, true, false, ◌||◌, eqb, nat_lt, if◌then◌else◌, List, [], ◌∷◌, ◌++◌, length, get_or, set, replicate}
+use Rattle.std.specs.Prelude.{◌≡◌, ℕ, zero, suc, ◌+◌, ◌-◌, ◌^◌, ◌<◌, min, Bool, true, false, ◌||◌, eqb, nat_lt, if◌then◌else◌, List, [], ◌∷◌, ◌++◌, length, get_or, set, replicate}
 use Rattle.std.specs.List.{list_any}
 use Rattle.std.specs.Map.{keys_of, remove_entry, set_value}
 
@@ -112,3 +112,8 @@ dropped client line =
 -- what each line keeps: a `usize` holds the number of the clients that stand in it
 pub record IsLine (line : Line) : Type 0 where
   pub clients_fit : length line.told + length line.waiting < 2 ^ 64
+
+-- what a call answers, and the line that it leaves
+pub record Leaves (answer : Bool) (left : Line) (result : Bool) (new : Line) : Type 0 where
+  pub answered : result ≡ answer
+  pub line : new ≡ left

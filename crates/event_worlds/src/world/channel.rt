@@ -216,12 +216,12 @@ impl ChannelWorld {
                 true
             }
             CloserPlace::ToNotifySenders => {
-                self.sender_line.notify(usize::MAX);
+                self.sender_line.notify_all();
                 self.closer = CloserPlace::ToNotifyReceivers;
                 true
             }
             CloserPlace::ToNotifyReceivers => {
-                self.receiver_line.notify(usize::MAX);
+                self.receiver_line.notify_all();
                 self.closer = CloserPlace::Done;
                 true
             }

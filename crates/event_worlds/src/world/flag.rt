@@ -1,14 +1,15 @@
-ghost use Rattle.std.specs.Prelude.{◌≡◌, ◌<◌, is_some, if◌then◌else◌, length, slice_get, Some, IfOk, IsFalse};
-ghost use Rattle.event_worlds.specs.declared.world.flag.FlagPlace.TheVariants.{Check1, Check2, Done, Parked};
-ghost use Rattle.event_worlds.specs.Line.{IsLine, is_told, is_in_line, has_wake, has_serial_left, joined, registered, told_left};
-ghost use Rattle.event_worlds.specs.Flag.{start, from, from_setter, next, next_of_client, next_of_setter, after, after_all, taken};
-ghost use Rattle.event_worlds.specs.FlagInvariant.{MayBeAt};
+ghost use Rattle.std.specs.Prelude.{◌≡◌, ◌<◌, [], is_some, length, slice_get, Some, IfOk};
+ghost use Rattle.event_worlds.specs.declared.world.flag.SetterPlace.TheVariants.{ToNotify};
+ghost use Rattle.event_worlds.specs.Line.{everybody, is_told, has_wake, notified};
+ghost use Rattle.event_worlds.specs.Flag.{start, lock_place, flag_place, from, from_setter, next, next_of_client, next_of_setter, after, after_all, taken};
 ghost use Rattle.event_worlds.specs.FlagSafety.{IsSafe, NotifiesDefault, InLineAreListening};
+ghost use Rattle.event_worlds.specs.Served.{MayBeAt};
 ghost use Rattle.event_worlds.specs.Steps.{Moves, Takes};
 
 use super::acts::{Act, Step};
-use super::client::find;
+use super::client::{find, wait};
 use super::line::ClientLine;
+use super::place::Place;
 use std::alloc::{AllocError, Global};
 use std::marker::Model;
 
@@ -29,6 +30,38 @@ pub enum FlagPlace {
     Parked,
     /// It waits no longer: the flag was set, or listening failed.
     Done,
+}
+
+impl FlagPlace {
+    // The same place in the loop of a client of a lock.
+    fn in_lock(self) -> Place
+        ensures { result ≡ lock_place self }
+    {
+        match self {
+            FlagPlace::Check1 => Place::First { woken: true },
+            FlagPlace::ToListen => Place::ToListen,
+            FlagPlace::Check2 => Place::Second,
+            FlagPlace::Dropping => Place::Ending,
+            FlagPlace::ToRegister => Place::ToRegister,
+            FlagPlace::Parked => Place::Parked,
+            FlagPlace::Done => Place::Idle,
+        }
+    }
+
+    // And back.
+    fn at(place: Place) -> Self
+        ensures { result ≡ flag_place place }
+    {
+        match place {
+            Place::First { .. } => FlagPlace::Check1,
+            Place::ToListen => FlagPlace::ToListen,
+            Place::Second => FlagPlace::Check2,
+            Place::Ending => FlagPlace::Dropping,
+            Place::ToRegister => FlagPlace::ToRegister,
+            Place::Parked => FlagPlace::Parked,
+            Place::Idle | Place::Holding | Place::Releasing => FlagPlace::Done,
+        }
+    }
 }
 
 /// Where a setter is.
@@ -257,9 +290,8 @@ impl FlagWorld {
 // The table of a client: where it goes from this place, if it has a step. The line changes with it.
 fn moves(place: FlagPlace, client: usize, flag: bool, line: &mut ClientLine) -> Option<FlagPlace>
     requires client { client < length line.old.awake }
-    requires may_be_at { MayBeAt place client line.old }
+    requires may_be_at { MayBeAt (lock_place place) client line.old }
     ensures moves { Moves (from place client flag line.old) line.old result line.new }
-    ensures line { IsLine line.old → IsLine line.new }
 {
     match place {
         FlagPlace::Check1 => Some(if flag {
@@ -267,7 +299,6 @@ fn moves(place: FlagPlace, client: usize, flag: bool, line: &mut ClientLine) -> 
         } else {
             FlagPlace::ToListen
         }),
-        FlagPlace::ToListen => Some(listens(client, line)),
         FlagPlace::Check2 => Some(if flag {
             FlagPlace::Dropping
         } else {
@@ -277,50 +308,18 @@ fn moves(place: FlagPlace, client: usize, flag: bool, line: &mut ClientLine) -> 
             line.drop_out(client);
             Some(FlagPlace::Done)
         }
-        FlagPlace::ToRegister => Some(registers(client, line)),
-        FlagPlace::Parked => {
-            if line.has_wake(client) {
-                line.lose_wake(client);
-                Some(FlagPlace::ToRegister)
-            } else {
-                None
-            }
-        }
         FlagPlace::Done => None,
-    }
-}
-
-fn listens(client: usize, line: &mut ClientLine) -> FlagPlace
-    requires client { client < length line.old.awake }
-    requires absent { IsFalse (is_in_line client line.old) }
-    ensures place { result ≡ (if has_serial_left line.old then Check2 else Done) }
-    ensures line { line.new ≡ (if has_serial_left line.old then joined client line.old else line.old) }
-    ensures fits { IsLine line.new }
-{
-    if line.join(client) {
-        FlagPlace::Check2
-    } else {
-        FlagPlace::Done
-    }
-}
-
-fn registers(client: usize, line: &mut ClientLine) -> FlagPlace
-    requires client { client < length line.old.awake }
-    ensures place { result ≡ (if is_told client line.old then Check1 else Parked) }
-    ensures line { line.new ≡ (if is_told client line.old then told_left client line.old else registered client line.old) }
-    ensures fits { IsLine line.new }
-{
-    if line.register(client) {
-        FlagPlace::Check1
-    } else {
-        FlagPlace::Parked
+        FlagPlace::ToListen | FlagPlace::ToRegister | FlagPlace::Parked => {
+            let next = wait(place.in_lock(), Act::Go, client, line)?;
+            Some(FlagPlace::at(next))
+        }
     }
 }
 
 // The table of a setter: where it goes from this place, if it has a step. The line changes with it.
 fn setter_moves(place: SetterPlace, flag: bool, line: &mut ClientLine) -> Option<SetterMove>
     ensures moves { Moves (from_setter place flag line.old) line.old result line.new }
-    ensures line { IsLine line.old → IsLine line.new }
+    ensures nobody_waits { place ≡ ToNotify → (notified everybody line.old).waiting ≡ [] }
 {
     match place {
         SetterPlace::ToSet => Some(SetterMove {
@@ -328,7 +327,7 @@ fn setter_moves(place: SetterPlace, flag: bool, line: &mut ClientLine) -> Option
             flag: true,
         }),
         SetterPlace::ToNotify => {
-            line.notify(usize::MAX);
+            line.notify_all();
             Some(SetterMove {
                 place: SetterPlace::Done,
                 flag,

@@ -1,6 +1,6 @@
 //! The line of a world's clients: a queue of listeners, and the key of each client that stands in it.
-ghost use Rattle.std.specs.Prelude.{◌≡◌, ◌<◌, length, if◌then◌else◌, IsFalse, IfOk};
-ghost use Rattle.event_worlds.specs.Line.{Line, IsLine, empty_line, is_told, is_in_line, has_wake, has_serial_left, joined, registered, told_left, waiting_left, wake_lost, notified, dropped};
+ghost use Rattle.std.specs.Prelude.{◌≡◌, ◌<◌, [], length, if◌then◌else◌, IsFalse, IfOk};
+ghost use Rattle.event_worlds.specs.Line.{Line, IsLine, Leaves, empty_line, everybody, is_told, is_in_line, has_wake, has_serial_left, joined, registered, told_left, waiting_left, wake_lost, notified, dropped};
 
 use super::wakes::Wakes;
 use event_queue::{IntoNotification, Key, List, RegisterResult};
@@ -73,9 +73,7 @@ impl ClientLine {
     pub(super) fn join(&mut self, client: usize) -> bool
         requires client { client < length self.old.awake }
         requires absent { IsFalse (is_in_line client self.old) }
-        ensures answer { result ≡ has_serial_left self.old }
-        ensures changed { self.new ≡ (if has_serial_left self.old then joined client self.old else self.old) }
-        ensures line { IsLine self.new }
+        ensures leaves { Leaves (has_serial_left self.old) (if has_serial_left self.old then joined client self.old else self.old) result self.new }
     {
         let Ok(key) = self.list.insert_uncounted() else {
             return false;
@@ -88,9 +86,7 @@ impl ClientLine {
     /// A client that is notified leaves the line, and one that waits is registered. Returns whether it was notified.
     pub(super) fn register(&mut self, client: usize) -> bool
         requires client { client < length self.old.awake }
-        ensures answer { result ≡ is_told client self.old }
-        ensures changed { self.new ≡ (if is_told client self.old then told_left client self.old else registered client self.old) }
-        ensures line { IsLine self.new }
+        ensures leaves { Leaves (is_told client self.old) (if is_told client self.old then told_left client self.old else registered client self.old) result self.new }
     {
         let Some(key) = self.keys[client] else {
             return false;
@@ -108,9 +104,7 @@ impl ClientLine {
     /// The client leaves the line, and propagates nothing. Returns whether it was notified.
     pub(super) fn leave(&mut self, client: usize) -> bool
         requires client { client < length self.old.awake }
-        ensures answer { result ≡ is_told client self.old }
-        ensures changed { self.new ≡ (if is_told client self.old then told_left client self.old else waiting_left client self.old) }
-        ensures line { IsLine self.new }
+        ensures leaves { Leaves (is_told client self.old) (if is_told client self.old then told_left client self.old else waiting_left client self.old) result self.new }
     {
         let Some(key) = self.keys[client] else {
             return false;
@@ -125,7 +119,6 @@ impl ClientLine {
     pub(super) fn drop_out(&mut self, client: usize)
         requires client { client < length self.old.awake }
         ensures changed { self.new ≡ dropped client self.old }
-        ensures line { IsLine self.new }
     {
         let Some(key) = self.keys[client] else {
             return;
@@ -138,7 +131,6 @@ impl ClientLine {
     pub(super) fn lose_wake(&mut self, client: usize)
         requires client { client < length self.old.awake }
         ensures changed { self.new ≡ wake_lost client self.old }
-        ensures line { IsLine self.new }
     {
         self.wakes.clear(client);
     }
@@ -146,7 +138,6 @@ impl ClientLine {
     /// Notifies that many clients of the line. Those notified already are among them if its notifications are default.
     pub(super) fn notify(&mut self, count: usize)
         ensures changed { self.new ≡ notified count self.old }
-        ensures line { IsLine self.new }
     {
         if self.additional {
             let mut notification = count.additional();
@@ -159,5 +150,20 @@ impl ClientLine {
                 .list
                 .notify_uncounted(&mut notification, &mut self.wakes);
         }
+    }
+    /// Notifies all clients of the line.
+    pub(super) fn notify_all(&mut self)
+        ensures changed { self.new ≡ notified everybody self.old }
+        ensures nobody_waits { self.new.waiting ≡ [] }
+    {
+        self.reveal_invariant();
+        self.notify(usize::MAX);
+    }
+
+    // What follows from what the type keeps, which is known where a field is read.
+    fn reveal_invariant(&self)
+        ensures line { IsLine self.now }
+    {
+        let _list = &self.list;
     }
 }

@@ -1,29 +1,22 @@
-use Rattle.std.proofs.Common.{◌≡◌, slice_get, Some, ap}
+use Rattle.std.proofs.Common.{ap}
 use Rattle.event_worlds.specs.Mutex.{MutexState, from, goes}
 use Rattle.event_worlds.proofs.MadeLemmas.{takes, stays}
 use Rattle.event_worlds.proofs.MutexSteps.{may_be_at, sound-moves}
 use Rattle.event_worlds.proofs.world.mutex.MutexWorld.take_step.Goals as goal
 
 pub moves-requires-clause-may_be_at : goal.moves-requires-clause-may_be_at
-moves-requires-clause-may_be_at c =
-    let state : MutexState = record { holder = c.self.inside.holder; places = c.self.inside.places.items; line = c.self.inside.line } in
-    let at : slice_get state.places c.args.client ≡ Some c.in-Some.place = cc in
-    may_be_at state c.args.client c.self.invariant c.in-Some.place at
+moves-requires-clause-may_be_at c = may_be_at _ c.args.client c.self.invariant c.in-Some.place (cc)
 
 pub invariant_of-self : goal.invariant_of-self
 invariant_of-self c =
-    let state : MutexState = record { holder = c.self.inside.holder; places = c.self.inside.places.items; line = c.self.inside.line } in
-    let at : slice_get state.places c.args.client ≡ Some c.in-Some.place = cc in
-    sound-moves state c.args.client c.self.invariant c.in-Some.place at c.args.act (c.in-Some-moves.made, c.moves.new.line) c.in-Some-moves.ensures.moves
+    sound-moves _ c.args.client c.self.invariant c.in-Some.place (cc) c.args.act (c.in-Some-moves.made, c.moves.new.line) c.in-Some-moves.ensures.moves
 
 pub returns-in-Some-moves : goal.returns-in-Some-moves
 returns-in-Some-moves c =
     let state : MutexState = record { holder = c.self.inside.holder; places = c.self.inside.places.items; line = c.self.inside.line } in
-    let at : slice_get state.places c.args.client ≡ Some c.in-Some.place = cc in
-    rw (← c.self.view_is) (record { takes = takes (λ _. goes c.args.client state) (λ p. from c.args.act p c.args.client state.holder state.line) (slice_get state.places c.args.client) c.in-Some.place at state (c.in-Some-moves.made, c.moves.new.line) c.in-Some-moves.ensures.moves })
+    rw (← c.self.view_is) (record { takes = takes (λ _. goes c.args.client state) (λ p. from c.args.act p c.args.client state.holder state.line) _ c.in-Some.place (cc) state (c.in-Some-moves.made, c.moves.new.line) c.in-Some-moves.ensures.moves })
 
 pub returns-in-None : goal.returns-in-None
 returns-in-None c =
     let state : MutexState = record { holder = c.self.inside.holder; places = c.self.inside.places.items; line = c.self.inside.line } in
-    let at : slice_get state.places c.args.client ≡ Some c.in-Some.place = cc in
-    rw (← c.self.view_is) (record { takes = stays (λ _. goes c.args.client state) (λ p. from c.args.act p c.args.client state.holder state.line) (slice_get state.places c.args.client) c.in-Some.place at state (record state { line = c.moves.new.line }) c.in-None.ensures.moves.0 (ap (λ l. record state { line = l }) c.in-None.ensures.moves.1) })
+    rw (← c.self.view_is) (record { takes = stays (λ _. goes c.args.client state) (λ p. from c.args.act p c.args.client state.holder state.line) _ c.in-Some.place (cc) state (record state { line = c.moves.new.line }) c.in-None.ensures.moves.0 (ap (λ l. record state { line = l }) c.in-None.ensures.moves.1) })
