@@ -11,8 +11,8 @@ use Rattle.event_worlds.specs.Line.{Line}
 use Rattle.event_worlds.specs.Served.{is_parked, MayBeAt}
 use Rattle.event_worlds.specs.Steps.{Takes}
 use Rattle.event_worlds.specs.Channel.{Side, ChannelState, channel_of, room_found, message_found, from, passed, sender_goes, receiver_goes, next_of_sender, next_of_receiver}
-use Rattle.event_worlds.specs.ChannelSafety.{all_owed, room}
-use Rattle.event_worlds.specs.ChannelInvariant.{place_of, places_of, SendersMayTake, ReceiversMayTake, IsSideSound, IsSound}
+use Rattle.event_worlds.specs.ChannelSafety.{place_of, places_of, all_owed, room}
+use Rattle.event_worlds.specs.ChannelInvariant.{SendersMayTake, ReceiversMayTake, IsSideSound, IsSound}
 use Rattle.event_worlds.proofs.MadeLemmas.{takes, stays}
 use Rattle.event_worlds.proofs.PlacedClients.{place-at}
 use Rattle.event_worlds.proofs.ChannelSafetyLemmas.{senders-none, receivers-none}

@@ -15,8 +15,8 @@ use Rattle.event_worlds.specs.Line.{Line, notified, dropped}
 use Rattle.event_worlds.specs.Served.{is_inside, is_parked, is_past_second, IsServed}
 use Rattle.event_worlds.specs.Waiting.{waits}
 use Rattle.event_worlds.specs.Channel.{Side, from, message_in, passed, looked, moved, paid}
-use Rattle.event_worlds.specs.ChannelSafety.{all_owed}
-use Rattle.event_worlds.specs.ChannelInvariant.{place_of, places_of, OwnFits, IsSideSound}
+use Rattle.event_worlds.specs.ChannelSafety.{place_of, places_of, all_owed}
+use Rattle.event_worlds.specs.ChannelInvariant.{OwnFits, IsSideSound}
 use Rattle.event_worlds.proofs.MadeLemmas.{each_some}
 use Rattle.event_worlds.proofs.PlacedClients.{place-at, places-set, places-length, sum-set, all-set, all-at}
 use Rattle.event_worlds.proofs.ServedSteps.{IsTry, first_try, second_try, served-owes, served-goes_on, served-gets, served-finds_none, served-waits, served-notified, Waited, waited}

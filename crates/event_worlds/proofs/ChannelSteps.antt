@@ -16,8 +16,8 @@ use Rattle.event_worlds.specs.declared.world.place.Place.TheVariants.{Idle, Firs
 use Rattle.event_worlds.specs.Line.{Line, everybody, notified}
 use Rattle.event_worlds.specs.Served.{IsServed}
 use Rattle.event_worlds.specs.Channel.{Side, ChannelState, start, idle, idle_side, is_closed, room_found, first_found, message_found, from, passed, sender_goes, receiver_goes}
-use Rattle.event_worlds.specs.ChannelSafety.{all_owed, room}
-use Rattle.event_worlds.specs.ChannelInvariant.{place_of, places_of, OwnFits, SendersMayTake, ReceiversMayTake, IsSideSound, IsSound}
+use Rattle.event_worlds.specs.ChannelSafety.{place_of, places_of, all_owed, room}
+use Rattle.event_worlds.specs.ChannelInvariant.{OwnFits, SendersMayTake, ReceiversMayTake, IsSideSound, IsSound}
 use Rattle.event_worlds.proofs.PlacedClients.{places-same, all-same}
 use Rattle.event_worlds.proofs.ChannelSafetyLemmas.{senders-none, receivers-none}
 use Rattle.event_worlds.proofs.ChannelSides.{Says, sides-keep}

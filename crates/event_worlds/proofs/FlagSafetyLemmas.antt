@@ -11,11 +11,11 @@ use Rattle.event_worlds.specs.Line.{is_told, has_wake}
 use Rattle.event_worlds.specs.Served.{is_parked}
 use Rattle.event_worlds.specs.Standing.{number}
 use Rattle.event_worlds.specs.Flag.{FlagState, lock_place}
-use Rattle.event_worlds.specs.FlagSafety.{IsAt, NoSetterNotifies, IsSafe, InLineAreListening}
+use Rattle.event_worlds.specs.FlagSafety.{IsAt, NoSetterNotifies, IsSafe}
 use Rattle.event_worlds.specs.FlagInvariant.{places_of, is_to_notify, IsSound}
 use Rattle.event_worlds.proofs.PlaceLemmas.{number-found}
-use Rattle.event_worlds.proofs.PlacedClients.{place-at, place-some, some-place}
-use Rattle.event_worlds.proofs.InLineLemmas.{awake_at, in_line_are}
+use Rattle.event_worlds.proofs.PlacedClients.{place-at}
+use Rattle.event_worlds.proofs.InLineLemmas.{awake_at}
 
 notifies_is : (place : SetterPlace) → is_to_notify place ≡ true → place ≡ ToNotify
 notifies_is ToSet notifies = absurd (cc)
@@ -46,10 +46,3 @@ module _ (state : FlagState) (sound : IsSound state) where
   safe flag none client (inr at) =
       let told = sound.settled flag (none-notify none) client lock.Parked (there client Parked at) refl in
       (told, awake client told)
-
-  pub in_line_are_listening : InLineAreListening state
-  in_line_are_listening client =
-      let are = in_line_are is_listening is_parked (places_of state.places) state.line sound.served.fit client in (
-        λ in_line. place-some lock_place (λ p. IsTrue (is_listening p)) state.places client (are.0 in_line),
-        λ listens. are.1 (some-place lock_place (λ p. IsTrue (is_listening p)) state.places client listens),
-      )

@@ -9,9 +9,9 @@ pub mod StandingLemmas
 pub mod InLineLemmas
 pub mod MadeLemmas
 pub mod ServedSteps
+pub mod ServedLemmas
 pub mod PlacedClients
 pub mod SemaphoreSteps
-pub mod SemaphoreSafetyLemmas
 pub mod MutexParts
 pub mod MutexSteps
 pub mod MutexSafetyLemmas

@@ -1,11 +1,10 @@
 -- The clients of a world as places, and what all of them hold or owe together.
-use Rattle.std.proofs.Common.{◌≡◌, ℕ, zero, suc, ◌+◌, ◌≤◌, Bool, cond, List, [], ◌∷◌, length, map, set, get_or, replicate, slice_get, Option, Some, IfSome, IsSomeAnd, refl, sym, ap, ◌∙◌, subst, arith, inl, inr}
+use Rattle.std.proofs.Common.{◌≡◌, ℕ, zero, suc, ◌+◌, ◌≤◌, List, [], ◌∷◌, length, map, set, get_or, replicate, slice_get, Option, Some, IfSome, refl, sym, ap, ◌∙◌, subst, arith, inl, inr}
 use Rattle.std.proofs.lemmas.Bool.{cases_eq}
 use Rattle.std.proofs.lemmas.List.Sums.{sum_by-cons, sum_by-set, get_or-le-sum_by}
 use Rattle.std.proofs.lemmas.Option.{none-some, same_Some, slice_get_within}
-use Rattle.std.specs.Prelude.{sum_by, count_by}
+use Rattle.std.specs.Prelude.{sum_by}
 use Rattle.event_worlds.specs.declared.world.place.Place.{Place}
-use Rattle.event_worlds.specs.Standing.{number}
 use Rattle.event_worlds.proofs.PlaceLemmas.{slice_get-set, slice_get-set_other}
 
 module _ {C : Type 0} where
@@ -16,16 +15,6 @@ module _ {C : Type 0} where
     place-at [] i own at = absurd (none-some own at)
     place-at (first ∷ rest) zero own at = ap (λ (c : C). Some (place_of c)) (same_Some first own at)
     place-at (first ∷ rest) (suc i) own at = place-at rest i own at
-
-    pub place-some : (P : Place → Type 0) (clients : List C) (i : ℕ) → IsSomeAnd (slice_get (map place_of clients) i) P → IsSomeAnd (slice_get clients i) (λ own. P (place_of own))
-    place-some P [] i some = some
-    place-some P (first ∷ rest) zero some = some
-    place-some P (first ∷ rest) (suc i) some = place-some P rest i some
-
-    pub some-place : (P : Place → Type 0) (clients : List C) (i : ℕ) → IsSomeAnd (slice_get clients i) (λ own. P (place_of own)) → IsSomeAnd (slice_get (map place_of clients) i) P
-    some-place P [] i some = some
-    some-place P (first ∷ rest) zero some = some
-    some-place P (first ∷ rest) (suc i) some = some-place P rest i some
 
     pub places-set : (clients : List C) (i : ℕ) (new : C) → map place_of (set clients i new) ≡ set (map place_of clients) i (place_of new)
     places-set [] i new = refl
@@ -39,11 +28,6 @@ module _ {C : Type 0} where
     pub places-same : (own : C) (n : ℕ) → map place_of (replicate n own) ≡ replicate n (place_of own)
     places-same own zero = refl
     places-same own (suc n) = ap (λ (ps : List Place). place_of own ∷ ps) (places-same own n)
-
-    pub number-places : (test : Place → Bool) (clients : List C) → number test (map place_of clients) ≡ count_by (λ own. test (place_of own)) clients
-    number-places test [] = refl
-    number-places test (first ∷ rest) =
-        omega (arith, number-places test rest, sum_by-cons (λ (own : C). cond {A = ℕ} (test (place_of own)) 1 0) first rest)
 
   -- sums over clients
 

@@ -15,8 +15,8 @@ use Rattle.event_worlds.specs.Line.{Line, notified}
 use Rattle.event_worlds.specs.Served.{is_inside, is_releasing, is_parked, IsServed, MayBeAt}
 use Rattle.event_worlds.specs.Waiting.{waits}
 use Rattle.event_worlds.specs.Semaphore.{SemaphoreState, start, idle, moved, tried, took_more, freed, paid, from, goes}
-use Rattle.event_worlds.specs.SemaphoreSafety.{all_owed}
-use Rattle.event_worlds.specs.SemaphoreInvariant.{place_of, places_of, OwnFits, IsSound}
+use Rattle.event_worlds.specs.SemaphoreSafety.{place_of, places_of, all_owed}
+use Rattle.event_worlds.specs.SemaphoreInvariant.{OwnFits, IsSound}
 use Rattle.event_worlds.proofs.InLineLemmas.{out_at}
 use Rattle.event_worlds.proofs.MadeLemmas.{each_some}
 use Rattle.event_worlds.proofs.PlacedClients.{place-at, places-set, places-same, sum-set, sum-same, part-le-sum, all-set, all-at, all-same}

@@ -1,20 +1,12 @@
 -- What the channel world keeps in its type: each step of the tables keeps it, and what `ChannelSafety` says follows. No
 -- public clause cites this module.
-use Rattle.std.specs.Prelude.{◌≡◌, ℕ, ◌≤◌, true, false, List, map, length, slice_get, Option, Some, None, IfSome}
+use Rattle.std.specs.Prelude.{◌≡◌, ℕ, ◌≤◌, Bool, true, false, length, slice_get, Option, Some, None, IfSome}
 use Rattle.event_worlds.specs.declared.world.channel.ChannelClient.{ChannelClient}
 use Rattle.event_worlds.specs.declared.world.channel.CloserPlace.{CloserPlace}
-use Rattle.event_worlds.specs.declared.world.channel.CloserPlace.TheVariants.{ToClose, ToNotifySenders, ToNotifyReceivers, Done}
-use Rattle.event_worlds.specs.declared.world.place.Place.{Place}
 use Rattle.event_worlds.specs.Line.{Line}
-use Rattle.event_worlds.specs.Channel.{Side, ChannelState}
-use Rattle.event_worlds.specs.ChannelSafety.{all_owed, room, MessagesFit}
+use Rattle.event_worlds.specs.Channel.{Side, ChannelState, is_closed}
+use Rattle.event_worlds.specs.ChannelSafety.{places_of, all_owed, room, senders_notified, receivers_notified, MessagesFit}
 use Rattle.event_worlds.specs.Served.{is_inside, IsServed}
-
-abbrev pub place_of : ChannelClient → Place
-place_of own = own.place
-
-abbrev pub places_of : List ChannelClient → List Place
-places_of clients = map place_of clients
 
 -- a client owes a notification while it is inside alone
 pub record OwnFits (own : ChannelClient) : Type 0 where
@@ -22,18 +14,16 @@ pub record OwnFits (own : ChannelClient) : Type 0 where
 
 -- how many of a side may count on taking one, if there are so many now: as many as there are while the channel is open;
 -- none once it is closed; any number once the side was notified of that, for then nobody untold waits
+abbrev pub MayTake : (notified closed : Bool) (now free : ℕ) → Type 0
+MayTake true closed now free = 0 ≤ free
+MayTake false true now free = free ≤ 0
+MayTake false false now free = free ≤ now
 
 abbrev pub SendersMayTake : CloserPlace → ℕ → ℕ → Type 0
-SendersMayTake ToClose now free = free ≤ now
-SendersMayTake ToNotifySenders now free = free ≤ 0
-SendersMayTake ToNotifyReceivers now free = 0 ≤ free
-SendersMayTake Done now free = 0 ≤ free
+SendersMayTake closer = MayTake (senders_notified closer) (is_closed closer)
 
 abbrev pub ReceiversMayTake : CloserPlace → ℕ → ℕ → Type 0
-ReceiversMayTake ToClose now free = free ≤ now
-ReceiversMayTake ToNotifySenders now free = free ≤ 0
-ReceiversMayTake ToNotifyReceivers now free = free ≤ 0
-ReceiversMayTake Done now free = 0 ≤ free
+ReceiversMayTake closer = MayTake (receivers_notified closer) (is_closed closer)
 
 -- a side that is served however many of those that may be taken are counted, and to which so many notifications are
 -- still to come

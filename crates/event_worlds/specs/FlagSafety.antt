@@ -1,10 +1,10 @@
 -- What holds of the flag world after every schedule.
-use Rattle.std.specs.Prelude.{◌≡◌, ◌↔◌, ◌⊎◌, ℕ, Bool, true, false, slice_get, Some, IsTrue, IsSomeAnd}
+use Rattle.std.specs.Prelude.{◌≡◌, ◌⊎◌, ℕ, true, false, map, slice_get, Some, IsTrue}
 use Rattle.event_worlds.specs.declared.world.flag.FlagPlace.{FlagPlace}
 use Rattle.event_worlds.specs.declared.world.flag.FlagPlace.TheVariants.{ToRegister, Parked}
 use Rattle.event_worlds.specs.declared.world.flag.SetterPlace.TheVariants.{ToNotify}
-use Rattle.event_worlds.specs.ClientTable as lock
-use Rattle.event_worlds.specs.Line.{is_told, is_waiting, has_wake}
+use Rattle.event_worlds.specs.Clients.{AreListening}
+use Rattle.event_worlds.specs.Line.{is_told, has_wake}
 use Rattle.event_worlds.specs.Flag.{FlagState, lock_place}
 
 -- this client is at this place
@@ -29,13 +29,6 @@ IsSafe state =
 abbrev pub NotifiesDefault : FlagState → Type 0
 NotifiesDefault state = state.line.additional ≡ false
 
--- a client at this place has a listener
-abbrev pub is_listening : FlagPlace → Bool
-is_listening place = lock.is_listening (lock_place place)
-
 -- the clients told or waiting are exactly those at listening places
 abbrev pub InLineAreListening : FlagState → Type 0
-InLineAreListening state =
-    (client : ℕ)
-    → (IsTrue (is_told client state.line) ⊎ IsTrue (is_waiting client state.line))
-    ↔ IsSomeAnd (slice_get state.places client) (λ place. IsTrue (is_listening place))
+InLineAreListening state = AreListening (map lock_place state.places) state.line

@@ -1,5 +1,6 @@
 pub mod ClientTable
 pub mod Line
+pub mod Clients
 pub mod Steps
 pub mod Waiting
 pub mod LineKeys

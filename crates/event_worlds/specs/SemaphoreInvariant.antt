@@ -1,17 +1,10 @@
 -- What the semaphore world keeps in its type: each step of the table keeps it, and what `SemaphoreSafety` says
 -- follows. No public clause cites this module.
-use Rattle.std.specs.Prelude.{◌≡◌, ℕ, false, List, map, slice_get, IfSome}
-use Rattle.event_worlds.specs.declared.world.place.Place.{Place}
+use Rattle.std.specs.Prelude.{◌≡◌, ℕ, false, slice_get, IfSome}
 use Rattle.event_worlds.specs.declared.world.semaphore.SemaphoreClient.{SemaphoreClient}
 use Rattle.event_worlds.specs.Semaphore.{SemaphoreState}
-use Rattle.event_worlds.specs.SemaphoreSafety.{PermitsAddUp, NotifiesAdditional, all_owed}
+use Rattle.event_worlds.specs.SemaphoreSafety.{places_of, all_owed, PermitsAddUp, NotifiesAdditional}
 use Rattle.event_worlds.specs.Served.{is_inside, is_releasing, IsServed}
-
-abbrev pub place_of : SemaphoreClient → Place
-place_of own = own.place
-
-abbrev pub places_of : List SemaphoreClient → List Place
-places_of clients = map place_of clients
 
 -- a client holds permits while it is inside alone, and owes notifications while it is releasing alone
 pub record OwnFits (own : SemaphoreClient) : Type 0 where
