@@ -1,5 +1,6 @@
 -- Each step of the channel world's table keeps what both sides keep: that of the client who takes it, and the other.
 use Rattle.std.proofs.Common.{◌≡◌, ℕ, ◌+◌, ◌-◌, ◌≤◌, Bool, true, false, cond, nat_lt, List, length, set, slice_get, Option, Some, None, IfSome, option_map, refl, sym, ap, ◌∙◌, subst, inl, arith}
+use Rattle.std.proofs.lemmas.List.{map-set, length-map}
 use Rattle.std.proofs.lemmas.Bool.{cond_both}
 use Rattle.event_worlds.specs.declared.world.acts.Act.{Act}
 use Rattle.event_worlds.specs.declared.world.acts.Act.TheVariants as act
@@ -18,7 +19,7 @@ use Rattle.event_worlds.specs.Channel.{Side, from, message_in, passed, looked, m
 use Rattle.event_worlds.specs.ChannelSafety.{place_of, places_of, all_owed}
 use Rattle.event_worlds.specs.ChannelInvariant.{OwnFits, IsSideSound}
 use Rattle.event_worlds.proofs.MadeLemmas.{each_some}
-use Rattle.event_worlds.proofs.PlacedClients.{place-at, places-set, places-length, sum-set, all-set, all-at}
+use Rattle.event_worlds.proofs.PlacedClients.{place-at, sum-set, all-set, all-at}
 use Rattle.event_worlds.proofs.ServedSteps.{IsTry, first_try, second_try, served-owes, served-goes_on, served-gets, served-finds_none, served-waits, served-notified, Waited, waited}
 use Rattle.event_worlds.proofs.StandingLemmas.{notified-flags, notified-kind}
 
@@ -59,13 +60,13 @@ module _ (Own Far : Option ℕ → ℕ → Type 0) (own_none : (message : Option
   -- the client and both lines have changed
   sides-go : (message : Option ℕ) (new : ChannelClient) (line other : Line) → ((free : ℕ) → Own message free → IsServed free (all_owed far) (set places client new.place) line) → ((free owed : ℕ) → Far message free → owed + own.owed ≡ all_owed side + new.owed → IsServed free owed (places_of far.clients) other) → OwnFits new → line.additional ≡ true → other.additional ≡ true → length other.awake ≡ length far.line.awake → Leads message (new, line, other)
   sides-go message new line other served far_served fits_new kind far_kind flags =
-      let is = places-set place_of side.clients client new in (
+      let is = map-set place_of side.clients client new in (
         record {
           served = λ free may. subst (λ (ps : List Place). IsServed free (all_owed far) ps line) (sym is) (served free may);
           owns = all-set OwnFits side.clients client own new at sound.owns fits_new;
           flags =
               (served 0 (own_none message)).flags
-              ∙ (ap length (sym is) ∙ places-length place_of (set side.clients client new));
+              ∙ (ap length (sym is) ∙ length-map (set side.clients client new) place_of);
           kind = kind;
         },
         record {

@@ -71,9 +71,7 @@ FoundFits messages capacity Nothing = length messages ≤ capacity
 FoundFits messages capacity Over = length messages ≤ capacity
 
 look-fits : (closer : CloserPlace) (messages : List ℕ) (capacity message : ℕ) → length messages ≤ capacity → FoundFits messages capacity (if is_closed closer then Over else (if nat_lt (length messages) capacity then One message else Nothing))
-look-fits ToClose messages capacity message fits =
-    cond_both (nat_lt (length messages) capacity) (One message) Nothing (FoundFits messages capacity) (λ some.
-    let left = ltb-true (length messages) capacity some in omega arith) (λ none. fits)
+look-fits ToClose messages capacity message fits = grind (arith, ltb-true)
 look-fits ToNotifySenders messages capacity message fits = fits
 look-fits ToNotifyReceivers messages capacity message fits = fits
 look-fits Done messages capacity message fits = fits
@@ -90,12 +88,7 @@ sent-fits _ _ found messages capacity fits = none-fits messages capacity found f
 
 -- a side of which fewer may be taken
 side-fewer : (Had Has : ℕ → Type 0) (owed : ℕ) (side : Side) → ((free : ℕ) → Has free → Had free) → IsSideSound Had owed side → IsSideSound Has owed side
-side-fewer Had Has owed side fewer sound = record {
-  served = λ free may. sound.served free (fewer free may);
-  owns = sound.owns;
-  flags = sound.flags;
-  kind = sound.kind;
-}
+side-fewer Had Has owed side fewer sound = grind (arith)
 
 -- a side all of which was notified
 side-notified : (Had Has : ℕ → Type 0) (owed : ℕ) (side : Side) → Had 0 → (notified everybody side.line).waiting ≡ [] → IsSideSound Had owed side → IsSideSound Has owed (record { clients = side.clients; line = notified everybody side.line })

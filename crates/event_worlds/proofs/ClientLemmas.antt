@@ -1,8 +1,8 @@
 -- The clients that a queue's listeners are: what is found, and what a change makes of them.
-use Rattle.std.proofs.Common.{◌≡◌, ℕ, Bool, true, false, ◌||◌, eqb, List, [], ◌∷◌, ◌++◌, map, Option, Some, None, is_some, IfSome, refl, sym, ap, ◌∙◌, inl, inr}
+use Rattle.std.proofs.Common.{arith, ◌≡◌, ℕ, Bool, true, false, eqb, List, [], ◌∷◌, map, Option, Some, None, is_some, IfSome, refl, sym, ap, ◌∙◌}
 use Rattle.std.specs.List.{AllByRecursion, list_any}
 use Rattle.std.specs.Map.{keys_of, lookup, remove_entry, set_value}
-use Rattle.std.proofs.lemmas.Bool.{cases_Bool, or_parts, false_from_ne_true, both_ways}
+use Rattle.std.proofs.lemmas.Bool.{or_parts, false_from_ne_true, both_ways}
 use Rattle.event_queue.specs.declared.key.Key.{Key}
 use Rattle.event_queue.specs.Key.{is_key, without}
 use Rattle.event_queue.proofs.ChainLookups.{same_key}
@@ -16,42 +16,12 @@ All-both P Q R (x ∷ xs) both p q = (both x p.0 q.0, All-both P Q R xs both p.1
 
 pub All-remove : {K X : Type 0} (P : K × X → Type 0) (test : K → Bool) (entries : List (K × X)) → AllByRecursion P entries → AllByRecursion P (remove_entry test entries)
 All-remove P test [] all = tt
-All-remove P test (e ∷ es) all =
-    elim (cases_Bool (test e.0)) [
-      | inl here ↦ rw here all.1
-      | inr no_match ↦ rw no_match (all.0, All-remove P test es all.1)
-    ]
-
--- looking among keys
-
-pub any-keys : {K X : Type 0} (test : K → Bool) (entries : List (K × X)) → list_any test (keys_of entries) ≡ is_some (lookup test entries)
-any-keys test [] = refl
-any-keys test (e ∷ es) =
-    elim (cases_Bool (test e.0)) [
-      | inl here ↦ rw here refl
-      | inr no_match ↦ rw no_match (any-keys test es)
-    ]
-
-pub any-append : {X : Type 0} (test : X → Bool) (xs ys : List X) → list_any test (xs ++ ys) ≡ (list_any test xs || list_any test ys)
-any-append test [] ys = refl
-any-append test (x ∷ xs) ys =
-    elim (cases_Bool (test x)) [
-      | inl here ↦ rw here refl
-      | inr no_match ↦ rw no_match (any-append test xs ys)
-    ]
+All-remove P test (e ∷ es) all = grind (arith, All-remove P test es all.1)
 
 -- another key is still among those without this one
 pub any-without : (key other : Key) (keys : List Key) → is_key key other ≡ false → list_any (is_key other) (without key keys) ≡ list_any (is_key other) keys
 any-without key other [] differs = refl
-any-without key other (first ∷ rest) differs =
-    elim (cases_Bool (is_key key first)) [
-      | inl here ↦
-          let unlike : is_key other first ≡ false =
-          false_from_ne_true (is_key other first) (λ same. both_ways (is_key key other) differs (ap (is_key key) (sym (same_key other first same)) ∙ here)) in
-          rw (here, unlike) (any-without key other rest differs)
-      | inr no_match ↦
-          rw no_match (ap (λ (found : Bool). is_key other first || found) (any-without key other rest differs))
-    ]
+any-without key other (first ∷ rest) differs = grind (arith, any-without key other rest differs, both_ways, false_from_ne_true, same_key)
 
 -- a test of keys is a test for a client
 abbrev pub AreClient : (Key → Bool) → ℕ → List (Option Key) → List Key → Type 0
@@ -63,11 +33,7 @@ module _ {X : Type 0} where
 
   pub any-lookup : (test : Key → Bool) (client : ℕ) (keys : List (Option Key)) (entries : List (Key × X)) → AreClient test client keys (keys_of entries) → list_any (eqb client) (clients_of keys entries) ≡ is_some (lookup test entries)
   any-lookup test client keys [] are = refl
-  any-lookup test client keys (e ∷ es) are =
-      elim (cases_Bool (test e.0)) [
-        | inl here ↦ rw (← are.0, here) refl
-        | inr no_match ↦ rw (← are.0, no_match) (any-lookup test client keys es are.1)
-      ]
+  any-lookup test client keys (e ∷ es) are = grind (arith, any-lookup test client keys es are.1)
 
   pub any-none : (client : ℕ) (keys : List (Option Key)) (entries : List (Key × X)) → AllByRecursion (λ key. eqb client (client_of keys key) ≡ false) (keys_of entries) → list_any (eqb client) (clients_of keys entries) ≡ false
   any-none client keys [] none = refl
@@ -75,12 +41,7 @@ module _ {X : Type 0} where
 
   pub clients-remove : (test : Key → Bool) (client : ℕ) (keys : List (Option Key)) (entries : List (Key × X)) → AreClient test client keys (keys_of entries) → clients_of keys (remove_entry test entries) ≡ line.without client (clients_of keys entries)
   clients-remove test client keys [] are = refl
-  clients-remove test client keys (e ∷ es) are =
-      elim (cases_Bool (test e.0)) [
-        | inl here ↦ rw (← are.0, here) refl
-        | inr no_match ↦
-            rw (← are.0, no_match) (ap (λ (cs : List ℕ). client_of keys e.0 ∷ cs) (clients-remove test client keys es are.1))
-      ]
+  clients-remove test client keys (e ∷ es) are = grind (arith, clients-remove test client keys es are.1)
 
   pub clients-same : (keys keys' : List (Option Key)) (entries : List (Key × X)) → AllByRecursion (λ key. client_of keys' key ≡ client_of keys key) (keys_of entries) → clients_of keys' entries ≡ clients_of keys entries
   clients-same keys keys' [] same = refl
@@ -99,35 +60,21 @@ module _ (keys : List (Option Key)) where
 
   pub waiting-remove : (test : Key → Bool) (client : ℕ) (waiting : List (Key × Option ℕ)) → AreClient test client keys (keys_of waiting) → waiting_clients keys (remove_entry test waiting) ≡ remove_entry (eqb client) (waiting_clients keys waiting)
   waiting-remove test client [] are = refl
-  waiting-remove test client (e ∷ es) are =
-      elim (cases_Bool (test e.0)) [
-        | inl here ↦ rw (← are.0, here) refl
-        | inr no_match ↦
-            rw (← are.0, no_match) (ap (λ (cs : List (ℕ × Bool)). (client_of keys e.0, is_some e.1) ∷ cs) (waiting-remove test client es are.1))
-      ]
+  waiting-remove test client (e ∷ es) are = grind (arith, waiting-remove test client es are.1)
 
   pub waiting-set : (test : Key → Bool) (client task : ℕ) (waiting : List (Key × Option ℕ)) → AreClient test client keys (keys_of waiting) → waiting_clients keys (set_value test waiting (Some task)) ≡ set_value (eqb client) (waiting_clients keys waiting) true
   waiting-set test client task [] are = refl
-  waiting-set test client task (e ∷ es) are =
-      elim (cases_Bool (test e.0)) [
-        | inl here ↦ rw (← are.0, here) refl
-        | inr no_match ↦
-            rw (← are.0, no_match) (ap (λ (cs : List (ℕ × Bool)). (client_of keys e.0, is_some e.1) ∷ cs) (waiting-set test client task es are.1))
-      ]
+  waiting-set test client task (e ∷ es) are = grind (arith, waiting-set test client task es are.1)
 
 -- who does not wait changes nothing by registering or by leaving
 
 pub set_value-none : (client : ℕ) (waiting : List (ℕ × Bool)) → list_any (eqb client) (keys_of waiting) ≡ false → set_value (eqb client) waiting true ≡ waiting
 set_value-none client [] none = refl
-set_value-none client (first ∷ rest) none =
-    let parts = or_parts (eqb client first.0) (list_any (eqb client) (keys_of rest)) none in
-    rw parts.0 (ap (λ (es : List (ℕ × Bool)). first ∷ es) (set_value-none client rest parts.1))
+set_value-none client (first ∷ rest) none = grind (arith, set_value-none client rest, or_parts)
 
 pub remove_entry-none : (client : ℕ) (waiting : List (ℕ × Bool)) → list_any (eqb client) (keys_of waiting) ≡ false → remove_entry (eqb client) waiting ≡ waiting
 remove_entry-none client [] none = refl
-remove_entry-none client (first ∷ rest) none =
-    let parts = or_parts (eqb client first.0) (list_any (eqb client) (keys_of rest)) none in
-    rw parts.0 (ap (λ (es : List (ℕ × Bool)). first ∷ es) (remove_entry-none client rest parts.1))
+remove_entry-none client (first ∷ rest) none = grind (arith, remove_entry-none client rest, or_parts)
 
 -- tasks that are their listeners' clients
 
@@ -145,10 +92,4 @@ tasks-same keys keys' (e ∷ es) same has =
 
 pub tasks-set : (keys : List (Option Key)) (client : ℕ) (key : Key) (waiting : List (Key × Option ℕ)) → client_of keys key ≡ client → AllByRecursion (HasTask keys) waiting → AllByRecursion (HasTask keys) (set_value (is_key key) waiting (Some client))
 tasks-set keys client key [] own has = tt
-tasks-set keys client key (e ∷ es) own has =
-    elim (cases_Bool (is_key key e.0)) [
-      | inl here ↦
-          let named : client ≡ client_of keys e.0 = sym own ∙ ap (client_of keys) (sym (same_key key e.0 here)) in
-          rw here (named, has.1)
-      | inr no_match ↦ rw no_match (has.0, tasks-set keys client key es own has.1)
-    ]
+tasks-set keys client key (e ∷ es) own has = grind (arith, tasks-set keys client key es own has.1, same_key)

@@ -1,10 +1,9 @@
 -- What the flag world keeps implies that it is safe.
-use Rattle.std.proofs.Common.{◌≡◌, ℕ, true, slice_get, Some, IsTrue, refl, ap, ◌∙◌, arith, inl, inr}
-use Rattle.std.proofs.lemmas.Bool.{cases_lt}
+use Rattle.std.proofs.Common.{◌≡◌, ℕ, true, slice_get, Some, IsTrue, refl, arith, inl, inr}
 use Rattle.event_worlds.specs.declared.world.flag.FlagPlace.{FlagPlace}
 use Rattle.event_worlds.specs.declared.world.flag.FlagPlace.TheVariants.{ToRegister, Parked}
 use Rattle.event_worlds.specs.declared.world.flag.SetterPlace.{SetterPlace}
-use Rattle.event_worlds.specs.declared.world.flag.SetterPlace.TheVariants.{ToSet, ToNotify, Done as IsDone}
+use Rattle.event_worlds.specs.declared.world.flag.SetterPlace.TheVariants.{ToNotify}
 use Rattle.event_worlds.specs.declared.world.place.Place.TheVariants as lock
 use Rattle.event_worlds.specs.ClientTable.{is_listening}
 use Rattle.event_worlds.specs.Line.{is_told, has_wake}
@@ -18,19 +17,12 @@ use Rattle.event_worlds.proofs.PlacedClients.{place-at}
 use Rattle.event_worlds.proofs.InLineLemmas.{awake_at}
 
 notifies_is : (place : SetterPlace) → is_to_notify place ≡ true → place ≡ ToNotify
-notifies_is ToSet notifies = absurd (cc)
 notifies_is ToNotify notifies = refl
-notifies_is IsDone notifies = absurd (cc)
+notifies_is _ notifies = absurd (cc)
 
 module _ (state : FlagState) (sound : IsSound state) where
   none-notify : NoSetterNotifies state → number is_to_notify state.setters ≡ 0
-  none-notify none =
-      elim (cases_lt 0 (number is_to_notify state.setters)) [
-        | inl some ↦
-            let (setter, place, at, notifies) = number-found is_to_notify state.setters some in
-            absurd (none setter (at ∙ ap (λ (p : SetterPlace). Some p) (notifies_is place notifies)))
-        | inr no_more ↦ omega arith
-      ]
+  none-notify none = grind (arith, notifies_is, number-found)
 
   there : (client : ℕ) (place : FlagPlace) → IsAt client place state → slice_get (places_of state.places) client ≡ Some (lock_place place)
   there client place at = place-at lock_place state.places client place at

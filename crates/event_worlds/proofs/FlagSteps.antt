@@ -1,5 +1,6 @@
 -- Each step of the flag world's tables keeps the world's invariant.
 use Rattle.std.proofs.Common.{◌≡◌, ◌≢◌, ℕ, ◌+◌, ◌≤◌, true, false, eqb, List, [], length, set, slice_get, Option, Some, None, IfSome, option_map, refl, sym, ap, ◌∙◌, subst, inl, inr, arith}
+use Rattle.std.proofs.lemmas.List.{map-set}
 use Rattle.std.specs.List.{list_any}
 use Rattle.std.proofs.lemmas.Bool.{cases_Bool, cases_eq, cond_both}
 use Rattle.std.proofs.lemmas.Option.{same_Some}
@@ -22,7 +23,7 @@ use Rattle.event_worlds.specs.FlagInvariant.{places_of, is_to_notify, IsSettled,
 use Rattle.event_worlds.proofs.InLineLemmas.{told_if, out_at}
 use Rattle.event_worlds.proofs.MadeLemmas.{each_some}
 use Rattle.event_worlds.proofs.PlaceLemmas.{slice_get-set, slice_get-set_other, number-at}
-use Rattle.event_worlds.proofs.PlacedClients.{place-at, places-set, places-same}
+use Rattle.event_worlds.proofs.PlacedClients.{place-at, places-same}
 use Rattle.event_worlds.proofs.ServedSteps.{second_try, served-goes_on, served-finds_none, served-drops, served-waits, served-all, served-start, Waited, waited}
 use Rattle.event_worlds.proofs.StandingLemmas.{times-any, notified-kind}
 
@@ -41,7 +42,7 @@ module _ (state : FlagState) (client : ℕ) (sound : IsSound state) (p : FlagPla
   -- the client goes, and whoever else was told still is
   sound-goes : (q : FlagPlace) (line : Line) → IsServed 0 0 (set places client (lock_place q)) line → ((other : ℕ) → other ≢ client → times other state.line.told ≤ times other line.told) → (state.flag ≡ true → number is_to_notify state.setters ≡ 0 → is_past_second (lock_place q) ≡ true → is_told client line ≡ true) → line.additional ≡ false → IsSound (goes client state (q, line))
   sound-goes q line served others own kind =
-      let is = places-set lock_place state.places client q in
+      let is = map-set lock_place state.places client q in
       let settled : IsSettled state.flag state.setters (set places client (lock_place q)) line =
       λ flag none other place at' past.
       elim (cases_eq other client) [

@@ -1,5 +1,6 @@
 -- How a line stays tied to its queue as a client joins.
 use Rattle.std.proofs.Common.{◌≡◌, ℕ, ◌+◌, ◌<◌, ◌≤◌, ◌^◌, Bool, true, false, if◌then◌else◌, List, [], ◌∷◌, ◌++◌, length, get_or, set, replicate, Option, Some, None, Err, refl, sym, ap, ◌∙◌, subst, inl, inr, arith, length-set, get_or-set_same, get_or-set_other}
+use Rattle.std.proofs.lemmas.List.Folds.{list_any-append}
 use Rattle.std.specs.List.{AllByRecursion, list_any}
 use Rattle.std.specs.Map.{keys_of}
 use Rattle.std.proofs.lemmas.Bool.{cases_eq, or_parts, or_left, or_right, lt-ltb, le-ltb}
@@ -12,35 +13,19 @@ use Rattle.event_queue.specs.Key.{is_key}
 use Rattle.event_queue.specs.Queue.{Queue, IsQueue, order_of}
 use Rattle.event_queue.specs.Insert.{Joins, Inserts}
 use Rattle.event_queue.proofs.OrderLemmas.{All-append, All-front, All-back, All-implied, other_serial}
-use Rattle.event_worlds.specs.Line.{Line, is_told, is_waiting, is_in_line, has_serial_left, joined}
-use Rattle.event_worlds.specs.LineKeys.{holds, client_of, waiting_clients, line_of, keyless, IsKeyOf, IsTied}
+use Rattle.event_worlds.specs.Line.{Line, is_in_line, has_serial_left, joined}
+use Rattle.event_worlds.specs.LineKeys.{holds, client_of, line_of, IsKeyOf, IsTied}
 use Rattle.event_worlds.proofs.KeyLemmas.{is_key-same, client_of-set, client_of-new, key_at, keyless-joins, keyless-replicate, no_key}
-use Rattle.event_worlds.proofs.ClientLemmas.{All-both, any-append, clients-same, waiting-same, HasTask, tasks-same}
+use Rattle.event_worlds.proofs.ClientLemmas.{All-both, clients-same, waiting-same, HasTask, tasks-same}
 use Rattle.event_worlds.proofs.LineLemmas.{IsOut, Changed}
 
 -- who is not in line is out
 pub is_out : (client : ℕ) (line : Line) → is_in_line client line ≡ false → IsOut client line
-is_out client line absent =
-    let parts = or_parts (is_told client line) (is_waiting client line) absent in
-    record { untold = parts.0; unwaiting = parts.1 }
+is_out client line absent = grind (arith, or_parts)
 
 -- a queue without listeners, keys that nobody has, and no wake-ups are tied
 pub empty-tied : (kind : Bool) (q : Queue Unit ℕ) (keys : List (Option Key)) (awake : List Bool) (clients : ℕ) → IsQueue q → q.told ≡ [] → q.waiting ≡ [] → clients ≤ q.spare → keys ≡ replicate clients None → awake ≡ replicate clients false → IsTied kind q keys awake
-empty-tied kind q keys awake clients queue told waiting room none asleep =
-    let keyed : (k : List (Option Key)) → Type 0 = λ k. (client : ℕ) (key : Key) → get_or k client None ≡ Some key → IsKeyOf q k client key in
-    let order : order_of q ≡ [] = λ i. keys_of (told i) ++ keys_of (waiting i) in
-    record {
-      queue = queue;
-      listed = subst (AllByRecursion (λ key. client_of keys key < length keys)) (sym order) tt;
-      mapped = subst keyed (sym none) (λ client key at. absurd (none-some key (sym (no_key clients client) ∙ at)));
-      tasks = subst (AllByRecursion (HasTask keys)) (sym waiting) tt;
-      kinds = subst (AllByRecursion (λ entry. entry.1.additional ≡ kind)) (sym told) tt;
-      room = omega (arith, room, ap keyless none, keyless-replicate clients);
-      flags =
-          ap length asleep
-          ∙ (length-replicate clients false
-          ∙ (sym (length-replicate {A = Option Key} clients None) ∙ ap length (sym none)));
-    }
+empty-tied kind q keys awake clients queue told waiting room none asleep = grind (arith, keyless-replicate, length-replicate, no_key, none-some)
 
 module _ (kind : Bool) (q : Queue Unit ℕ) (keys : List (Option Key)) (awake : List Bool) (tied : IsTied kind q keys awake) (client : ℕ) (within : client < length keys) (out : get_or keys client None ≡ None) where
   -- whoever is out finds room
@@ -89,14 +74,7 @@ module _ (kind : Bool) (q : Queue Unit ℕ) (keys : List (Option Key)) (awake : 
 
     module _ (q' : Queue Unit ℕ) (queue : IsQueue q') (order : order_of q' ≡ order_of q ++ key ∷ []) (next : q'.next_serial ≡ q.next_serial + 1) where
       own-key : (other : ℕ) (k : Key) → other ≡ client → key ≡ k → IsKeyOf q' given other k
-      own-key other k is same_key = record {
-        own = ap (client_of given) (sym same_key) ∙ (own ∙ sym is);
-        given = let same_serial = ap (λ (a : Key). a.serial) same_key in omega arith;
-        stands =
-            ap (list_any (is_key k)) order
-            ∙ (any-append (is_key k) (order_of q) (key ∷ [])
-            ∙ or_right (list_any (is_key k) (order_of q)) (list_any (is_key k) (key ∷ [])) (or_left (is_key k key) false (ap (is_key k) same_key ∙ is_key-same k)));
-      }
+      own-key other k is same_key = grind (arith, is_key-same, list_any-append, or_left, or_right, own)
 
       other-key : (other : ℕ) (k : Key) → get_or keys other None ≡ Some k → IsKeyOf q' given other k
       other-key other k at =
@@ -106,7 +84,7 @@ module _ (kind : Bool) (q : Queue Unit ℕ) (keys : List (Option Key)) (awake : 
             given = omega (arith, was.given, next);
             stands =
                 ap (list_any (is_key k)) order
-                ∙ (any-append (is_key k) (order_of q) (key ∷ [])
+                ∙ (list_any-append (is_key k) (order_of q) (key ∷ [])
                 ∙ or_left (list_any (is_key k) (order_of q)) (list_any (is_key k) (key ∷ [])) was.stands);
           }
 
@@ -134,18 +112,7 @@ module _ (kind : Bool) (q : Queue Unit ℕ) (keys : List (Option Key)) (awake : 
           }
 
     joined-line : (spare : ℕ) → line_of kind (record { told = q.told; waiting = q.waiting ++ (key, None) ∷ []; next_serial = q.next_serial + 1; spare = spare }) given (set awake client false) ≡ joined client (line_of kind q keys awake)
-    joined-line spare =
-        let told = clients-same keys given q.told told-same in
-        let waiting : waiting_clients given (q.waiting ++ (key, None) ∷ []) ≡ waiting_clients keys q.waiting ++ (client, false) ∷ [] =
-        map-append _ q.waiting ((key, None) ∷ [])
-        ∙ (λ i. waiting-same keys given q.waiting waiting-all-same i ++ (own i, false) ∷ []) in
-        λ i. record {
-          told = told i;
-          waiting = waiting i;
-          awake = set awake client false;
-          next = q.next_serial + 1;
-          additional = kind;
-        }
+    joined-line spare = grind (arith, clients-same, map-append, own, told-same, waiting-all-same, waiting-same)
 
   pub joins-line : (key : Key) (q' : Queue Unit ℕ) (awake' : List Bool) → IsQueue q' → Joins q key q' → order_of q' ≡ order_of q ++ key ∷ [] → awake' ≡ set awake client false → Changed kind q' (set keys client (Some key)) awake' (joined client (line_of kind q keys awake))
   joins-line key q' awake' queue joins order cleared =
@@ -166,6 +133,4 @@ module _ (kind : Bool) (q : Queue Unit ℕ) (keys : List (Option Key)) (awake : 
   refused-line SerialsUsedUp q' step = (le-ltb (q.next_serial + 1) (2 ^ 64) (omega arith), step.1)
 
 pub joined-if : (client : ℕ) (line : Line) → line.next + 1 < 2 ^ 64 → (has_serial_left line ≡ true) × (joined client line ≡ (if has_serial_left line then joined client line else line))
-joined-if client line left =
-    let has : has_serial_left line ≡ true = lt-ltb (line.next + 1) (2 ^ 64) left in
-    (has, rw has refl)
+joined-if client line left = grind (arith, lt-ltb)

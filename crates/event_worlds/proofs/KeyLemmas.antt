@@ -33,11 +33,7 @@ client_of-new (first ∷ rest) (suc client) key within new =
 -- a key that names a client is its key
 pub key_at : (keys : List (Option Key)) (key : Key) → client_of keys key < length keys → get_or keys (client_of keys key) None ≡ Some key
 key_at [] key within = absurd (omega arith)
-key_at (first ∷ rest) key within =
-    elim (cases_Bool (holds key first)) [
-      | inl here ↦ rw here (key_held key first here)
-      | inr other ↦ let later = rw other at within in rw other (key_at rest key (omega arith))
-    ]
+key_at (first ∷ rest) key within = grind (arith, key_at rest key, key_held)
 
 module _ (keys : List (Option Key)) (client : ℕ) where
   -- a key in the queue is the client's key exactly if it names the client
@@ -51,10 +47,7 @@ module _ (keys : List (Option Key)) (client : ℕ) where
       ]
     where
       apart : is_key key other ≡ false → client ≡ client_of keys other → ⊥
-      apart differs here =
-          let found : Some key ≡ Some other = sym at ∙ (ap (λ (n : ℕ). get_or keys n None) here ∙ key_at keys other listed) in
-          let same : key ≡ other = same_Some key other found in
-          both_ways (is_key key other) differs (ap (is_key key) (sym same) ∙ is_key-same key)
+      apart differs here = grind (arith, both_ways, is_key-same, key_at, same_Some)
 
   -- no key in the queue names a client that has none
   pub not_client : (other : Key) → get_or keys client None ≡ None → client_of keys other < length keys → eqb client (client_of keys other) ≡ false

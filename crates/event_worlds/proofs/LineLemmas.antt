@@ -1,5 +1,8 @@
 -- How a line stays tied to its queue as clients register, leave and join.
-use Rattle.std.proofs.Common.{◌≡◌, ◌≢◌, ℕ, suc, ◌+◌, ◌<◌, Bool, false, if◌then◌else◌, eqb, List, [], ◌∷◌, length, get_or, set, Option, Some, None, is_some, refl, sym, ap, ◌∙◌, subst, inl, inr, arith, length-set, get_or-set_same, get_or-set_other}
+use Rattle.std.proofs.Common.{◌≡◌, ◌≢◌, ℕ, ◌+◌, ◌<◌, Bool, false, if◌then◌else◌, eqb, List, length, get_or, set, Option, Some, None, is_some, refl, sym, ap, ◌∙◌, subst, inl, inr, arith, length-set, get_or-set_same, get_or-set_other}
+use Rattle.std.proofs.lemmas.Map.Made.{is_some-lookup}
+use Rattle.std.proofs.lemmas.List.Folds.{list_any-append}
+use Rattle.std.proofs.lemmas.List.{length-map}
 use Rattle.std.specs.List.{AllByRecursion, list_any}
 use Rattle.std.specs.Map.{keys_of, lookup}
 use Rattle.std.proofs.lemmas.Bool.{cases_eq, both_ways, or_from, false_from_ne_true}
@@ -13,9 +16,9 @@ use Rattle.event_queue.proofs.ChainLookups.{same_key}
 use Rattle.event_queue.proofs.OrderLemmas.{NoneIs, All-front, All-back, All-implied, All-filter, none_is-without}
 use Rattle.event_queue.proofs.QueueLemmas.{order_of-told_leaves, order_of-waiting_leaves, order_of-after_storing, IsQueue-told_leaves, IsQueue-waiting_leaves, IsQueue-after_storing}
 use Rattle.event_worlds.specs.Line.{Line, IsLine, is_told, is_waiting, registered, told_left, waiting_left, dropped}
-use Rattle.event_worlds.specs.LineKeys.{holds, client_of, told_clients, waiting_clients, line_of, IsKeyOf, IsTied}
+use Rattle.event_worlds.specs.LineKeys.{holds, client_of, line_of, IsKeyOf, IsTied}
 use Rattle.event_worlds.proofs.KeyLemmas.{client_of-set, is_client, not_client, keyless-leaves}
-use Rattle.event_worlds.proofs.ClientLemmas.{All-both, All-remove, any-keys, any-append, any-without, AreClient, any-lookup, any-none, clients-remove, clients-same, keys_of-waiting, waiting-same, waiting-remove, waiting-set, set_value-none, remove_entry-none, HasTask, tasks-same, tasks-set}
+use Rattle.event_worlds.proofs.ClientLemmas.{All-both, All-remove, any-without, AreClient, any-lookup, any-none, clients-remove, clients-same, keys_of-waiting, waiting-same, waiting-remove, waiting-set, set_value-none, remove_entry-none, HasTask, tasks-same, tasks-set}
 
 -- the client is neither told nor waits
 pub record IsOut (client : ℕ) (line : Line) : Type 0 where
@@ -40,18 +43,8 @@ out-drops client line out = rw out.untold (out-waiting_left client line out)
 
 -- a line is a line
 
-pub length-told : (keys : List (Option Key)) (told : List (Key × Notice Unit)) → length (told_clients keys told) ≡ length told
-length-told keys [] = refl
-length-told keys (e ∷ es) = ap suc (length-told keys es)
-
-pub length-waiting : (keys : List (Option Key)) (waiting : List (Key × Option ℕ)) → length (waiting_clients keys waiting) ≡ length waiting
-length-waiting keys [] = refl
-length-waiting keys (e ∷ es) = ap suc (length-waiting keys es)
-
 pub line_is : (kind : Bool) (q : Queue Unit ℕ) (keys : List (Option Key)) (awake : List Bool) → IsQueue q → IsLine (line_of kind q keys awake)
-line_is kind q keys awake queue = record {
-  clients_fit = omega (arith, queue.slots_fit, length-told keys q.told, length-waiting keys q.waiting);
-}
+line_is kind q keys awake queue = grind (arith, length-map)
 
 -- the queue, the keys and the wake-ups are tied, and are this line
 pub record Changed (kind : Bool) (q : Queue Unit ℕ) (keys : List (Option Key)) (awake : List Bool) (line : Line) : Type 0 where
@@ -100,16 +93,7 @@ module _ (kind : Bool) (q : Queue Unit ℕ) (keys : List (Option Key)) (awake : 
 
   module _ (client : ℕ) where
     pub out-keyless : get_or keys client None ≡ None → IsOut client (line_of kind q keys awake)
-    out-keyless none =
-        let others : (other : Key) → Names keys other → eqb client (client_of keys other) ≡ false =
-        λ other names. not_client keys client other none names in
-        let Other : Key → Type 0 = λ other. eqb client (client_of keys other) ≡ false in
-        record {
-          untold = any-none client keys q.told (All-implied (Names keys) Other (keys_of q.told) others told-names);
-          unwaiting =
-              ap (list_any (eqb client)) (keys_of-waiting keys q.waiting)
-              ∙ any-none client keys q.waiting (All-implied (Names keys) Other (keys_of q.waiting) others waiting-names);
-        }
+    out-keyless none = grind (arith, All-implied, any-none, keys_of-waiting, not_client, told-names, waiting-names)
 
     module _ (key : Key) (at : get_or keys client None ≡ Some key) where
       own : IsKeyOf q keys client key
@@ -131,23 +115,18 @@ module _ (kind : Bool) (q : Queue Unit ℕ) (keys : List (Option Key)) (awake : 
       told-found = any-lookup (is_key key) client keys q.told told-are
 
       pub waiting-found : is_waiting client (line_of kind q keys awake) ≡ is_some (lookup (is_key key) q.waiting)
-      waiting-found =
-          ap (list_any (eqb client)) (keys_of-waiting keys q.waiting)
-          ∙ any-lookup (is_key key) client keys q.waiting waiting-are
+      waiting-found = grind (arith, any-lookup, keys_of-waiting, waiting-are)
 
       pub out-absent : IsAbsent key q → IsOut client (line_of kind q keys awake)
-      out-absent absent = record {
-        untold = told-found ∙ ap is_some absent.untold;
-        unwaiting = waiting-found ∙ ap is_some absent.unwaiting;
-      }
+      out-absent absent = grind (arith, absent, told-found, waiting-found)
 
       -- a client's key is in the queue
       pub not_absent : IsAbsent key q → ⊥
       not_absent absent =
-          let told = any-keys (is_key key) q.told ∙ ap is_some absent.untold in
-          let waiting = any-keys (is_key key) q.waiting ∙ ap is_some absent.unwaiting in
+          let told = sym (is_some-lookup (is_key key) q.told) ∙ ap is_some absent.untold in
+          let waiting = sym (is_some-lookup (is_key key) q.waiting) ∙ ap is_some absent.unwaiting in
           let nowhere : list_any (is_key key) (order_of q) ≡ false =
-          any-append (is_key key) (keys_of q.told) (keys_of q.waiting) ∙ or_from (list_any (is_key key) (keys_of q.told)) (list_any (is_key key) (keys_of q.waiting)) told waiting in
+          list_any-append (is_key key) (keys_of q.told) (keys_of q.waiting) ∙ or_from (list_any (is_key key) (keys_of q.told)) (list_any (is_key key) (keys_of q.waiting)) told waiting in
           both_ways (list_any (is_key key) (order_of q)) nowhere own.stands
 
       -- a waiting client stores its task
@@ -217,10 +196,7 @@ module _ (kind : Bool) (q : Queue Unit ℕ) (keys : List (Option Key)) (awake : 
         }
 
         pub same_line : line_of kind q' left awake ≡ line_of kind q' keys awake
-        same_line =
-            let told = clients-same keys left q'.told told-same in
-            let waiting = waiting-same keys left q'.waiting waiting-same' in
-            λ i. record (line_of kind q' keys awake) { told = told i; waiting = waiting i }
+        same_line = grind (arith, clients-same, told-same, waiting-same, waiting-same')
 
       pub told-leaves : (notice : Notice Unit) → client < length keys → lookup (is_key key) q.told ≡ Some notice → Changed kind (told_leaves key q) (set keys client None) awake (told_left client (line_of kind q keys awake))
       told-leaves notice within found =

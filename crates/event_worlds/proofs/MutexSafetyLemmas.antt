@@ -1,8 +1,8 @@
 -- What the mutex world keeps implies that it is safe.
-use Rattle.std.proofs.Common.{◌≡◌, ℕ, ◌+◌, ◌<◌, ◌≤◌, ◌⊎◌, true, false, length, Some, refl, ap, ◌∙◌, arith, inl, inr}
+use Rattle.std.proofs.Common.{◌≡◌, ℕ, ◌+◌, ◌<◌, ◌≤◌, ◌⊎◌, true, false, length, refl, ap, arith, inl, inr}
 use Rattle.std.proofs.lemmas.Bool.{cases_lt, false_from_ne_true}
 use Rattle.event_worlds.specs.declared.world.place.Place.{Place}
-use Rattle.event_worlds.specs.declared.world.place.Place.TheVariants.{Idle, First, ToListen, Second, Ending, ToRegister, Parked, Holding, Releasing}
+use Rattle.event_worlds.specs.declared.world.place.Place.TheVariants.{First, ToRegister, Parked, Releasing}
 use Rattle.event_worlds.specs.ClientTable.{is_woken}
 use Rattle.event_worlds.specs.Line.{is_told}
 use Rattle.event_worlds.specs.Standing.{number}
@@ -18,26 +18,12 @@ use Rattle.event_worlds.proofs.ServedLemmas.{told_run}
 -- nobody's wake-up is lost
 
 woken_is : (place : Place) → is_woken place ≡ true → place ≡ First true
-woken_is Idle woken = absurd (cc)
 woken_is (First w) woken = ap First woken
-woken_is ToListen woken = absurd (cc)
-woken_is Second woken = absurd (cc)
-woken_is Ending woken = absurd (cc)
-woken_is ToRegister woken = absurd (cc)
-woken_is Parked woken = absurd (cc)
-woken_is Holding woken = absurd (cc)
-woken_is Releasing woken = absurd (cc)
+woken_is _ woken = absurd (cc)
 
 releasing_is : (place : Place) → is_releasing place ≡ true → place ≡ Releasing
-releasing_is Idle releasing = absurd (cc)
-releasing_is (First w) releasing = absurd (cc)
-releasing_is ToListen releasing = absurd (cc)
-releasing_is Second releasing = absurd (cc)
-releasing_is Ending releasing = absurd (cc)
-releasing_is ToRegister releasing = absurd (cc)
-releasing_is Parked releasing = absurd (cc)
-releasing_is Holding releasing = absurd (cc)
 releasing_is Releasing releasing = refl
+releasing_is _ releasing = absurd (cc)
 
 module _ (state : MutexState) (sound : IsSound state) where
   untold : (client : ℕ) → length state.line.told ≤ 0 → is_told client state.line ≡ false
@@ -50,15 +36,7 @@ module _ (state : MutexState) (sound : IsSound state) where
   enough (inr (client, at)) none = sound.served.enough client Parked at refl (untold client none)
 
   some_way : 0 < number is_woken state.places + number is_releasing state.places → SomeClientIsAt (First true) state.places ⊎ SomeClientIsAt Releasing state.places
-  some_way some =
-      elim (cases_lt 0 (number is_woken state.places)) [
-        | inl woken ↦
-            let (client, place, at, is) = number-found is_woken state.places woken in
-            inl (client, at ∙ ap (λ (p : Place). Some p) (woken_is place is))
-        | inr none ↦
-            let (client, place, at, is) = number-found is_releasing state.places (omega arith) in
-            inr (client, at ∙ ap (λ (p : Place). Some p) (releasing_is place is))
-      ]
+  some_way some = grind (arith, number-found, releasing_is, woken_is)
 
   pub safe : IsSafe state
   safe unheld someone =

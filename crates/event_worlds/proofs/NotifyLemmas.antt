@@ -1,8 +1,8 @@
 -- How a line stays tied to its queue as clients are told.
-use Rattle.std.proofs.Common.{◌≡◌, ℕ, zero, suc, ◌-◌, ◌<◌, ◌≤◌, min, Bool, true, false, if◌then◌else◌, List, [], ◌∷◌, ◌++◌, take, drop, length, get_or, set, Option, Some, None, is_some, IfSome, IsSomeAnd, IsOk, Result, Ok, Err, refl, sym, ap, ◌∙◌, subst, arith, append_assoc, length-take, length-set}
+use Rattle.std.proofs.Common.{◌≡◌, ℕ, zero, suc, ◌<◌, ◌≤◌, Bool, true, false, if◌then◌else◌, List, [], ◌∷◌, ◌++◌, take, drop, length, get_or, set, Option, Some, None, is_some, IfSome, IsSomeAnd, IsOk, Result, Ok, Err, refl, sym, ap, ◌∙◌, subst, arith, append_assoc, length-take, length-set}
 use Rattle.std.specs.List.{AllByRecursion, FoldsTo, filter_map}
 use Rattle.std.specs.Map.{lookup}
-use Rattle.std.proofs.lemmas.List.{map-append, append-nil}
+use Rattle.std.proofs.lemmas.List.{map-append, append-nil, length-map}
 use Rattle.std.specs.declared.alloc.AllocError.{AllocError}
 use Rattle.event_queue.specs.declared.key.Key.{Key}
 use Rattle.event_queue.specs.declared.notice.Notice.{Notice}
@@ -19,7 +19,7 @@ use Rattle.event_queue.proofs.LawLemmas.{untold-waiting, propagates-passed, prop
 use Rattle.event_worlds.specs.Line.{Line, is_told, told_left, waiting_left, woken, tell, notified, dropped}
 use Rattle.event_worlds.specs.LineKeys.{client_of, told_clients, waiting_clients, line_of, IsTied}
 use Rattle.event_worlds.proofs.ClientLemmas.{HasTask}
-use Rattle.event_worlds.proofs.LineLemmas.{Changed, moves, IsOf, kept, told-found, told-leaves, waiting-leaves, not_absent, length-told, length-waiting}
+use Rattle.event_worlds.proofs.LineLemmas.{Changed, moves, IsOf, kept, told-found, told-leaves, waiting-leaves, not_absent}
 
 -- what a wake does: the client gets its wake-up
 abbrev pub Wakes : List Bool → ℕ → List Bool → Type 0
@@ -70,11 +70,7 @@ module _ (kind : Bool) (keys : List (Option Key)) (next : ℕ) where
   tells-line : (tags : List Unit) (told : List (Key × Notice Unit)) (waiting : List (Key × Option ℕ)) (awake awake' : List Bool) → AllByRecursion (HasTask keys) waiting → FoldsTo Wakes awake (tasks_among (length tags) waiting) awake' → line_with (told ++ told_with kind tags waiting) (drop (length tags) waiting) awake' ≡ tell (length tags) (line_with told waiting awake)
   tells-line [] told waiting awake awake' has wakes =
       let all = append-nil told in λ i. line_with (all i) waiting (sym wakes i)
-  tells-line (tag ∷ tags) told [] awake awake' has wakes =
-      let all = append-nil told in
-      let same : line_with (told ++ []) [] awake' ≡ line_with told [] awake =
-      λ i. line_with (all i) [] (sym wakes i) in
-      same ∙ sym (tell-nobody (length (tag ∷ tags)) (told_clients keys told) awake next kind)
+  tells-line (tag ∷ tags) told [] awake awake' has wakes = grind (arith, append-nil, tell-nobody)
   tells-line (tag ∷ tags) told (first ∷ rest) awake awake' has wakes =
       let entry : Key × Notice Unit = (first.0, record { additional = kind; tag = tag }) in
       let client : ℕ = client_of keys first.0 in
@@ -97,16 +93,10 @@ module _ (kind : Bool) (q : Queue Unit ℕ) (keys : List (Option Key)) (awake : 
 
   -- as many are told as a notification tells
   tells-many : (count : ℕ) → tell (how_many count kind q) (line_of kind q keys awake) ≡ notified count (line_of kind q keys awake)
-  tells-many count =
-      let told = length-told keys q.told in
-      let waiting = length-waiting keys q.waiting in
-      λ i. tell (min (if kind then count else count - sym told i) (sym waiting i)) (line_of kind q keys awake)
+  tells-many count = grind (arith, length-map)
 
   pub notifies-tags : (count : ℕ) (tags : List Unit) (q' : Queue Unit ℕ) (awake' : List Bool) → length tags ≡ how_many count kind q → q' ≡ after_telling kind tags q → FoldsTo Wakes awake (tasks_of (how_many count kind q) q) awake' → Changed kind q' keys awake' (notified count (line_of kind q keys awake))
-  notifies-tags count tags q' awake' many same wakes =
-      let wakes' = subst (λ (n : ℕ). FoldsTo Wakes awake (tasks_of n q) awake') (sym many) wakes in
-      let line = ap (λ (n : ℕ). tell n (line_of kind q keys awake)) many ∙ tells-many count in
-      moves kind (after_telling kind tags q) q' keys awake' awake' _ _ same refl line (tells tags awake' wakes')
+  notifies-tags count tags q' awake' many same wakes = grind (arith, moves, tells, tells-many)
 
   pub notifies : {N : Type 0} (gives : N → Result Unit AllocError → N → Type 0) (count : ℕ) (source source' : N) (result : Result ℕ NotifyError) (q' : Queue Unit ℕ) (awake' : List Bool) → Notifies gives count kind q source result q' source' → IsOk result → FoldsTo Wakes awake (tasks_of (told_by result) q) awake' → Changed kind q' keys awake' (notified count (line_of kind q keys awake))
   notifies gives count source source' (Ok told) q' awake' step ok wakes =
@@ -124,9 +114,7 @@ found-kind kind test [] notice all found = absurd (cc)
 found-kind kind test (e ∷ es) notice all found = by_test (test e.0) refl (found-kind kind test es notice all.1)
   where
     by_test : (b : Bool) → test e.0 ≡ b → (lookup test es ≡ Some notice → notice.additional ≡ kind) → notice.additional ≡ kind
-    by_test true here later =
-        let same : e.1 ≡ notice = let is : Some e.1 ≡ Some notice = rw here at found in cc in
-        ap (λ (n : Notice Unit). n.additional) (sym same) ∙ all.0
+    by_test true here later = grind (arith)
     by_test false no_match later = later (rw no_match at found)
 
 -- no more are told than a notification is for
@@ -202,9 +190,7 @@ module _ (kind : Bool) (q : Queue Unit ℕ) (keys : List (Option Key)) (awake : 
     drops-line (Some (Task task)) step wakes =
         waiting-leaves' true (Some task) _ step.0 step.1 wakes (rw (untold-if (Some task) step.0) refl)
     drops-line (Some (Notified additional tag)) step wakes = absurd (cc)
-    drops-line (Some (Passed to)) step wakes =
-        let passed = propagates-passed q key true to q' step in
-        passes passed.notice passed.found passed.queue wakes
+    drops-line (Some (Passed to)) step wakes = grind (arith, passes, propagates-passed)
     drops-line (Some (Lost additional tag)) step wakes =
         let lost = propagates-lost q key true additional tag q' step in
         passes lost.notice lost.found lost.queue wakes

@@ -32,10 +32,7 @@ module _ {P : Type 0} where
     -- one client less at its old place, one more at its new one
     pub number-set : (places : List P) (i : ℕ) (p q : P) → slice_get places i ≡ Some p → number test (set places i q) + cond (test p) 1 0 ≡ number test places + cond (test q) 1 0
     number-set [] i p q at = absurd (none-some p at)
-    number-set (place ∷ places) zero p q at =
-        let same : cond {A = ℕ} (test place) 1 0 ≡ cond {A = ℕ} (test p) 1 0 =
-        ap (λ (x : P). cond {A = ℕ} (test x) 1 0) (same_Some place p at) in
-        omega arith
+    number-set (place ∷ places) zero p q at = grind (arith, same_Some)
     number-set (place ∷ places) (suc i) p q at = omega (arith, number-set places i p q at)
 
     -- who is at a place that passes counts

@@ -1,8 +1,7 @@
 -- The clients of a world as places, and what all of them hold or owe together.
-use Rattle.std.proofs.Common.{◌≡◌, ℕ, zero, suc, ◌+◌, ◌≤◌, List, [], ◌∷◌, length, map, set, get_or, replicate, slice_get, Option, Some, IfSome, refl, sym, ap, ◌∙◌, subst, arith, inl, inr}
-use Rattle.std.proofs.lemmas.Bool.{cases_eq}
+use Rattle.std.proofs.Common.{◌≡◌, ℕ, zero, suc, ◌+◌, ◌≤◌, List, [], ◌∷◌, map, set, get_or, replicate, slice_get, Option, Some, IfSome, option_map, refl, sym, ap, ◌∙◌, subst, arith}
 use Rattle.std.proofs.lemmas.List.Sums.{sum_by-cons, sum_by-set, get_or-le-sum_by}
-use Rattle.std.proofs.lemmas.Option.{none-some, same_Some, slice_get_within}
+use Rattle.std.proofs.lemmas.Option.{none-some, same_Some, slice_get_within, slice_get-map}
 use Rattle.std.specs.Prelude.{sum_by}
 use Rattle.event_worlds.specs.declared.world.place.Place.{Place}
 use Rattle.event_worlds.proofs.PlaceLemmas.{slice_get-set, slice_get-set_other}
@@ -12,18 +11,7 @@ module _ {C : Type 0} where
 
   module _ (place_of : C → Place) where
     pub place-at : (clients : List C) (i : ℕ) (own : C) → slice_get clients i ≡ Some own → slice_get (map place_of clients) i ≡ Some (place_of own)
-    place-at [] i own at = absurd (none-some own at)
-    place-at (first ∷ rest) zero own at = ap (λ (c : C). Some (place_of c)) (same_Some first own at)
-    place-at (first ∷ rest) (suc i) own at = place-at rest i own at
-
-    pub places-set : (clients : List C) (i : ℕ) (new : C) → map place_of (set clients i new) ≡ set (map place_of clients) i (place_of new)
-    places-set [] i new = refl
-    places-set (first ∷ rest) zero new = refl
-    places-set (first ∷ rest) (suc i) new = ap (λ (ps : List Place). place_of first ∷ ps) (places-set rest i new)
-
-    pub places-length : (clients : List C) → length (map place_of clients) ≡ length clients
-    places-length [] = refl
-    places-length (first ∷ rest) = ap suc (places-length rest)
+    place-at clients i own at = slice_get-map place_of clients i ∙ ap (λ (o : Option C). option_map place_of o) at
 
     pub places-same : (own : C) (n : ℕ) → map place_of (replicate n own) ≡ replicate n (place_of own)
     places-same own zero = refl
@@ -54,15 +42,7 @@ module _ {C : Type 0} where
 
   module _ (P : C → Type 0) where
     pub all-set : (clients : List C) (i : ℕ) (own new : C) → slice_get clients i ≡ Some own → ((j : ℕ) → IfSome (slice_get clients j) P) → P new → (j : ℕ) → IfSome (slice_get (set clients i new) j) P
-    all-set clients i own new at all now j =
-        elim (cases_eq j i) [
-          | inl is ↦
-              let here : slice_get (set clients i new) j ≡ Some new =
-              ap (λ (n : ℕ). slice_get (set clients i new) n) is ∙ slice_get-set clients i own new at in
-              subst (λ (o : Option C). IfSome o P) (sym here) now
-          | inr apart ↦
-              subst (λ (o : Option C). IfSome o P) (sym (slice_get-set_other clients i j new apart)) (all j)
-        ]
+    all-set clients i own new at all now j = grind (arith, slice_get-set, slice_get-set_other)
 
     pub all-same : (own : C) → P own → (n i : ℕ) → IfSome (slice_get (replicate n own) i) P
     all-same own fits zero i = tt

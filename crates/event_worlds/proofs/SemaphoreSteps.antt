@@ -1,5 +1,6 @@
 -- Each step of the semaphore world's table keeps the world's invariant.
 use Rattle.std.proofs.Common.{◌≡◌, ℕ, ◌+◌, ◌-◌, ◌^◌, ◌<◌, true, false, nat_lt, List, set, slice_get, Option, Some, None, IfSome, option_map, refl, sym, ap, ◌∙◌, subst, inl, arith}
+use Rattle.std.proofs.lemmas.List.{map-set}
 use Rattle.std.proofs.lemmas.Bool.{cond_both}
 use borrow.Author.Tests.{ltb-true, ltb-false}
 use Rattle.event_worlds.specs.declared.world.acts.Act.{Act}
@@ -19,7 +20,7 @@ use Rattle.event_worlds.specs.SemaphoreSafety.{place_of, places_of, all_owed}
 use Rattle.event_worlds.specs.SemaphoreInvariant.{OwnFits, IsSound}
 use Rattle.event_worlds.proofs.InLineLemmas.{out_at}
 use Rattle.event_worlds.proofs.MadeLemmas.{each_some}
-use Rattle.event_worlds.proofs.PlacedClients.{place-at, places-set, places-same, sum-set, sum-same, part-le-sum, all-set, all-at, all-same}
+use Rattle.event_worlds.proofs.PlacedClients.{place-at, places-same, sum-set, sum-same, part-le-sum, all-set, all-at, all-same}
 use Rattle.event_worlds.proofs.ServedSteps.{IsTry, first_try, second_try, served-owes, served-goes_on, served-gets, served-finds_none, served-waits, served-notified, served-start, Waited, waited}
 use Rattle.event_worlds.proofs.StandingLemmas.{notified-kind}
 
@@ -52,7 +53,7 @@ module _ (state : SemaphoreState) (client : ℕ) (sound : IsSound state) (own : 
       let holds = sum-set {C = SemaphoreClient} (λ c. c.held) state.clients client own move.own at in
       record {
         served =
-            subst (λ (ps : List Place). IsServed move.free (all_owed (goes client state (move, line))) ps line) (sym (places-set place_of state.clients client move.own)) (served (all_owed (goes client state (move, line))) owes);
+            subst (λ (ps : List Place). IsServed move.free (all_owed (goes client state (move, line))) ps line) (sym (map-set place_of state.clients client move.own)) (served (all_owed (goes client state (move, line))) owes);
         added = omega (arith, sound.added);
         owns = all-set OwnFits state.clients client own move.own at sound.owns fits_new;
         kind = kind;

@@ -1,6 +1,7 @@
 -- What each step of a client of a lock does to what its clients keep, whatever the lock: what can be taken, what is
 -- still to come, the client's place and the line.
-use Rattle.std.proofs.Common.{◌≡◌, ◌≢◌, ℕ, zero, suc, ◌+◌, ◌-◌, ◌<◌, ◌≤◌, min, ◌⊎◌, Bool, true, false, cond, List, [], ◌∷◌, length, set, replicate, slice_get, Option, Some, None, IfSome, refl, sym, ap, ◌∙◌, subst, arith, inl, inr, length-set, length-append}
+use Rattle.std.proofs.Common.{rules, ◌≡◌, ◌≢◌, ℕ, zero, suc, ◌+◌, ◌-◌, ◌<◌, ◌≤◌, min, ◌⊎◌, Bool, true, false, cond, List, [], ◌∷◌, length, set, replicate, slice_get, Option, Some, None, IfSome, refl, sym, ap, ◌∙◌, subst, arith, inl, inr, length-set, length-append}
+use Rattle.std.proofs.lemmas.Map.Entries.{length-keys_of}
 use Rattle.std.proofs.lemmas.Bool.{cases_eq, cond_both, false_from_ne_true}
 use Rattle.std.proofs.lemmas.Option.{none-some, same_Some}
 use Rattle.std.proofs.lemmas.List.{length-replicate}
@@ -8,12 +9,13 @@ use Rattle.std.specs.Map.{keys_of}
 use Rattle.event_worlds.specs.declared.world.acts.Act.{Act}
 use Rattle.event_worlds.specs.declared.world.acts.Act.TheVariants.{Go, Poll, TimeOut, Cancel}
 use Rattle.event_worlds.specs.declared.world.place.Place.{Place}
-use Rattle.event_worlds.specs.declared.world.place.Place.TheVariants.{Idle, First, ToListen, Second, Ending, ToRegister, Parked, Holding, Releasing}
+use Rattle.event_worlds.specs.declared.world.place.Place.TheVariants.{Idle, First, ToListen, Second, Ending, ToRegister, Parked, Holding}
 use Rattle.event_worlds.specs.ClientTable.{is_listening, is_woken}
 use Rattle.event_worlds.specs.Line.{Line, empty_line, is_told, has_wake, has_serial_left, joined, registered, told_left, waiting_left, wake_lost, first_told_of, first_told, tell, wanted, notified, dropped}
-use Rattle.event_worlds.specs.Standing.{times, standing, Fits, FitsAt, number}
+use Rattle.event_worlds.specs.Standing.{times, standing, Fits, FitsAt, AllFit, number}
 use Rattle.event_worlds.specs.Served.{is_parked, is_inside, is_releasing, is_past_second, IsServed}
 use Rattle.event_worlds.specs.Waiting.{waits}
+use Rattle.event_worlds.proofs.InLineLemmas.{once_at}
 use Rattle.event_worlds.proofs.PlaceLemmas.{slice_get-set, slice_get-set_other, number-set}
 use Rattle.event_worlds.proofs.StandingLemmas.{times-any, times-none, times-append, times-without_other, times-le-length, IsSame, same-joined, same-registered, same-told_left, same-waiting_left, same-wake_lost, fits-joined, fits-registered, fits-told_left, fits-waiting_left, fits-wake_lost, fit-changed, fit-notified, fit-start, same-itself, length-without, length-without_one, tell-lengths, notified-flags, dropped-kind}
 
@@ -23,20 +25,12 @@ at_most_one false = omega arith
 
 -- who is told as often as before is untold as before
 untold-same : (client : ℕ) (old new : Line) → times client old.told ≤ times client new.told → is_told client new ≡ false → is_told client old ≡ false
-untold-same client old new same untold =
-    false_from_ne_true (is_told client old) (λ told.
-    omega (arith, times-any client old.told told, times-none client new.told untold))
+untold-same client old new same untold = grind (arith, false_from_ne_true, times-any, times-none)
 
 past_listens : (place : Place) → is_past_second place ≡ true → is_listening place ≡ true
-past_listens Idle past = absurd (cc)
-past_listens (First woken) past = absurd (cc)
-past_listens ToListen past = absurd (cc)
-past_listens Second past = absurd (cc)
-past_listens Ending past = absurd (cc)
 past_listens ToRegister past = refl
 past_listens Parked past = refl
-past_listens Holding past = absurd (cc)
-past_listens Releasing past = absurd (cc)
+past_listens _ past = absurd (cc)
 
 -- a notification
 
@@ -47,10 +41,7 @@ first-counts (first ∷ rest) line is some = (omega (arith, length-append line.t
 
 pub tell-counts : (count : ℕ) (line : Line) → count ≤ length line.waiting → (length (tell count line).told ≡ length line.told + count) × (length (tell count line).waiting + count ≡ length line.waiting)
 tell-counts zero line few = (omega arith, omega arith)
-tell-counts (suc count) line few =
-    let (told, waiting) = first-counts line.waiting line refl (omega arith) in
-    let (told', waiting') = tell-counts count (first_told line) (omega arith) in
-    (omega arith, omega arith)
+tell-counts (suc count) line few = grind (arith, tell-counts count, first-counts)
 
 -- nobody told is no longer told
 first-still : (client : ℕ) (waiting : List (ℕ × Bool)) (line : Line) → times client line.told ≤ times client (first_told_of waiting line).told
@@ -62,69 +53,52 @@ tell-still client zero line = omega arith
 tell-still client (suc count) line =
     omega (arith, first-still client line.waiting line, tell-still client count (first_told line))
 
-length-keys : (waiting : List (ℕ × Bool)) → length (keys_of waiting) ≡ length waiting
-length-keys [] = refl
-length-keys (first ∷ rest) = ap suc (length-keys rest)
-
 -- where somebody still waits, as many are told anew as are wanted, and so all that can be taken is spoken for
 enough-told : (free owed n woken : ℕ) (line : Line) → (line.additional ≡ true) ⊎ (free ≤ n) → free ≤ length line.told + woken + (owed + n) → length line.told + wanted n line ≤ length (notified n line).told → free ≤ length (notified n line).told + woken + owed
 enough-told free owed n woken line (inl additional) had told =
     let all : wanted n line ≡ n = rw additional refl in omega arith
-enough-told free owed n woken line (inr few) had told =
-    let all : n ≤ length line.told + wanted n line =
-    cond_both line.additional n (n - length line.told) (λ (k : ℕ). n ≤ length line.told + k) (λ _. omega arith) (λ _. omega arith) in
-    omega arith
+enough-told free owed n woken line (inr few) had told = grind (arith)
+
+-- who is past its second failed try and is not told waits
+past_waits : (places : List Place) (line : Line) → AllFit is_listening is_parked places line → (client : ℕ) (place : Place) → slice_get places client ≡ Some place → is_past_second place ≡ true → is_told client line ≡ false → times client (keys_of line.waiting) ≡ 1
+past_waits places line fit client place at past untold =
+    omega (arith, once_at is_listening is_parked places line fit client place at (past_listens place past), times-none client line.told untold)
 
 -- a notification of `n` that was still to come has come
 pub served-notified : (free owed n : ℕ) (places : List Place) (line : Line) → (line.additional ≡ true) ⊎ (free ≤ n) → IsServed free (owed + n) places line → IsServed free owed places (notified n line)
-served-notified free owed n places line kind served = record {
-  fit = fit;
-  enough =
-      λ client place at past untold.
-      let fits : FitsAt is_listening is_parked (Some place) (standing client (notified n line)) =
-      subst (λ (o : Option Place). FitsAt is_listening is_parked o (standing client (notified n line))) at (fit client) in
-      let once : times client (notified n line).told + times client (keys_of (notified n line).waiting) ≡ 1 =
-      subst (λ (b : Bool). times client (notified n line).told + times client (keys_of (notified n line).waiting) ≡ cond b 1 0) (past_listens place past) fits.once in
-      let none = times-none client (notified n line).told untold in
-      let some : 0 < length (notified n line).waiting =
-      omega (arith, times-le-length client (keys_of (notified n line).waiting), length-keys (notified n line).waiting) in
-      let (told, waiting) = tell-counts (min (wanted n line) (length line.waiting)) line (omega arith) in
-      let had : free ≤ length line.told + number is_woken places + (owed + n) =
-      served.enough client place at past (untold-same client line (notified n line) (tell-still client (min (wanted n line) (length line.waiting)) line) untold) in
-      enough-told free owed n (number is_woken places) line kind had (omega arith);
-  flags = notified-flags n line ∙ served.flags;
-}
-  where
-    fit : (client : ℕ) → FitsAt is_listening is_parked (slice_get places client) (standing client (notified n line))
-    fit = fit-notified is_listening is_parked n places line served.flags served.fit
+served-notified free owed n places line kind served =
+    let fit = fit-notified is_listening is_parked n places line served.flags served.fit in
+    record {
+      fit = fit;
+      enough =
+          λ client place at past untold.
+          let waits_once = past_waits places (notified n line) fit client place at past untold in
+          let some : 0 < length (notified n line).waiting =
+          omega (arith, times-le-length client (keys_of (notified n line).waiting), length-keys_of (notified n line).waiting) in
+          let (told, waiting) = tell-counts (min (wanted n line) (length line.waiting)) line (omega arith) in
+          let had : free ≤ length line.told + number is_woken places + (owed + n) =
+          served.enough client place at past (untold-same client line (notified n line) (tell-still client (min (wanted n line) (length line.waiting)) line) untold) in
+          enough-told free owed n (number is_woken places) line kind had (omega arith);
+      flags = notified-flags n line ∙ served.flags;
+    }
 
 -- as many more can be taken as notifications are to come
 pub served-owes : (free owed free' owed' : ℕ) (places : List Place) (line : Line) → free' + owed ≤ free + owed' → IsServed free owed places line → IsServed free' owed' places line
-served-owes free owed free' owed' places line more served = record {
-  fit = served.fit;
-  enough = λ client place at past untold. let had = served.enough client place at past untold in omega arith;
-  flags = served.flags;
-}
+served-owes free owed free' owed' places line more served = grind (arith)
 
 -- a notification that leaves nobody waiting serves any number
 pub served-all : (free owed free' owed' n : ℕ) (places : List Place) (line : Line) → (notified n line).waiting ≡ [] → IsServed free owed places line → IsServed free' owed' places (notified n line)
-served-all free owed free' owed' n places line nobody served = record {
-  fit = fit;
-  enough =
-      λ client place at past untold.
-      let fits : FitsAt is_listening is_parked (Some place) (standing client (notified n line)) =
-      subst (λ (o : Option Place). FitsAt is_listening is_parked o (standing client (notified n line))) at (fit client) in
-      let once : times client (notified n line).told + times client (keys_of (notified n line).waiting) ≡ 1 =
-      subst (λ (b : Bool). times client (notified n line).told + times client (keys_of (notified n line).waiting) ≡ cond b 1 0) (past_listens place past) fits.once in
-      let none = times-none client (notified n line).told untold in
-      let gone : times client (keys_of (notified n line).waiting) ≡ 0 =
-      ap (λ (ws : List (ℕ × Bool)). times client (keys_of ws)) nobody in
-      absurd (omega arith);
-  flags = notified-flags n line ∙ served.flags;
-}
-  where
-    fit : (client : ℕ) → FitsAt is_listening is_parked (slice_get places client) (standing client (notified n line))
-    fit = fit-notified is_listening is_parked n places line served.flags served.fit
+served-all free owed free' owed' n places line nobody served =
+    let fit = fit-notified is_listening is_parked n places line served.flags served.fit in
+    record {
+      fit = fit;
+      enough =
+          λ client place at past untold.
+          let waits_once = past_waits places (notified n line) fit client place at past untold in
+          let gone = ap (λ (ws : List (ℕ × Bool)). times client (keys_of ws)) nobody in
+          absurd (omega arith);
+      flags = notified-flags n line ∙ served.flags;
+    }
 
 -- the places of a try: where it is made, and where the client is if it took one, and if it found none
 pub record IsTry (p got busy : Place) : Type 0 where
@@ -142,36 +116,10 @@ pub record IsTry (p got busy : Place) : Type 0 where
   pub releasing : is_releasing p ≡ false
 
 pub first_try : (woken : Bool) → IsTry (First woken) Holding ToListen
-first_try woken = record {
-  got_listens = refl;
-  got_parked = refl;
-  got_woken = refl;
-  got_past = refl;
-  got_inside = refl;
-  got_releasing = refl;
-  busy_listens = refl;
-  busy_parked = refl;
-  busy_inside = refl;
-  busy_releasing = refl;
-  inside = refl;
-  releasing = refl;
-}
+first_try woken = search rules
 
 pub second_try : IsTry Second Ending ToRegister
-second_try = record {
-  got_listens = refl;
-  got_parked = refl;
-  got_woken = refl;
-  got_past = refl;
-  got_inside = refl;
-  got_releasing = refl;
-  busy_listens = refl;
-  busy_parked = refl;
-  busy_inside = refl;
-  busy_releasing = refl;
-  inside = refl;
-  releasing = refl;
-}
+second_try = search rules
 
 module _ (free owed : ℕ) (places : List Place) (line : Line) (client : ℕ) (served : IsServed free owed places line) where
   module _ (p : Place) (at : slice_get places client ≡ Some p) where

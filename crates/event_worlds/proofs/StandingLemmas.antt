@@ -1,7 +1,7 @@
 -- What each change of a line does to how the clients stand in it, and that telling one keeps them fitting their
 -- places, whatever the type of places.
 use Rattle.std.proofs.Common.{◌≡◌, ◌≢◌, ℕ, zero, suc, ◌+◌, ◌-◌, ◌<◌, ◌≤◌, min, Bool, true, false, cond, eqb, List, [], ◌∷◌, ◌++◌, length, set, get_or, replicate, slice_get, Option, Some, None, refl, sym, ap, ◌∙◌, subst, arith, inl, inr, eq-eqb, ne_eqb, eqb-true, length-append, length-set, get_or-set_same, get_or-set_other}
-use Rattle.std.proofs.lemmas.Bool.{cases_Bool, cases_eq, cond_both, or_cases, or_parts}
+use Rattle.std.proofs.lemmas.Bool.{cases_eq, cond_both, or_parts}
 use Rattle.std.proofs.lemmas.List.{map-append}
 use Rattle.std.proofs.lemmas.Map.{keys-set_value}
 use Rattle.std.proofs.lemmas.Option.{slice_get_within}
@@ -15,18 +15,11 @@ use Rattle.event_worlds.proofs.PlaceLemmas.{one_if, none_if, slice_get-set, slic
 
 pub times-any : (client : ℕ) (xs : List ℕ) → list_any (eqb client) xs ≡ true → 0 < times client xs
 times-any client [] found = absurd (cc)
-times-any client (x ∷ xs) found =
-    elim (or_cases (eqb client x) (list_any (eqb client) xs) found) [
-      | inl here ↦ let one = one_if (eqb client x) here in omega arith
-      | inr later ↦ omega (arith, times-any client xs later)
-    ]
+times-any client (x ∷ xs) found = grind (arith, times-any client xs, one_if)
 
 pub times-none : (client : ℕ) (xs : List ℕ) → list_any (eqb client) xs ≡ false → times client xs ≡ 0
 times-none client [] missing = refl
-times-none client (x ∷ xs) missing =
-    let (here, later) = or_parts (eqb client x) (list_any (eqb client) xs) missing in
-    let none = none_if (eqb client x) here in
-    omega (arith, times-none client xs later)
+times-none client (x ∷ xs) missing = grind (arith, times-none client xs, none_if, or_parts)
 
 pub times-append : (client : ℕ) (xs ys : List ℕ) → times client (xs ++ ys) ≡ times client xs + times client ys
 times-append client [] ys = omega arith
@@ -34,59 +27,29 @@ times-append client (x ∷ xs) ys = omega (arith, times-append client xs ys)
 
 pub times-without : (client : ℕ) (xs : List ℕ) → 0 < times client xs → times client (without client xs) + 1 ≡ times client xs
 times-without client [] some = absurd (omega arith)
-times-without client (x ∷ xs) some =
-    elim (cases_Bool (eqb client x)) [
-      | inl here ↦ rw here (omega arith)
-      | inr other ↦
-          let none = none_if (eqb client x) other in
-          let rest = times-without client xs (omega arith) in
-          rw other (omega arith)
-    ]
+times-without client (x ∷ xs) some = grind (arith, times-without client xs, none_if)
 
 pub times-without_other : (client other : ℕ) (xs : List ℕ) → other ≢ client → times other (without client xs) ≡ times other xs
 times-without_other client other [] differs = refl
-times-without_other client other (x ∷ xs) differs =
-    elim (cases_Bool (eqb client x)) [
-      | inl here ↦
-          let none = none_if (eqb other x) (ne_eqb other x (λ same. differs (same ∙ sym (eqb-true client x here)))) in
-          rw here (omega arith)
-      | inr no_match ↦ rw no_match (omega (arith, times-without_other client other xs differs))
-    ]
+times-without_other client other (x ∷ xs) differs = grind (arith, times-without_other client other xs differs, eqb-true, none_if)
 
 pub length-without : (client : ℕ) (xs : List ℕ) → length (without client xs) ≤ length xs
 length-without client [] = omega arith
-length-without client (x ∷ xs) =
-    elim (cases_Bool (eqb client x)) [
-      | inl here ↦ rw here (omega arith)
-      | inr no_match ↦ rw no_match (omega (arith, length-without client xs))
-    ]
+length-without client (x ∷ xs) = grind (arith, length-without client xs)
 
 pub length-without_one : (client : ℕ) (xs : List ℕ) → 0 < times client xs → length (without client xs) + 1 ≡ length xs
 length-without_one client [] some = absurd (omega arith)
-length-without_one client (x ∷ xs) some =
-    elim (cases_Bool (eqb client x)) [
-      | inl here ↦ rw here (omega arith)
-      | inr other ↦
-          let none = none_if (eqb client x) other in
-          let rest = length-without_one client xs (omega arith) in
-          rw other (omega arith)
-    ]
+length-without_one client (x ∷ xs) some = grind (arith, length-without_one client xs, none_if)
 
 pub times-le-length : (client : ℕ) (xs : List ℕ) → times client xs ≤ length xs
 times-le-length client [] = omega arith
-times-le-length client (x ∷ xs) =
-    let rest = times-le-length client xs in
-    elim (cases_Bool (eqb client x)) [ inl here ↦ rw here (omega arith) | inr other ↦ rw other (omega arith) ]
+times-le-length client (x ∷ xs) = grind (arith, times-le-length client xs)
 
 -- a client among waiting clients
 
 pub keys-remove_entry : (client : ℕ) (waiting : List (ℕ × Bool)) → keys_of (remove_entry (eqb client) waiting) ≡ without client (keys_of waiting)
 keys-remove_entry client [] = refl
-keys-remove_entry client (first ∷ rest) =
-    elim (cases_Bool (eqb client first.0)) [
-      | inl here ↦ rw here refl
-      | inr no_match ↦ rw no_match (ap (λ keys. first.0 ∷ keys) (keys-remove_entry client rest))
-    ]
+keys-remove_entry client (first ∷ rest) = grind (arith, keys-remove_entry client rest)
 
 none_of-none : (b : Bool) (n : ℕ) → n ≡ 0 → cond b 0 n ≡ 0
 none_of-none true n none = refl
@@ -111,37 +74,16 @@ unregistered-append client (x ∷ xs) ys = omega (arith, unregistered-append cli
 
 pub unregistered-remove_other : (client other : ℕ) (waiting : List (ℕ × Bool)) → other ≢ client → times_unregistered other (remove_entry (eqb client) waiting) ≡ times_unregistered other waiting
 unregistered-remove_other client other [] differs = refl
-unregistered-remove_other client other (first ∷ rest) differs =
-    elim (cases_Bool (eqb client first.0)) [
-      | inl here ↦
-          let none = none_of-none first.1 (cond (eqb other first.0) 1 0) (other_key client other first.0 differs here) in
-          rw here (omega arith)
-      | inr no_match ↦ rw no_match (omega (arith, unregistered-remove_other client other rest differs))
-    ]
+unregistered-remove_other client other (first ∷ rest) differs = grind (arith, unregistered-remove_other client other rest differs, none_of-none, other_key)
 
 pub unregistered-set_other : (client other : ℕ) (waiting : List (ℕ × Bool)) → other ≢ client → times_unregistered other (set_value (eqb client) waiting true) ≡ times_unregistered other waiting
 unregistered-set_other client other [] differs = refl
-unregistered-set_other client other (first ∷ rest) differs =
-    elim (cases_Bool (eqb client first.0)) [
-      | inl here ↦
-          let none = none_of-none first.1 (cond (eqb other first.0) 1 0) (other_key client other first.0 differs here) in
-          rw here (omega arith)
-      | inr no_match ↦ rw no_match (omega (arith, unregistered-set_other client other rest differs))
-    ]
+unregistered-set_other client other (first ∷ rest) differs = grind (arith, unregistered-set_other client other rest differs, none_of-none, other_key)
 
 -- who waits once and registers is not among the unregistered
 pub unregistered-set : (client : ℕ) (waiting : List (ℕ × Bool)) → times client (keys_of waiting) ≤ 1 → times_unregistered client (set_value (eqb client) waiting true) ≡ 0
 unregistered-set client [] once = refl
-unregistered-set client (first ∷ rest) once =
-    elim (cases_Bool (eqb client first.0)) [
-      | inl here ↦
-          let one = one_if (eqb client first.0) here in
-          rw here (omega (arith, unregistered-le client rest))
-      | inr no_match ↦
-          let none = none_if (eqb client first.0) no_match in
-          let still_none = none_of-none first.1 (cond (eqb client first.0) 1 0) none in
-          rw no_match (omega (arith, unregistered-set client rest (omega arith)))
-    ]
+unregistered-set client (first ∷ rest) once = grind (arith, unregistered-set client rest, none_if, none_of-none, one_if, unregistered-le)
 
 keys-joined : (client : ℕ) (waiting : List (ℕ × Bool)) → keys_of (waiting ++ (client, false) ∷ []) ≡ keys_of waiting ++ client ∷ []
 keys-joined client waiting = map-append (λ (e : ℕ × Bool). e.0) waiting ((client, false) ∷ [])
@@ -166,98 +108,38 @@ same-itself client = record { told = refl; waiting = refl; unregistered = refl; 
 
 module _ (client other : ℕ) (line : Line) (differs : other ≢ client) where
   pub same-joined : IsSame (standing other line) (standing other (joined client line))
-  same-joined =
-      let none = none_if (eqb other client) (ne_eqb other client differs) in
-      record {
-        told = refl;
-        waiting = times-joined other client line.waiting ∙ omega arith;
-        unregistered = unregistered-append other line.waiting ((client, false) ∷ []) ∙ omega arith;
-        awake = get_or-set_other line.awake client other false false differs;
-      }
+  same-joined = grind (arith, get_or-set_other, none_if, times-joined, unregistered-append)
 
   pub same-registered : IsSame (standing other line) (standing other (registered client line))
-  same-registered = record {
-    told = refl;
-    waiting = ap (times other) (keys-set_value (eqb client) line.waiting true);
-    unregistered = unregistered-set_other client other line.waiting differs;
-    awake = refl;
-  }
+  same-registered = grind (arith, keys-set_value, unregistered-set_other)
 
   pub same-told_left : IsSame (standing other line) (standing other (told_left client line))
-  same-told_left = record {
-    told = times-without_other client other line.told differs;
-    waiting = refl;
-    unregistered = refl;
-    awake = refl;
-  }
+  same-told_left = grind (arith, times-without_other)
 
   pub same-waiting_left : IsSame (standing other line) (standing other (waiting_left client line))
-  same-waiting_left = record {
-    told = refl;
-    waiting =
-        ap (times other) (keys-remove_entry client line.waiting)
-        ∙ times-without_other client other (keys_of line.waiting) differs;
-    unregistered = unregistered-remove_other client other line.waiting differs;
-    awake = refl;
-  }
+  same-waiting_left = grind (arith, keys-remove_entry, times-without_other, unregistered-remove_other)
 
   pub same-wake_lost : IsSame (standing other line) (standing other (wake_lost client line))
-  same-wake_lost = record {
-    told = refl;
-    waiting = refl;
-    unregistered = refl;
-    awake = get_or-set_other line.awake client other false false differs;
-  }
+  same-wake_lost = grind (arith, get_or-set_other)
 
 -- the client itself fits its new place
 
 -- who is not parked owes nothing but its count
 unparked : (listens : Bool) (client : Standing) → client.told + client.waiting ≡ cond listens 1 0 → Fits listens false client
-unparked listens client once = record {
-  once = once;
-  registered = λ parks. absurd (cc);
-  awake = λ parks told. absurd (cc);
-}
+unparked listens client once = grind (arith)
 
 module _ (client : ℕ) (line : Line) (parks : Bool) where
   pub fits-joined : Fits false parks (standing client line) → Fits true false (standing client (joined client line))
-  fits-joined fits =
-      let one = one_if (eqb client client) (eq-eqb client client refl) in
-      let old : times client line.told + times client (keys_of line.waiting) ≡ 0 = fits.once in
-      let once : times client line.told + times client (keys_of (line.waiting ++ (client, false) ∷ [])) ≡ 1 =
-      omega (arith, times-joined client client line.waiting) in
-      unparked true (standing client (joined client line)) once
+  fits-joined fits = grind (arith, eq-eqb, one_if, times-joined, unparked)
 
   pub fits-registered : Fits true parks (standing client line) → is_told client line ≡ false → Fits true true (standing client (registered client line))
-  fits-registered fits untold =
-      let none = times-none client line.told untold in
-      let old : times client line.told + times client (keys_of line.waiting) ≡ 1 = fits.once in
-      let keys = ap (times client) (keys-set_value (eqb client) line.waiting true) in
-      let once : times client line.told + times client (keys_of (set_value (eqb client) line.waiting true)) ≡ 1 =
-      omega arith in
-      record {
-        once = once;
-        registered = λ _. unregistered-set client line.waiting (omega arith);
-        awake = λ _ (told : 0 < times client line.told). absurd (omega arith);
-      }
+  fits-registered fits untold = grind (arith, keys-set_value, times-none, unregistered-set)
 
   pub fits-told_left : Fits true parks (standing client line) → is_told client line ≡ true → Fits false false (standing client (told_left client line))
-  fits-told_left fits told =
-      let some = times-any client line.told told in
-      let old : times client line.told + times client (keys_of line.waiting) ≡ 1 = fits.once in
-      let left = times-without client line.told some in
-      let once : times client (without client line.told) + times client (keys_of line.waiting) ≡ 0 = omega arith in
-      unparked false (standing client (told_left client line)) once
+  fits-told_left fits told = grind (arith, times-any, times-without, told, unparked)
 
   pub fits-waiting_left : Fits true parks (standing client line) → is_told client line ≡ false → Fits false false (standing client (waiting_left client line))
-  fits-waiting_left fits untold =
-      let none = times-none client line.told untold in
-      let old : times client line.told + times client (keys_of line.waiting) ≡ 1 = fits.once in
-      let keys = ap (times client) (keys-remove_entry client line.waiting) in
-      let left = times-without client (keys_of line.waiting) (omega arith) in
-      let once : times client line.told + times client (keys_of (remove_entry (eqb client) line.waiting)) ≡ 0 =
-      omega arith in
-      unparked false (standing client (waiting_left client line)) once
+  fits-waiting_left fits untold = grind (arith, keys-remove_entry, times-none, times-without, unparked)
 
   pub fits-wake_lost : Fits true parks (standing client line) → Fits true false (standing client (wake_lost client line))
   fits-wake_lost fits = unparked true (standing client (wake_lost client line)) fits.once
@@ -281,21 +163,7 @@ module _ (first : ℕ × Bool) (rest : List (ℕ × Bool)) (told : List ℕ) (aw
   before = record { told = told; waiting = first ∷ rest; awake = awake; next = next; additional = kind }
 
   same-first_told : (other : ℕ) → other ≢ first.0 → IsSame (standing other before) (standing other (first_told_of (first ∷ rest) before))
-  same-first_told other differs =
-      let none = none_if (eqb other first.0) (ne_eqb other first.0 differs) in
-      let still_none = none_of-none first.1 (cond (eqb other first.0) 1 0) none in
-      let told_same : times other (told ++ first.0 ∷ []) ≡ times other told =
-      omega (arith, times-told other first.0 told) in
-      let waiting_same : times other (keys_of rest) ≡ cond (eqb other first.0) 1 0 + times other (keys_of rest) =
-      omega arith in
-      let unregistered_same : times_unregistered other rest ≡ cond first.1 0 (cond (eqb other first.0) 1 0) + times_unregistered other rest =
-      omega arith in
-      record {
-        told = told_same;
-        waiting = waiting_same;
-        unregistered = unregistered_same;
-        awake = woken-other first.1 first.0 other awake differs;
-      }
+  same-first_told other differs = grind (arith, none_if, none_of-none, times-told, woken-other)
 
   fits-first_told : (listens parks : Bool) → first.0 < length awake → Fits listens parks (standing first.0 before) → Fits listens parks (standing first.0 (first_told_of (first ∷ rest) before))
   fits-first_told listens parks within fits =
@@ -315,31 +183,16 @@ module _ (first : ℕ × Bool) (rest : List (ℕ × Bool)) (told : List ℕ) (aw
 
   -- nobody waits where nobody stands in line
   nobody-first_told : Fits false false (standing first.0 before) → ⊥
-  nobody-first_told fits =
-      let one = one_if (eqb first.0 first.0) (eq-eqb first.0 first.0 refl) in
-      let old : times first.0 told + (cond (eqb first.0 first.0) 1 0 + times first.0 (keys_of rest)) ≡ 0 = fits.once in
-      omega arith
+  nobody-first_told fits = grind (arith, eq-eqb, one_if, told)
 
 module _ {P : Type 0} (listens parks : P → Bool) where
   fits-same : (place : Option P) (old new : Standing) → IsSame old new → FitsAt listens parks place old → FitsAt listens parks place new
   fits-same None old new same fits = unparked false new (omega (arith, fits.once, same.told, same.waiting))
-  fits-same (Some place) old new same fits = record {
-    once = omega (arith, fits.once, same.told, same.waiting);
-    registered = λ parked. same.unregistered ∙ fits.registered parked;
-    awake = λ parked told. same.awake ∙ fits.awake parked (omega (arith, same.told));
-  }
+  fits-same (Some place) old new same fits = grind (arith)
 
   -- one client goes to another place, and the others stand as they did
   pub fit-changed : (places : List P) (client : ℕ) (p q : P) (old new : Line) → slice_get places client ≡ Some p → AllFit listens parks places old → ((other : ℕ) → other ≢ client → IsSame (standing other old) (standing other new)) → Fits (listens q) (parks q) (standing client new) → AllFit listens parks (set places client q) new
-  fit-changed places client p q old new at fit same fits other =
-      elim (cases_eq other client) [
-        | inl is ↦
-            let here : FitsAt listens parks (slice_get (set places client q) client) (standing client new) =
-            subst (λ (o : Option P). FitsAt listens parks o (standing client new)) (sym (slice_get-set places client p q at)) fits in
-            subst (λ (x : ℕ). FitsAt listens parks (slice_get (set places client q) x) (standing x new)) (sym is) here
-        | inr differs ↦
-            subst (λ (o : Option P). FitsAt listens parks o (standing other new)) (sym (slice_get-set_other places client other q differs)) (fits-same (slice_get places other) (standing other old) (standing other new) (same other differs) (fit other))
-      ]
+  fit-changed places client p q old new at fit same fits other = grind (arith, fits-same, slice_get-set, slice_get-set_other)
 
   -- the first waiting client is told
 
@@ -365,18 +218,11 @@ module _ {P : Type 0} (listens parks : P → Bool) where
 
 first_told_of-lengths : (waiting : List (ℕ × Bool)) (line : Line) → (length (first_told_of waiting line).awake ≡ length line.awake) × (length line.told ≤ length (first_told_of waiting line).told) × (length (first_told_of waiting line).told ≤ length line.told + 1)
 first_told_of-lengths [] line = (refl, omega arith, omega arith)
-first_told_of-lengths (first ∷ rest) line = (
-  length-woken first.1 first.0 line.awake,
-  omega (arith, length-append line.told (first.0 ∷ [])),
-  omega (arith, length-append line.told (first.0 ∷ [])),
-)
+first_told_of-lengths (first ∷ rest) line = grind (arith, length-append, length-woken)
 
 pub tell-lengths : (count : ℕ) (line : Line) → (length (tell count line).awake ≡ length line.awake) × (length line.told ≤ length (tell count line).told) × (length (tell count line).told ≤ length line.told + count)
 tell-lengths zero line = (refl, omega arith, omega arith)
-tell-lengths (suc count) line =
-    let (flags, more, one) = first_told_of-lengths line.waiting line in
-    let (flags', more', rest) = tell-lengths count (first_told line) in
-    (flags' ∙ flags, omega arith, omega arith)
+tell-lengths (suc count) line = grind (arith, tell-lengths count, first_told_of-lengths)
 
 pub notified-flags : (count : ℕ) (line : Line) → length (notified count line).awake ≡ length line.awake
 notified-flags count line = (tell-lengths (min (wanted count line) (length line.waiting)) line).0

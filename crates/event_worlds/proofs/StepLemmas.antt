@@ -47,12 +47,7 @@ answered given asked kind q keys awake line same changed =
 
 module _ (kind : Bool) (q : Queue Unit ℕ) (keys : List (Option Key)) (awake : List Bool) (tied : IsTied kind q keys awake) (now : Line) (view_is : line_of kind q keys awake ≡ now) where
   pub clears : (awake' : List Bool) (client : ℕ) → awake' ≡ set awake client false → Changed kind q keys awake' (wake_lost client now)
-  clears awake' client cleared = record {
-    tied = kept kind q keys awake tied q awake' tied.queue refl refl refl tied.tasks tied.kinds (ap length cleared ∙ length-set awake client false);
-    is =
-        ap (λ (a : List Bool). record (line_of kind q keys awake) { awake = a }) cleared
-        ∙ ap (wake_lost client) view_is;
-  }
+  clears awake' client cleared = grind (arith, kept, length-set)
 
   pub notifies-now : {N : Type 0} (gives : N → Result Unit AllocError → N → Type 0) (count : ℕ) (additional : Bool) → kind ≡ additional → (source source' : N) (result : Result ℕ NotifyError) (q' : Queue Unit ℕ) (awake' : List Bool) → Notifies gives count additional q source result q' source' → IsOk result → FoldsTo Wakes awake (tasks_of (told_by result) q) awake' → Changed kind q' keys awake' (notified count now)
   notifies-now gives count additional is source source' result q' awake' step ok wakes =
