@@ -29,7 +29,7 @@ senders-none closer now = none_may (senders_notified closer) (is_closed closer) 
 pub receivers-none : (closer : CloserPlace) (now : ℕ) → ReceiversMayTake closer now 0
 receivers-none closer now = none_may (receivers_notified closer) (is_closed closer) now
 
--- where any number may be taken, nobody untold waits
+-- where any number may be taken, nobody waits who is not notified
 nobody_waits : (MayTake : ℕ → Type 0) (owed : ℕ) (side : Side) → IsSideSound MayTake owed side → ((free : ℕ) → MayTake free) → SomeOfSideWaits side → ⊥
 nobody_waits MayTake owed side sound any some =
     let more = length side.line.told + clients_woken (places_of side.clients) + owed + 1 in

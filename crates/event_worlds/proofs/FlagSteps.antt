@@ -39,7 +39,7 @@ module _ (state : FlagState) (client : ℕ) (sound : IsSound state) (p : FlagPla
   may_be_at listens =
       out_at is_listening is_parked places state.line sound.served.fit client (lock_place p) at_place (ap is_listening listens)
 
-  -- the client goes, and whoever else was told still is
+  -- the client goes, and whoever else was notified still is
   sound-goes : (q : FlagPlace) (line : Line) → IsServed 0 0 (set places client (lock_place q)) line → ((other : ℕ) → other ≢ client → times other state.line.told ≤ times other line.told) → (state.flag ≡ true → number is_to_notify state.setters ≡ 0 → is_past_second (lock_place q) ≡ true → is_told client line ≡ true) → line.additional ≡ false → IsSound (goes client state (q, line))
   sound-goes q line served others own kind =
       let is = map-set lock_place state.places client q in
@@ -135,7 +135,7 @@ module _ (state : FlagState) (setter : ℕ) (sound : IsSound state) where
       let some = number-at is_to_notify (set state.setters setter ToNotify) setter ToNotify (slice_get-set state.setters setter ToSet ToNotify at) refl in
       record { served = sound.served; settled = λ flag none. absurd (omega arith); kind = sound.kind }
 
-  -- a notification of everybody leaves whoever is past its second look told, since any number is served
+  -- a notification of everybody leaves whoever is past its second look notified, since any number is served
   sound-notifies : (notified everybody state.line).waiting ≡ [] → IsSound (setter_goes setter state (record { place = IsDone; flag = state.flag }, notified everybody state.line))
   sound-notifies nobody =
       let places = places_of state.places in

@@ -6,7 +6,7 @@ use Rattle.event_worlds.specs.Line.{Line, is_told, is_waiting, is_in_line, has_w
 use Rattle.event_worlds.specs.Standing.{times, standing, Fits, FitsAt, AllFit}
 use Rattle.event_worlds.proofs.StandingLemmas.{times-any, times-none}
 
--- who is counted among the told is told
+-- who is counted among the notified is notified
 pub told_if : (client : ℕ) (line : Line) → 0 < times client line.told → is_told client line ≡ true
 told_if client line some = grind (arith, times-none)
 
@@ -27,11 +27,11 @@ module _ {P : Type 0} (listens parks : P → Bool) (places : List P) (line : Lin
   pub out_at : (place : P) → slice_get places client ≡ Some place → listens place ≡ false → is_in_line client line ≡ false
   out_at place at unlistening = grind (arith, false_from_ne_true, never_at, or_from, times-any)
 
-  -- a told client at a place where it is parked has its wake-up
+  -- a notified client at a place where it is parked has its wake-up
   pub awake_at : (place : P) → slice_get places client ≡ Some place → parks place ≡ true → is_told client line ≡ true → has_wake client line ≡ true
   awake_at place at parked told = (fits_at place at).awake parked (times-any client line.told told)
 
-  -- the clients told or waiting are those at places where one listens
+  -- the clients notified or waiting are those at places where one listens
 
   in_line_counts : IsTrue (is_told client line) ⊎ IsTrue (is_waiting client line) → 0 < times client line.told + times client (keys_of line.waiting)
   in_line_counts (inl told) = omega (arith, times-any client line.told told)

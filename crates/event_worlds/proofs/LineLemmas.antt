@@ -20,7 +20,7 @@ use Rattle.event_worlds.specs.LineKeys.{holds, client_of, line_of, IsKeyOf, IsTi
 use Rattle.event_worlds.proofs.KeyLemmas.{client_of-set, is_client, not_client, keyless-leaves}
 use Rattle.event_worlds.proofs.ClientLemmas.{All-both, All-remove, any-without, AreClient, any-lookup, any-none, clients-remove, clients-same, keys_of-waiting, waiting-same, waiting-remove, waiting-set, set_value-none, remove_entry-none, HasTask, tasks-same, tasks-set}
 
--- the client is neither told nor waits
+-- the client is neither notified nor waits
 pub record IsOut (client : ℕ) (line : Line) : Type 0 where
   pub untold : is_told client line ≡ false
   pub unwaiting : is_waiting client line ≡ false
@@ -110,7 +110,7 @@ module _ (kind : Bool) (q : Queue Unit ℕ) (keys : List (Option Key)) (awake : 
       waiting-are =
           All-implied (Names keys) (λ other. is_key key other ≡ eqb client (client_of keys other)) (keys_of q.waiting) named waiting-names
 
-      -- the client is told, or waits, where its key is
+      -- the client is notified, or waits, where its key is
       pub told-found : is_told client (line_of kind q keys awake) ≡ is_some (lookup (is_key key) q.told)
       told-found = any-lookup (is_key key) client keys q.told told-are
 

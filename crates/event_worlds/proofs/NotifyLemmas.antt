@@ -1,4 +1,4 @@
--- How a line stays tied to its queue as clients are told.
+-- How a line stays tied to its queue as clients are notified.
 use Rattle.std.proofs.Common.{◌≡◌, ℕ, zero, suc, ◌<◌, ◌≤◌, Bool, true, false, if◌then◌else◌, List, [], ◌∷◌, ◌++◌, take, drop, length, get_or, set, Option, Some, None, is_some, IfSome, IsSomeAnd, IsOk, Result, Ok, Err, refl, sym, ap, ◌∙◌, subst, arith, append_assoc, length-take, length-set}
 use Rattle.std.specs.List.{AllByRecursion, FoldsTo, filter_map}
 use Rattle.std.specs.Map.{lookup}
@@ -25,7 +25,7 @@ use Rattle.event_worlds.proofs.LineLemmas.{Changed, moves, IsOf, kept, told-foun
 abbrev pub Wakes : List Bool → ℕ → List Bool → Type 0
 Wakes before client after = after ≡ set before client true
 
--- the tasks of the first so many
+-- the tasks of the first `count`
 abbrev tasks_among : ℕ → List (Key × Option ℕ) → List ℕ
 tasks_among count waiting = filter_map (λ entry. entry.1) (take count waiting)
 
@@ -91,7 +91,7 @@ module _ (kind : Bool) (q : Queue Unit ℕ) (keys : List (Option Key)) (awake : 
     is = tells-line kind keys q.next_serial tags q.told q.waiting awake awake' tied.tasks wakes;
   }
 
-  -- as many are told as a notification tells
+  -- as many are notified as a notification is for
   tells-many : (count : ℕ) → tell (how_many count kind q) (line_of kind q keys awake) ≡ notified count (line_of kind q keys awake)
   tells-many count = grind (arith, length-map)
 
@@ -117,7 +117,7 @@ found-kind kind test (e ∷ es) notice all found = by_test (test e.0) refl (foun
     by_test true here later = grind (arith)
     by_test false no_match later = later (rw no_match at found)
 
--- no more are told than a notification is for
+-- no more are notified than a notification is for
 how_many-le : (additional : Bool) (count : ℕ) (q : Queue Unit ℕ) → how_many count additional q ≤ count
 how_many-le true count q = omega arith
 how_many-le false count q = omega arith
@@ -162,7 +162,7 @@ module _ (kind : Bool) (q : Queue Unit ℕ) (keys : List (Option Key)) (awake : 
     leaves-line (Some (Passed to)) step wakes = absurd (let e = step.0 in cc)
     leaves-line (Some (Lost additional tag)) step wakes = absurd (let e = step.0 in cc)
 
-    -- a told listener leaves, and its notification is passed on
+    -- a notified listener leaves, and its notification is propagated
     passes : (notice : Notice Unit) → lookup (is_key key) q.told ≡ Some notice → q' ≡ after_passing notice (told_leaves key q) → FoldsTo Wakes awake (woken_by_removal key true q) awake' → Changed kind q' (set keys client None) awake' (dropped client line)
     passes notice found same wakes =
         let left : Queue Unit ℕ = told_leaves key q in

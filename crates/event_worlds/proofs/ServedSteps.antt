@@ -23,7 +23,7 @@ at_most_one : (b : Bool) → cond {A = ℕ} b 1 0 ≤ 1
 at_most_one true = omega arith
 at_most_one false = omega arith
 
--- who is told as often as before is untold as before
+-- who is among the notified as often as before is not notified if it was not before
 untold-same : (client : ℕ) (old new : Line) → times client old.told ≤ times client new.told → is_told client new ≡ false → is_told client old ≡ false
 untold-same client old new same untold = grind (arith, false_from_ne_true, times-any, times-none)
 
@@ -34,7 +34,7 @@ past_listens _ past = absurd (cc)
 
 -- a notification
 
--- telling moves so many from the waiting to the told
+-- telling moves `count` clients from those waiting to those notified
 first-counts : (waiting : List (ℕ × Bool)) (line : Line) → line.waiting ≡ waiting → 0 < length waiting → (length (first_told_of waiting line).told ≡ length line.told + 1) × (length (first_told_of waiting line).waiting + 1 ≡ length waiting)
 first-counts [] line is some = absurd (omega arith)
 first-counts (first ∷ rest) line is some = (omega (arith, length-append line.told (first.0 ∷ [])), omega arith)
@@ -43,7 +43,7 @@ pub tell-counts : (count : ℕ) (line : Line) → count ≤ length line.waiting 
 tell-counts zero line few = (omega arith, omega arith)
 tell-counts (suc count) line few = grind (arith, tell-counts count, first-counts)
 
--- nobody told is no longer told
+-- whoever was notified still is
 first-still : (client : ℕ) (waiting : List (ℕ × Bool)) (line : Line) → times client line.told ≤ times client (first_told_of waiting line).told
 first-still client [] line = omega arith
 first-still client (first ∷ rest) line = omega (arith, times-append client line.told (first.0 ∷ []))
@@ -53,13 +53,13 @@ tell-still client zero line = omega arith
 tell-still client (suc count) line =
     omega (arith, first-still client line.waiting line, tell-still client count (first_told line))
 
--- where somebody still waits, as many are told anew as are wanted, and so all that can be taken is spoken for
+-- where somebody still waits, as many are notified anew as are wanted, and so all that can be taken is spoken for
 enough-told : (free owed n woken : ℕ) (line : Line) → (line.additional ≡ true) ⊎ (free ≤ n) → free ≤ length line.told + woken + (owed + n) → length line.told + wanted n line ≤ length (notified n line).told → free ≤ length (notified n line).told + woken + owed
 enough-told free owed n woken line (inl additional) had told =
     let all : wanted n line ≡ n = rw additional refl in omega arith
 enough-told free owed n woken line (inr few) had told = grind (arith)
 
--- who is past its second failed try and is not told waits
+-- who is past its second failed try and is not notified waits
 past_waits : (places : List Place) (line : Line) → AllFit is_listening is_parked places line → (client : ℕ) (place : Place) → slice_get places client ≡ Some place → is_past_second place ≡ true → is_told client line ≡ false → times client (keys_of line.waiting) ≡ 1
 past_waits places line fit client place at past untold =
     omega (arith, once_at is_listening is_parked places line fit client place at (past_listens place past), times-none client line.told untold)
@@ -179,7 +179,7 @@ module _ (free owed : ℕ) (places : List Place) (line : Line) (client : ℕ) (s
       none : cond {A = ℕ} (is_woken p) 1 0 ≡ 0
       none = ap (λ (b : Bool). cond {A = ℕ} b 1 0) unwoken
 
-      -- told, it is about to try
+      -- notified, it is about to try
       served-told : is_told client line ≡ true → IsServed free owed (set places client (First true)) (told_left client line)
       served-told told =
           let ways = number-set is_woken places client p (First true) at in
@@ -196,7 +196,7 @@ module _ (free owed : ℕ) (places : List Place) (line : Line) (client : ℕ) (s
             let ways = number-set is_woken places client p q at in
             served-changed q (waiting_left client line) free owed (λ other differs. same-waiting_left client other line differs) (fits_out (waiting_left client line) (fits-waiting_left client line (is_parked p) fits_in untold)) refl (λ had. omega (arith, none)) (λ past _. absurd (cc))
 
-        -- told, its notification is to be passed on
+        -- notified, its notification is to be propagated
         served-to_pass : is_told client line ≡ true → IsServed free (owed + 1) (set places client q) (told_left client line)
         served-to_pass told =
             let ways = number-set is_woken places client p q at in
@@ -260,7 +260,7 @@ pub record Waited (client : ℕ) (p : Place) (line : Line) (to : Place × Line) 
   pub others_told : (other : ℕ) → other ≢ client → times other line.told ≤ times other to.1.told
   pub own_told : is_past_second to.0 ≡ true → (is_past_second p ≡ true) × (to.1.told ≡ line.told)
 
--- a default notification of one leaves at most one told where there was at most one
+-- a default notification of one leaves at most one notified where there was at most one
 pub notified-one_told : (line : Line) → line.additional ≡ false → length line.told ≤ 1 → length (notified 1 line).told ≤ 1
 notified-one_told line default one =
     let rest : wanted 1 line ≡ 1 - length line.told = rw default refl in
@@ -268,7 +268,7 @@ notified-one_told line default one =
     omega arith
 
 module _ (client : ℕ) (line : Line) where
-  -- the told stay as they are
+  -- those notified stay as they are
   plain : (p q : Place) (new : Line) → is_inside q ≡ is_inside p → is_releasing p ≡ false → (is_past_second q ≡ true → is_past_second p ≡ true) → new.additional ≡ line.additional → new.told ≡ line.told → Waited client p line (q, new)
   plain p q new inside releasing past kind told =
       let same = ap (λ (ts : List ℕ). length ts) told in

@@ -144,7 +144,7 @@ module _ (client : ℕ) (line : Line) (parks : Bool) where
   pub fits-wake_lost : Fits true parks (standing client line) → Fits true false (standing client (wake_lost client line))
   fits-wake_lost fits = unparked true (standing client (wake_lost client line)) fits.once
 
--- who is told, of the others
+-- who is notified, of the others
 
 woken-other : (r : Bool) (client other : ℕ) (awake : List Bool) → other ≢ client → get_or (woken client r awake) other false ≡ get_or awake other false
 woken-other true client other awake differs = get_or-set_other awake client other true false differs
@@ -194,7 +194,7 @@ module _ {P : Type 0} (listens parks : P → Bool) where
   pub fit-changed : (places : List P) (client : ℕ) (p q : P) (old new : Line) → slice_get places client ≡ Some p → AllFit listens parks places old → ((other : ℕ) → other ≢ client → IsSame (standing other old) (standing other new)) → Fits (listens q) (parks q) (standing client new) → AllFit listens parks (set places client q) new
   fit-changed places client p q old new at fit same fits other = grind (arith, fits-same, slice_get-set, slice_get-set_other)
 
-  -- the first waiting client is told
+  -- the first waiting client is notified
 
   tells_first : (place : Option P) (first : ℕ × Bool) (rest : List (ℕ × Bool)) (told : List ℕ) (awake : List Bool) (next : ℕ) (kind : Bool) → ((p : P) → place ≡ Some p → first.0 < length awake) → FitsAt listens parks place (standing first.0 (before first rest told awake next kind)) → FitsAt listens parks place (standing first.0 (first_told_of (first ∷ rest) (before first rest told awake next kind)))
   tells_first None first rest told awake next kind within fits = absurd (nobody-first_told first rest told awake next kind fits)
@@ -214,7 +214,7 @@ module _ {P : Type 0} (listens parks : P → Bool) where
             fits-same (slice_get places other) (standing other (before first rest told awake next kind)) (standing other (first_told_of (first ∷ rest) (before first rest told awake next kind))) (same-first_told first rest told awake next kind other differs) (fit other)
       ]
 
--- how many are told, and how many flags there are
+-- how many are notified, and how many flags there are
 
 first_told_of-lengths : (waiting : List (ℕ × Bool)) (line : Line) → (length (first_told_of waiting line).awake ≡ length line.awake) × (length line.told ≤ length (first_told_of waiting line).told) × (length (first_told_of waiting line).told ≤ length line.told + 1)
 first_told_of-lengths [] line = (refl, omega arith, omega arith)

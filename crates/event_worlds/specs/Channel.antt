@@ -20,7 +20,7 @@ use Rattle.event_worlds.specs.Steps.{after_step, after_steps, steps_taken}
 use Rattle.event_worlds.specs.Waiting.{waits}
 
 -- the senders, or the receivers: of each, by its number, its place, how many notifications of the other side it owes,
--- and its message; who is told, who waits and who has its wake-up
+-- and its message; who is notified, who waits and who has its wake-up
 pub record Side : Type 0 where
   pub clients : List ChannelClient
   pub line : Line
@@ -33,7 +33,7 @@ pub record ChannelState : Type 0 where
   pub senders : Side
   pub receivers : Side
 
--- the channel of this buffer, with so far a closing, these clients and these lines
+-- the channel of this buffer, closed so far, with these clients and these lines
 abbrev pub channel_of : Buffer → CloserPlace → List ChannelClient → Line → List ChannelClient → Line → ChannelState
 channel_of buffer closer senders sender_line receivers receiver_line = record {
   capacity = buffer.capacity;
@@ -47,7 +47,7 @@ channel_of buffer closer senders sender_line receivers receiver_line = record {
 abbrev pub idle : ChannelClient
 idle = record { place = Idle; owed = 0; message = 0 }
 
--- a side of so many clients, who want nothing; nobody is in line, whose notifications are additional
+-- a side of that many clients, who want nothing; nobody is in its line, whose notifications are additional
 abbrev pub idle_side : ℕ → Side
 idle_side clients = record { clients = replicate clients idle; line = empty_line true clients 0 }
 

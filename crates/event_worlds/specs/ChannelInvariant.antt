@@ -12,8 +12,9 @@ use Rattle.event_worlds.specs.Served.{is_inside, IsServed}
 pub record OwnFits (own : ChannelClient) : Type 0 where
   pub owed : is_inside own.place ≡ false → own.owed ≡ 0
 
--- how many of a side may count on taking one, if there are so many now: as many as there are while the channel is open;
--- none once it is closed; any number once the side was notified of that, for then nobody untold waits
+-- how many of a side may count on taking one, if there are `now` of them: as many as there are while the channel is
+-- open; none once it is closed; any number once the side was notified of that, for then nobody waits who is not
+-- notified
 abbrev pub MayTake : (notified closed : Bool) (now free : ℕ) → Type 0
 MayTake true closed now free = 0 ≤ free
 MayTake false true now free = free ≤ 0
@@ -25,7 +26,7 @@ SendersMayTake closer = MayTake (senders_notified closer) (is_closed closer)
 abbrev pub ReceiversMayTake : CloserPlace → ℕ → ℕ → Type 0
 ReceiversMayTake closer = MayTake (receivers_notified closer) (is_closed closer)
 
--- a side that is served however many of those that may be taken are counted, and to which so many notifications are
+-- a side that is served however many of those that may be taken are counted, and to which `owed` notifications are
 -- still to come
 pub record IsSideSound (MayTake : ℕ → Type 0) (owed : ℕ) (side : Side) : Type 0 where
   pub served : (free : ℕ) → MayTake free → IsServed free owed (places_of side.clients) side.line

@@ -32,17 +32,18 @@ abbrev pub receivers_notified : CloserPlace → Bool
 receivers_notified Done = true
 receivers_notified _ = false
 
--- if some untold client of a side is at `ToRegister` or `Parked`, the number that can be taken is at most the length of
--- told, plus the clients at `First { woken: true }`, plus the notifications that the other side owes
+-- if some client of a side that is not notified is at `ToRegister` or `Parked`, `free` is at most the length of `told`,
+-- plus the clients at `First { woken: true }`, plus the notifications that the other side owes
 abbrev pub SideIsServed : ℕ → ℕ → Side → Type 0
 SideIsServed free owed side = EnoughAreOnTheirWay (places_of side.clients) side.line free owed
 
--- some untold client of a side is at `ToRegister` or `Parked`
+-- some client of a side that is not notified is at `ToRegister` or `Parked`
 abbrev pub SomeOfSideWaits : Side → Type 0
 SomeOfSideWaits side = SomeUntoldWaits (places_of side.clients) side.line
 
 -- while the channel is open, receivers wait for no message that nobody is about to take, and senders for no such room;
--- once a side was notified that it is closed, nobody untold of it waits; and each told client runs, or has its wake-up
+-- once a side was notified that it is closed, nobody of it waits who is not notified; and each notified client runs, or
+-- has its wake-up
 pub record IsSafe (state : ChannelState) : Type 0 where
   pub receivers : IsFalse (is_closed state.closer) → SideIsServed (length state.messages) (all_owed state.senders) state.receivers
   pub senders : IsFalse (is_closed state.closer) → SideIsServed (room state) (all_owed state.receivers) state.senders
@@ -59,7 +60,7 @@ MessagesFit state = length state.messages ≤ state.capacity
 abbrev pub NotifiesAdditional : ChannelState → Type 0
 NotifiesAdditional state = (state.senders.line.additional ≡ true) × (state.receivers.line.additional ≡ true)
 
--- the clients of a side that are told or wait are exactly those at listening places
+-- the clients of a side that are notified or wait are exactly those at listening places
 abbrev pub InLineAreListening : ChannelState → Type 0
 InLineAreListening state =
     AreListening (places_of state.senders.clients) state.senders.line

@@ -18,24 +18,24 @@ abbrev pub clients_woken : List Place → ℕ
 clients_woken places = count_by is_woken places
 
 module _ (places : List Place) (line : Line) where
-  -- some untold client is at `ToRegister` or `Parked`
+  -- some client that is not notified is at `ToRegister` or `Parked`
   abbrev pub SomeUntoldWaits : Type 0
   SomeUntoldWaits =
       (client : ℕ)
       × (IsAt client ToRegister places ⊎ IsAt client Parked places)
       × IsFalse (is_told client line)
 
-  -- where one does, so many can be taken at most: the length of told, plus the clients at `First { woken: true }`, plus
+  -- where one does, `free` is at most: the length of `told`, plus the clients at `First { woken: true }`, plus
   -- the notifications that are owed
   abbrev pub EnoughAreOnTheirWay : ℕ → ℕ → Type 0
   EnoughAreOnTheirWay free owed = SomeUntoldWaits → free ≤ length line.told + clients_woken places + owed
 
-  -- each told client isn't `Parked` or has its wake-up
+  -- each notified client isn't `Parked` or has its wake-up
   abbrev pub ToldRun : Type 0
   ToldRun =
       (client : ℕ) → IsTrue (is_told client line) → ¬ IsAt client Parked places ⊎ IsTrue (has_wake client line)
 
-  -- the clients told or waiting are exactly those at listening places
+  -- the clients notified or waiting are exactly those at listening places
   abbrev pub AreListening : Type 0
   AreListening =
       (client : ℕ)

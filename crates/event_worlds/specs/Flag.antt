@@ -15,7 +15,7 @@ use Rattle.event_worlds.specs.Line.{Line, empty_line, everybody, notified, dropp
 use Rattle.event_worlds.specs.Steps.{after_step, after_steps, steps_taken}
 use Rattle.event_worlds.specs.Waiting.{waits}
 
--- whether the flag is set; the place of each client, by its number; the place of each setter; who is told, who
+-- whether the flag is set; the place of each client, by its number; the place of each setter; who is notified, who
 -- waits and who has a wake-up
 pub record FlagState : Type 0 where
   pub flag : Bool

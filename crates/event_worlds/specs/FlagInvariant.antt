@@ -18,7 +18,7 @@ abbrev pub is_to_notify : SetterPlace → Bool
 is_to_notify ToNotify = true
 is_to_notify _ = false
 
--- where the flag is set and every setter has notified, each client past its second look is told
+-- where the flag is set and every setter has notified, each client past its second look is notified
 abbrev pub IsSettled : Bool → List SetterPlace → List Place → Line → Type 0
 IsSettled flag setters places line =
     flag ≡ true

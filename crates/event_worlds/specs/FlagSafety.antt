@@ -15,7 +15,7 @@ IsAt client place state = slice_get state.places client ≡ Some place
 abbrev pub NoSetterNotifies : FlagState → Type 0
 NoSetterNotifies state = (setter : ℕ) → ¬ (slice_get state.setters setter ≡ Some ToNotify)
 
--- if the flag is set and no setter is at `ToNotify`, each client at `ToRegister` or `Parked` is told, and has its
+-- if the flag is set and no setter is at `ToNotify`, each client at `ToRegister` or `Parked` is notified, and has its
 -- wake-up if it is `Parked`
 abbrev pub IsSafe : FlagState → Type 0
 IsSafe state =
@@ -29,6 +29,6 @@ IsSafe state =
 abbrev pub NotifiesDefault : FlagState → Type 0
 NotifiesDefault state = state.line.additional ≡ false
 
--- the clients told or waiting are exactly those at listening places
+-- the clients notified or waiting are exactly those at listening places
 abbrev pub InLineAreListening : FlagState → Type 0
 InLineAreListening state = AreListening (map lock_place state.places) state.line

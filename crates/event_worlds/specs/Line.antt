@@ -1,9 +1,9 @@
--- What a contract sees of a `ClientLine`: the clients that stand in a queue of listeners, by their numbers.
+-- What a contract sees of a `ClientLine`: the clients in a queue of listeners, by their numbers.
 use Rattle.std.specs.Prelude.{◌≡◌, ℕ, zero, suc, ◌+◌, ◌-◌, ◌^◌, ◌<◌, min, Bool, true, false, ◌||◌, eqb, nat_lt, if◌then◌else◌, List, [], ◌∷◌, ◌++◌, length, get_or, set, replicate}
 use Rattle.std.specs.List.{list_any}
 use Rattle.std.specs.Map.{keys_of, remove_entry, set_value}
 
--- the clients told, and the clients waiting, each with whether it is registered, both in order of joining; for
+-- the clients notified, and the clients waiting, each with whether it is registered, both in order of joining; for
 -- each client whether it has a wake-up; the serial of the next that joins; whether all notifications are additional
 pub record Line : Type 0 where
   pub told : List ℕ
@@ -12,7 +12,7 @@ pub record Line : Type 0 where
   pub next : ℕ
   pub additional : Bool
 
--- a line of so many clients in which nobody stands, and whose notifications are of that kind
+-- an empty line for that many clients, whose notifications are of that kind
 abbrev pub empty_line : Bool → ℕ → ℕ → Line
 empty_line additional clients first = record {
   told = [];
@@ -22,7 +22,7 @@ empty_line additional clients first = record {
   additional = additional;
 }
 
--- whether the client is told
+-- whether the client is notified
 abbrev pub is_told : ℕ → Line → Bool
 is_told client line = list_any (eqb client) line.told
 
@@ -30,7 +30,7 @@ is_told client line = list_any (eqb client) line.told
 abbrev pub is_waiting : ℕ → Line → Bool
 is_waiting client line = list_any (eqb client) (keys_of line.waiting)
 
--- whether the client is told or waits
+-- whether the client is notified or waits
 abbrev pub is_in_line : ℕ → Line → Bool
 is_in_line client line = is_told client line || is_waiting client line
 
@@ -59,7 +59,7 @@ abbrev pub without : ℕ → List ℕ → List ℕ
 without client [] = []
 without client (first ∷ rest) = if eqb client first then rest else first ∷ without client rest
 
--- a told client leaves, and passes nothing on
+-- a notified client leaves, and propagates nothing
 abbrev pub told_left : ℕ → Line → Line
 told_left client line = record line { told = without client line.told }
 
@@ -75,7 +75,7 @@ wake_lost client line = record line { awake = set line.awake client false }
 abbrev pub woken : ℕ → Bool → List Bool → List Bool
 woken client is_registered awake = if is_registered then set awake client true else awake
 
--- the first waiting client, if there is one, goes to the end of the told, and gets a wake-up if it is registered
+-- the first waiting client, if there is one, goes to the end of those notified, and gets a wake-up if it is registered
 abbrev pub first_told_of : List (ℕ × Bool) → Line → Line
 first_told_of [] line = line
 first_told_of (first ∷ rest) line = record line {
@@ -87,12 +87,12 @@ first_told_of (first ∷ rest) line = record line {
 abbrev pub first_told : Line → Line
 first_told line = first_told_of line.waiting line
 
--- so many waiting clients are told, one after another
+-- that many waiting clients are notified, one after another
 abbrev pub tell : ℕ → Line → Line
 tell zero line = line
 tell (suc count) line = tell count (first_told line)
 
--- how many a notification of so many clients wants told anew: those told already count towards a default one
+-- how many a notification of `count` clients notifies anew: those notified already count towards a default one
 abbrev pub wanted : ℕ → Line → ℕ
 wanted count line = if line.additional then count else count - length line.told
 
@@ -100,11 +100,11 @@ wanted count line = if line.additional then count else count - length line.told
 abbrev pub everybody : ℕ
 everybody = 2 ^ 64 - 1
 
--- a notification of so many clients
+-- a notification of that many clients
 abbrev pub notified : ℕ → Line → Line
 notified count line = tell (min (wanted count line) (length line.waiting)) line
 
--- a client leaves; a told one passes its notification on, which is of one
+-- a client leaves; a notified one propagates its notification, which is of one
 abbrev pub dropped : ℕ → Line → Line
 dropped client line =
     if is_told client line then notified 1 (told_left client line) else waiting_left client line

@@ -17,7 +17,7 @@ abbrev pub client_of : List (Option Key) → Key → ℕ
 client_of [] key = zero
 client_of (first ∷ rest) key = if holds key first then zero else suc (client_of rest key)
 
--- the clients that these told listeners are, and these waiting ones, each with whether it stored a task
+-- the clients that these notified listeners are, and these waiting ones, each with whether it stored a task
 abbrev pub told_clients : List (Option Key) → List (Key × Notice Unit) → List ℕ
 told_clients keys told = map (λ entry. client_of keys entry.0) told
 
@@ -46,7 +46,7 @@ pub record IsKeyOf (q : Queue Unit ℕ) (keys : List (Option Key)) (client : ℕ
   pub given : key.serial < q.next_serial
   pub stands : list_any (is_key key) (order_of q) ≡ true
 
--- the listeners are the clients that have keys, each with its own number for a task; all told were told by a
+-- the listeners are the clients that have keys, each with its own number for a task; all notified were notified by a
 -- notification of that kind; there is room for the others
 pub record IsTied (kind : Bool) (q : Queue Unit ℕ) (keys : List (Option Key)) (awake : List Bool) : Type 0 where
   pub queue : IsQueue q

@@ -10,7 +10,7 @@ use Rattle.event_worlds.specs.Line.{Line, empty_line, notified}
 use Rattle.event_worlds.specs.Steps.{after_step, after_steps, steps_taken}
 use Rattle.event_worlds.specs.Waiting.{waits}
 
--- who has the lock; the place of each client, by its number; who is told, who waits and who has its wake-up
+-- who has the lock; the place of each client, by its number; who is notified, who waits and who has its wake-up
 pub record MutexState : Type 0 where
   pub holder : Option ℕ
   pub places : List Place

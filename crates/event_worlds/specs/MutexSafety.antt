@@ -5,7 +5,7 @@ use Rattle.event_worlds.specs.Clients.{IsAt, SomeClientIsAt, ToldRun, AreListeni
 use Rattle.event_worlds.specs.Mutex.{MutexState}
 
 -- if nobody holds the lock and some client is at `ToRegister` or `Parked`, then at least one of these holds:
--- told has an entry, and each told client isn't `Parked` or has its wake-up; some client is at
+-- `told` has an entry, and each notified client isn't `Parked` or has its wake-up; some client is at
 -- `First { woken: true }`; some client is at `Releasing`
 abbrev pub IsSafe : MutexState → Type 0
 IsSafe state =
@@ -21,7 +21,7 @@ HolderIsInside state =
     (client : ℕ)
     → (state.holder ≡ Some client) ↔ (IsAt client Ending state.places ⊎ IsAt client Holding state.places)
 
--- at most one client is told
+-- at most one client is notified
 abbrev pub AtMostOneTold : MutexState → Type 0
 AtMostOneTold state = length state.line.told ≤ 1
 
@@ -29,6 +29,6 @@ AtMostOneTold state = length state.line.told ≤ 1
 abbrev pub NotifiesDefault : MutexState → Type 0
 NotifiesDefault state = state.line.additional ≡ false
 
--- the clients told or waiting are exactly those at listening places
+-- the clients notified or waiting are exactly those at listening places
 abbrev pub InLineAreListening : MutexState → Type 0
 InLineAreListening state = AreListening state.places state.line

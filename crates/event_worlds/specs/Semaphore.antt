@@ -13,7 +13,7 @@ use Rattle.event_worlds.specs.Steps.{after_step, after_steps, steps_taken}
 use Rattle.event_worlds.specs.Waiting.{waits}
 
 -- how many permits there are, and how many of them are free; of each client, by its number, its place, how many
--- permits it holds, and of how many it still is to notify; who is told, who waits and who has its wake-up
+-- permits it holds, and of how many it still is to notify; who is notified, who waits and who has its wake-up
 pub record SemaphoreState : Type 0 where
   pub permits : ℕ
   pub free : ℕ

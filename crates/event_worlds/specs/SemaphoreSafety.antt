@@ -19,9 +19,9 @@ all_owed state = sum_by (λ own. own.owed) state.clients
 abbrev pub all_held : SemaphoreState → ℕ
 all_held state = sum_by (λ own. own.held) state.clients
 
--- if some untold client is at `ToRegister` or `Parked`, the number of free permits is at most the length of told,
--- plus the clients at `First { woken: true }`, plus the sum of all `owed`; also each told client isn't `Parked` or has
--- its wake-up
+-- if some client that is not notified is at `ToRegister` or `Parked`, the free permits are at most the length of
+-- `told`, plus the clients at `First { woken: true }`, plus the sum of all `owed`; also each notified client isn't
+-- `Parked` or has its wake-up
 abbrev pub IsSafe : SemaphoreState → Type 0
 IsSafe state =
     EnoughAreOnTheirWay (places_of state.clients) state.line state.free (all_owed state)
@@ -35,6 +35,6 @@ PermitsAddUp state = state.free + all_held state ≡ state.permits
 abbrev pub NotifiesAdditional : SemaphoreState → Type 0
 NotifiesAdditional state = state.line.additional ≡ true
 
--- the clients told or waiting are exactly those at listening places
+-- the clients notified or waiting are exactly those at listening places
 abbrev pub InLineAreListening : SemaphoreState → Type 0
 InLineAreListening state = AreListening (places_of state.clients) state.line

@@ -1,5 +1,5 @@
--- What the clients of a lock keep, one permit or many: each fits its place, and where one waits untold, as many are
--- on their way as could take what is free. Worlds keep it in their types; no public clause cites this module.
+-- What the clients of a lock keep, one permit or many: each fits its place, and where one waits and is not notified, as
+-- many are on their way as could take what is free. Worlds keep it in their types; no public clause cites this module.
 use Rattle.std.specs.Prelude.{◌≡◌, ℕ, ◌+◌, ◌≤◌, Bool, true, false, List, length, slice_get, Some}
 use Rattle.event_worlds.specs.declared.world.place.Place.{Place}
 use Rattle.event_worlds.specs.declared.world.place.Place.TheVariants.{ToListen, Ending, ToRegister, Parked, Holding, Releasing}
@@ -33,8 +33,8 @@ is_releasing _ = false
 abbrev pub MayBeAt : Place → ℕ → Line → Type 0
 MayBeAt place client line = place ≡ ToListen → is_in_line client line ≡ false
 
--- where a client past its second failed try is not told, no more can be taken than there are clients told, clients
--- that a notification brought to a try, and notifications still to come
+-- where a client past its second failed try is not notified, no more can be taken than there are clients notified,
+-- clients that a notification brought to a try, and notifications still to come
 abbrev pub IsEnough : ℕ → ℕ → List Place → Line → Type 0
 IsEnough free owed places line =
     (client : ℕ) (place : Place)
@@ -43,7 +43,7 @@ IsEnough free owed places line =
     → is_told client line ≡ false
     → free ≤ length line.told + number is_woken places + owed
 
--- the clients of a lock of which so many can be taken and for which so many notifications are still to come
+-- the clients of a lock of which `free` can be taken, and for which `owed` notifications are still to come
 pub record IsServed (free owed : ℕ) (places : List Place) (line : Line) : Type 0 where
   pub fit : AllFit is_listening is_parked places line
   pub enough : IsEnough free owed places line

@@ -15,7 +15,7 @@ times_unregistered client [] = 0
 times_unregistered client (first ∷ rest) =
     cond first.1 0 (cond (eqb client first.0) 1 0) + times_unregistered client rest
 
--- how often a client is told, waits, and waits unregistered, and whether it has its wake-up
+-- how often a client is notified, waits, and waits unregistered, and whether it has its wake-up
 pub record Standing : Type 0 where
   pub told : ℕ
   pub waiting : ℕ
@@ -31,7 +31,7 @@ standing client line = record {
 }
 
 -- a client that listens, or not, stands in line once, or not at all; one that is parked is registered where it
--- waits, and has its wake-up where it is told
+-- waits, and has its wake-up where it is notified
 pub record Fits (listens parks : Bool) (client : Standing) : Type 0 where
   pub once : client.told + client.waiting ≡ cond listens 1 0
   pub registered : parks ≡ true → client.unregistered ≡ 0

@@ -1,5 +1,5 @@
-//! Worlds over the queue of an event: the clients of a lock, of a flag, of a semaphore or of a bounded channel, one step
-//! at a time.
+//! Worlds over the queue of an event: the clients of a lock, of a flag, of a semaphore or of a bounded channel, one
+//! step at a time.
 //!
 //! A client of a lock goes from [`Place`] to place, by what it learns: [`Place::after`] is its whole table. A
 //! [`MutexWorld`] is a lock with its clients, in any number, each step of whom is one call; a [`SemaphoreWorld`] is a

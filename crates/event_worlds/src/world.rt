@@ -1,4 +1,4 @@
-//! What worlds are made of: the places of a client, the acts of a schedule, and the line in which clients stand.
+//! What worlds are made of: the places of a client, the acts of a schedule, and the line in which clients wait.
 
 pub mod acts;
 mod buffer;

@@ -6,7 +6,7 @@ use std::alloc::{AllocError, Global};
 use std::collections::VecDeque;
 use std::marker::Model;
 
-/// So many messages at most, the oldest first. After [`new`](Buffer::new) no call allocates.
+/// At most `capacity` messages, the oldest first. After [`new`](Buffer::new) no call allocates.
 #[derive(Drop)]
 pub(super) struct Buffer {
     capacity: usize,
@@ -26,7 +26,7 @@ impl Model for Buffer {
 }
 
 impl Buffer {
-    /// An empty buffer with room for so many messages.
+    /// An empty buffer with room for `capacity` messages.
     pub(super) fn new(alloc: Global, capacity: usize) -> Result<Self, AllocError>
         ensures empty { IfOk result (λ buffer. buffer ≡ record { capacity = capacity; messages = [] }) }
     {
@@ -51,7 +51,7 @@ impl Buffer {
         self.messages.len()
     }
 
-    /// The message that so many others are before.
+    /// The message at `index`, the oldest first, or `None` past the last.
     pub(super) fn message(&self, index: usize) -> Option<usize>
         ensures value { result ≡ slice_get self.now.messages index }
     {

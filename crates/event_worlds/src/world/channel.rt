@@ -19,7 +19,7 @@ use super::place::{News, Place};
 use std::alloc::{AllocError, Global};
 use std::marker::Model;
 
-/// Where the closing of a channel is.
+/// How far a channel is closed.
 #[derive(Clone, Copy, Debug, PartialEq, Eq)]
 pub enum CloserPlace {
     /// The channel is open.
@@ -58,10 +58,10 @@ enum Found {
 /// A bounded channel with its senders and its receivers, the two lines in which they wait for room and for messages,
 /// and whoever closes it.
 ///
-/// A sender looks for room, listens, looks again, and waits until it is told; a receiver does the same for a message.
-/// The look that finds one sends or receives, and the client then notifies one of the other side, additional to those
-/// told already. Clients go by [`Place::after`]: at `Holding`, and at `Ending` with its listener still to be dropped, a
-/// client has sent or received, or has found the channel closed.
+/// A sender looks for room, listens, looks again, and waits until it is notified; a receiver does the same for a
+/// message. The look that finds one sends or receives, and the client then notifies one of the other side, additional
+/// to those notified already. Clients go by [`Place::after`]: at `Holding`, and at `Ending` with its listener still to
+/// be dropped, a client has sent or received, or has found the channel closed.
 ///
 /// Closing is three steps: the channel is closed, all senders are notified, all receivers are notified. What is left in
 /// the channel is still received. Each step of an actor is one call of [`step`](ChannelWorld::step). Whatever the
@@ -88,10 +88,10 @@ impl Model for ChannelWorld {
 }
 
 impl ChannelWorld {
-    /// An empty channel that is open, for so many messages at most, with so many senders and receivers, none of whom
-    /// wants anything.
+    /// An empty channel that is open, for at most `capacity` messages, with that many senders and receivers, none of
+    /// whom wants anything.
     ///
-    /// The call allocates room for all clients and messages, and returns an error where that is refused. No later call
+    /// The call allocates room for all clients and messages, and returns an error if that fails. No later call
     /// allocates.
     pub fn new(
         alloc: Global,
@@ -271,14 +271,14 @@ impl ChannelWorld {
         self.buffer.len()
     }
 
-    /// The message that so many others are to be received before, or `None` past the last. The oldest is at 0.
+    /// The message at `index`, the oldest first, or `None` past the last.
     pub fn message(&self, index: usize) -> Option<usize>
         ensures value { result ≡ slice_get self.now.messages index }
     {
         self.buffer.message(index)
     }
 
-    /// How far the closing of the channel is.
+    /// How far the channel is closed.
     pub fn closer(&self) -> CloserPlace
         ensures value { result ≡ self.now.closer }
     {
@@ -322,7 +322,7 @@ impl ChannelWorld {
         self.receivers[client]
     }
 
-    /// Whether a sender is told: it was notified, and has not left the line.
+    /// Whether a sender is notified, and has not left the line.
     pub fn is_sender_told(&self, client: usize) -> bool
         requires client { client < length self.now.senders.clients }
         ensures value { result ≡ is_told client self.now.senders.line }
@@ -330,7 +330,7 @@ impl ChannelWorld {
         self.sender_line.is_told(client)
     }
 
-    /// Whether a receiver is told: it was notified, and has not left the line.
+    /// Whether a receiver is notified, and has not left the line.
     pub fn is_receiver_told(&self, client: usize) -> bool
         requires client { client < length self.now.receivers.clients }
         ensures value { result ≡ is_told client self.now.receivers.line }

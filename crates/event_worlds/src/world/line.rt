@@ -1,4 +1,4 @@
-//! The line of a world's clients: a queue of listeners, and the key of each client that stands in it.
+//! The line of a world's clients: a queue of listeners, and the key of each client in it.
 ghost use Rattle.std.specs.Prelude.{◌≡◌, ◌<◌, [], length, if◌then◌else◌, IsFalse, IfOk};
 ghost use Rattle.event_worlds.specs.Line.{Line, IsLine, Leaves, empty_line, everybody, is_told, is_in_line, has_wake, has_serial_left, joined, registered, told_left, waiting_left, wake_lost, notified, dropped};
 
@@ -29,7 +29,7 @@ impl Model for ClientLine {
 }
 
 impl ClientLine {
-    /// A line of that many clients, in which none stands; the first that joins gets the serial `first`. Its
+    /// A line for that many clients, empty at first; the first that joins gets the serial `first`. Its
     /// notifications are additional or default. It has room for all clients.
     pub(super) fn new(
         alloc: Global,

@@ -3,8 +3,8 @@ ghost use Rattle.event_worlds.specs.ClientTable.{place_after};
 
 /// Where a client of a lock is, or of a semaphore. [`Place::after`] says how it goes on.
 ///
-/// A client tries to take the lock, or a permit, listens, tries again, and only then waits: whoever freed one before the
-/// client listened would not have notified it.
+/// A client tries to take the lock, or a permit, listens, tries again, and only then waits: whoever freed one before
+/// the client listened would not have notified it.
 #[derive(Clone, Copy, Debug, PartialEq, Eq)]
 pub enum Place {
     /// It doesn't want the lock, or a permit.
