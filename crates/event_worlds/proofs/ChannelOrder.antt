@@ -1,5 +1,5 @@
 -- What a schedule of the channel world receives and leaves is what was there and what it sends, in that order.
-use Rattle.std.proofs.Common.{◌≡◌, ℕ, Bool, true, false, List, [], ◌∷◌, ◌++◌, drop, slice_get, Option, Some, None, refl, sym, ap, ◌∙◌, append_assoc}
+use Rattle.std.proofs.Common.{arith, ◌≡◌, ℕ, Bool, true, false, List, [], ◌∷◌, ◌++◌, drop, slice_get, Option, Some, None, refl, sym, ap, ◌∙◌, append_assoc}
 use Rattle.std.proofs.lemmas.List.{append-nil}
 use Rattle.std.specs.Prelude.{option_to_list, unwrap_or, option_map, option_and_then}
 use Rattle.event_worlds.specs.declared.world.acts.ChannelAct.{ChannelAct}
@@ -15,7 +15,7 @@ use Rattle.event_worlds.specs.declared.world.channel.Found.TheVariants.{One, Not
 use Rattle.event_worlds.specs.declared.world.place.Place.{Place}
 use Rattle.event_worlds.specs.declared.world.place.Place.TheVariants.{First, Second}
 use Rattle.event_worlds.specs.Line.{Line}
-use Rattle.event_worlds.specs.Channel.{ChannelState, is_closed, room_found, first_found, message_found, from, passed, sender_goes, receiver_goes, step_of_sender, step_of_receiver, next_of_closer, after, after_all, sent_by, received_by, sent, received}
+use Rattle.event_worlds.specs.Channel.{ChannelState, room_found, first_found, message_found, from, passed, sender_goes, receiver_goes, step_of_sender, step_of_receiver, next_of_closer, after, after_all, sent_by, received_by, sent, received}
 use Rattle.event_worlds.specs.ChannelSafety.{InOrder}
 
 module _ (state : ChannelState) (client : ℕ) where
@@ -38,8 +38,7 @@ module _ (state : ChannelState) (client : ℕ) where
 
   sender-order : (act : ChannelAct) (o : Option ChannelClient) → (unwrap_or (option_and_then (step_of_sender client act state) o) state).messages ≡ state.messages ++ option_to_list (option_and_then (λ own. passed act own.place (room_found own.message state)) o)
   sender-order act None = sym (append-nil state.messages)
-  sender-order act (Some own) =
-      sender-leaves act own.place (room_found own.message state) own state.senders.line state.receivers.line
+  sender-order act (Some own) = grind (arith, sender-leaves)
 
   -- what a receiver's step leaves in the channel
 
@@ -64,13 +63,11 @@ module _ (state : ChannelState) (client : ℕ) where
   receiver-leaves : (act : ChannelAct) (place : Place) (found : Found) (own : ChannelClient) (line other : Line) → IsFirst state.messages found → option_to_list (passed act place found) ++ received_to (passed act place found) (from act place false client own found line other) ≡ state.messages
   receiver-leaves Go (First woken) (One message) own line other first = first
   receiver-leaves Go Second (One message) own line other first = first
-  receiver-leaves act place found own line other first =
-      none-received (from act place false client own found line other)
+  receiver-leaves act place found own line other first = grind (arith, none-received)
 
   receiver-order : (act : ChannelAct) (o : Option ChannelClient) → option_to_list (option_and_then (λ own. passed act own.place (message_found state)) o) ++ (unwrap_or (option_and_then (step_of_receiver client act state) o) state).messages ≡ state.messages
   receiver-order act None = refl
-  receiver-order act (Some own) =
-      receiver-leaves act own.place (message_found state) own state.receivers.line state.senders.line (first-is state.messages (is_closed state.closer))
+  receiver-order act (Some own) = grind (arith, first-is, receiver-leaves)
 
 closer-leaves : (state : ChannelState) (closer : CloserPlace) → (unwrap_or (next_of_closer closer state) state).messages ≡ state.messages
 closer-leaves state ToClose = refl
@@ -82,8 +79,7 @@ closer-leaves state Done = refl
 
 pub step-in_order : (actor : ChannelActor) (act : ChannelAct) (state : ChannelState) → InOrder (received_by actor act state) (sent_by actor act state) state (after actor act state)
 step-in_order (Sender client) act state = sender-order state client act (slice_get state.senders.clients client)
-step-in_order (Receiver client) act state =
-    receiver-order state client act (slice_get state.receivers.clients client) ∙ sym (append-nil state.messages)
+step-in_order (Receiver client) act state = grind (arith, append-nil, receiver-order)
 step-in_order Closer Go state = closer-leaves state state.closer ∙ sym (append-nil state.messages)
 step-in_order Closer (Send message) state = sym (append-nil state.messages)
 step-in_order Closer Poll state = sym (append-nil state.messages)

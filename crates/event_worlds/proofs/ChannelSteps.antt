@@ -59,8 +59,7 @@ first-says [] ToNotifyReceivers capacity = λ free may. (0, omega arith, omega a
 first-says [] Done capacity = λ free may. (free + 1, omega arith, omega arith)
 first-says (message ∷ rest) ToClose capacity = (λ free may. (free + 1, omega arith, omega arith), λ free may. omega arith)
 first-says (message ∷ rest) ToNotifySenders capacity = (λ free may. (0, omega arith, omega arith), λ free may. omega arith)
-first-says (message ∷ rest) ToNotifyReceivers capacity =
-    (λ free may. (0, omega arith, omega arith), λ free may. omega arith)
+first-says (message ∷ rest) ToNotifyReceivers capacity = grind (arith)
 first-says (message ∷ rest) Done capacity = (λ free may. (free + 1, omega arith, omega arith), λ free may. omega arith)
 
 -- messages that were sent fit, as a look has found room for them

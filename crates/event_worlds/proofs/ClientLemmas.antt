@@ -45,8 +45,7 @@ module _ {X : Type 0} where
 
   pub clients-same : (keys keys' : List (Option Key)) (entries : List (Key × X)) → AllByRecursion (λ key. client_of keys' key ≡ client_of keys key) (keys_of entries) → clients_of keys' entries ≡ clients_of keys entries
   clients-same keys keys' [] same = refl
-  clients-same keys keys' (e ∷ es) same =
-      let rest = clients-same keys keys' es same.1 in λ i. same.0 i ∷ rest i
+  clients-same keys keys' (e ∷ es) same = grind (arith, clients-same keys keys' es same.1)
 
 module _ (keys : List (Option Key)) where
   pub keys_of-waiting : (waiting : List (Key × Option ℕ)) → keys_of (waiting_clients keys waiting) ≡ clients_of keys waiting
@@ -55,8 +54,7 @@ module _ (keys : List (Option Key)) where
 
   pub waiting-same : (keys' : List (Option Key)) (waiting : List (Key × Option ℕ)) → AllByRecursion (λ key. client_of keys' key ≡ client_of keys key) (keys_of waiting) → waiting_clients keys' waiting ≡ waiting_clients keys waiting
   waiting-same keys' [] same = refl
-  waiting-same keys' (e ∷ es) same =
-      let rest = waiting-same keys' es same.1 in λ i. (same.0 i, is_some e.1) ∷ rest i
+  waiting-same keys' (e ∷ es) same = grind (arith, waiting-same keys' es same.1)
 
   pub waiting-remove : (test : Key → Bool) (client : ℕ) (waiting : List (Key × Option ℕ)) → AreClient test client keys (keys_of waiting) → waiting_clients keys (remove_entry test waiting) ≡ remove_entry (eqb client) (waiting_clients keys waiting)
   waiting-remove test client [] are = refl
@@ -87,8 +85,7 @@ task-same (Some t) client client' same has = has ∙ sym same
 
 pub tasks-same : (keys keys' : List (Option Key)) (waiting : List (Key × Option ℕ)) → AllByRecursion (λ key. client_of keys' key ≡ client_of keys key) (keys_of waiting) → AllByRecursion (HasTask keys) waiting → AllByRecursion (HasTask keys') waiting
 tasks-same keys keys' [] same has = tt
-tasks-same keys keys' (e ∷ es) same has =
-    (task-same e.1 (client_of keys e.0) (client_of keys' e.0) same.0 has.0, tasks-same keys keys' es same.1 has.1)
+tasks-same keys keys' (e ∷ es) same has = grind (arith, tasks-same keys keys' es same.1 has.1, task-same)
 
 pub tasks-set : (keys : List (Option Key)) (client : ℕ) (key : Key) (waiting : List (Key × Option ℕ)) → client_of keys key ≡ client → AllByRecursion (HasTask keys) waiting → AllByRecursion (HasTask keys) (set_value (is_key key) waiting (Some client))
 tasks-set keys client key [] own has = tt

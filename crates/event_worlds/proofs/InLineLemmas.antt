@@ -1,5 +1,5 @@
 -- Who stands in line, and who has its wake-up, where all clients fit their places, whatever the type of places.
-use Rattle.std.proofs.Common.{◌≡◌, ◌↔◌, ℕ, ◌+◌, ◌<◌, ◌⊎◌, Bool, true, false, cond, List, slice_get, Option, Some, None, IsTrue, IsSomeAnd, subst, arith, inl, inr}
+use Rattle.std.proofs.Common.{◌≡◌, ◌↔◌, ℕ, ◌+◌, ◌<◌, ◌⊎◌, Bool, true, false, List, slice_get, Option, Some, None, IsTrue, IsSomeAnd, subst, arith, inl, inr}
 use Rattle.std.proofs.lemmas.Bool.{or_from, false_from_ne_true}
 use Rattle.std.specs.Map.{keys_of}
 use Rattle.event_worlds.specs.Line.{Line, is_told, is_waiting, is_in_line, has_wake}
@@ -17,12 +17,10 @@ module _ {P : Type 0} (listens parks : P → Bool) (places : List P) (line : Lin
   -- who listens stands in line once, and who does not, not at all
 
   pub once_at : (place : P) → slice_get places client ≡ Some place → listens place ≡ true → times client line.told + times client (keys_of line.waiting) ≡ 1
-  once_at place at listening =
-      subst (λ (b : Bool). times client line.told + times client (keys_of line.waiting) ≡ cond b 1 0) listening (fits_at place at).once
+  once_at place at listening = grind (arith, fits_at)
 
   never_at : (place : P) → slice_get places client ≡ Some place → listens place ≡ false → times client line.told + times client (keys_of line.waiting) ≡ 0
-  never_at place at unlistening =
-      subst (λ (b : Bool). times client line.told + times client (keys_of line.waiting) ≡ cond b 1 0) unlistening (fits_at place at).once
+  never_at place at unlistening = grind (arith, fits_at)
 
   pub out_at : (place : P) → slice_get places client ≡ Some place → listens place ≡ false → is_in_line client line ≡ false
   out_at place at unlistening = grind (arith, false_from_ne_true, never_at, or_from, times-any)
@@ -38,8 +36,7 @@ module _ {P : Type 0} (listens parks : P → Bool) (places : List P) (line : Lin
   in_line_counts (inr waiting) = omega (arith, times-any client (keys_of line.waiting) waiting)
 
   listens_from : (place : Option P) → FitsAt listens parks place (standing client line) → 0 < times client line.told + times client (keys_of line.waiting) → IsSomeAnd place (λ p. IsTrue (listens p))
-  listens_from None fits some =
-      let once : times client line.told + times client (keys_of line.waiting) ≡ 0 = fits.once in absurd (omega arith)
+  listens_from None fits some = grind (arith)
   listens_from (Some place) fits some = grind (arith)
 
   in_line_from : (place : Option P) → FitsAt listens parks place (standing client line) → IsSomeAnd place (λ p. IsTrue (listens p)) → IsTrue (is_told client line) ⊎ IsTrue (is_waiting client line)

@@ -45,8 +45,7 @@ module _ (kind : Bool) (q : Queue Unit ℕ) (keys : List (Option Key)) (awake : 
         other_serial held key (λ same. let was = (tied.mapped other held at).given in absurd (omega arith))
 
     own : client_of given key ≡ client
-    own =
-        client_of-new keys client key within (λ other. new-of other (get_or keys other None) refl)
+    own = grind (arith, client_of-new, new-of)
 
     abbrev Same : Key → Type 0
     Same other = client_of given other ≡ client_of keys other
@@ -60,8 +59,7 @@ module _ (kind : Bool) (q : Queue Unit ℕ) (keys : List (Option Key)) (awake : 
         same-if other (tied.mapped (client_of keys other) other (key_at keys other names)).given
 
     same : AllByRecursion Same (order_of q)
-    same =
-        All-implied (λ other. client_of keys other < length keys) Same (order_of q) same-named tied.listed
+    same = grind (arith, All-implied, same-named)
 
     told-same : AllByRecursion Same (keys_of q.told)
     told-same = All-front Same (keys_of q.told) (keys_of q.waiting) same

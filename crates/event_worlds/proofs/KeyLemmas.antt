@@ -1,5 +1,5 @@
 -- The keys of a line's clients: whose a key is, and how many clients have none.
-use Rattle.std.proofs.Common.{◌≡◌, ℕ, zero, suc, ◌+◌, ◌<◌, true, false, cond, eqb, List, [], ◌∷◌, length, get_or, set, replicate, Option, Some, None, refl, sym, ap, ◌∙◌, inl, inr, arith, ne_eqb, eq-eqb}
+use Rattle.std.proofs.Common.{◌≡◌, ℕ, zero, suc, ◌+◌, ◌<◌, true, false, eqb, List, [], ◌∷◌, length, get_or, set, replicate, Option, Some, None, refl, sym, ap, ◌∙◌, inl, inr, arith, ne_eqb, eq-eqb}
 use Rattle.std.proofs.lemmas.Bool.{cases_Bool, and_from, both_ways}
 use Rattle.std.proofs.lemmas.Option.{none-some, same_Some}
 use Rattle.event_queue.specs.declared.key.Key.{Key}
@@ -8,8 +8,7 @@ use Rattle.event_queue.proofs.ChainLookups.{same_key}
 use Rattle.event_worlds.specs.LineKeys.{holds, client_of, keyless}
 
 pub is_key-same : (key : Key) → is_key key key ≡ true
-is_key-same key =
-    and_from (eqb key.slot key.slot) (eqb key.serial key.serial) (eq-eqb key.slot key.slot refl) (eq-eqb key.serial key.serial refl)
+is_key-same key = grind (arith, and_from, eq-eqb)
 
 key_held : (key : Key) (held : Option Key) → holds key held ≡ true → held ≡ Some key
 key_held key None h = absurd (cc)
@@ -19,8 +18,7 @@ key_held key (Some held) h = ap (λ (k : Key). Some k) (sym (same_key held key h
 pub client_of-set : (keys : List (Option Key)) (client : ℕ) (now : Option Key) (key : Key) → holds key (get_or keys client None) ≡ false → holds key now ≡ false → client_of (set keys client now) key ≡ client_of keys key
 client_of-set [] client now key was is = refl
 client_of-set (first ∷ rest) zero now key was is = rw (was, is) refl
-client_of-set (first ∷ rest) (suc client) now key was is =
-    ap (λ (n : ℕ). cond (holds key first) zero (suc n)) (client_of-set rest client now key was is)
+client_of-set (first ∷ rest) (suc client) now key was is = grind (arith, client_of-set rest client now key was is)
 
 -- a new key names the client that gets it
 pub client_of-new : (keys : List (Option Key)) (client : ℕ) (key : Key) → client < length keys → ((other : ℕ) → holds key (get_or keys other None) ≡ false) → client_of (set keys client (Some key)) key ≡ client
@@ -51,8 +49,7 @@ module _ (keys : List (Option Key)) (client : ℕ) where
 
   -- no key in the queue names a client that has none
   pub not_client : (other : Key) → get_or keys client None ≡ None → client_of keys other < length keys → eqb client (client_of keys other) ≡ false
-  not_client other without listed =
-      ne_eqb client (client_of keys other) (λ here. none-some other (sym without ∙ (ap (λ (n : ℕ). get_or keys n None) here ∙ key_at keys other listed)))
+  not_client other without listed = grind (arith, key_at, none-some)
 
 -- how many have no key, once one leaves and once one joins
 
@@ -67,8 +64,7 @@ pub keyless-joins : (keys : List (Option Key)) (client : ℕ) (key : Key) → cl
 keyless-joins [] client key within none = absurd (omega arith)
 keyless-joins (None ∷ rest) zero key within none = omega arith
 keyless-joins (Some k ∷ rest) zero key within none = absurd (none-some k (sym none))
-keyless-joins (None ∷ rest) (suc client) key within none =
-    omega (arith, keyless-joins rest client key (omega arith) none)
+keyless-joins (None ∷ rest) (suc client) key within none = grind (arith, keyless-joins rest client key)
 keyless-joins (Some k ∷ rest) (suc client) key within none = keyless-joins rest client key (omega arith) none
 
 -- before anybody joins

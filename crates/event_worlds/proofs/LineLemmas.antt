@@ -28,12 +28,10 @@ pub record IsOut (client : ℕ) (line : Line) : Type 0 where
 -- a client that is out changes nothing by registering or leaving
 
 pub out-registers : (client : ℕ) (line : Line) → IsOut client line → line ≡ (if is_told client line then told_left client line else registered client line)
-out-registers client line out =
-    rw out.untold (ap (λ (ws : List (ℕ × Bool)). record line { waiting = ws }) (sym (set_value-none client line.waiting out.unwaiting)))
+out-registers client line out = grind (arith, set_value-none)
 
 out-waiting_left : (client : ℕ) (line : Line) → IsOut client line → line ≡ waiting_left client line
-out-waiting_left client line out =
-    ap (λ (ws : List (ℕ × Bool)). record line { waiting = ws }) (sym (remove_entry-none client line.waiting out.unwaiting))
+out-waiting_left client line out = grind (arith, remove_entry-none)
 
 pub out-leaves : (client : ℕ) (line : Line) → IsOut client line → line ≡ (if is_told client line then told_left client line else waiting_left client line)
 out-leaves client line out = rw out.untold (out-waiting_left client line out)
@@ -52,8 +50,7 @@ pub record Changed (kind : Bool) (q : Queue Unit ℕ) (keys : List (Option Key))
   pub is : line_of kind q keys awake ≡ line
 
 pub moves : (kind : Bool) (q q' : Queue Unit ℕ) (keys : List (Option Key)) (awake awake' : List Bool) (line line' : Line) → q' ≡ q → awake' ≡ awake → line ≡ line' → Changed kind q keys awake line → Changed kind q' keys awake' line'
-moves kind q q' keys awake awake' line line' same same' same_line changed =
-    subst (λ (l : Line). Changed kind q' keys awake' l) same_line (subst (λ (a : List Bool). Changed kind q' keys a line) (sym same') (subst (λ (p : Queue Unit ℕ). Changed kind p keys awake line) (sym same) changed))
+moves kind q q' keys awake awake' line line' same same' same_line changed = grind (arith, same, same_line)
 
 abbrev Names : List (Option Key) → Key → Type 0
 Names keys key = client_of keys key < length keys
@@ -103,12 +100,10 @@ module _ (kind : Bool) (q : Queue Unit ℕ) (keys : List (Option Key)) (awake : 
       named other names = is_client keys client key other at own.own names
 
       told-are : AreClient (is_key key) client keys (keys_of q.told)
-      told-are =
-          All-implied (Names keys) (λ other. is_key key other ≡ eqb client (client_of keys other)) (keys_of q.told) named told-names
+      told-are = grind (arith, All-implied, named, told-names)
 
       waiting-are : AreClient (is_key key) client keys (keys_of q.waiting)
-      waiting-are =
-          All-implied (Names keys) (λ other. is_key key other ≡ eqb client (client_of keys other)) (keys_of q.waiting) named waiting-names
+      waiting-are = grind (arith, All-implied, named, waiting-names)
 
       -- the client is notified, or waits, where its key is
       pub told-found : is_told client (line_of kind q keys awake) ≡ is_some (lookup (is_key key) q.told)

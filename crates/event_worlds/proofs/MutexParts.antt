@@ -1,5 +1,5 @@
 -- What one step changes of who has the lock.
-use Rattle.std.proofs.Common.{◌≡◌, ◌≢◌, ℕ, true, false, List, set, slice_get, Option, Some, None, is_none, refl, sym, ap, ◌∙◌, subst, inl, inr, eq-eqb, ne_eqb, eqb-true}
+use Rattle.std.proofs.Common.{arith, ◌≡◌, ◌≢◌, ℕ, true, false, List, set, slice_get, Option, Some, None, is_none, refl, sym, ap, ◌∙◌, subst, inl, inr, eq-eqb, ne_eqb, eqb-true}
 use Rattle.std.proofs.lemmas.Bool.{cases_eq}
 use Rattle.event_worlds.specs.declared.world.place.Place.{Place}
 use Rattle.event_worlds.specs.Served.{is_inside}
@@ -14,8 +14,7 @@ free_is (Some client) free = absurd (cc)
 
 only_holder : (client other : ℕ) (holder : Option ℕ) → is_holder client holder ≡ true → other ≢ client → is_holder other holder ≡ false
 only_holder client other None holds differs = absurd (cc)
-only_holder client other (Some holder) holds differs =
-    ne_eqb other holder (λ same. differs (same ∙ sym (eqb-true client holder holds)))
+only_holder client other (Some holder) holds differs = grind (arith, eqb-true)
 
 -- the holder is who is inside
 abbrev pub HolderFits : Option ℕ → List Place → Type 0
@@ -40,8 +39,7 @@ module _ (places : List Place) (client : ℕ) (p q : Place) (at : slice_get plac
       ]
 
   pub holder-goes : (holder : Option ℕ) → is_inside q ≡ is_inside p → HolderFits holder places → HolderFits holder (set places client q)
-  holder-goes holder same fits =
-      at_all holder (fits client ∙ (was ∙ sym same)) (λ other differs. fits other)
+  holder-goes holder same fits = grind (arith, at_all)
 
   pub holder-takes : (holder : Option ℕ) → holder ≡ None → is_inside q ≡ true → HolderFits holder places → HolderFits (Some client) (set places client q)
   holder-takes holder free inside fits =

@@ -42,14 +42,12 @@ all_kinds kind (tag ∷ tags) (first ∷ rest) = (refl, all_kinds kind tags rest
 -- the wake-ups are as many as before
 wakes-length : (tasks : List ℕ) (awake awake' : List Bool) → FoldsTo Wakes awake tasks awake' → length awake' ≡ length awake
 wakes-length [] awake awake' wakes = ap length (sym wakes)
-wakes-length (task ∷ tasks) awake awake' wakes =
-    wakes-length tasks wakes.0 awake' wakes.2 ∙ (ap length wakes.1 ∙ length-set awake task true)
+wakes-length (task ∷ tasks) awake awake' wakes = grind (arith, wakes-length tasks wakes.0 awake' wakes.2, length-set)
 
 -- the first client gets its wake-up if it stored a task
 first-woken : (task : Option ℕ) (client count : ℕ) (rest : List (Key × Option ℕ)) (key : Key) (awake awake' : List Bool) → IfSome task (λ t. t ≡ client) → FoldsTo Wakes awake (tasks_among (suc count) ((key, task) ∷ rest)) awake' → FoldsTo Wakes (woken client (is_some task) awake) (tasks_among count rest) awake'
 first-woken None client count rest key awake awake' own wakes = wakes
-first-woken (Some task) client count rest key awake awake' own wakes =
-    subst (λ (a : List Bool). FoldsTo Wakes a (tasks_among count rest) awake') (wakes.1 ∙ ap (λ (n : ℕ). set awake n true) own) wakes.2
+first-woken (Some task) client count rest key awake awake' own wakes = grind (arith)
 
 -- telling a line in which nobody waits changes nothing
 tell-nobody : (count : ℕ) (told : List ℕ) (awake : List Bool) (next : ℕ) (kind : Bool) → tell count (record { told = told; waiting = []; awake = awake; next = next; additional = kind }) ≡ record { told = told; waiting = []; awake = awake; next = next; additional = kind }
@@ -68,8 +66,7 @@ module _ (kind : Bool) (keys : List (Option Key)) (next : ℕ) where
 
   -- telling the queue's first is telling the line's first
   tells-line : (tags : List Unit) (told : List (Key × Notice Unit)) (waiting : List (Key × Option ℕ)) (awake awake' : List Bool) → AllByRecursion (HasTask keys) waiting → FoldsTo Wakes awake (tasks_among (length tags) waiting) awake' → line_with (told ++ told_with kind tags waiting) (drop (length tags) waiting) awake' ≡ tell (length tags) (line_with told waiting awake)
-  tells-line [] told waiting awake awake' has wakes =
-      let all = append-nil told in λ i. line_with (all i) waiting (sym wakes i)
+  tells-line [] told waiting awake awake' has wakes = grind (arith, append-nil)
   tells-line (tag ∷ tags) told [] awake awake' has wakes = grind (arith, append-nil, tell-nobody)
   tells-line (tag ∷ tags) told (first ∷ rest) awake awake' has wakes =
       let entry : Key × Notice Unit = (first.0, record { additional = kind; tag = tag }) in

@@ -1,5 +1,5 @@
 -- Lists of places: what is read after one of them changed, and how many pass a test.
-use Rattle.std.proofs.Common.{◌≡◌, ◌≢◌, ℕ, zero, suc, ◌+◌, ◌<◌, Bool, true, false, cond, List, [], ◌∷◌, set, slice_get, Some, refl, ap, ◌∙◌, arith, inl, inr}
+use Rattle.std.proofs.Common.{◌≡◌, ◌≢◌, ℕ, zero, suc, ◌+◌, ◌<◌, Bool, true, false, cond, List, [], ◌∷◌, set, slice_get, Some, refl, arith, inl, inr}
 use Rattle.std.proofs.lemmas.Bool.{cases_Bool}
 use Rattle.std.proofs.lemmas.Option.{none-some, same_Some}
 use Rattle.event_worlds.specs.Standing.{number}
@@ -25,8 +25,7 @@ module _ {P : Type 0} where
   slice_get-set_other (place ∷ places) zero zero q other = absurd (other refl)
   slice_get-set_other (place ∷ places) zero (suc j) q other = refl
   slice_get-set_other (place ∷ places) (suc i) zero q other = refl
-  slice_get-set_other (place ∷ places) (suc i) (suc j) q other =
-      slice_get-set_other places i j q (λ e. other (ap suc e))
+  slice_get-set_other (place ∷ places) (suc i) (suc j) q other = grind (arith, slice_get-set_other places i j q)
 
   module _ (test : P → Bool) where
     -- one client less at its old place, one more at its new one
@@ -38,8 +37,7 @@ module _ {P : Type 0} where
     -- who is at a place that passes counts
     pub number-at : (places : List P) (i : ℕ) (p : P) → slice_get places i ≡ Some p → test p ≡ true → 0 < number test places
     number-at [] i p at passes = absurd (none-some p at)
-    number-at (place ∷ places) zero p at passes =
-        let one = one_if (test place) (ap test (same_Some place p at) ∙ passes) in omega arith
+    number-at (place ∷ places) zero p at passes = grind (arith, one_if, same_Some)
     number-at (place ∷ places) (suc i) p at passes = omega (arith, number-at places i p at passes)
 
     -- where some are counted, there is one

@@ -4,8 +4,8 @@ use Rattle.std.proofs.lemmas.Bool.{cases_Bool}
 use Rattle.std.proofs.lemmas.List.Sums.{sum_by-cons}
 use Rattle.std.specs.Prelude.{count_by}
 use Rattle.event_worlds.specs.declared.world.place.Place.{Place}
-use Rattle.event_worlds.specs.declared.world.place.Place.TheVariants.{ToRegister, Parked}
-use Rattle.event_worlds.specs.ClientTable.{is_listening, is_woken}
+use Rattle.event_worlds.specs.declared.world.place.Place.TheVariants.{Parked}
+use Rattle.event_worlds.specs.ClientTable.{is_listening}
 use Rattle.event_worlds.specs.Clients.{EnoughAreOnTheirWay, ToldRun, AreListening}
 use Rattle.event_worlds.specs.Line.{Line, has_wake}
 use Rattle.event_worlds.specs.Served.{is_parked, IsServed}
@@ -19,10 +19,8 @@ number-count test (first ∷ rest) =
 
 module _ (free owed : ℕ) (places : List Place) (line : Line) (served : IsServed free owed places line) where
   pub enough_are : EnoughAreOnTheirWay places line free owed
-  enough_are (client, (inl at), untold) =
-      omega (arith, served.enough client ToRegister at refl untold, number-count is_woken places)
-  enough_are (client, (inr at), untold) =
-      omega (arith, served.enough client Parked at refl untold, number-count is_woken places)
+  enough_are (client, (inl at), untold) = grind (arith, number-count)
+  enough_are (client, (inr at), untold) = grind (arith, number-count)
 
   pub told_run : ToldRun places line
   told_run client told =

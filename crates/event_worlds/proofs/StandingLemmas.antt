@@ -1,6 +1,6 @@
 -- What each change of a line does to how the clients stand in it, and that telling one keeps them fitting their
 -- places, whatever the type of places.
-use Rattle.std.proofs.Common.{◌≡◌, ◌≢◌, ℕ, zero, suc, ◌+◌, ◌-◌, ◌<◌, ◌≤◌, min, Bool, true, false, cond, eqb, List, [], ◌∷◌, ◌++◌, length, set, get_or, replicate, slice_get, Option, Some, None, refl, sym, ap, ◌∙◌, subst, arith, inl, inr, eq-eqb, ne_eqb, eqb-true, length-append, length-set, get_or-set_same, get_or-set_other}
+use Rattle.std.proofs.Common.{◌≡◌, ◌≢◌, ℕ, zero, suc, ◌+◌, ◌-◌, ◌<◌, ◌≤◌, min, Bool, true, false, cond, eqb, List, [], ◌∷◌, ◌++◌, length, set, get_or, replicate, slice_get, Option, Some, None, refl, sym, ap, ◌∙◌, subst, arith, inl, inr, eq-eqb, eqb-true, length-append, length-set, get_or-set_same, get_or-set_other}
 use Rattle.std.proofs.lemmas.Bool.{cases_eq, cond_both, or_parts}
 use Rattle.std.proofs.lemmas.List.{map-append}
 use Rattle.std.proofs.lemmas.Map.{keys-set_value}
@@ -60,13 +60,11 @@ at_most_all true n = omega arith
 at_most_all false n = omega arith
 
 other_key : (client other key : ℕ) → other ≢ client → eqb client key ≡ true → cond {A = ℕ} (eqb other key) 1 0 ≡ 0
-other_key client other key differs here =
-    none_if (eqb other key) (ne_eqb other key (λ same. differs (same ∙ sym (eqb-true client key here))))
+other_key client other key differs here = grind (arith, eqb-true, none_if)
 
 pub unregistered-le : (client : ℕ) (waiting : List (ℕ × Bool)) → times_unregistered client waiting ≤ times client (keys_of waiting)
 unregistered-le client [] = omega arith
-unregistered-le client (first ∷ rest) =
-    omega (arith, unregistered-le client rest, at_most_all first.1 (cond (eqb client first.0) 1 0))
+unregistered-le client (first ∷ rest) = grind (arith, unregistered-le client rest, at_most_all)
 
 pub unregistered-append : (client : ℕ) (xs ys : List (ℕ × Bool)) → times_unregistered client (xs ++ ys) ≡ times_unregistered client xs + times_unregistered client ys
 unregistered-append client [] ys = omega arith
@@ -89,8 +87,7 @@ keys-joined : (client : ℕ) (waiting : List (ℕ × Bool)) → keys_of (waiting
 keys-joined client waiting = map-append (λ (e : ℕ × Bool). e.0) waiting ((client, false) ∷ [])
 
 times-joined : (other client : ℕ) (waiting : List (ℕ × Bool)) → times other (keys_of (waiting ++ (client, false) ∷ [])) ≡ times other (keys_of waiting) + cond (eqb other client) 1 0
-times-joined other client waiting =
-    ap (times other) (keys-joined client waiting) ∙ (times-append other (keys_of waiting) (client ∷ []) ∙ omega arith)
+times-joined other client waiting = grind (arith, keys-joined, times-append)
 
 times-told : (other client : ℕ) (told : List ℕ) → times other (told ++ client ∷ []) ≡ times other told + cond (eqb other client) 1 0
 times-told other client told = times-append other told (client ∷ []) ∙ omega arith
@@ -252,8 +249,7 @@ notified-everybody line fits =
     ∙ tell-all line.waiting line.told line.awake line.next line.additional
 
 pub dropped-kind : (client : ℕ) (line : Line) → (dropped client line).additional ≡ line.additional
-dropped-kind client line =
-    cond_both (is_told client line) (notified 1 (told_left client line)) (waiting_left client line) (λ (new : Line). new.additional ≡ line.additional) (λ _. notified-kind 1 (told_left client line)) (λ _. refl)
+dropped-kind client line = grind (arith, notified-kind)
 
 module _ {P : Type 0} (listens parks : P → Bool) where
   -- telling any number of clients keeps all fitting
@@ -264,25 +260,19 @@ module _ {P : Type 0} (listens parks : P → Bool) where
       fit-tell count places (first_told line) (lengths.0 ∙ flags) (fit-first_told_of listens parks places line.waiting line.told line.awake line.next line.additional flags fit)
 
   pub fit-notified : (count : ℕ) (places : List P) (line : Line) → length line.awake ≡ length places → AllFit listens parks places line → AllFit listens parks places (notified count line)
-  fit-notified count places line flags fit =
-      fit-tell (min (wanted count line) (length line.waiting)) places line flags fit
+  fit-notified count places line flags fit = grind (arith, fit-tell)
 
   -- all clients fit one place where nobody listens, in a line where nobody stands
   pub fit-start : (place : P) → listens place ≡ false → (kind : Bool) (clients first : ℕ) → AllFit listens parks (replicate clients place) (empty_line kind clients first)
   fit-start place unlistening kind clients first client = replicated clients client
     where
       nowhere : (b : Bool) → Fits b false (standing client (empty_line kind clients first)) → Fits b (parks place) (standing client (empty_line kind clients first))
-      nowhere b fits = record {
-        once = fits.once;
-        registered = λ _. refl;
-        awake = λ _ (told : 0 < 0). absurd (omega arith);
-      }
+      nowhere b fits = grind (arith)
 
       out : Fits false false (standing client (empty_line kind clients first))
       out = record { once = refl; registered = λ _. refl; awake = λ _ (told : 0 < 0). absurd (omega arith) }
 
       replicated : (n i : ℕ) → FitsAt listens parks (slice_get (replicate n place) i) (standing client (empty_line kind clients first))
       replicated zero i = out
-      replicated (suc n) zero =
-          subst (λ (b : Bool). Fits b (parks place) (standing client (empty_line kind clients first))) (sym unlistening) (nowhere false out)
+      replicated (suc n) zero = grind (arith, nowhere, out)
       replicated (suc n) (suc i) = replicated n i
