@@ -1,8 +1,5 @@
 //! The listener that shares the queue of its event, and the one that borrows it.
 ghost use Rattle.std.specs.Prelude.{◌≡◌, ◌+◌, ◌<◌, ◌^◌, true, false, IsErr};
-ghost use Rattle.std.specs.declared.result.Result.TheVariants.{Ok};
-ghost use Rattle.futures.specs.Poll.{IfReady, OnPending};
-ghost use Rattle.futures.specs.declared.task.Poll.TheVariants.{Pending};
 
 use super::hold::Hold;
 use super::membership::Membership;
@@ -43,6 +40,7 @@ pub struct QueueListener<T, H: Hold<T>, R: Wait + Clock + Clone> {
     event_number: u64,
     runtime: R,
     alloc: Global,
+    // It goes to other threads, and is shared by them, as the queue is.
     tag: PhantomData<Shared<T>>,
 }
 
