@@ -1,22 +1,20 @@
 //! Locks that are held, and semaphores whose permits are taken, while their callers are refused memory, and the example
 //! programs.
 use crate::support::{
-    Answer, Runtime, Starved, all_memory, check, count_refused, leave, new_budget, new_id, new_task,
+    Answer, Runtime, Starved, all_memory, check, count_refused, leave, new_budget, new_id,
 };
 use example_events::meeting::{MeetingError, wait_for_setter};
 use example_locks::{
-    CountError, Mutex, MutexError, MutexGuard, PolledLock, Semaphore, SemaphoreError, count,
-    count_with_permits,
+    CountError, Mutex, MutexError, PolledLock, Semaphore, SemaphoreError, count, count_with_permits,
 };
 use futures::task::Waker;
-use futures::test::MockTask;
 use std::alloc::AllocError;
 use std::cell::Cell;
 use std::io;
 use std::sync::{self, Wait};
 use std::time::{Clock, Duration};
-use test_queue_memory::{Budget, Hog};
-use test_support::{OwnClock, WithClock, any_waker, waker_of};
+use test_queue_memory::Budget;
+use test_support::{OwnClock, WithClock, any_waker};
 
 // Whether it was given. There is no answer where memory was refused.
 fn is_given<G: Drop, E: Answer, R: Runtime>(
@@ -43,8 +41,8 @@ fn poll<R: Runtime>(rt: &R, lock: &mut PolledLock<'_, u64, R>, waker: Waker) -> 
     }
 }
 
-// A clock that can't be read. A client that waits reads it for the second time when it listens, and before it makes what
-// its thread parks on. Then what is held is freed, which tells the client.
+// A clock that stands still. A client that waits reads it for the second time once its listener is in the queue. Then what
+// is held is freed, which notifies the client at its limit.
 #[derive(Drop)]
 struct FreesWhenRead<'a, G, R> {
     rt: &'a R,
@@ -59,47 +57,7 @@ impl<G: Drop, R: Runtime> OwnClock for FreesWhenRead<'_, G, R> {
         if reads == 1 {
             drop(self.held.lock(self.rt).take());
         }
-        Err(io::ErrorKind::Unsupported.into())
-    }
-}
-
-// Such a clock, at whose second reading another client listens before the lock is freed, and all memory is taken after.
-#[derive(Drop)]
-struct RefusesOnceTold<'a, R: Runtime> {
-    rt: &'a R,
-    reads: Cell<u32>,
-    held: sync::Mutex<Option<MutexGuard<'a, u64, R>>>,
-    behind: sync::Mutex<PolledLock<'a, u64, R>>,
-    task: &'a MockTask,
-    hog: sync::Mutex<Option<Hog>>,
-}
-
-impl<'a, R: Runtime> RefusesOnceTold<'a, R> {
-    // The lock is free, and is held from now on.
-    fn new(rt: &'a R, mutex: &'a Mutex<u64>, task: &'a MockTask) -> Self {
-        RefusesOnceTold {
-            rt,
-            reads: Cell::new(0),
-            held: sync::Mutex::new(Some(mutex.try_lock(rt).expect(rt, "the lock"))),
-            behind: sync::Mutex::new(mutex.polled_lock(rt, rt.alloc())),
-            task,
-            hog: sync::Mutex::new(None),
-        }
-    }
-}
-
-impl<R: Runtime> OwnClock for RefusesOnceTold<'_, R> {
-    fn read(&self) -> io::Result<Duration> {
-        let (rt, reads) = (self.rt, self.reads.get());
-        self.reads.set(reads.saturating_add(1));
-        if reads == 1 {
-            let waker = waker_of(self.task).expect(rt, "a waker");
-            let polled = poll(rt, &mut self.behind.lock(rt), waker);
-            check(rt, "a poll", polled, Some(false));
-            drop(self.held.lock(rt).take());
-            *self.hog.lock(rt) = Some(all_memory(rt));
-        }
-        Err(io::ErrorKind::Unsupported.into())
+        Ok(Duration::ZERO)
     }
 }
 
@@ -233,23 +191,6 @@ fn a_polled_lock_needs_memory_for_its_slot_alone(rt: HostRuntime) {
         let refused = count_refused(rt, &InVain { rt, call, has_slot });
         check(rt, "whether it needs none", refused == 0, has_slot);
     }
-}
-
-#[test]
-fn a_told_client_that_is_refused_a_parker_tells_another_one(rt: HostRuntime) {
-    let mutex: Mutex<u64> = Mutex::new(new_id(&rt), 7);
-    let task = new_task(&rt);
-    let refuses = RefusesOnceTold::new(&rt, &mutex, &task);
-    let clock = WithClock {
-        rt: &rt,
-        clock: &refuses,
-    };
-    let refusal = mutex.lock_timeout(&clock, rt.alloc(), Duration::ZERO).err();
-    drop(refuses.hog.lock(&rt).take());
-    check(&rt, "the refusal", refusal, Some(MutexError::Memory));
-    check(&rt, "whether the task is woken", task.is_woken(), true);
-    let is_free = mutex.try_lock(&rt).is_some();
-    check(&rt, "whether it is free", is_free, true);
 }
 
 #[test]
