@@ -3,8 +3,9 @@ use crate::support::{check, in_time, is_over_soon};
 use crate::waits::Polled;
 use event_locks::Semaphore;
 use std::alloc::AllocGlobal;
+use std::sync::Wait;
 use std::sync::atomic::{AtomicBool, Ordering};
-use std::time::{Duration, Instant};
+use std::time::{Clock, Duration, Instant};
 use std::{io, thread};
 use test_lock_support::{Case, Kind, Sharing, each};
 use test_support::{NoClock, OwnClock, Runtime, WithClock};
@@ -83,22 +84,22 @@ impl<'a, R: Runtime> OwnClock for Gives<'a, R> {
     }
 }
 
+// One waits until a moment that has passed when it looks at the clock.
+fn is_taken<R: Runtime, C: Wait + Clock>(rt: &R, clock: &C, semaphore: &Semaphore) {
+    let now = Instant::now(clock).expect(rt, "the time");
+    let first = semaphore.try_acquire(rt).expect(rt, "a permit");
+    let given = semaphore.acquire(clock, rt.alloc()).wait_deadline(now);
+    let given = given.expect(rt, "an answer").is_some();
+    check(rt, "whether it is granted", given, true);
+    drop(first);
+    check(rt, "how many are free", semaphore.available(rt), 2);
+}
+
 #[test]
 fn what_comes_while_the_clock_is_read_is_taken(rt: HostRuntime) {
     let semaphore = Semaphore::new(rt.alloc(), 0);
-    let clock = Gives {
-        rt: &rt,
-        semaphore: &semaphore,
-    };
-    let host = WithClock {
-        rt: &rt,
-        clock: &clock,
-    };
-    let now = Instant::now(&host).expect(&rt, "the time");
-    let first = semaphore.try_acquire(&rt).expect(&rt, "a permit");
-    let given = semaphore.acquire(&host, rt.alloc()).wait_deadline(now);
-    let given = given.expect(&rt, "an answer").is_some();
-    check(&rt, "whether it is granted", given, true);
-    drop(first);
-    check(&rt, "how many are free", semaphore.available(&rt), 2);
+    let (rt, semaphore) = (&rt, &semaphore);
+    let clock = Gives { rt, semaphore };
+    let clock = &clock;
+    is_taken(rt, &WithClock { rt, clock }, semaphore);
 }
