@@ -1,5 +1,5 @@
 -- What becomes of a queue, and what one that waits in it learns.
-use Rattle.std.specs.Prelude.{◌≡◌, ℕ, ◌+◌, ◌-◌, min, Bool, false, if◌then◌else◌, Option, Some, None, is_some, unwrap_or, List, [], ◌∷◌, ◌++◌, length, drop, Err}
+use Rattle.std.specs.Prelude.{◌≡◌, ℕ, ◌+◌, ◌-◌, min, Bool, true, false, if◌then◌else◌, Option, Some, None, is_some, unwrap_or, List, [], ◌∷◌, ◌++◌, length, drop, Err}
 use Rattle.std.specs.List.{FoldsTo}
 use Rattle.std.specs.Map.{lookup, remove_entry, set_value}
 use Rattle.event_queue.specs.declared.key.Key.{Key}
@@ -69,7 +69,7 @@ module _ {T W : Type 0} where
   woken_by_leaving None n q = []
   woken_by_leaving (Some key) n q = woken_up_to n (after_leaving (Some key) q)
 
-  -- whether this one waits untold
+  -- whether this one waits, and is not notified
   abbrev pub waits_untold : Option Key → Queue T W → Bool
   waits_untold None q = false
   waits_untold (Some key) q = is_some (lookup (is_key key) q.waiting)
@@ -97,6 +97,8 @@ module _ {T W C : Type 0} (exchanged : C → Option W → W → C → Type 0) wh
   pub record WaitsBy (key : Option Key) (old : Queue T W) (before : C) (waits : Key) (new : Queue T W) (after : C) : Type 0 where
     pub task : W
     pub made : exchanged before (stored_task key old) task after
+    -- one that waits already keeps its key
+    pub same : waits_untold key old ≡ true → key ≡ Some waits
     pub told : new.told ≡ others_of key old.told
     pub waiting : new.waiting ≡ waiting_with key waits task old
 
