@@ -23,6 +23,26 @@ use futures::task::{Context, Poll};
 use std::marker::Model;
 use std::sync::{Mutex, MutexGuard, Wait};
 
+/// Takes a lock, and waits for it if another thread has it.
+///
+/// After each call of a function that may wait, its caller tests whether it is to end, inlined or not. So this is no
+/// function: a free lock is taken with no such test.
+macro_rules! take_lock {
+    ($mutex:expr, $rt:expr) => {{
+        match $mutex.try_lock() {
+            Some(guard) => guard,
+            None => wait_for_lock(&$mutex, $rt),
+        }
+    }};
+}
+
+// It is a function of its own, so that taking a free lock is a few instructions.
+#[cold]
+#[inline(never)]
+fn wait_for_lock<'a, S, R: Wait>(mutex: &'a Mutex<S>, rt: &R) -> MutexGuard<'a, S> {
+    mutex.lock(rt)
+}
+
 /// A state under a lock, with the queues of those that wait for something of it.
 ///
 /// A contract sees the number of the source at which tasks that wait are registered.
@@ -50,7 +70,7 @@ impl<S> Lock<S> {
     /// The state, once nobody else has it. It may wait for the lock.
     #[inline(always)]
     pub fn state<R: Wait>(&self, rt: &R) -> MutexGuard<'_, S> {
-        self.state.lock(rt)
+        take_lock!(self.state, rt)
     }
 
     pub(crate) fn state_mut(&mut self) -> &mut S {
@@ -69,7 +89,7 @@ impl<S> Lock<S> {
         ensures kept { result ≡ None → request.new ≡ request.old }
     {
         let mut waking = Waking::new();
-        let mut state = self.state.lock(rt);
+        let mut state = take_lock!(self.state, rt);
         let output = request.attempt(&mut *state, &mut waking);
         drop(state);
         waking.finish();
@@ -87,7 +107,7 @@ impl<S> Lock<S> {
         ensures kept { OnUndone result (request.new ≡ request.old) }
     {
         let mut waking = Waking::new();
-        let mut state = self.state.lock(rt);
+        let mut state = take_lock!(self.state, rt);
         let attempted = request.attempt_or_wait(&mut *state, &Parks {}, task, &mut waking);
         drop(state);
         waking.finish();
@@ -128,7 +148,7 @@ impl<S> Lock<S> {
         ensures kept { Keeps cx.old cx.new }
     {
         let mut waking = Waking::new();
-        let mut state = self.state.lock(rt);
+        let mut state = take_lock!(self.state, rt);
         let attempted = request.attempt_or_wait(&mut *state, &self.source, cx, &mut waking);
         drop(state);
         waking.finish();
@@ -141,7 +161,7 @@ impl<S> Lock<S> {
         ensures kept { result ≡ None → request.new ≡ request.old }
     {
         let mut waking = Waking::new();
-        let mut state = self.state.lock(rt);
+        let mut state = take_lock!(self.state, rt);
         let output = request.leave(&mut *state, &mut waking);
         drop(state);
         waking.finish();
@@ -156,7 +176,7 @@ impl<S> Lock<S> {
             return;
         }
         let mut waking = Waking::new();
-        let mut state = self.state.lock(rt);
+        let mut state = take_lock!(self.state, rt);
         request.give_up(&mut *state, &mut waking);
         drop(state);
         waking.finish();
@@ -167,7 +187,7 @@ impl<S: Grantor> Lock<S> {
     #[inline(always)]
     pub(crate) fn give_back<R: Wait>(&self, rt: &R, grant: S::Grant) {
         let mut waking = Waking::new();
-        let mut state = self.state.lock(rt);
+        let mut state = take_lock!(self.state, rt);
         state.give_back(grant, &mut waking);
         drop(state);
         waking.finish();

@@ -142,8 +142,12 @@ impl<T> RwLock<T> {
         rt: &'a R,
         holder: Holder<'a, R>,
     ) -> RwLockReadGuard<'a, T, R> {
+        let value = match self.value.try_read() {
+            Some(value) => value,
+            None => self.value.read(rt),
+        };
         RwLockReadGuard {
-            value: self.value.read(rt),
+            value,
             lock: self,
             rt,
             holder,
@@ -155,8 +159,12 @@ impl<T> RwLock<T> {
         rt: &'a R,
         holder: Holder<'a, R>,
     ) -> RwLockWriteGuard<'a, T, R> {
+        let value = match self.value.try_write() {
+            Some(value) => value,
+            None => self.value.write(rt),
+        };
         RwLockWriteGuard {
-            value: self.value.write(rt),
+            value,
             lock: self,
             rt,
             holder,
