@@ -114,6 +114,12 @@ OnGranted (Notified grant) P = P grant
 OnGranted Registered P = Unit {0}
 OnGranted NeverInserted P = Unit {0}
 
+-- whether something was granted
+abbrev pub is_granted : {G : Type 0} → RegisterResult G → Bool
+is_granted (Notified grant) = true
+is_granted Registered = false
+is_granted NeverInserted = false
+
 -- what the queue answered where that was a grant
 abbrev pub as_told : {G : Type 0} → RegisterResult G → RegisterResult (Unit {0})
 as_told (Notified grant) = Notified tt

@@ -20,6 +20,17 @@ module _ {W : Type 0} where
   abbrev pub turn_at : State W → Turn
   turn_at s = (if s.is_set then Use else Make)
 
+  -- how many make the value once one has that turn; and once one has it or not
+  abbrev pub making_at : State W → ℕ
+  making_at s = (if s.is_set then s.making else 1)
+
+  abbrev pub making_by : Bool → State W → ℕ
+  making_by has_turn s = (if has_turn then making_at s else s.making)
+
+  -- those that make or would make the value are as they were
+  abbrev pub MakersStay : State W → State W → Type 0
+  MakersStay old new = (new.making ≡ old.making) × (new.makers ≡ old.makers)
+
   pub record NobodyWaitsInVain (s : State W) : Type 0 where
     -- while it is not set, one at most makes it, and who waits to make it waits for one that does
     pub one : s.is_set ≡ false → turns s ≤ 1

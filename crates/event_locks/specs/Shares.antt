@@ -24,6 +24,13 @@ module _ {W : Type 0} where
   abbrev pub NoWriterIsThere : State W → Type 0
   NoWriterIsThere s = writing s + length s.write_line.waiting ≡ 0
 
+  -- the readers are as they were, and so are the writers
+  abbrev pub ReadersStay : State W → State W → Type 0
+  ReadersStay old new = (new.readers ≡ old.readers) × (new.read_line ≡ old.read_line)
+
+  abbrev pub WritersStay : State W → State W → Type 0
+  WritersStay old new = (new.writers ≡ old.writers) × (new.write_line ≡ old.write_line)
+
   -- all that read or wait to read are as many as can be counted, with one more and a writer
   abbrev pub HasNoRoom : State W → Type 0
   HasNoRoom s = 2 ^ 64 ≤ reading s + length s.read_line.waiting + 2

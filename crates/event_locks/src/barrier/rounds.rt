@@ -71,7 +71,7 @@ impl<W> Rounds<W> {
         ensures arrives { IfOk result (λ ticket. MatchOption ticket ((self.new.arrived ≡ 0) × (self.old.parties ≤ self.old.arrived + 1)) (λ _. self.new.arrived ≡ self.old.arrived + 1)) }
         ensures parties { self.new.parties ≡ self.old.parties }
         ensures ends { result ≡ Ok None → HandsOut S.woke (length self.old.line.waiting) self.old.line self.new.line sink.old sink.new }
-        ensures joins { IfOk result (λ ticket. IfSome ticket (λ key. Inserts self.old.line (Ok key) self.new.line)) }
+        ensures joins { IfOk result (λ ticket. IfSome ticket (λ key. Inserts self.old.line (Ok key) self.new.line × (sink.new ≡ sink.old))) }
         ensures refused { OnErr result ((self.new ≡ self.old) × (sink.new ≡ sink.old)) }
         ensures reason { IfErr result (λ error. Inserts self.old.line (Err error) self.new.line × (self.old.arrived + 1 < self.old.parties)) }
     {
@@ -91,6 +91,7 @@ impl<W> Rounds<W> {
         on: &mut C,
     ) -> RegisterResult<Ended>
         ensures looked { Looked (X.exchanged exchange.now) on.old result on.new }
+        ensures parties { self.new.parties ≡ self.old.parties }
         ensures arrived { self.new.arrived ≡ self.old.arrived }
         ensures told { length self.new.line.told + left_by result ≡ length self.old.line.told }
         ensures step { RegistersWith (X.exchanged exchange.now) self.old.line key on.old (as_told result) self.new.line on.new }
@@ -110,6 +111,7 @@ impl<W> Rounds<W> {
         ensures early { IsFalse result → length self.new.line.told ≡ length self.old.line.told }
         ensures told { IsTrue result → self.new.arrived ≡ self.old.arrived }
         ensures untold { self.old.arrived ≤ self.new.arrived + 1 }
+        ensures parties { self.new.parties ≡ self.old.parties }
         ensures others { order_of self.new.line ≡ without key (order_of self.old.line) }
     {
         match leave_line(&mut self.line, key) {

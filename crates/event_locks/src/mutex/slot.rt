@@ -1,6 +1,7 @@
 //! The state of a mutex.
 ghost use Rattle.std.specs.Prelude.{◌≡◌, ◌-◌, [], length, None, Some, IsSome, MatchOption};
 ghost use Rattle.std.specs.List.{FoldsTo};
+ghost use Rattle.std.specs.Option.{option_copied_mut};
 ghost use Rattle.event_locks.specs.Line.{LeavesThenTells, TellsUpTo, woken_by_leaving, woken_up_to};
 ghost use Rattle.event_locks.specs.Slot.{NobodyWaitsInVain, Obtains, count};
 
@@ -97,7 +98,9 @@ impl<T, W> Slot<T, W> {
     }
 
     /// The value, if it is there.
-    pub fn get_mut(&mut self) -> Option<&mut T> {
+    pub fn get_mut(&mut self) -> Option<&mut T>
+        ensures { option_copied_mut result ≡ self.old.kept }
+    {
         match &mut self.kept {
             Some(value) => Some(value),
             None => None,

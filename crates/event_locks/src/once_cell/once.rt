@@ -1,13 +1,13 @@
 //! The state of a cell that is set once.
-ghost use Rattle.std.specs.Prelude.{◌≡◌, ◌+◌, ◌<◌, ◌≤◌, ◌++◌, true, false, [], length, None, IfOk, IfErr, IfSome, MatchOption};
+ghost use Rattle.std.specs.Prelude.{◌≡◌, ◌+◌, ◌<◌, ◌≤◌, ◌++◌, true, false, [], is_some, length, None, IfOk, IfErr, IfSome, OnErr, MatchOption};
 ghost use Rattle.std.specs.List.{FoldsTo};
 ghost use Rattle.event_queue.specs.Queue.{tasks_of};
 ghost use Rattle.event_queue.specs.Exchange.{RegistersWith};
 ghost use Rattle.event_queue.specs.Insert.{Inserts};
 ghost use Rattle.event_queue.specs.Key.{without};
 ghost use Rattle.event_queue.specs.Queue.{order_of};
-ghost use Rattle.event_locks.specs.Line.{HandsOut, Looked, OnGranted, as_told, left_by};
-ghost use Rattle.event_locks.specs.Once.{NobodyWaitsInVain, turn_at, turns};
+ghost use Rattle.event_locks.specs.Line.{HandsOut, Looked, OnGranted, TellsAll, as_told, is_granted, left_by};
+ghost use Rattle.event_locks.specs.Once.{MakersStay, NobodyWaitsInVain, making_at, making_by, turn_at, turns};
 
 use crate::lock::Task;
 use crate::request::{Attempted, Grantor, Request};
@@ -92,7 +92,7 @@ impl<W> Once<W> {
     pub fn try_make(&mut self) -> Option<Turn>
         ensures kept { self.new.is_set ≡ self.old.is_set }
         ensures turn { IfSome result (λ turn. turn ≡ turn_at self.old) }
-        ensures one { IfSome result (λ _. self.old.is_set ≡ false → self.new.making ≡ 1) }
+        ensures takes { IfSome result (λ _. self.new.making ≡ making_at self.old) }
         ensures none { result ≡ None → (self.new ≡ self.old) × (self.old.is_set ≡ false) × (0 < turns self.old) }
         ensures queues { (self.new.makers ≡ self.old.makers) × (self.new.readers ≡ self.old.readers) }
     {
@@ -120,8 +120,9 @@ impl<W> Once<W> {
     pub fn come_to_make(&mut self) -> Result<Result<Turn, Key>, ListenError>
         ensures kept { self.new.is_set ≡ self.old.is_set }
         ensures turn { IfOk result (λ came. IfOk came (λ turn. turn ≡ turn_at self.old)) }
-        ensures one { IfOk result (λ came. IfOk came (λ _. self.old.is_set ≡ false → self.new.making ≡ 1)) }
-        ensures waits { IfOk result (λ came. IfErr came (λ key. Inserts self.old.makers (Ok key) self.new.makers × (0 < turns self.old))) }
+        ensures takes { IfOk result (λ came. IfOk came (λ _. (self.new.making ≡ making_at self.old) × (self.new.makers ≡ self.old.makers))) }
+        ensures waits { IfOk result (λ came. IfErr came (λ key. Inserts self.old.makers (Ok key) self.new.makers × (self.new.making ≡ self.old.making) × (0 < turns self.old))) }
+        ensures refused { OnErr result (self.new ≡ self.old) }
         ensures reason { IfErr result (λ error. Inserts self.old.makers (Err error) self.new.makers × (0 < turns self.old)) }
         ensures readers { self.new.readers ≡ self.old.readers }
     {
@@ -134,10 +135,11 @@ impl<W> Once<W> {
     /// The turn of one that would use the value, or its key: it waits until the value is set.
     pub fn come_to_use(&mut self) -> Result<Result<Turn, Key>, ListenError>
         ensures kept { self.new.is_set ≡ self.old.is_set }
-        ensures turn { IfOk result (λ came. IfOk came (λ turn. (turn ≡ Turn.Use) × (self.old.is_set ≡ true))) }
+        ensures turn { IfOk result (λ came. IfOk came (λ turn. (turn ≡ Turn.Use) × (self.old.is_set ≡ true) × (self.new ≡ self.old))) }
+        ensures refused { OnErr result (self.new ≡ self.old) }
         ensures waits { IfOk result (λ came. IfErr came (λ key. Inserts self.old.readers (Ok key) self.new.readers × (self.old.is_set ≡ false))) }
         ensures reason { IfErr result (λ error. Inserts self.old.readers (Err error) self.new.readers × (self.old.is_set ≡ false)) }
-        ensures makers { (self.new.making ≡ self.old.making) × (self.new.makers ≡ self.old.makers) }
+        ensures makers { MakersStay self.old self.new }
     {
         if self.is_set {
             return Ok(Ok(Turn::Use));
@@ -162,8 +164,9 @@ impl<W> Once<W> {
         ensures step { RegistersWith (X.exchanged exchange.now) self.old.makers key on.old (as_told result) self.new.makers on.new }
         ensures looked { Looked (X.exchanged exchange.now) on.old result on.new }
         ensures turn { OnGranted result (λ turn. turn ≡ turn_at self.old) }
-        ensures one { OnGranted result (λ _. self.old.is_set ≡ false → self.new.making ≡ 1) }
+        ensures making { self.new.making ≡ making_by (is_granted result) self.old }
         ensures kept { self.new.is_set ≡ self.old.is_set }
+        ensures readers { self.new.readers ≡ self.old.readers }
     {
         match look_for(&mut self.makers, key, exchange, on) {
             RegisterResult::Notified(()) => {
@@ -189,6 +192,7 @@ impl<W> Once<W> {
         ensures looked { Looked (X.exchanged exchange.now) on.old result on.new }
         ensures turn { OnGranted result (λ turn. turn ≡ Turn.Use) }
         ensures kept { self.new.is_set ≡ self.old.is_set }
+        ensures makers { MakersStay self.old self.new }
     {
         match look_for(&mut self.readers, key, exchange, on) {
             RegisterResult::Notified(()) => RegisterResult::Notified(Turn::Use),
@@ -203,9 +207,10 @@ impl<W> Once<W> {
         W: Drop,
         ensures has { MatchOption result (length self.new.makers.told ≡ length self.old.makers.told) (λ _. length self.new.makers.told + 1 ≡ length self.old.makers.told) }
         ensures turn { IfSome result (λ turn. turn ≡ turn_at self.old) }
-        ensures one { IfSome result (λ _. self.old.is_set ≡ false → self.new.making ≡ 1) }
+        ensures making { self.new.making ≡ making_by (is_some result) self.old }
         ensures kept { self.new.is_set ≡ self.old.is_set }
         ensures others { order_of self.new.makers ≡ without key (order_of self.old.makers) }
+        ensures readers { self.new.readers ≡ self.old.readers }
     {
         match leave_line(&mut self.makers, key) {
             Left::Told => {
@@ -228,6 +233,7 @@ impl<W> Once<W> {
         ensures turn { IfSome result (λ turn. turn ≡ Turn.Use) }
         ensures kept { self.new.is_set ≡ self.old.is_set }
         ensures others { order_of self.new.readers ≡ without key (order_of self.old.readers) }
+        ensures makers { MakersStay self.old self.new }
     {
         match leave_line(&mut self.readers, key) {
             Left::Told => Some(Turn::Use),
@@ -241,6 +247,7 @@ impl<W> Once<W> {
         ensures kept { self.new.is_set ≡ self.old.is_set }
         ensures next { 0 < self.old.making → (self.new.making ≡ 0) × HandsOut S.woke 1 self.old.makers self.new.makers sink.old sink.new }
         ensures others { self.new.readers ≡ self.old.readers }
+        ensures unchanged { self.old.making ≡ 0 → (self.new ≡ self.old) × (sink.new ≡ sink.old) }
     {
         if self.making == 0 {
             return;
@@ -252,8 +259,8 @@ impl<W> Once<W> {
     /// The value is set, and nobody waits any more.
     pub fn set<S: WakeSink<W>>(&mut self, sink: &mut S)
         ensures set { (self.new.is_set ≡ true) × (self.new.making ≡ 0) }
-        ensures makers { length self.new.makers.told ≡ length self.old.makers.told + length self.old.makers.waiting }
-        ensures readers { length self.new.readers.told ≡ length self.old.readers.told + length self.old.readers.waiting }
+        ensures makers { TellsAll self.old.makers self.new.makers }
+        ensures readers { TellsAll self.old.readers self.new.readers }
         ensures wakes { FoldsTo S.woke sink.old (tasks_of (length self.old.makers.waiting) self.old.makers ++ tasks_of (length self.old.readers.waiting) self.old.readers) sink.new }
     {
         self.making = 0;

@@ -4,8 +4,8 @@ ghost use Rattle.event_queue.specs.Exchange.{RegistersWith};
 ghost use Rattle.event_queue.specs.Insert.{Inserts};
 ghost use Rattle.event_queue.specs.Key.{without};
 ghost use Rattle.event_queue.specs.Queue.{order_of};
-ghost use Rattle.event_locks.specs.Line.{HandsOut, Looked, as_told, left_by};
-ghost use Rattle.event_locks.specs.Shares.{HasNoRoom, IsAWriterThere, NobodyWaitsInVain, NoWriterIsThere, NobodyIsIn, reading, writing};
+ghost use Rattle.event_locks.specs.Line.{HandsOut, Looked, OnGranted, as_told, left_by};
+ghost use Rattle.event_locks.specs.Shares.{HasNoRoom, IsAWriterThere, NobodyWaitsInVain, NoWriterIsThere, NobodyIsIn, ReadersStay, WritersStay, reading, writing};
 
 use crate::lock::Task;
 use crate::request::{Attempted, Grantor, Request};
@@ -42,12 +42,20 @@ impl Entry {
     }
 }
 
-/// The right to read or to write. It is no `Drop`.
+/// The right to read or to write, as a contract sees it by its access. It is no `Drop`.
 pub struct Share(Access);
+
+impl Model for Share {
+    ghost use Rattle.event_locks.specs.declared.rw_lock.shares.Access.{Access};
+
+    ghost Value = { Access };
+
+    ghost view = { λ share. share.0 };
+}
 
 /// How many readers and writers have the value, and the queues of both.
 ///
-/// No reader comes in while a writer waits, and a writer that leaves lets all readers in that wait: nobody starves.
+/// No reader comes in while a writer waits, and a writer that goes lets all readers in that wait.
 #[derive(Drop)]
 pub struct Shares<W> {
     readers: usize,
@@ -195,6 +203,8 @@ impl<W> Shares<W> {
         ensures step { RegistersWith (X.exchanged exchange.now) self.old.read_line key on.old (as_told result) self.new.read_line on.new }
         ensures reading { reading self.new ≡ reading self.old }
         ensures readers { self.new.readers ≡ self.old.readers + left_by result }
+        ensures reads { OnGranted result (λ share. share ≡ Access.Read) }
+        ensures writers { WritersStay self.old self.new }
     {
         match look_for(&mut self.read_line, key, exchange, on) {
             RegisterResult::Notified(()) => {
@@ -217,6 +227,8 @@ impl<W> Shares<W> {
         ensures step { RegistersWith (X.exchanged exchange.now) self.old.write_line key on.old (as_told result) self.new.write_line on.new }
         ensures writing { writing self.new ≡ writing self.old }
         ensures writers { self.new.writers ≡ self.old.writers + left_by result }
+        ensures writes { OnGranted result (λ share. share ≡ Access.Write) }
+        ensures readers { ReadersStay self.old self.new }
     {
         match look_for(&mut self.write_line, key, exchange, on) {
             RegisterResult::Notified(()) => {
@@ -236,6 +248,7 @@ impl<W> Shares<W> {
         ensures let_in { IsTrue result → self.new.readers ≡ self.old.readers + 1 }
         ensures not_yet { IsFalse result → self.new.readers ≡ self.old.readers }
         ensures others { order_of self.new.read_line ≡ without key (order_of self.old.read_line) }
+        ensures writers { WritersStay self.old self.new }
     {
         match leave_line(&mut self.read_line, key) {
             Left::Told => {
@@ -255,7 +268,9 @@ impl<W> Shares<W> {
         ensures let_in { IsTrue result → self.new.writers ≡ self.old.writers + 1 }
         ensures not_yet { IsFalse result → self.new.writers ≡ self.old.writers }
         ensures others { order_of self.new.write_line ≡ without key (order_of self.old.write_line) }
-        ensures readers { ((self.new.read_line ≡ self.old.read_line) × (sink.new ≡ sink.old)) ⊎ HandsOut S.woke (length self.old.read_line.waiting) self.old.read_line self.new.read_line sink.old sink.new }
+        ensures readers { self.new.readers ≡ self.old.readers }
+        ensures kept_out { IsAWriterThere self.new → (self.new.read_line ≡ self.old.read_line) × (sink.new ≡ sink.old) }
+        ensures lets_in { NoWriterIsThere self.new → HandsOut S.woke (length self.old.read_line.waiting) self.old.read_line self.new.read_line sink.old sink.new }
     {
         match leave_line(&mut self.write_line, key) {
             Left::Told => {
@@ -278,6 +293,7 @@ impl<W> Shares<W> {
         ensures last { self.old.readers ≡ 1 → length self.old.read_line.told ≡ 0 → HandsOut S.woke 1 self.old.write_line self.new.write_line sink.old sink.new }
         ensures others { 1 < reading self.old → (self.new.write_line ≡ self.old.write_line) × (sink.new ≡ sink.old) }
         ensures queue { self.new.read_line ≡ self.old.read_line }
+        ensures writers { self.new.writers ≡ self.old.writers }
         ensures unchanged { self.old.readers ≡ 0 → (self.new ≡ self.old) × (sink.new ≡ sink.old) }
     {
         if self.readers == 0 {
@@ -293,7 +309,8 @@ impl<W> Shares<W> {
     pub fn unwrite<S: WakeSink<W>>(&mut self, sink: &mut S)
         ensures writers { self.new.writers ≡ 0 }
         ensures readers_first { 0 < self.old.writers → 0 < length self.old.read_line.waiting → HandsOut S.woke (length self.old.read_line.waiting) self.old.read_line self.new.read_line sink.old sink.new × (self.new.write_line ≡ self.old.write_line) }
-        ensures else_a_writer { 0 < self.old.writers → length self.old.read_line.waiting ≡ 0 → HandsOut S.woke 1 self.old.write_line self.new.write_line sink.old sink.new }
+        ensures else_a_writer { 0 < self.old.writers → length self.old.read_line.waiting ≡ 0 → HandsOut S.woke 1 self.old.write_line self.new.write_line sink.old sink.new × (self.new.read_line ≡ self.old.read_line) }
+        ensures readers { self.new.readers ≡ self.old.readers }
         ensures unchanged { self.old.writers ≡ 0 → (self.new ≡ self.old) × (sink.new ≡ sink.old) }
     {
         if self.writers == 0 {
@@ -313,6 +330,8 @@ impl<W> Shares<W> {
         ensures step { 0 < self.old.writers → HandsOut S.woke (length self.old.read_line.waiting) self.old.read_line self.new.read_line sink.old sink.new }
         ensures unchanged { self.old.writers ≡ 0 → (self.new ≡ self.old) × (sink.new ≡ sink.old) }
         ensures queue { self.new.write_line ≡ self.old.write_line }
+        ensures share { 0 < self.old.writers → result ≡ Access.Read }
+        ensures same_share { self.old.writers ≡ 0 → result ≡ share }
     {
         if self.writers == 0 {
             return share;
@@ -328,6 +347,8 @@ impl<W> Shares<W> {
     pub fn try_upgrade(&mut self, share: Share) -> Result<Share, Share>
         ensures alone { IsOk result → (reading self.old ≡ 1) × (self.new ≡ record self.old { readers = 0; writers = 1 }) }
         ensures refused { OnErr result ((self.new ≡ self.old) × ((self.old.readers ≡ 1) → 0 < length self.old.read_line.told)) }
+        ensures share { IfOk result (λ new. new ≡ Access.Write) }
+        ensures same_share { IfErr result (λ same. same ≡ share) }
     {
         if self.readers != 1 || self.read_line.is_notified() {
             return Err(share);
