@@ -10,7 +10,8 @@ use std::ops::{Deref, DerefMut};
 use std::sync::{Arc, Wait};
 use std::time::Clock;
 
-/// A value that one thread or task at a time can use. Those that wait get it first come, first served.
+/// A value that one thread or task at a time can use. Who has waited longest is notified first, and then takes it unless
+/// another one was faster.
 ///
 /// The value is in the lock while nobody has it, and else in the guard of the one that has it: a large one is better boxed.
 pub type Mutex<T> = Lock<Slot<T, Task>>;

@@ -2,9 +2,11 @@
 ghost use Rattle.std.specs.Prelude.{◌≡◌};
 ghost use Rattle.std.specs.Arc.{arc_value};
 
+mod entry;
 mod shares;
 
-pub use self::shares::{Access, Entry, Share, Shares};
+pub use self::entry::Entry;
+pub use self::shares::{Access, Share, Shares};
 use crate::lock::{Borrowed, Grants, Guard, Hold, Lock, Obtaining, Task, Waking};
 use std::alloc::{AllocError, Global};
 use std::marker::PhantomData;

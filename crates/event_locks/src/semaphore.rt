@@ -5,11 +5,14 @@ mod permits;
 pub use self::permits::{Permit, Permits};
 use crate::lock::{Borrowed, Guard, Hold, Lock, Obtaining, Shared, Task, Waking};
 use crate::place::Place;
+use crate::request::{Attempted, Request};
+use event_queue::{TaskExchange, WakeSink};
 use std::alloc::{AllocError, Global};
 use std::sync::{Arc, Wait};
 use std::time::Clock;
 
-/// Permits that threads and tasks share. Those that wait get them first come, first served.
+/// Permits that threads and tasks share. Who has waited longest is notified first, and then takes one unless another one was
+/// faster.
 pub type Semaphore = Lock<Permits<Task>>;
 
 /// A permit. Dropping it gives the permit back.
@@ -74,5 +77,42 @@ impl<H: Hold<Permits<Task>> + Drop> Guard<Permits<Task>, H> {
     pub fn forget(self) {
         let (_, permit) = self.into_parts();
         permit.forget();
+    }
+}
+
+impl Request<Permits<Task>> for Place {
+    type Output = Permit;
+
+    const TRIES: u32 = 4;
+
+    ghost gives = { λ _ _. Unit {0} };
+
+    fn is_waiting(&self) -> bool {
+        self.key.is_some()
+    }
+
+    #[inline(always)]
+    fn attempt<K: WakeSink<Task>>(
+        &mut self,
+        state: &mut Permits<Task>,
+        _sink: &mut K,
+    ) -> Option<Permit> {
+        state.try_take()
+    }
+
+    fn attempt_or_wait<C, X: TaskExchange<Task, C>, K: WakeSink<Task>>(
+        &mut self,
+        state: &mut Permits<Task>,
+        exchange: &X,
+        on: &mut C,
+        sink: &mut K,
+    ) -> Attempted<Permit> {
+        let attempted = state.take_or_wait(self.key, exchange, on, sink);
+        self.key = attempted.key();
+        attempted
+    }
+
+    fn give_up<K: WakeSink<Task>>(&mut self, state: &mut Permits<Task>, sink: &mut K) {
+        state.cancel(self.key.take(), sink);
     }
 }

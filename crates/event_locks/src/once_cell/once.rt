@@ -25,7 +25,8 @@ pub enum Want {
     Use,
 }
 
-/// What one wants of a cell, and its place in the queue of those that want the same, if it has one.
+/// What one wants of a cell, and its place in the queue of those that want the same, if it has one. A contract sees what it
+/// wants.
 #[derive(Drop)]
 pub struct Seat {
     want: Want,
@@ -33,13 +34,17 @@ pub struct Seat {
 }
 
 impl Model for Seat {
-    ghost Value = { Unit {0} };
+    ghost use Rattle.event_locks.specs.declared.once_cell.once.Want.{Want};
 
-    ghost view = { λ _. tt };
+    ghost Value = { Want };
+
+    ghost view = { λ seat. seat.want };
 }
 
 impl Seat {
-    pub(crate) fn new(want: Want) -> Self {
+    pub(crate) fn new(want: Want) -> Self
+        ensures { result ≡ want }
+    {
         Seat { want, key: None }
     }
 }
@@ -147,7 +152,9 @@ impl<W> Once<W> {
         Ok(Err(join_line(&mut self.readers)?))
     }
 
-    fn come(&mut self, want: Want) -> Result<Result<Turn, Key>, ListenError> {
+    fn come(&mut self, want: Want) -> Result<Result<Turn, Key>, ListenError>
+        ensures { want ≡ Want.Use → IfOk result (λ came. IfOk came (λ turn. turn ≡ Turn.Use)) }
+    {
         match want {
             Want::Make => self.come_to_make(),
             Want::Use => self.come_to_use(),
@@ -278,11 +285,14 @@ impl<W> Once<W> {
 }
 
 impl Request<Once<Task>> for Seat {
+    ghost use Rattle.event_locks.specs.declared.once_cell.once.Turn.{Turn};
+    ghost use Rattle.event_locks.specs.declared.once_cell.once.Want.{Want};
+
     type Output = Turn;
 
     const TRIES: u32 = 0;
 
-    ghost gives = { λ _ _. Unit {0} };
+    ghost gives = { λ want turn. want ≡ Want.Use → turn ≡ Turn.Use };
 
     fn is_waiting(&self) -> bool {
         self.key.is_some()
@@ -332,7 +342,11 @@ impl Request<Once<Task>> for Seat {
     }
 
     fn give_up<K: WakeSink<Task>>(&mut self, state: &mut Once<Task>, sink: &mut K) {
-        if let Some(turn) = self.leave(state, sink) {
+        let mut leaving = Seat {
+            want: self.want,
+            key: self.key.take(),
+        };
+        if let Some(turn) = leaving.leave(state, sink) {
             state.give_back(turn, sink);
         }
     }

@@ -8,10 +8,8 @@ ghost use Rattle.event_locks.specs.Line.{HandsOut, Looked, OnGranted, as_told, l
 ghost use Rattle.event_locks.specs.Shares.{HasNoRoom, IsAWriterThere, NobodyWaitsInVain, NoWriterIsThere, NobodyIsIn, ReadersStay, WritersStay, reading, writing};
 
 use crate::lock::Task;
-use crate::request::{Attempted, Grantor, Request};
-use crate::waiters::{
-    Left, found, hand_all, hand_out, join_line, leave_line, look_for, somebody_waits,
-};
+use crate::request::Grantor;
+use crate::waiters::{Left, hand_all, hand_out, join_line, leave_line, look_for, somebody_waits};
 use event_queue::{Key, List, ListenError, RegisterResult, TaskExchange, WakeSink};
 use std::alloc::Global;
 use std::marker::Model;
@@ -23,26 +21,8 @@ pub enum Access {
     Write,
 }
 
-/// What one that comes in is to do, and its place in the queue of those that wait to do it, if it has one.
-#[derive(Drop)]
-pub struct Entry {
-    access: Access,
-    key: Option<Key>,
-}
-
-impl Model for Entry {
-    ghost Value = { Unit {0} };
-
-    ghost view = { λ _. tt };
-}
-
-impl Entry {
-    pub(crate) fn new(access: Access) -> Self {
-        Entry { access, key: None }
-    }
-}
-
-/// The right to read or to write, as a contract sees it by its access. It is no `Drop`.
+/// The right to read or to write, as a contract sees it by its access. It is no `Drop`, and only a step of the state below
+/// makes one.
 pub struct Share(Access);
 
 impl Model for Share {
@@ -128,10 +108,10 @@ impl<W> Shares<W> {
     }
 
     /// Counts a reader, or puts it into its queue.
-    pub fn read(&mut self) -> Result<Option<Key>, ListenError>
-        ensures let_in { result ≡ Ok None → (self.new ≡ record self.old { readers = self.old.readers + 1 }) × NoWriterIsThere self.old }
-        ensures waits { IfOk result (λ key. IfSome key (λ key. Inserts self.old.read_line (Ok key) self.new.read_line × IsAWriterThere self.old)) }
-        ensures others { (self.new.writers ≡ self.old.writers) × (self.new.write_line ≡ self.old.write_line) }
+    pub fn read(&mut self) -> Result<Result<Share, Key>, ListenError>
+        ensures let_in { IfOk result (λ came. IfOk came (λ share. (share ≡ Access.Read) × (self.new ≡ record self.old { readers = self.old.readers + 1 }) × NoWriterIsThere self.old)) }
+        ensures waits { IfOk result (λ came. IfErr came (λ key. Inserts self.old.read_line (Ok key) self.new.read_line × (self.new.readers ≡ self.old.readers) × IsAWriterThere self.old)) }
+        ensures others { WritersStay self.old self.new }
         ensures refused { OnErr result (self.new ≡ self.old) }
         ensures reason { IfErr result (λ error. Inserts self.old.read_line (Err error) self.new.read_line ⊎ HasNoRoom self.old) }
     {
@@ -139,57 +119,52 @@ impl<W> Shares<W> {
             return Err(ListenError::SerialsUsedUp);
         }
         if self.is_wanted() {
-            return Ok(Some(join_line(&mut self.read_line)?));
+            return Ok(Err(join_line(&mut self.read_line)?));
         }
         self.readers += 1;
-        Ok(None)
+        Ok(Ok(Share(Access::Read)))
     }
 
     /// Counts the writer, or puts it into its queue.
-    pub fn write(&mut self) -> Result<Option<Key>, ListenError>
-        ensures let_in { result ≡ Ok None → (self.new ≡ record self.old { writers = 1 }) × NobodyIsIn self.old }
-        ensures waits { IfOk result (λ key. IfSome key (λ key. Inserts self.old.write_line (Ok key) self.new.write_line × (0 < reading self.old + writing self.old))) }
-        ensures others { (self.new.readers ≡ self.old.readers) × (self.new.read_line ≡ self.old.read_line) }
+    pub fn write(&mut self) -> Result<Result<Share, Key>, ListenError>
+        ensures let_in { IfOk result (λ came. IfOk came (λ share. (share ≡ Access.Write) × (self.new ≡ record self.old { writers = 1 }) × NobodyIsIn self.old)) }
+        ensures waits { IfOk result (λ came. IfErr came (λ key. Inserts self.old.write_line (Ok key) self.new.write_line × (self.new.writers ≡ self.old.writers) × (0 < reading self.old + writing self.old))) }
+        ensures others { ReadersStay self.old self.new }
         ensures refused { OnErr result (self.new ≡ self.old) }
         ensures reason { IfErr result (λ error. Inserts self.old.write_line (Err error) self.new.write_line × (0 < reading self.old + writing self.old)) }
     {
         if self.is_used() {
-            return Ok(Some(join_line(&mut self.write_line)?));
+            return Ok(Err(join_line(&mut self.write_line)?));
         }
         self.writers = 1;
-        Ok(None)
-    }
-
-    fn enter(&mut self, access: Access) -> Result<Option<Key>, ListenError> {
-        match access {
-            Access::Read => self.read(),
-            Access::Write => self.write(),
-        }
+        Ok(Ok(Share(Access::Write)))
     }
 
     /// Counts a reader, if no writer writes or waits.
-    pub fn try_read(&mut self) -> bool
-        ensures let_in { IsTrue result → (self.new ≡ record self.old { readers = self.old.readers + 1 }) × NoWriterIsThere self.old }
-        ensures refused { IsFalse result → self.new ≡ self.old }
-        ensures reason { IsFalse result → NoWriterIsThere self.old → HasNoRoom self.old }
+    #[inline(always)]
+    pub fn try_read(&mut self) -> Option<Share>
+        ensures let_in { IfSome result (λ share. (share ≡ Access.Read) × (self.new ≡ record self.old { readers = self.old.readers + 1 }) × NoWriterIsThere self.old) }
+        ensures refused { result ≡ None → self.new ≡ self.old }
+        ensures reason { result ≡ None → NoWriterIsThere self.old → HasNoRoom self.old }
     {
         if !self.has_room() || self.is_wanted() {
-            return false;
+            return None;
         }
         self.readers += 1;
-        true
+        Some(Share(Access::Read))
     }
 
     /// Counts the writer, if nobody has the value.
-    pub fn try_write(&mut self) -> bool
-        ensures let_in { IsTrue result → (self.new ≡ record self.old { writers = 1 }) × NobodyIsIn self.old }
-        ensures refused { IsFalse result → (self.new ≡ self.old) × (0 < reading self.old + writing self.old) }
+    #[inline(always)]
+    pub fn try_write(&mut self) -> Option<Share>
+        ensures let_in { IfSome result (λ share. (share ≡ Access.Write) × (self.new ≡ record self.old { writers = 1 }) × NobodyIsIn self.old) }
+        ensures refused { result ≡ None → (self.new ≡ self.old) × (0 < reading self.old + writing self.old) }
     {
         if self.is_used() {
-            return false;
+            return None;
         }
         self.writers = 1;
-        true
+        Some(Share(Access::Write))
     }
 
     /// Whether this reader was let in: then it leaves its queue.
@@ -240,33 +215,33 @@ impl<W> Shares<W> {
         }
     }
 
-    /// Takes this reader out of its queue. Whether it was let in.
-    pub fn leave_read(&mut self, key: Key) -> bool
+    /// Takes this reader out of its queue, with its right if it was let in.
+    pub fn leave_read(&mut self, key: Key) -> Option<Share>
     where
         W: Drop,
         ensures reading { reading self.new ≡ reading self.old }
-        ensures let_in { IsTrue result → self.new.readers ≡ self.old.readers + 1 }
-        ensures not_yet { IsFalse result → self.new.readers ≡ self.old.readers }
+        ensures let_in { IfSome result (λ share. (share ≡ Access.Read) × (self.new.readers ≡ self.old.readers + 1)) }
+        ensures not_yet { result ≡ None → self.new.readers ≡ self.old.readers }
         ensures others { order_of self.new.read_line ≡ without key (order_of self.old.read_line) }
         ensures writers { WritersStay self.old self.new }
     {
         match leave_line(&mut self.read_line, key) {
             Left::Told => {
                 self.readers += 1;
-                true
+                Some(Share(Access::Read))
             }
-            Left::Waited => false,
-            Left::Absent => false,
+            Left::Waited => None,
+            Left::Absent => None,
         }
     }
 
-    /// Takes this writer out of its queue. Whether it was let in. If no other one waits, the readers are let in.
-    pub fn leave_write<S: WakeSink<W>>(&mut self, key: Key, sink: &mut S) -> bool
+    /// Takes this writer out of its queue, with its right if it was let in. If no other one waits, the readers are let in.
+    pub fn leave_write<S: WakeSink<W>>(&mut self, key: Key, sink: &mut S) -> Option<Share>
     where
         W: Drop,
         ensures writing { writing self.new ≡ writing self.old }
-        ensures let_in { IsTrue result → self.new.writers ≡ self.old.writers + 1 }
-        ensures not_yet { IsFalse result → self.new.writers ≡ self.old.writers }
+        ensures let_in { IfSome result (λ share. (share ≡ Access.Write) × (self.new.writers ≡ self.old.writers + 1)) }
+        ensures not_yet { result ≡ None → self.new.writers ≡ self.old.writers }
         ensures others { order_of self.new.write_line ≡ without key (order_of self.old.write_line) }
         ensures readers { self.new.readers ≡ self.old.readers }
         ensures kept_out { IsAWriterThere self.new → (self.new.read_line ≡ self.old.read_line) × (sink.new ≡ sink.old) }
@@ -275,15 +250,16 @@ impl<W> Shares<W> {
         match leave_line(&mut self.write_line, key) {
             Left::Told => {
                 self.writers = 1;
-                true
+                Some(Share(Access::Write))
             }
             Left::Waited => {
-                if self.writers == 0 && self.write_line.total_listeners() == 0 {
-                    hand_all(&mut self.read_line, sink);
+                if self.writers > 0 || self.write_line.total_listeners() > 0 {
+                    return None;
                 }
-                false
+                hand_all(&mut self.read_line, sink);
+                None
             }
-            Left::Absent => false,
+            Left::Absent => None,
         }
     }
 
@@ -364,80 +340,6 @@ impl<W> Shares<W> {
         ensures { NobodyWaitsInVain self.now }
     {
         let _ = &self.readers;
-    }
-}
-
-// The right, if it was granted.
-fn granted(access: Access, is_told: bool) -> Option<Share> {
-    if is_told {
-        return Some(Share(access));
-    }
-    None
-}
-
-impl Request<Shares<Task>> for Entry {
-    type Output = Share;
-
-    const TRIES: u32 = 4;
-
-    ghost gives = { λ _ _. Unit {0} };
-
-    fn is_waiting(&self) -> bool {
-        self.key.is_some()
-    }
-
-    fn attempt<K: WakeSink<Task>>(
-        &mut self,
-        state: &mut Shares<Task>,
-        _sink: &mut K,
-    ) -> Option<Share> {
-        match self.access {
-            Access::Read => granted(Access::Read, state.try_read()),
-            Access::Write => granted(Access::Write, state.try_write()),
-        }
-    }
-
-    fn attempt_or_wait<C, X: TaskExchange<Task, C>, K: WakeSink<Task>>(
-        &mut self,
-        state: &mut Shares<Task>,
-        exchange: &X,
-        on: &mut C,
-        _sink: &mut K,
-    ) -> Attempted<Share> {
-        let key = match self.key.take() {
-            Some(key) => key,
-            None => match state.enter(self.access) {
-                Ok(Some(key)) => key,
-                Ok(None) => return Attempted::Done(Share(self.access)),
-                Err(error) => return Attempted::Refused(error),
-            },
-        };
-        let looked = match self.access {
-            Access::Read => state.look_read(key, exchange, on),
-            Access::Write => state.look_write(key, exchange, on),
-        };
-        let attempted = found(key, looked);
-        self.key = attempted.key();
-        attempted
-    }
-
-    fn leave<K: WakeSink<Task>>(
-        &mut self,
-        state: &mut Shares<Task>,
-        sink: &mut K,
-    ) -> Option<Share> {
-        let key = self.key.take()?;
-        let is_told = match self.access {
-            Access::Read => state.leave_read(key),
-            Access::Write => state.leave_write(key, sink),
-        };
-        granted(self.access, is_told)
-    }
-
-    fn give_up<K: WakeSink<Task>>(&mut self, state: &mut Shares<Task>, sink: &mut K) {
-        if let Some(share) = self.leave(state, sink) {
-            state.give_back(share, sink);
-        }
     }
 }
 

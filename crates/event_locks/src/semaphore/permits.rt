@@ -5,8 +5,7 @@ ghost use Rattle.event_locks.specs.Line.{LeavesThenTells, TellsUpTo, woken_by_le
 ghost use Rattle.event_locks.specs.Permits.{NobodyWaitsInVain, Obtains, woken_by_obtaining};
 
 use crate::lock::Task;
-use crate::place::Place;
-use crate::request::{Attempted, Grantor, Request};
+use crate::request::{Attempted, Grantor};
 use crate::waiters::{leave_then_tell, tell, wait_in_line, waiting};
 use event_queue::{Key, List, TaskExchange, WakeSink};
 use std::alloc::Global;
@@ -19,7 +18,7 @@ pub struct Permits<W> {
     line: List<(), W>,
 }
 
-/// One permit. It is no `Drop`.
+/// One permit. It is no `Drop`, and only a step of the state below makes one.
 pub struct Permit(());
 
 impl Permit {
@@ -122,43 +121,6 @@ impl<W> Permits<W> {
         ensures { NobodyWaitsInVain self.now }
     {
         let _ = &self.free;
-    }
-}
-
-impl Request<Permits<Task>> for Place {
-    type Output = Permit;
-
-    const TRIES: u32 = 4;
-
-    ghost gives = { λ _ _. Unit {0} };
-
-    fn is_waiting(&self) -> bool {
-        self.key.is_some()
-    }
-
-    #[inline(always)]
-    fn attempt<K: WakeSink<Task>>(
-        &mut self,
-        state: &mut Permits<Task>,
-        _sink: &mut K,
-    ) -> Option<Permit> {
-        state.try_take()
-    }
-
-    fn attempt_or_wait<C, X: TaskExchange<Task, C>, K: WakeSink<Task>>(
-        &mut self,
-        state: &mut Permits<Task>,
-        exchange: &X,
-        on: &mut C,
-        sink: &mut K,
-    ) -> Attempted<Permit> {
-        let attempted = state.take_or_wait(self.key, exchange, on, sink);
-        self.key = attempted.key();
-        attempted
-    }
-
-    fn give_up<K: WakeSink<Task>>(&mut self, state: &mut Permits<Task>, sink: &mut K) {
-        state.cancel(self.key.take(), sink);
     }
 }
 
