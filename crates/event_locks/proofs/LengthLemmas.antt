@@ -1,5 +1,5 @@
 -- How long the two lists of a queue are after each step.
-use Rattle.std.proofs.Common.{◌≡◌, ℕ, ◌+◌, ◌≤◌, Bool, true, false, length, refl, sym, ap, ◌∙◌, arith, Option, Some, None, IsSomeAnd, MatchBool}
+use Rattle.std.proofs.Common.{◌≡◌, ◌+◌, true, false, length, refl, ap, ◌∙◌, arith, Option, Some, None, IsSomeAnd}
 use Rattle.std.specs.Map.{lookup}
 use Rattle.std.proofs.lemmas.Map.{length-set_value}
 use Rattle.event_queue.specs.declared.key.Key.{Key}
@@ -10,7 +10,6 @@ use Rattle.event_queue.specs.declared.reply.State.{State}
 use Rattle.event_queue.specs.declared.reply.State.TheVariants.{Created, Notified as WasNotified, Task, Passed, Lost}
 use Rattle.event_queue.specs.Key.{is_key}
 use Rattle.event_queue.specs.Queue.{Queue, told_leaves}
-use Rattle.event_queue.specs.Register.{Registers}
 use Rattle.event_queue.specs.Remove.{Removes}
 use Rattle.event_locks.specs.Line.{left_by, Looked}
 use Rattle.event_locks.specs.Left.{left_as, told_of, waited_of}

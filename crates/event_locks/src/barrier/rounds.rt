@@ -1,24 +1,40 @@
 //! The state of a barrier.
-ghost use Rattle.std.specs.Prelude.{◌≡◌, ◌+◌, ◌<◌, ◌≤◌, max, [], length, Some, None, MatchOption, IfOk, IfErr, IfSome, OnErr, IsTrue, IsFalse};
+ghost use Rattle.std.specs.Prelude.{◌≡◌, ◌+◌, ◌<◌, ◌≤◌, max, [], length, true, false, None, IfOk, IfErr, IfSome, OnErr};
 ghost use Rattle.event_queue.specs.Exchange.{RegistersWith};
 ghost use Rattle.event_queue.specs.Insert.{Inserts};
 ghost use Rattle.event_queue.specs.Key.{without};
 ghost use Rattle.event_queue.specs.Queue.{order_of};
-ghost use Rattle.event_locks.specs.Line.{HandsOut, Looked, as_told, left_by};
+ghost use Rattle.event_locks.specs.Line.{HandsOut, Looked, OnGranted, as_told, left_by};
 ghost use Rattle.event_locks.specs.Rounds.{NobodyWaitsInVain};
 
 use crate::lock::Task;
-use crate::place::Place;
-use crate::request::{Attempted, Grantor, Request};
-use crate::waiters::{Left, found, hand_all, join_line, leave_line, look_for};
+use crate::request::Grantor;
+use crate::waiters::{Left, hand_all, join_line, leave_line, look_for};
 use event_queue::{Key, List, ListenError, RegisterResult, TaskExchange, WakeSink};
 use std::alloc::Global;
 use std::marker::Model;
 
-/// A round has ended. Whether this one was the last to arrive.
-#[derive(Clone, Copy)]
+/// A round has ended. A contract sees whether this one was the last to arrive. Only a step of the state below makes one.
+#[derive(Drop)]
 pub struct Ended {
-    pub(crate) is_leader: bool,
+    is_leader: bool,
+}
+
+impl Model for Ended {
+    ghost use Rattle.std.specs.Prelude.{Bool};
+
+    ghost Value = { Bool };
+
+    ghost view = { λ ended. ended.is_leader };
+}
+
+impl Ended {
+    /// Whether this one was the last to arrive.
+    pub fn is_leader(&self) -> bool
+        ensures { result ≡ self.now }
+    {
+        self.is_leader
+    }
 }
 
 /// For how many the barrier is, how many have arrived in this round, and their queue.
@@ -53,34 +69,36 @@ impl<W> Rounds<W> {
     }
 
     /// Ends the round if all others have arrived, and wakes them.
-    pub fn try_end<S: WakeSink<W>>(&mut self, sink: &mut S) -> bool
-        ensures ends { IsTrue result → (self.old.parties ≤ self.old.arrived + 1) × (self.new.arrived ≡ 0) × HandsOut S.woke (length self.old.line.waiting) self.old.line self.new.line sink.old sink.new }
-        ensures early { IsFalse result → (self.old.arrived + 1 < self.old.parties) × (self.new ≡ self.old) × (sink.new ≡ sink.old) }
+    pub fn try_end<S: WakeSink<W>>(&mut self, sink: &mut S) -> Option<Ended>
+        ensures ends { IfSome result (λ is_leader. (is_leader ≡ true) × (self.old.parties ≤ self.old.arrived + 1) × (self.new.arrived ≡ 0) × HandsOut S.woke (length self.old.line.waiting) self.old.line self.new.line sink.old sink.new) }
+        ensures early { result ≡ None → (self.old.arrived + 1 < self.old.parties) × (self.new ≡ self.old) × (sink.new ≡ sink.old) }
         ensures parties { self.new.parties ≡ self.old.parties }
     {
         if self.arrived + 1 < self.parties {
-            return false;
+            return None;
         }
         hand_all(&mut self.line, sink);
         self.arrived = 0;
-        true
+        Some(Ended { is_leader: true })
     }
 
     /// Arrives: the last one ends the round, and wakes all; the others wait.
-    pub fn arrive<S: WakeSink<W>>(&mut self, sink: &mut S) -> Result<Option<Key>, ListenError>
-        ensures arrives { IfOk result (λ ticket. MatchOption ticket ((self.new.arrived ≡ 0) × (self.old.parties ≤ self.old.arrived + 1)) (λ _. self.new.arrived ≡ self.old.arrived + 1)) }
+    pub fn arrive<S: WakeSink<W>>(
+        &mut self,
+        sink: &mut S,
+    ) -> Result<Result<Ended, Key>, ListenError>
+        ensures ends { IfOk result (λ came. IfOk came (λ is_leader. (is_leader ≡ true) × (self.old.parties ≤ self.old.arrived + 1) × (self.new.arrived ≡ 0) × HandsOut S.woke (length self.old.line.waiting) self.old.line self.new.line sink.old sink.new)) }
+        ensures joins { IfOk result (λ came. IfErr came (λ key. (self.new.arrived ≡ self.old.arrived + 1) × Inserts self.old.line (Ok key) self.new.line × (sink.new ≡ sink.old))) }
         ensures parties { self.new.parties ≡ self.old.parties }
-        ensures ends { result ≡ Ok None → HandsOut S.woke (length self.old.line.waiting) self.old.line self.new.line sink.old sink.new }
-        ensures joins { IfOk result (λ ticket. IfSome ticket (λ key. Inserts self.old.line (Ok key) self.new.line × (sink.new ≡ sink.old))) }
         ensures refused { OnErr result ((self.new ≡ self.old) × (sink.new ≡ sink.old)) }
         ensures reason { IfErr result (λ error. Inserts self.old.line (Err error) self.new.line × (self.old.arrived + 1 < self.old.parties)) }
     {
-        if self.try_end(sink) {
-            return Ok(None);
+        if let Some(ended) = self.try_end(sink) {
+            return Ok(Ok(ended));
         }
-        let ticket = join_line(&mut self.line)?;
+        let key = join_line(&mut self.line)?;
         self.arrived += 1;
-        Ok(Some(ticket))
+        Ok(Err(key))
     }
 
     /// Whether the round of this one has ended: then it leaves the queue.
@@ -94,6 +112,7 @@ impl<W> Rounds<W> {
         ensures parties { self.new.parties ≡ self.old.parties }
         ensures arrived { self.new.arrived ≡ self.old.arrived }
         ensures told { length self.new.line.told + left_by result ≡ length self.old.line.told }
+        ensures follows { OnGranted result (λ is_leader. is_leader ≡ false) }
         ensures step { RegistersWith (X.exchanged exchange.now) self.old.line key on.old (as_told result) self.new.line on.new }
     {
         match look_for(&mut self.line, key, exchange, on) {
@@ -103,24 +122,23 @@ impl<W> Rounds<W> {
         }
     }
 
-    /// Takes this one out of the queue. Whether its round had ended; else it has not arrived.
-    pub fn leave(&mut self, key: Key) -> bool
+    /// Takes this one out of the queue. If its round had not ended, it has not arrived.
+    pub fn leave(&mut self, key: Key) -> Option<Ended>
     where
         W: Drop,
-        ensures ended { IsTrue result → length self.new.line.told + 1 ≡ length self.old.line.told }
-        ensures early { IsFalse result → length self.new.line.told ≡ length self.old.line.told }
-        ensures told { IsTrue result → self.new.arrived ≡ self.old.arrived }
+        ensures ended { IfSome result (λ is_leader. (is_leader ≡ false) × (length self.new.line.told + 1 ≡ length self.old.line.told) × (self.new.arrived ≡ self.old.arrived)) }
+        ensures early { result ≡ None → length self.new.line.told ≡ length self.old.line.told }
         ensures untold { self.old.arrived ≤ self.new.arrived + 1 }
         ensures parties { self.new.parties ≡ self.old.parties }
         ensures others { order_of self.new.line ≡ without key (order_of self.old.line) }
     {
         match leave_line(&mut self.line, key) {
-            Left::Told => true,
+            Left::Told => Some(Ended { is_leader: false }),
             Left::Waited => {
                 self.arrived -= 1;
-                false
+                None
             }
-            Left::Absent => false,
+            Left::Absent => None,
         }
     }
 
@@ -129,66 +147,6 @@ impl<W> Rounds<W> {
         ensures { NobodyWaitsInVain self.now }
     {
         let _ = &self.parties;
-    }
-}
-
-impl Request<Rounds<Task>> for Place {
-    type Output = Ended;
-
-    const TRIES: u32 = 0;
-
-    ghost gives = { λ _ _. Unit {0} };
-
-    fn is_waiting(&self) -> bool {
-        self.key.is_some()
-    }
-
-    fn attempt<K: WakeSink<Task>>(
-        &mut self,
-        state: &mut Rounds<Task>,
-        sink: &mut K,
-    ) -> Option<Ended> {
-        if !state.try_end(sink) {
-            return None;
-        }
-        Some(Ended { is_leader: true })
-    }
-
-    fn attempt_or_wait<C, X: TaskExchange<Task, C>, K: WakeSink<Task>>(
-        &mut self,
-        state: &mut Rounds<Task>,
-        exchange: &X,
-        on: &mut C,
-        sink: &mut K,
-    ) -> Attempted<Ended> {
-        let key = match self.key.take() {
-            Some(key) => key,
-            None => match state.arrive(sink) {
-                Ok(Some(key)) => key,
-                Ok(None) => return Attempted::Done(Ended { is_leader: true }),
-                Err(error) => return Attempted::Refused(error),
-            },
-        };
-        let attempted = found(key, state.look(key, exchange, on));
-        self.key = attempted.key();
-        attempted
-    }
-
-    fn leave<K: WakeSink<Task>>(
-        &mut self,
-        state: &mut Rounds<Task>,
-        _sink: &mut K,
-    ) -> Option<Ended> {
-        if !state.leave(self.key.take()?) {
-            return None;
-        }
-        Some(Ended { is_leader: false })
-    }
-
-    fn give_up<K: WakeSink<Task>>(&mut self, state: &mut Rounds<Task>, _sink: &mut K) {
-        if let Some(key) = self.key.take() {
-            state.leave(key);
-        }
     }
 }
 
