@@ -8,7 +8,6 @@ use std::sync::Mutex;
 /// The queue of one event, under a lock that no other event has.
 ///
 /// A contract sees it as the number of the source at which a task registers that polls a listener.
-#[derive(Drop)]
 pub struct Shared<T> {
     queue: Mutex<List<T, Task>>,
     pub(crate) source: EventSource,
@@ -41,5 +40,16 @@ impl<T> Shared<T> {
     /// The queue under its lock. Whoever takes the lock makes one call and gives it back, so each call is one step.
     pub(crate) fn queue(&self) -> &Mutex<List<T, Task>> {
         &self.queue
+    }
+}
+
+impl<T: Drop> Drop for Shared<T> {
+    // It is a function of its own, so that a share that is not the last is given up in a few instructions.
+    #[cold]
+    #[inline(never)]
+    fn drop(self) {
+        let Shared { queue, source } = self;
+        drop(queue);
+        drop(source);
     }
 }
