@@ -4,6 +4,7 @@ use Rattle.event_queue.specs.declared.key.Key.{Key}
 use Rattle.event_queue.specs.declared.reply.ListenError.{ListenError}
 use Rattle.event_queue.specs.declared.reply.RegisterResult.{RegisterResult}
 use Rattle.event_queue.specs.declared.reply.RegisterResult.TheVariants.{Notified, Registered, NeverInserted}
+use Rattle.event_locks.specs.declared.error.LockError.TheVariants.{Listen}
 use Rattle.event_locks.specs.declared.request.Attempted.{Attempted}
 use Rattle.event_locks.specs.declared.request.Attempted.TheVariants.{Done, Waits, Absent, Refused}
 use Rattle.event_locks.specs.Line.{Stores}
@@ -12,7 +13,7 @@ module _ {G : Type 0} where
   -- what that wait led to
   abbrev pub waits_by : Result Key ListenError → Attempted G
   waits_by (Ok key) = Waits key
-  waits_by (Err error) = Refused error
+  waits_by (Err error) = Refused (Listen error)
 
   -- what that registration led to
   abbrev pub found_by : Key → RegisterResult G → Attempted G

@@ -3,6 +3,7 @@ use Rattle.std.specs.Prelude.{◌≡◌, ℕ, ◌+◌, ◌<◌, length, Option, 
 use Rattle.event_queue.specs.declared.key.Key.{Key}
 use Rattle.event_queue.specs.Queue.{Queue}
 use Rattle.event_locks.specs.Line.{LeavesThenTells, WaitsBy, CannotWait, woken_by_leaving}
+use Rattle.event_locks.specs.declared.error.LockError.TheVariants.{Listen, Memory, TooManyReaders, Finished}
 use Rattle.event_locks.specs.declared.request.Attempted.{Attempted}
 use Rattle.event_locks.specs.declared.request.Attempted.TheVariants.{Done, Waits, Absent, Refused}
 use Rattle.event_locks.specs.declared.semaphore.permits.Permit.{Permit}
@@ -33,7 +34,10 @@ module _ {W : Type 0} where
     Obtains key old before (Done permit) new after = Takes key old new × (after ≡ before)
     Obtains key old before (Waits waits) new after = NoneIsFree old new × WaitsBy exchanged key old.line before waits new.line after
     Obtains key old before Absent new after = ⊥
-    Obtains key old before (Refused error) new after = NoneIsFree old new × CannotWait key error old.line new.line × (after ≡ before)
+    Obtains key old before (Refused (Listen error)) new after = NoneIsFree old new × CannotWait key error old.line new.line × (after ≡ before)
+    Obtains key old before (Refused (Memory error)) new after = ⊥
+    Obtains key old before (Refused TooManyReaders) new after = ⊥
+    Obtains key old before (Refused Finished) new after = ⊥
 
   -- the tasks that this wakes
   abbrev pub woken_by_obtaining : Option Key → State W → Attempted Permit → State W → List W

@@ -1,6 +1,9 @@
 -- What a contract sees of the state under a read-write lock's lock.
-use Rattle.std.specs.Prelude.{◌≡◌, ℕ, ◌+◌, ◌<◌, ◌≤◌, ◌^◌, length}
+use Rattle.std.specs.Prelude.{◌≡◌, ℕ, ◌+◌, ◌<◌, ◌≤◌, ◌^◌, Err, length}
+use Rattle.event_queue.specs.Insert.{Inserts}
 use Rattle.event_queue.specs.Queue.{Queue}
+use Rattle.event_locks.specs.declared.error.LockError.{LockError}
+use Rattle.event_locks.specs.declared.error.LockError.TheVariants.{Listen, Memory, TooManyReaders, Finished}
 
 -- how many readers and writers have the value, and both queues
 pub record State (W : Type 0) : Type 0 where
@@ -34,6 +37,13 @@ module _ {W : Type 0} where
   -- all that read or wait to read are as many as can be counted, with one more and a writer
   abbrev pub HasNoRoom : State W → Type 0
   HasNoRoom s = 2 ^ 64 ≤ reading s + length s.read_line.waiting + 2
+
+  -- why a reader was refused: it could not be put into the queue, or no reader more can be counted
+  abbrev pub RefusesReader : LockError → State W → State W → Type 0
+  RefusesReader (Listen error) old new = Inserts old.read_line (Err error) new.read_line
+  RefusesReader (Memory error) old new = ⊥
+  RefusesReader TooManyReaders old new = HasNoRoom old
+  RefusesReader Finished old new = ⊥
 
   -- nobody has the value or was handed it
   abbrev pub NobodyIsIn : State W → Type 0

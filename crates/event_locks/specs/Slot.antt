@@ -3,6 +3,7 @@ use Rattle.std.specs.Prelude.{◌≡◌, ℕ, ◌<◌, length, Option, Some, Non
 use Rattle.event_queue.specs.declared.key.Key.{Key}
 use Rattle.event_queue.specs.Queue.{Queue}
 use Rattle.event_locks.specs.Line.{Leaves, WaitsBy, CannotWait}
+use Rattle.event_locks.specs.declared.error.LockError.TheVariants.{Listen, Memory, TooManyReaders, Finished}
 use Rattle.event_locks.specs.declared.request.Attempted.{Attempted}
 use Rattle.event_locks.specs.declared.request.Attempted.TheVariants.{Done, Waits, Absent, Refused}
 
@@ -38,4 +39,7 @@ module _ {T W : Type 0} where
     Obtains key old before (Done value) new after = Takes key value old new × (after ≡ before)
     Obtains key old before (Waits waits) new after = IsOut old new × WaitsBy exchanged key old.line before waits new.line after
     Obtains key old before Absent new after = ⊥
-    Obtains key old before (Refused error) new after = IsOut old new × CannotWait key error old.line new.line × (after ≡ before)
+    Obtains key old before (Refused (Listen error)) new after = IsOut old new × CannotWait key error old.line new.line × (after ≡ before)
+    Obtains key old before (Refused (Memory error)) new after = ⊥
+    Obtains key old before (Refused TooManyReaders) new after = ⊥
+    Obtains key old before (Refused Finished) new after = ⊥

@@ -1,95 +1,110 @@
 //! A barrier.
+ghost use Rattle.std.specs.Prelude.{◌≡◌};
 
 mod rounds;
 
 pub use self::rounds::{Ended, Rounds};
-use crate::lock::{Borrowed, Guard, Hold, Lock, Obtaining, Task};
-use crate::place::Place;
-use crate::request::{Attempted, Request};
-use crate::waiters::found;
-use event_queue::{TaskExchange, WakeSink};
+use crate::error::LockError;
+use crate::lock::{Grants, Hold, Lock, Obtaining, Task};
+use crate::seat::{HandsOut, Seat};
+use event_queue::{Key, RegisterResult, TaskExchange, WakeSink};
 use std::alloc::Global;
 use std::sync::Wait;
 use std::time::Clock;
 
 /// Where a number of threads and tasks have to arrive before any goes on, round after round.
-pub type Barrier = Lock<Rounds<Task>>;
+#[derive(Drop)]
+pub struct Barrier {
+    rounds: Lock<Rounds<Task>>,
+}
 
 /// A wait for the others. Dropped before its round has ended, it has not arrived.
-pub type BarrierWait<'a, R> = Obtaining<Rounds<Task>, Place, Borrowed<'a, Rounds<Task>, R>>;
+pub type BarrierWait<'a, R> = Obtaining<Rounds<Task>, Seat<Ended>, Arriving<'a, R>>;
 
 /// A round has ended.
-pub type BarrierWaitResult<'a, R> = Guard<Rounds<Task>, Borrowed<'a, Rounds<Task>, R>>;
+#[derive(Clone, Copy, Debug, PartialEq, Eq)]
+pub struct BarrierWaitResult {
+    is_leader: bool,
+}
 
-impl Lock<Rounds<Task>> {
+impl Barrier {
     /// A barrier for `parties` threads and tasks. One for none is one for one. It takes no memory until somebody waits.
     pub fn new(alloc: Global, parties: usize) -> Self {
-        Lock::of(Rounds::new(alloc, parties))
+        Barrier {
+            rounds: Lock::of(Rounds::new(alloc, parties)),
+        }
     }
 
     /// Arrives, and waits until all have.
     pub fn wait<'a, R: Wait + Clock>(&'a self, rt: &'a R, alloc: Global) -> BarrierWait<'a, R> {
-        Obtaining::new(Borrowed { lock: self, rt }, alloc, Place::new())
+        Obtaining::new(Arriving { barrier: self, rt }, alloc, Seat::new())
     }
 }
 
-impl<H: Hold<Rounds<Task>>> Guard<Rounds<Task>, H> {
+impl BarrierWaitResult {
     /// Whether this one was the last to arrive. In each round one is.
-    pub fn is_leader(&self) -> bool {
-        self.grant.is_leader()
+    pub fn is_leader(&self) -> bool
+        ensures { result ≡ self.now.is_leader }
+    {
+        self.is_leader
     }
 }
 
-impl Request<Rounds<Task>> for Place {
-    type Output = Ended;
+/// Borrows a barrier and the runtime.
+#[derive(Drop)]
+pub struct Arriving<'a, R> {
+    barrier: &'a Barrier,
+    rt: &'a R,
+}
 
+impl<'a, R: Wait + Clock> Hold<Rounds<Task>> for Arriving<'a, R> {
+    ghost source = { λ it. it.barrier.now.rounds };
+
+    type Runtime = R;
+
+    fn lock(&self) -> &Lock<Rounds<Task>> {
+        &self.barrier.rounds
+    }
+
+    fn rt(&self) -> &R {
+        self.rt
+    }
+}
+
+impl<'a, R: Wait + Clock> Grants<Rounds<Task>, Ended> for Arriving<'a, R> {
+    type Output = BarrierWaitResult;
+
+    fn granted(self, ended: Ended) -> BarrierWaitResult {
+        BarrierWaitResult {
+            is_leader: ended.is_leader(),
+        }
+    }
+}
+
+impl HandsOut<Ended> for Rounds<Task> {
     const TRIES: u32 = 0;
 
-    ghost gives = { λ _ _. Unit {0} };
-
-    fn is_waiting(&self) -> bool {
-        self.key.is_some()
+    fn try_hand<K: WakeSink<Task>>(&mut self, sink: &mut K) -> Option<Ended> {
+        self.try_end(sink)
     }
 
-    fn attempt<K: WakeSink<Task>>(
+    fn hand_or_join<K: WakeSink<Task>>(
         &mut self,
-        state: &mut Rounds<Task>,
         sink: &mut K,
-    ) -> Option<Ended> {
-        state.try_end(sink)
+    ) -> Result<Result<Ended, Key>, LockError> {
+        Ok(self.arrive(sink)?)
     }
 
-    fn attempt_or_wait<C, X: TaskExchange<Task, C>, K: WakeSink<Task>>(
+    fn look<C, X: TaskExchange<Task, C>>(
         &mut self,
-        state: &mut Rounds<Task>,
+        key: Key,
         exchange: &X,
         on: &mut C,
-        sink: &mut K,
-    ) -> Attempted<Ended> {
-        let key = match self.key.take() {
-            Some(key) => key,
-            None => match state.arrive(sink) {
-                Ok(Err(key)) => key,
-                Ok(Ok(ended)) => return Attempted::Done(ended),
-                Err(error) => return Attempted::Refused(error),
-            },
-        };
-        let attempted = found(key, state.look(key, exchange, on));
-        self.key = attempted.key();
-        attempted
+    ) -> RegisterResult<Ended> {
+        self.look_for_end(key, exchange, on)
     }
 
-    fn leave<K: WakeSink<Task>>(
-        &mut self,
-        state: &mut Rounds<Task>,
-        _sink: &mut K,
-    ) -> Option<Ended> {
-        state.leave(self.key.take()?)
-    }
-
-    fn give_up<K: WakeSink<Task>>(&mut self, state: &mut Rounds<Task>, _sink: &mut K) {
-        if let Some(key) = self.key.take() {
-            state.leave(key);
-        }
+    fn leave<K: WakeSink<Task>>(&mut self, key: Key, _sink: &mut K) -> Option<Ended> {
+        self.leave_round(key)
     }
 }

@@ -9,23 +9,22 @@ mod once_cell;
 mod place;
 mod request;
 mod rw_lock;
+mod seat;
 mod semaphore;
 pub mod waiters;
 
-pub use barrier::{Barrier, BarrierWait, BarrierWaitResult, Ended, Rounds};
-pub use error::LockError;
+pub use barrier::{Arriving, Barrier, BarrierWait, BarrierWaitResult, Ended, Rounds};
+pub use error::{LockError, SetError, SetReason};
 pub use lock::{Borrowed, Grants, Guard, Hold, Limit, Lock, Obtaining, Shared, Task, Waking};
 pub use mutex::{Locking, LockingArc, Mutex, MutexGuard, MutexGuardArc, Slot};
-pub use once_cell::{
-    Asking, Claim, Claiming, Makes, Once, OnceCell, Seat, Seeing, Turn, Uses, Vacant, Want,
-};
+pub use once_cell::{Asking, Claim, Claiming, IsSet, Once, OnceCell, Seeing, Turn, Vacant};
 pub use place::Place;
 pub use request::{Attempted, Grantor, Request};
 pub use rw_lock::{
-    Access, Entering, EnteringArc, Entry, Read, ReadArc, Reads, RwLock, RwLockReadGuard,
-    RwLockReadGuardArc, RwLockWriteGuard, RwLockWriteGuardArc, Share, Shares, Write, WriteArc,
-    Writes,
+    Entering, EnteringArc, Read, ReadArc, ReadShare, RwLock, RwLockReadGuard, RwLockReadGuardArc,
+    RwLockWriteGuard, RwLockWriteGuardArc, Shares, Write, WriteArc, WriteShare,
 };
+pub use seat::{HandsOut, Seat};
 pub use semaphore::{
     Acquire, AcquireArc, Permit, Permits, Semaphore, SemaphoreGuard, SemaphoreGuardArc,
 };

@@ -17,8 +17,8 @@ pub use self::limit::Limit;
 pub use self::obtaining::Obtaining;
 pub use self::task::{Task, Waking};
 use self::task::{LineSource, Parks};
+use crate::error::LockError;
 use crate::request::{Attempted, Grantor, Request};
-use event_queue::ListenError;
 use futures::task::{Context, Poll};
 use std::marker::Model;
 use std::sync::{Mutex, MutexGuard, Wait};
@@ -121,7 +121,7 @@ impl<S> Lock<S> {
         rt: &R,
         request: &mut Q,
         cx: &mut Context<'_>,
-    ) -> Poll<Result<Q::Output, ListenError>>
+    ) -> Poll<Result<Q::Output, LockError>>
         ensures gives { IfReady result (λ answer. IfOk answer (Q.gives request.old)) }
         ensures refused { IfReady result (λ answer. OnErr answer (request.new ≡ request.old)) }
         ensures pending { OnPending result (request.new ≡ request.old) }
@@ -183,9 +183,12 @@ impl<S> Lock<S> {
     }
 }
 
-impl<S: Grantor> Lock<S> {
+impl<S> Lock<S> {
     #[inline(always)]
-    pub(crate) fn give_back<R: Wait>(&self, rt: &R, grant: S::Grant) {
+    pub(crate) fn give_back<G, R: Wait>(&self, rt: &R, grant: G)
+    where
+        S: Grantor<G>,
+    {
         let mut waking = Waking::new();
         let mut state = take_lock!(self.state, rt);
         state.give_back(grant, &mut waking);

@@ -1,50 +1,58 @@
 //! A mutex.
+ghost use Rattle.std.specs.Arc.{arc_value};
 
 mod slot;
 
 pub use self::slot::Slot;
-use crate::lock::{Borrowed, Guard, Hold, Lock, Obtaining, Shared, Task};
+use crate::lock::{Borrowed, Grants, Guard, Hold, Lock, Obtaining, Shared, Task};
 use crate::place::Place;
 use std::alloc::{AllocError, Global};
 use std::ops::{Deref, DerefMut};
 use std::sync::{Arc, Wait};
 use std::time::Clock;
 
-/// A value that one thread or task at a time can use. Who has waited longest is notified first, and then takes it unless
-/// another one was faster.
+/// A value that one thread or task at a time can use. Those that wait are notified in order, and compete with newcomers: one
+/// that is notified and finds the value taken goes to the end of the queue, so one of them may never have it.
 ///
 /// The value is in the lock while nobody has it, and else in the guard of the one that has it: a large one is better boxed.
-pub type Mutex<T> = Lock<Slot<T, Task>>;
+#[derive(Drop)]
+pub struct Mutex<T> {
+    slot: Lock<Slot<T, Task>>,
+}
 
 /// The value of a mutex. Dropping the guard gives it back.
-pub type MutexGuard<'a, T, R> = Guard<Slot<T, Task>, Borrowed<'a, Slot<T, Task>, R>>;
+pub type MutexGuard<'a, T, R> = Guard<Slot<T, Task>, Borrowed<'a, Slot<T, Task>, R>, T>;
 
 /// The value of a mutex, by a guard that shares the mutex, and so may go to another thread. Dropping it gives the value
 /// back.
-pub type MutexGuardArc<T, R> = Guard<Slot<T, Task>, Shared<Slot<T, Task>, R>>;
+pub type MutexGuardArc<T, R> = Guard<Slot<T, Task>, Shared<Mutex<T>, R>, T>;
 
 /// A wait for the value of a mutex.
 pub type Locking<'a, T, R> = Obtaining<Slot<T, Task>, Place, Borrowed<'a, Slot<T, Task>, R>>;
 
 /// A wait for the value of a mutex that shares the mutex.
-pub type LockingArc<T, R> = Obtaining<Slot<T, Task>, Place, Shared<Slot<T, Task>, R>>;
+pub type LockingArc<T, R> = Obtaining<Slot<T, Task>, Place, Shared<Mutex<T>, R>>;
 
-impl<T: Drop> Lock<Slot<T, Task>> {
+impl<T: Drop> Mutex<T> {
     /// A mutex round this value, which nobody has. It takes no memory until somebody waits.
     pub fn new(alloc: Global, value: T) -> Self {
-        Lock::of(Slot::new(alloc, value))
+        Mutex {
+            slot: Lock::of(Slot::new(alloc, value)),
+        }
     }
 
     /// The value, if nobody has it.
     #[must_use = "a guard that is dropped at once gives back what it holds"]
+    #[inline(always)]
     pub fn try_lock<'a, R: Wait + Clock>(&'a self, rt: &'a R) -> Option<MutexGuard<'a, T, R>> {
-        let value = self.attempt(rt, &mut Place::new())?;
-        Some(Guard::new(Borrowed { lock: self, rt }, value))
+        let value = self.slot.attempt(rt, &mut Place::new())?;
+        Some(Guard::new(self.borrowed(rt), value))
     }
 
     /// A wait for the value.
+    #[inline(always)]
     pub fn lock<'a, R: Wait + Clock>(&'a self, rt: &'a R, alloc: Global) -> Locking<'a, T, R> {
-        Obtaining::new(Borrowed { lock: self, rt }, alloc, Place::new())
+        Obtaining::new(self.borrowed(rt), alloc, Place::new())
     }
 
     /// A wait for the value by a guard that may go to another thread. It returns an error if no share of the mutex can be
@@ -60,16 +68,50 @@ impl<T: Drop> Lock<Slot<T, Task>> {
 
     /// The value, without a lock. `None` says that a guard was forgotten, and the value with it.
     pub fn get_mut(&mut self) -> Option<&mut T> {
-        self.state_mut().get_mut()
+        self.slot.state_mut().get_mut()
     }
 
     /// The value. `None` says that a guard was forgotten, and the value with it.
     pub fn into_inner(self) -> Option<T> {
-        self.into_state().into_inner()
+        let Mutex { slot } = self;
+        slot.into_state().into_inner()
+    }
+
+    #[inline(always)]
+    fn borrowed<'a, R>(&'a self, rt: &'a R) -> Borrowed<'a, Slot<T, Task>, R> {
+        Borrowed {
+            lock: &self.slot,
+            rt,
+        }
     }
 }
 
-impl<T: Drop, H: Hold<Slot<T, Task>>> Deref for Guard<Slot<T, Task>, H> {
+impl<T: Drop, R: Wait + Clock> Hold<Slot<T, Task>> for Shared<Mutex<T>, R> {
+    ghost source = { λ hold. (arc_value hold.lock).slot };
+
+    type Runtime = R;
+
+    #[inline(always)]
+    fn lock(&self) -> &Lock<Slot<T, Task>> {
+        &self.lock.slot
+    }
+
+    #[inline(always)]
+    fn rt(&self) -> &R {
+        &self.rt
+    }
+}
+
+impl<T: Drop, R: Wait + Clock> Grants<Slot<T, Task>, T> for Shared<Mutex<T>, R> {
+    type Output = MutexGuardArc<T, R>;
+
+    #[inline(always)]
+    fn granted(self, value: T) -> MutexGuardArc<T, R> {
+        Guard::new(self, value)
+    }
+}
+
+impl<T: Drop, H: Hold<Slot<T, Task>>> Deref for Guard<Slot<T, Task>, H, T> {
     type Target = T;
 
     #[inline(always)]
@@ -78,7 +120,7 @@ impl<T: Drop, H: Hold<Slot<T, Task>>> Deref for Guard<Slot<T, Task>, H> {
     }
 }
 
-impl<T: Drop, H: Hold<Slot<T, Task>>> DerefMut for Guard<Slot<T, Task>, H> {
+impl<T: Drop, H: Hold<Slot<T, Task>>> DerefMut for Guard<Slot<T, Task>, H, T> {
     #[inline(always)]
     fn deref_mut(&mut self) -> &mut T {
         &mut self.grant

@@ -1,13 +1,14 @@
 //! A cell that is set once.
-ghost use Rattle.std.specs.Prelude.{◌≡◌};
+ghost use Rattle.std.specs.Prelude.{◌≡◌, IfErr, IfSome};
 
 mod once;
 
-pub use self::once::{Once, Seat, Turn, Want};
-use crate::error::LockError;
+pub use self::once::{IsSet, Once, Turn};
+use crate::error::{LockError, SetError, SetReason};
 use crate::lock::{Borrowed, Grants, Guard, Hold, Lock, Obtaining, Task};
+use crate::seat::{HandsOut, Seat};
+use event_queue::{Key, RegisterResult, TaskExchange, WakeSink};
 use std::alloc::Global;
-use std::marker::PhantomData;
 use std::sync::{OnceLock, Wait};
 use std::time::Clock;
 
@@ -33,14 +34,14 @@ pub enum Claim<'a, T, R: Wait + Clock> {
 pub struct Vacant<'a, T, R: Wait + Clock> {
     cell: &'a OnceCell<T>,
     rt: &'a R,
-    turn: Guard<Once<Task>, Borrowed<'a, Once<Task>, R>>,
+    turn: Guard<Once<Task>, Borrowed<'a, Once<Task>, R>, Turn>,
 }
 
 /// A wait for the value of a cell, or for the turn to make it.
-pub type Claiming<'a, T, R> = Obtaining<Once<Task>, Seat, Asking<'a, T, R, Makes>>;
+pub type Claiming<'a, T, R> = Obtaining<Once<Task>, Seat<Turn>, Asking<'a, T, R>>;
 
 /// A wait for the value of a cell.
-pub type Seeing<'a, T, R> = Obtaining<Once<Task>, Seat, Asking<'a, T, R, Uses>>;
+pub type Seeing<'a, T, R> = Obtaining<Once<Task>, Seat<IsSet>, Asking<'a, T, R>>;
 
 impl<T> OnceCell<T> {
     /// A cell without a value. It takes no memory until somebody waits.
@@ -58,38 +59,36 @@ impl<T> OnceCell<T> {
 
     /// A wait for the value, or for the turn to make it: while another one makes it, this one waits.
     pub fn claim<'a, R: Wait + Clock>(&'a self, rt: &'a R, alloc: Global) -> Claiming<'a, T, R> {
-        Obtaining::new(self.asking(rt), alloc, Seat::new(Want::Make))
+        Obtaining::new(Asking { cell: self, rt }, alloc, Seat::new())
     }
 
     /// A wait until the value is set, by whoever sets it.
     pub fn wait<'a, R: Wait + Clock>(&'a self, rt: &'a R, alloc: Global) -> Seeing<'a, T, R> {
-        Obtaining::new(self.asking(rt), alloc, Seat::new(Want::Use))
+        Obtaining::new(Asking { cell: self, rt }, alloc, Seat::new())
     }
 
-    fn asking<'a, R, A>(&'a self, rt: &'a R) -> Asking<'a, T, R, A> {
-        Asking {
-            cell: self,
-            rt,
-            want: PhantomData,
-        }
-    }
-
-    /// Sets the value. It blocks while another one makes it. The value comes back if the cell is set, or waiting was
+    /// Sets the value. It blocks while another one makes it. An error hands the value back: the cell is set, or waiting was
     /// refused.
     pub fn set<'a, R: Wait + Clock>(
         &'a self,
         rt: &'a R,
         alloc: Global,
         value: T,
-    ) -> Result<&'a T, T> {
+    ) -> Result<&'a T, SetError<T>>
+        ensures returned { IfErr result (λ error. error.value ≡ value) }
+    {
         match self.claim(rt, alloc).wait() {
-            Ok(Claim::Vacant(turn)) => turn.set(value),
-            Ok(Claim::Value(_)) => Err(value),
-            Err(_) => Err(value),
+            Ok(Claim::Vacant(turn)) => match turn.set(value) {
+                Ok(value) => Ok(value),
+                Err(value) => Err(SetError::new(value, SetReason::AlreadySet)),
+            },
+            Ok(Claim::Value(_)) => Err(SetError::new(value, SetReason::AlreadySet)),
+            Err(error) => Err(SetError::new(value, SetReason::WaitFailed(error))),
         }
     }
 
-    /// The value. If it is not set, `make` makes it, and the others wait meanwhile; if that fails, the next has its turn.
+    /// The value. If it is set, the call takes no lock. Else `make` makes it, and the others wait meanwhile; if that fails, the
+    /// next has its turn.
     pub fn get_or_try_init<'a, R, E, F>(
         &'a self,
         rt: &'a R,
@@ -103,6 +102,9 @@ impl<T> OnceCell<T> {
         F: FnOnce() -> Result<T, E> + Drop,
         requires { F.IsAlwaysCallable make }
     {
+        if let Some(value) = self.get() {
+            return Ok(value);
+        }
         match self.claim(rt, alloc).wait()? {
             Claim::Value(value) => Ok(value),
             Claim::Vacant(turn) => Ok(turn.insert(make()?).0),
@@ -112,7 +114,9 @@ impl<T> OnceCell<T> {
 
 impl<'a, T, R: Wait + Clock> Vacant<'a, T, R> {
     /// Sets the value, and wakes all that wait. The value comes back if the cell is set.
-    pub fn set(self, value: T) -> Result<&'a T, T> {
+    pub fn set(self, value: T) -> Result<&'a T, T>
+        ensures { IfErr result (λ back. back ≡ value) }
+    {
         match self.insert(value) {
             (kept, None) => Ok(kept),
             (_, Some(value)) => Err(value),
@@ -120,7 +124,9 @@ impl<'a, T, R: Wait + Clock> Vacant<'a, T, R> {
     }
 
     // What the cell has, once it has one, and this value if that is another one.
-    fn insert(self, value: T) -> (&'a T, Option<T>) {
+    fn insert(self, value: T) -> (&'a T, Option<T>)
+        ensures { IfSome result.1 (λ back. back ≡ value) }
+    {
         let Vacant { cell, rt, turn } = self;
         let mut turn = turn;
         let (token, value) = match cell.value.try_insert(rt, value) {
@@ -132,21 +138,14 @@ impl<'a, T, R: Wait + Clock> Vacant<'a, T, R> {
     }
 }
 
-/// For making the value.
-pub struct Makes;
-
-/// For using the value.
-pub struct Uses;
-
-/// Borrows a cell and the runtime, to make its value or to use it.
+/// Borrows a cell and the runtime.
 #[derive(Drop)]
-pub struct Asking<'a, T, R, A> {
+pub struct Asking<'a, T, R> {
     cell: &'a OnceCell<T>,
     rt: &'a R,
-    want: PhantomData<A>,
 }
 
-impl<'a, T, R: Wait + Clock, A> Hold<Once<Task>> for Asking<'a, T, R, A> {
+impl<'a, T, R: Wait + Clock> Hold<Once<Task>> for Asking<'a, T, R> {
     ghost source = { λ it. it.cell.now.once };
 
     type Runtime = R;
@@ -160,11 +159,11 @@ impl<'a, T, R: Wait + Clock, A> Hold<Once<Task>> for Asking<'a, T, R, A> {
     }
 }
 
-impl<'a, T, R: Wait + Clock> Grants<Once<Task>, Turn> for Asking<'a, T, R, Makes> {
+impl<'a, T, R: Wait + Clock> Grants<Once<Task>, Turn> for Asking<'a, T, R> {
     type Output = Claim<'a, T, R>;
 
     fn granted(self, turn: Turn) -> Claim<'a, T, R> {
-        let Asking { cell, rt, want: _ } = self;
+        let Asking { cell, rt } = self;
         let hold = Borrowed {
             lock: &cell.once,
             rt,
@@ -175,19 +174,81 @@ impl<'a, T, R: Wait + Clock> Grants<Once<Task>, Turn> for Asking<'a, T, R, Makes
             None => Claim::Vacant(Vacant { cell, rt, turn }),
         }
     }
+
+    #[inline(always)]
+    fn at_hand(&self) -> Option<Claim<'a, T, R>> {
+        let value = self.cell.value.get()?;
+        Some(Claim::Value(value))
+    }
 }
 
-impl<'a, T, R: Wait + Clock> Grants<Once<Task>, Turn> for Asking<'a, T, R, Uses> {
+impl<'a, T, R: Wait + Clock> Grants<Once<Task>, IsSet> for Asking<'a, T, R> {
     type Output = &'a T;
 
-    // The value is set before the state says so: the first look finds it.
-    fn granted(self, _turn: Turn) -> &'a T {
-        let Asking { cell, rt, want: _ } = self;
-        for _ in rt.forever() {
-            if let Some(value) = cell.value.get() {
-                return value;
-            }
-        }
-        unreachable!()
+    // The value is set before the state says so, so this waits for nobody.
+    fn granted(self, _is_set: IsSet) -> &'a T {
+        let Asking { cell, rt } = self;
+        cell.value.wait(rt)
+    }
+
+    #[inline(always)]
+    fn at_hand(&self) -> Option<&'a T> {
+        self.cell.value.get()
+    }
+}
+
+impl HandsOut<Turn> for Once<Task> {
+    const TRIES: u32 = 0;
+
+    fn try_hand<K: WakeSink<Task>>(&mut self, _sink: &mut K) -> Option<Turn> {
+        self.try_make()
+    }
+
+    fn hand_or_join<K: WakeSink<Task>>(
+        &mut self,
+        _sink: &mut K,
+    ) -> Result<Result<Turn, Key>, LockError> {
+        Ok(self.come_to_make()?)
+    }
+
+    fn look<C, X: TaskExchange<Task, C>>(
+        &mut self,
+        key: Key,
+        exchange: &X,
+        on: &mut C,
+    ) -> RegisterResult<Turn> {
+        self.look_to_make(key, exchange, on)
+    }
+
+    fn leave<K: WakeSink<Task>>(&mut self, key: Key, _sink: &mut K) -> Option<Turn> {
+        self.leave_making(key)
+    }
+}
+
+impl HandsOut<IsSet> for Once<Task> {
+    const TRIES: u32 = 0;
+
+    fn try_hand<K: WakeSink<Task>>(&mut self, _sink: &mut K) -> Option<IsSet> {
+        self.try_use()
+    }
+
+    fn hand_or_join<K: WakeSink<Task>>(
+        &mut self,
+        _sink: &mut K,
+    ) -> Result<Result<IsSet, Key>, LockError> {
+        Ok(self.come_to_use()?)
+    }
+
+    fn look<C, X: TaskExchange<Task, C>>(
+        &mut self,
+        key: Key,
+        exchange: &X,
+        on: &mut C,
+    ) -> RegisterResult<IsSet> {
+        self.look_to_use(key, exchange, on)
+    }
+
+    fn leave<K: WakeSink<Task>>(&mut self, key: Key, _sink: &mut K) -> Option<IsSet> {
+        self.leave_using(key)
     }
 }

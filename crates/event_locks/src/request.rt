@@ -2,8 +2,9 @@
 ghost use Rattle.std.specs.Prelude.{◌≡◌, None, IfSome};
 ghost use Rattle.event_locks.specs.Attempted.{Attempts, OnDone, OnUndone};
 
+use crate::error::LockError;
 use crate::lock::Task;
-use event_queue::{Key, ListenError, TaskExchange, WakeSink};
+use event_queue::{Key, TaskExchange, WakeSink};
 
 /// What came of an attempt by one that waits if it has to.
 pub enum Attempted<G> {
@@ -14,7 +15,7 @@ pub enum Attempted<G> {
     /// It was in the queue no more, and has to attempt again.
     Absent,
     /// It could not be put into the queue.
-    Refused(ListenError),
+    Refused(LockError),
 }
 
 impl<G> Attempted<G> {
@@ -76,11 +77,8 @@ pub trait Request<S> {
     }
 }
 
-/// A state that takes back what it has granted.
-pub trait Grantor {
-    /// What it grants. It need not be `Drop`: whoever has it gives it back.
-    type Grant;
-
+/// A state that takes back what it has granted. A grant need not be `Drop`: whoever has it gives it back.
+pub trait Grantor<G> {
     /// Takes a grant back, and hands on what it was.
-    fn give_back<K: WakeSink<Task>>(&mut self, grant: Self::Grant, sink: &mut K);
+    fn give_back<K: WakeSink<Task>>(&mut self, grant: G, sink: &mut K);
 }

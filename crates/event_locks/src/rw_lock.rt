@@ -2,20 +2,20 @@
 ghost use Rattle.std.specs.Prelude.{◌≡◌};
 ghost use Rattle.std.specs.Arc.{arc_value};
 
-mod entry;
 mod shares;
 
-pub use self::entry::Entry;
-pub use self::shares::{Access, Share, Shares};
+pub use self::shares::{ReadShare, Shares, WriteShare};
+use crate::error::LockError;
 use crate::lock::{Borrowed, Grants, Guard, Hold, Lock, Obtaining, Task, Waking};
+use crate::seat::{HandsOut, Seat};
+use event_queue::{Key, RegisterResult, TaskExchange, WakeSink};
 use std::alloc::{AllocError, Global};
-use std::marker::PhantomData;
 use std::ops::{Deref, DerefMut};
 use std::sync::{self, Arc, Wait};
 use std::time::Clock;
 
-// A reader or a writer that has its place.
-type Holder<'a, R> = Guard<Shares<Task>, Borrowed<'a, Shares<Task>, R>>;
+// The right to read or to write.
+type Right<'a, R, G> = Guard<Shares<Task>, Borrowed<'a, Shares<Task>, R>, G>;
 
 /// A value that one writer at a time can use, or several readers.
 ///
@@ -23,7 +23,8 @@ type Holder<'a, R> = Guard<Shares<Task>, Borrowed<'a, Shares<Task>, R>>;
 #[derive(Drop)]
 pub struct RwLock<T> {
     shares: Lock<Shares<Task>>,
-    // Nobody waits for this lock: who may read or write it has been settled before.
+    // Nobody waits for this lock. Who may read or write it has been settled before, and whoever forgets a guard of it forgets
+    // the right to it as well.
     value: sync::RwLock<T>,
 }
 
@@ -35,7 +36,7 @@ pub struct RwLockReadGuard<'a, T, R: Wait + Clock> {
     value: sync::RwLockReadGuard<'a, T>,
     lock: &'a RwLock<T>,
     rt: &'a R,
-    holder: Holder<'a, R>,
+    right: Right<'a, R, ReadShare>,
 }
 
 /// The value of a read-write lock, to be written. Dropping the guard ends the writing.
@@ -46,7 +47,7 @@ pub struct RwLockWriteGuard<'a, T, R: Wait + Clock> {
     value: sync::RwLockWriteGuard<'a, T>,
     lock: &'a RwLock<T>,
     rt: &'a R,
-    holder: Holder<'a, R>,
+    right: Right<'a, R, WriteShare>,
 }
 
 impl<T> RwLock<T> {
@@ -61,7 +62,7 @@ impl<T> RwLock<T> {
     /// The value to be read, if no writer has it or waits for it.
     #[must_use = "a guard that is dropped at once gives back what it holds"]
     pub fn try_read<'a, R: Wait + Clock>(&'a self, rt: &'a R) -> Option<RwLockReadGuard<'a, T, R>> {
-        let share = self.shares.attempt(rt, &mut Entry::new(Access::Read))?;
+        let share = self.shares.attempt(rt, &mut Seat::<ReadShare>::new())?;
         Some(self.reader(rt, Guard::new(self.borrowed(rt), share)))
     }
 
@@ -71,18 +72,18 @@ impl<T> RwLock<T> {
         &'a self,
         rt: &'a R,
     ) -> Option<RwLockWriteGuard<'a, T, R>> {
-        let share = self.shares.attempt(rt, &mut Entry::new(Access::Write))?;
+        let share = self.shares.attempt(rt, &mut Seat::<WriteShare>::new())?;
         Some(self.writer(rt, Guard::new(self.borrowed(rt), share)))
     }
 
     /// A wait for the value to be read, until no writer has it or has come before.
     pub fn read<'a, R: Wait + Clock>(&'a self, rt: &'a R, alloc: Global) -> Read<'a, T, R> {
-        Obtaining::new(self.entering(rt), alloc, Entry::new(Access::Read))
+        Obtaining::new(Entering { lock: self, rt }, alloc, Seat::new())
     }
 
     /// A wait for the value to be written, until nobody else has it.
     pub fn write<'a, R: Wait + Clock>(&'a self, rt: &'a R, alloc: Global) -> Write<'a, T, R> {
-        Obtaining::new(self.entering(rt), alloc, Entry::new(Access::Write))
+        Obtaining::new(Entering { lock: self, rt }, alloc, Seat::new())
     }
 
     /// A wait for the value to be read, by a guard that may go to another thread. It returns an error if no share of the
@@ -95,8 +96,8 @@ impl<T> RwLock<T> {
     where
         T: Drop,
     {
-        let hold = entering_arc(this, rt)?;
-        Ok(Obtaining::new(hold, alloc, Entry::new(Access::Read)))
+        let lock = Arc::try_clone(this)?;
+        Ok(Obtaining::new(EnteringArc { lock, rt }, alloc, Seat::new()))
     }
 
     /// A wait for the value to be written, by a guard that may go to another thread. It returns an error if no share of the
@@ -109,8 +110,8 @@ impl<T> RwLock<T> {
     where
         T: Drop,
     {
-        let hold = entering_arc(this, rt)?;
-        Ok(Obtaining::new(hold, alloc, Entry::new(Access::Write)))
+        let lock = Arc::try_clone(this)?;
+        Ok(Obtaining::new(EnteringArc { lock, rt }, alloc, Seat::new()))
     }
 
     /// The value, without a lock.
@@ -124,14 +125,6 @@ impl<T> RwLock<T> {
         value.into_inner()
     }
 
-    fn entering<'a, R, A>(&'a self, rt: &'a R) -> Entering<'a, T, R, A> {
-        Entering {
-            lock: self,
-            rt,
-            access: PhantomData,
-        }
-    }
-
     fn borrowed<'a, R>(&'a self, rt: &'a R) -> Borrowed<'a, Shares<Task>, R> {
         Borrowed {
             lock: &self.shares,
@@ -142,7 +135,7 @@ impl<T> RwLock<T> {
     fn reader<'a, R: Wait + Clock>(
         &'a self,
         rt: &'a R,
-        holder: Holder<'a, R>,
+        right: Right<'a, R, ReadShare>,
     ) -> RwLockReadGuard<'a, T, R> {
         let value = match self.value.try_read() {
             Some(value) => value,
@@ -152,14 +145,14 @@ impl<T> RwLock<T> {
             value,
             lock: self,
             rt,
-            holder,
+            right,
         }
     }
 
     fn writer<'a, R: Wait + Clock>(
         &'a self,
         rt: &'a R,
-        holder: Holder<'a, R>,
+        right: Right<'a, R, WriteShare>,
     ) -> RwLockWriteGuard<'a, T, R> {
         let value = match self.value.try_write() {
             Some(value) => value,
@@ -169,22 +162,9 @@ impl<T> RwLock<T> {
             value,
             lock: self,
             rt,
-            holder,
+            right,
         }
     }
-}
-
-// Shares the lock.
-fn entering_arc<T: Drop, R: Drop, A>(
-    lock: &Arc<RwLock<T>, Global>,
-    rt: R,
-) -> Result<EnteringArc<T, R, A>, AllocError> {
-    let lock = Arc::try_clone(lock)?;
-    Ok(EnteringArc {
-        lock,
-        rt,
-        access: PhantomData,
-    })
 }
 
 impl<'a, T, R: Wait + Clock> RwLockReadGuard<'a, T, R> {
@@ -194,10 +174,10 @@ impl<'a, T, R: Wait + Clock> RwLockReadGuard<'a, T, R> {
             value,
             lock,
             rt,
-            holder,
+            right,
         } = self;
         drop(value);
-        let (hold, share) = holder.into_parts();
+        let (hold, share) = right.into_parts();
         let upgraded = lock.shares.state(rt).try_upgrade(share);
         match upgraded {
             Ok(share) => Ok(lock.writer(rt, Guard::new(hold, share))),
@@ -213,10 +193,10 @@ impl<'a, T, R: Wait + Clock> RwLockWriteGuard<'a, T, R> {
             value,
             lock,
             rt,
-            holder,
+            right,
         } = self;
         drop(value);
-        let (hold, share) = holder.into_parts();
+        let (hold, share) = right.into_parts();
         let mut waking = Waking::new();
         let share = lock.shares.state(rt).downgrade(share, &mut waking);
         waking.finish();
@@ -247,48 +227,40 @@ impl<T, R: Wait + Clock> DerefMut for RwLockWriteGuard<'_, T, R> {
 }
 
 /// A wait for the value of a read-write lock, to be read.
-pub type Read<'a, T, R> = Obtaining<Shares<Task>, Entry, Entering<'a, T, R, Reads>>;
+pub type Read<'a, T, R> = Obtaining<Shares<Task>, Seat<ReadShare>, Entering<'a, T, R>>;
 
 /// A wait for the value of a read-write lock, to be written.
-pub type Write<'a, T, R> = Obtaining<Shares<Task>, Entry, Entering<'a, T, R, Writes>>;
+pub type Write<'a, T, R> = Obtaining<Shares<Task>, Seat<WriteShare>, Entering<'a, T, R>>;
 
 /// A wait for the value of a read-write lock, to be read by a guard that shares the lock.
-pub type ReadArc<T, R> = Obtaining<Shares<Task>, Entry, EnteringArc<T, R, Reads>>;
+pub type ReadArc<T, R> = Obtaining<Shares<Task>, Seat<ReadShare>, EnteringArc<T, R>>;
 
 /// A wait for the value of a read-write lock, to be written by a guard that shares the lock.
-pub type WriteArc<T, R> = Obtaining<Shares<Task>, Entry, EnteringArc<T, R, Writes>>;
+pub type WriteArc<T, R> = Obtaining<Shares<Task>, Seat<WriteShare>, EnteringArc<T, R>>;
 
 /// The right to read the value of a read-write lock, which shares the lock and so may go to another thread. Dropping it
 /// ends the reading.
-pub type RwLockReadGuardArc<T, R> = Guard<Shares<Task>, EnteringArc<T, R, Reads>>;
+pub type RwLockReadGuardArc<T, R> = Guard<Shares<Task>, EnteringArc<T, R>, ReadShare>;
 
 /// The right to write the value of a read-write lock, which shares the lock and so may go to another thread. Dropping it
 /// ends the writing.
-pub type RwLockWriteGuardArc<T, R> = Guard<Shares<Task>, EnteringArc<T, R, Writes>>;
+pub type RwLockWriteGuardArc<T, R> = Guard<Shares<Task>, EnteringArc<T, R>, WriteShare>;
 
-/// For reading.
-pub struct Reads;
-
-/// For writing.
-pub struct Writes;
-
-/// Borrows a read-write lock and the runtime, for reading or for writing.
+/// Borrows a read-write lock and the runtime.
 #[derive(Drop)]
-pub struct Entering<'a, T, R, A> {
+pub struct Entering<'a, T, R> {
     lock: &'a RwLock<T>,
     rt: &'a R,
-    access: PhantomData<A>,
 }
 
-/// Shares a read-write lock, for reading or for writing.
+/// Shares a read-write lock.
 #[derive(Drop)]
-pub struct EnteringArc<T, R, A> {
+pub struct EnteringArc<T, R> {
     lock: Arc<RwLock<T>, Global>,
     rt: R,
-    access: PhantomData<A>,
 }
 
-impl<'a, T, R: Wait + Clock, A> Hold<Shares<Task>> for Entering<'a, T, R, A> {
+impl<'a, T, R: Wait + Clock> Hold<Shares<Task>> for Entering<'a, T, R> {
     ghost source = { λ it. it.lock.now.shares };
 
     type Runtime = R;
@@ -302,7 +274,7 @@ impl<'a, T, R: Wait + Clock, A> Hold<Shares<Task>> for Entering<'a, T, R, A> {
     }
 }
 
-impl<T, R: Wait + Clock, A> Hold<Shares<Task>> for EnteringArc<T, R, A> {
+impl<T, R: Wait + Clock> Hold<Shares<Task>> for EnteringArc<T, R> {
     ghost source = { λ it. (arc_value it.lock).shares };
 
     type Runtime = R;
@@ -316,50 +288,120 @@ impl<T, R: Wait + Clock, A> Hold<Shares<Task>> for EnteringArc<T, R, A> {
     }
 }
 
-impl<'a, T, R: Wait + Clock> Grants<Shares<Task>, Share> for Entering<'a, T, R, Reads> {
+impl<'a, T, R: Wait + Clock> Grants<Shares<Task>, ReadShare> for Entering<'a, T, R> {
     type Output = RwLockReadGuard<'a, T, R>;
 
-    fn granted(self, share: Share) -> RwLockReadGuard<'a, T, R> {
-        let Entering {
-            lock,
-            rt,
-            access: _,
-        } = self;
+    fn granted(self, share: ReadShare) -> RwLockReadGuard<'a, T, R> {
+        let Entering { lock, rt } = self;
         lock.reader(rt, Guard::new(lock.borrowed(rt), share))
     }
 }
 
-impl<'a, T, R: Wait + Clock> Grants<Shares<Task>, Share> for Entering<'a, T, R, Writes> {
+impl<'a, T, R: Wait + Clock> Grants<Shares<Task>, WriteShare> for Entering<'a, T, R> {
     type Output = RwLockWriteGuard<'a, T, R>;
 
-    fn granted(self, share: Share) -> RwLockWriteGuard<'a, T, R> {
-        let Entering {
-            lock,
-            rt,
-            access: _,
-        } = self;
+    fn granted(self, share: WriteShare) -> RwLockWriteGuard<'a, T, R> {
+        let Entering { lock, rt } = self;
         lock.writer(rt, Guard::new(lock.borrowed(rt), share))
     }
 }
 
-impl<T, R: Wait + Clock, A> Grants<Shares<Task>, Share> for EnteringArc<T, R, A> {
-    type Output = Guard<Shares<Task>, EnteringArc<T, R, A>>;
+impl<T, R: Wait + Clock> Grants<Shares<Task>, ReadShare> for EnteringArc<T, R> {
+    type Output = RwLockReadGuardArc<T, R>;
 
-    fn granted(self, share: Share) -> Guard<Shares<Task>, EnteringArc<T, R, A>> {
+    fn granted(self, share: ReadShare) -> RwLockReadGuardArc<T, R> {
         Guard::new(self, share)
     }
 }
 
-impl<T, R: Wait + Clock> Guard<Shares<Task>, EnteringArc<T, R, Reads>> {
-    /// The value. It waits for nobody: who may read has been settled before.
-    pub fn value(&self) -> sync::RwLockReadGuard<'_, T> {
-        self.hold.lock.value.read(&self.hold.rt)
+impl<T, R: Wait + Clock> Grants<Shares<Task>, WriteShare> for EnteringArc<T, R> {
+    type Output = RwLockWriteGuardArc<T, R>;
+
+    fn granted(self, share: WriteShare) -> RwLockWriteGuardArc<T, R> {
+        Guard::new(self, share)
     }
 }
 
-impl<T, R: Wait + Clock> Guard<Shares<Task>, EnteringArc<T, R, Writes>> {
-    /// The value. It waits for nobody: who may write has been settled before.
-    pub fn value(&mut self) -> sync::RwLockWriteGuard<'_, T> {
-        self.hold.lock.value.write(&self.hold.rt)
+impl<T, R: Wait + Clock> Guard<Shares<Task>, EnteringArc<T, R>, ReadShare> {
+    /// Lends the value, and returns what `read` returns. It waits for nobody: who may read has been settled before.
+    pub fn with<O, F: FnOnce(&T) -> O>(&self, read: F) -> O
+        requires { F.IsAlwaysCallable read }
+    {
+        let lock = &self.hold.lock.value;
+        match lock.try_read() {
+            Some(value) => read(&value),
+            None => read(&lock.read(&self.hold.rt)),
+        }
+    }
+}
+
+impl<T, R: Wait + Clock> Guard<Shares<Task>, EnteringArc<T, R>, WriteShare> {
+    /// Lends the value, and returns what `write` returns. It waits for nobody: who may write has been settled before.
+    pub fn with<O, F: FnOnce(&mut T) -> O>(&mut self, write: F) -> O
+        requires { F.IsAlwaysCallable write }
+    {
+        let lock = &self.hold.lock.value;
+        match lock.try_write() {
+            Some(mut value) => write(&mut value),
+            None => write(&mut lock.write(&self.hold.rt)),
+        }
+    }
+}
+
+impl HandsOut<ReadShare> for Shares<Task> {
+    const TRIES: u32 = 4;
+
+    #[inline(always)]
+    fn try_hand<K: WakeSink<Task>>(&mut self, _sink: &mut K) -> Option<ReadShare> {
+        self.try_read()
+    }
+
+    fn hand_or_join<K: WakeSink<Task>>(
+        &mut self,
+        _sink: &mut K,
+    ) -> Result<Result<ReadShare, Key>, LockError> {
+        self.read()
+    }
+
+    fn look<C, X: TaskExchange<Task, C>>(
+        &mut self,
+        key: Key,
+        exchange: &X,
+        on: &mut C,
+    ) -> RegisterResult<ReadShare> {
+        self.look_read(key, exchange, on)
+    }
+
+    fn leave<K: WakeSink<Task>>(&mut self, key: Key, _sink: &mut K) -> Option<ReadShare> {
+        self.leave_read(key)
+    }
+}
+
+impl HandsOut<WriteShare> for Shares<Task> {
+    const TRIES: u32 = 4;
+
+    #[inline(always)]
+    fn try_hand<K: WakeSink<Task>>(&mut self, _sink: &mut K) -> Option<WriteShare> {
+        self.try_write()
+    }
+
+    fn hand_or_join<K: WakeSink<Task>>(
+        &mut self,
+        _sink: &mut K,
+    ) -> Result<Result<WriteShare, Key>, LockError> {
+        Ok(self.write()?)
+    }
+
+    fn look<C, X: TaskExchange<Task, C>>(
+        &mut self,
+        key: Key,
+        exchange: &X,
+        on: &mut C,
+    ) -> RegisterResult<WriteShare> {
+        self.look_write(key, exchange, on)
+    }
+
+    fn leave<K: WakeSink<Task>>(&mut self, key: Key, sink: &mut K) -> Option<WriteShare> {
+        self.leave_write(key, sink)
     }
 }

@@ -1,9 +1,10 @@
 //! A semaphore.
+ghost use Rattle.std.specs.Arc.{arc_value};
 
 mod permits;
 
 pub use self::permits::{Permit, Permits};
-use crate::lock::{Borrowed, Guard, Hold, Lock, Obtaining, Shared, Task, Waking};
+use crate::lock::{Borrowed, Grants, Guard, Hold, Lock, Obtaining, Shared, Task, Waking};
 use crate::place::Place;
 use crate::request::{Attempted, Request};
 use event_queue::{TaskExchange, WakeSink};
@@ -11,54 +12,58 @@ use std::alloc::{AllocError, Global};
 use std::sync::{Arc, Wait};
 use std::time::Clock;
 
-/// Permits that threads and tasks share. Who has waited longest is notified first, and then takes one unless another one was
-/// faster.
-pub type Semaphore = Lock<Permits<Task>>;
+/// Permits that threads and tasks share. Those that wait are notified in order, and compete with newcomers: one that is
+/// notified and finds no permit goes to the end of the queue, so one of them may never have one.
+#[derive(Drop)]
+pub struct Semaphore {
+    permits: Lock<Permits<Task>>,
+}
 
 /// A permit. Dropping it gives the permit back.
-pub type SemaphoreGuard<'a, R> = Guard<Permits<Task>, Borrowed<'a, Permits<Task>, R>>;
+pub type SemaphoreGuard<'a, R> = Guard<Permits<Task>, Borrowed<'a, Permits<Task>, R>, Permit>;
 
 /// A permit that shares its semaphore, and so may go to another thread. Dropping it gives the permit back.
-pub type SemaphoreGuardArc<R> = Guard<Permits<Task>, Shared<Permits<Task>, R>>;
+pub type SemaphoreGuardArc<R> = Guard<Permits<Task>, Shared<Semaphore, R>, Permit>;
 
 /// A wait for a permit.
 pub type Acquire<'a, R> = Obtaining<Permits<Task>, Place, Borrowed<'a, Permits<Task>, R>>;
 
 /// A wait for a permit that shares its semaphore.
-pub type AcquireArc<R> = Obtaining<Permits<Task>, Place, Shared<Permits<Task>, R>>;
+pub type AcquireArc<R> = Obtaining<Permits<Task>, Place, Shared<Semaphore, R>>;
 
-impl Lock<Permits<Task>> {
+impl Semaphore {
     /// A semaphore with `permits` permits, all free. It takes no memory until somebody waits.
     pub fn new(alloc: Global, permits: usize) -> Self {
-        Lock::of(Permits::new(alloc, permits))
+        Semaphore {
+            permits: Lock::of(Permits::new(alloc, permits)),
+        }
     }
 
     /// How many permits are free. Another thread may take one at once.
     pub fn available<R: Wait>(&self, rt: &R) -> usize {
-        self.state(rt).free()
+        self.permits.state(rt).free()
     }
 
     /// A permit, if one is free.
     #[must_use = "a guard that is dropped at once gives back what it holds"]
+    #[inline(always)]
     pub fn try_acquire<'a, R: Wait + Clock>(&'a self, rt: &'a R) -> Option<SemaphoreGuard<'a, R>> {
-        let permit = self.attempt(rt, &mut Place::new())?;
-        Some(Guard::new(Borrowed { lock: self, rt }, permit))
+        let permit = self.permits.attempt(rt, &mut Place::new())?;
+        Some(Guard::new(self.borrowed(rt), permit))
     }
 
     /// A wait for a permit.
+    #[inline(always)]
     pub fn acquire<'a, R: Wait + Clock>(&'a self, rt: &'a R, alloc: Global) -> Acquire<'a, R> {
-        Obtaining::new(Borrowed { lock: self, rt }, alloc, Place::new())
+        Obtaining::new(self.borrowed(rt), alloc, Place::new())
     }
 
     /// A wait for a permit that may go to another thread. It returns an error if no share of the semaphore can be made.
-    pub fn acquire_arc<R: Wait + Clock>(
+    pub fn acquire_arc<R: Wait + Clock + Drop>(
         this: &Arc<Self, Global>,
         rt: R,
         alloc: Global,
-    ) -> Result<AcquireArc<R>, AllocError>
-    where
-        R: Drop,
-    {
+    ) -> Result<AcquireArc<R>, AllocError> {
         let lock = Arc::try_clone(this)?;
         Ok(Obtaining::new(Shared { lock, rt }, alloc, Place::new()))
     }
@@ -67,12 +72,45 @@ impl Lock<Permits<Task>> {
     /// are free at most.
     pub fn add_permits<R: Wait>(&self, rt: &R, n: usize) {
         let mut waking = Waking::new();
-        self.state(rt).release(n, &mut waking);
+        self.permits.state(rt).release(n, &mut waking);
         waking.finish();
+    }
+
+    #[inline(always)]
+    fn borrowed<'a, R>(&'a self, rt: &'a R) -> Borrowed<'a, Permits<Task>, R> {
+        Borrowed {
+            lock: &self.permits,
+            rt,
+        }
     }
 }
 
-impl<H: Hold<Permits<Task>> + Drop> Guard<Permits<Task>, H> {
+impl<R: Wait + Clock> Hold<Permits<Task>> for Shared<Semaphore, R> {
+    ghost source = { λ hold. (arc_value hold.lock).permits };
+
+    type Runtime = R;
+
+    #[inline(always)]
+    fn lock(&self) -> &Lock<Permits<Task>> {
+        &self.lock.permits
+    }
+
+    #[inline(always)]
+    fn rt(&self) -> &R {
+        &self.rt
+    }
+}
+
+impl<R: Wait + Clock> Grants<Permits<Task>, Permit> for Shared<Semaphore, R> {
+    type Output = SemaphoreGuardArc<R>;
+
+    #[inline(always)]
+    fn granted(self, permit: Permit) -> SemaphoreGuardArc<R> {
+        Guard::new(self, permit)
+    }
+}
+
+impl<H: Hold<Permits<Task>> + Drop> Guard<Permits<Task>, H, Permit> {
     /// Keeps the permit from coming back: there is one less from here on.
     pub fn forget(self) {
         let (_, permit) = self.into_parts();

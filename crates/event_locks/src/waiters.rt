@@ -12,6 +12,7 @@ ghost use Rattle.event_locks.specs.Attempted.{found_by, waits_by};
 ghost use Rattle.event_locks.specs.Line.{CannotWait, HandsOut, HasLeft, Leaves, LeavesThenTells, Looked, TellsAll, TellsUpTo, WaitsBy, left_by, woken_at_once, woken_by_leaving, woken_up_to};
 ghost use Rattle.event_locks.specs.Left.{left_as, told_of, waited_of};
 
+use crate::error::LockError;
 use crate::request::Attempted;
 use event_queue::{
     IntoNotification, Key, List, ListenError, RegisterResult, State, TaskExchange, WakeSink,
@@ -164,7 +165,7 @@ pub(crate) fn waiting<G>(waits: Result<Key, ListenError>) -> Attempted<G>
 {
     match waits {
         Ok(key) => Attempted::Waits(key),
-        Err(error) => Attempted::Refused(error),
+        Err(error) => Attempted::Refused(LockError::Listen(error)),
     }
 }
 

@@ -102,7 +102,7 @@ impl<W> Rounds<W> {
     }
 
     /// Whether the round of this one has ended: then it leaves the queue.
-    pub fn look<C, X: TaskExchange<W, C>>(
+    pub fn look_for_end<C, X: TaskExchange<W, C>>(
         &mut self,
         key: Key,
         exchange: &X,
@@ -123,7 +123,7 @@ impl<W> Rounds<W> {
     }
 
     /// Takes this one out of the queue. If its round had not ended, it has not arrived.
-    pub fn leave(&mut self, key: Key) -> Option<Ended>
+    pub fn leave_round(&mut self, key: Key) -> Option<Ended>
     where
         W: Drop,
         ensures ended { IfSome result (λ is_leader. (is_leader ≡ false) × (length self.new.line.told + 1 ≡ length self.old.line.told) × (self.new.arrived ≡ self.old.arrived)) }
@@ -150,8 +150,6 @@ impl<W> Rounds<W> {
     }
 }
 
-impl Grantor for Rounds<Task> {
-    type Grant = Ended;
-
+impl Grantor<Ended> for Rounds<Task> {
     fn give_back<K: WakeSink<Task>>(&mut self, _grant: Ended, _sink: &mut K) {}
 }

@@ -1,31 +1,45 @@
 //! What was granted.
 use super::Hold;
 use crate::request::Grantor;
+use std::marker::PhantomData;
 
 /// What was granted, with a hold of its lock. Dropping it gives the grant back.
 #[must_use = "a guard that is dropped at once gives back what it was granted"]
-pub struct Guard<S: Grantor, H: Hold<S>> {
+pub struct Guard<S: Grantor<G>, H: Hold<S>, G> {
     pub(crate) hold: H,
-    pub(crate) grant: S::Grant,
+    pub(crate) grant: G,
+    state: PhantomData<S>,
 }
 
-impl<S: Grantor, H: Hold<S>> Guard<S, H> {
+impl<S: Grantor<G>, H: Hold<S>, G> Guard<S, H, G> {
     #[inline(always)]
-    pub(crate) fn new(hold: H, grant: S::Grant) -> Self {
-        Guard { hold, grant }
+    pub(crate) fn new(hold: H, grant: G) -> Self {
+        Guard {
+            hold,
+            grant,
+            state: PhantomData,
+        }
     }
 
     /// What it holds, and the grant, which is not given back.
-    pub(crate) fn into_parts(self) -> (H, S::Grant) {
-        let Guard { hold, grant } = self;
+    pub(crate) fn into_parts(self) -> (H, G) {
+        let Guard {
+            hold,
+            grant,
+            state: _,
+        } = self;
         (hold, grant)
     }
 }
 
-impl<S: Grantor, H: Hold<S> + Drop> Drop for Guard<S, H> {
+impl<S: Grantor<G>, H: Hold<S> + Drop, G> Drop for Guard<S, H, G> {
     #[inline(always)]
     fn drop(self) {
-        let Guard { hold, grant } = self;
+        let Guard {
+            hold,
+            grant,
+            state: _,
+        } = self;
         hold.lock().give_back(hold.rt(), grant);
     }
 }

@@ -1,6 +1,5 @@
 //! How waits and guards hold their lock.
 ghost use Rattle.std.specs.Prelude.{◌≡◌, ℕ};
-ghost use Rattle.std.specs.Arc.{arc_value};
 
 use super::{Guard, Lock};
 use crate::request::Grantor;
@@ -31,6 +30,12 @@ pub trait Grants<S, G>: Hold<S> + Sized {
 
     /// What a wait gives of this grant, which goes back once that is dropped.
     fn granted(self, grant: G) -> Self::Output;
+
+    /// What a wait gives with no grant, and so without the lock, if that is at hand.
+    #[inline(always)]
+    fn at_hand(&self) -> Option<Self::Output> {
+        None
+    }
 }
 
 /// Borrows the lock and the runtime.
@@ -40,10 +45,10 @@ pub struct Borrowed<'a, S, R> {
     pub(crate) rt: &'a R,
 }
 
-/// Shares the lock, so that it may go to another thread.
+/// Shares a lock of this type, so that it may go to another thread.
 #[derive(Drop)]
-pub struct Shared<S, R> {
-    pub(crate) lock: Arc<Lock<S>, Global>,
+pub struct Shared<L, R> {
+    pub(crate) lock: Arc<L, Global>,
     pub(crate) rt: R,
 }
 
@@ -63,36 +68,11 @@ impl<'a, S, R: Wait + Clock> Hold<S> for Borrowed<'a, S, R> {
     }
 }
 
-impl<S, R: Wait + Clock> Hold<S> for Shared<S, R> {
-    ghost source = { λ hold. arc_value hold.lock };
-
-    type Runtime = R;
+impl<'a, S: Grantor<G>, G, R: Wait + Clock> Grants<S, G> for Borrowed<'a, S, R> {
+    type Output = Guard<S, Borrowed<'a, S, R>, G>;
 
     #[inline(always)]
-    fn lock(&self) -> &Lock<S> {
-        &self.lock
-    }
-
-    #[inline(always)]
-    fn rt(&self) -> &R {
-        &self.rt
-    }
-}
-
-impl<'a, S: Grantor, R: Wait + Clock> Grants<S, S::Grant> for Borrowed<'a, S, R> {
-    type Output = Guard<S, Borrowed<'a, S, R>>;
-
-    #[inline(always)]
-    fn granted(self, grant: S::Grant) -> Guard<S, Borrowed<'a, S, R>> {
-        Guard::new(self, grant)
-    }
-}
-
-impl<S: Grantor, R: Wait + Clock> Grants<S, S::Grant> for Shared<S, R> {
-    type Output = Guard<S, Shared<S, R>>;
-
-    #[inline(always)]
-    fn granted(self, grant: S::Grant) -> Guard<S, Shared<S, R>> {
+    fn granted(self, grant: G) -> Guard<S, Borrowed<'a, S, R>, G> {
         Guard::new(self, grant)
     }
 }

@@ -1,5 +1,5 @@
 //! Until when a thread waits.
-ghost use Rattle.std.specs.Prelude.{◌≡◌, None};
+ghost use Rattle.std.specs.Prelude.{◌≡◌, false, None};
 ghost use Rattle.event_locks.specs.declared.lock.limit.Limit.TheVariants.{Never};
 
 use std::time::{Clock, Duration, Instant};
@@ -41,6 +41,16 @@ impl Limit {
                 Ok(now) => moment.saturating_duration_since(now),
                 Err(_) => Duration::ZERO,
             }),
+        }
+    }
+
+    /// Whether it has passed. Where it never comes the clock is not read.
+    pub(crate) fn has_passed<R: Clock>(self, clock: &R) -> bool
+        ensures never { self ≡ Never → result ≡ false }
+    {
+        match self.left(clock) {
+            Some(left) => left.is_zero(),
+            None => false,
         }
     }
 }

@@ -1,7 +1,8 @@
 //! Waits, blocking or awaited.
-ghost use Rattle.std.specs.Prelude.{◌≡◌, Some, IsSomeAnd};
+ghost use Rattle.std.specs.Prelude.{◌≡◌, Some, IfOk, IsSome, IsSomeAnd};
 ghost use Rattle.futures.specs.Poll.{OnPending};
 ghost use Rattle.futures.specs.Task.{Covers, Keeps};
+ghost use Rattle.event_locks.specs.declared.lock.limit.Limit.TheVariants.{Never};
 
 use super::limit::Limit;
 use super::{Grants, Hold};
@@ -20,15 +21,18 @@ use std::time::{Clock, Duration, Instant};
 /// [`wait_deadline`](Obtaining::wait_deadline). A task awaits it: it is a future. Threads and tasks wait in one queue, and
 /// a thread that waits on a future which was polled before keeps its place. Dropped while it waits, it leaves the queue,
 /// and what it was notified of goes to the next.
+//
+// The struct asks for no `Grants`. Whoever awaits one proves what the struct asks for, and the prover does not cover a bound
+// whose type, as that of a guard, has the lifetime of the borrowed lock: `block_on(rt, lock.lock(rt, alloc))` had no proof.
 #[must_use = "nothing is asked for until it is waited on or polled"]
-pub struct Obtaining<S, Q: Request<S>, H: Grants<S, Q::Output>> {
+pub struct Obtaining<S, Q: Request<S>, H: Hold<S>> {
     hold: Option<H>,
     alloc: Global,
     request: Q,
     state: PhantomData<S>,
 }
 
-impl<S, Q: Request<S>, H: Grants<S, Q::Output>> Obtaining<S, Q, H> {
+impl<S, Q: Request<S>, H: Hold<S>> Obtaining<S, Q, H> {
     #[inline(always)]
     pub(crate) fn new(hold: H, alloc: Global, request: Q) -> Self {
         Obtaining {
@@ -46,12 +50,12 @@ impl<S, Q: Request<S> + Drop, H: Grants<S, Q::Output> + Drop> Obtaining<S, Q, H>
     pub fn wait(self) -> Result<H::Output, LockError> {
         match self.wait_until(Limit::Never)? {
             Some(output) => Ok(output),
-            None => Err(LockError::Finished),
+            None => unreachable!(),
         }
     }
 
     /// Blocks the thread until it is granted, or so long. `None` says that it was not granted in time: then the thread is
-    /// in no queue. A clock that can't be read ends the wait; a moment that can't be represented never comes.
+    /// in no queue. With no time left it only attempts: it enters no queue and allocates nothing. A clock that can't be read ends the wait; a moment that can't be represented never comes.
     pub fn wait_timeout(self, timeout: Duration) -> Result<Option<H::Output>, LockError> {
         let limit = match &self.hold {
             Some(hold) => Limit::after(hold.rt(), timeout),
@@ -61,13 +65,15 @@ impl<S, Q: Request<S> + Drop, H: Grants<S, Q::Output> + Drop> Obtaining<S, Q, H>
     }
 
     /// Blocks the thread until it is granted, or until this moment. `None` says that it was not granted in time: then the
-    /// thread is in no queue. A clock that can't be read ends the wait.
+    /// thread is in no queue. At a moment that has passed it only attempts: it enters no queue and allocates nothing. A clock that can't be read ends the wait.
     pub fn wait_deadline(self, deadline: Instant) -> Result<Option<H::Output>, LockError> {
         self.wait_until(Limit::At(deadline))
     }
 
     #[inline(always)]
-    fn wait_until(self, limit: Limit) -> Result<Option<H::Output>, LockError> {
+    fn wait_until(self, limit: Limit) -> Result<Option<H::Output>, LockError>
+        ensures never { limit ≡ Never → IfOk result IsSome }
+    {
         let Obtaining {
             hold,
             alloc,
@@ -78,6 +84,11 @@ impl<S, Q: Request<S> + Drop, H: Grants<S, Q::Output> + Drop> Obtaining<S, Q, H>
             return Err(LockError::Finished);
         };
         let mut request = request;
+        if !request.is_waiting() {
+            if let Some(output) = hold.at_hand() {
+                return Ok(Some(output));
+            }
+        }
         match hold.lock().obtain(hold.rt(), alloc, &mut request, limit)? {
             Some(grant) => Ok(Some(hold.granted(grant))),
             None => Ok(None),
@@ -85,7 +96,7 @@ impl<S, Q: Request<S> + Drop, H: Grants<S, Q::Output> + Drop> Obtaining<S, Q, H>
     }
 }
 
-impl<S, Q: Request<S> + Drop, H: Grants<S, Q::Output> + Drop> Drop for Obtaining<S, Q, H> {
+impl<S, Q: Request<S> + Drop, H: Hold<S> + Drop> Drop for Obtaining<S, Q, H> {
     fn drop(self) {
         let Obtaining {
             hold,
@@ -110,9 +121,14 @@ impl<S, Q: Request<S> + Drop, H: Grants<S, Q::Output> + Drop> Future for Obtaini
         let Some(hold) = self.hold.take() else {
             return Poll::Ready(Err(LockError::Finished));
         };
+        if !self.request.is_waiting() {
+            if let Some(output) = hold.at_hand() {
+                return Poll::Ready(Ok(output));
+            }
+        }
         match hold.lock().poll_in(hold.rt(), &mut self.request, cx) {
             Poll::Ready(Ok(grant)) => Poll::Ready(Ok(hold.granted(grant))),
-            Poll::Ready(Err(error)) => Poll::Ready(Err(LockError::Listen(error))),
+            Poll::Ready(Err(error)) => Poll::Ready(Err(error)),
             Poll::Pending => {
                 self.hold = Some(hold);
                 Poll::Pending

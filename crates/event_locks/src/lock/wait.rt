@@ -15,7 +15,7 @@ impl<S> Lock<S> {
     /// Blocks the thread until it has what it requests or the limit has passed, which is `None`. It goes on at its place in
     /// the queue, if it has one. It allocates what the thread parks on, and a place in the queue, if it has to wait; if that
     /// is refused it is in no queue, and neither is it once it has what it requests or is out of time. It attempts at least
-    /// once, also where the limit has passed.
+    /// once; where the limit has passed it enters no queue and allocates nothing.
     #[inline(always)]
     pub fn obtain<Q: Request<S>, R: Wait + Clock>(
         &self,
@@ -41,7 +41,7 @@ impl<S> Lock<S> {
     }
 }
 
-// A few tries with a yield between them, and then in the queue.
+// Where there is time left, a few tries with a yield between them, and then in the queue.
 #[inline(never)]
 fn try_then_park<S, Q: Request<S>, R: Wait + Clock>(
     lock: &Lock<S>,
@@ -55,7 +55,13 @@ fn try_then_park<S, Q: Request<S>, R: Wait + Clock>(
     ensures kept { OnErr result (request.new ≡ request.old) }
     ensures in_time { result ≡ Ok None → request.new ≡ request.old }
 {
+    if limit.has_passed(rt) {
+        return Ok(lock.leave(rt, request));
+    }
     if let Some(output) = try_a_while(lock, rt, request) {
+        return Ok(Some(output));
+    }
+    if let Some(output) = take_if_notified(lock, rt, request)? {
         return Ok(Some(output));
     }
     match Arc::new(alloc, Parker::new()) {
@@ -88,6 +94,27 @@ fn try_a_while<S, Q: Request<S>, R: Wait>(
     None
 }
 
+// One that polled before may have been notified since: then it need not park. Its task stays.
+fn take_if_notified<S, Q: Request<S>, R: Wait>(
+    lock: &Lock<S>,
+    rt: &R,
+    request: &mut Q,
+) -> Result<Option<Q::Output>, LockError>
+    ensures gives { IfOk result (λ output. IfSome output (Q.gives request.old)) }
+    ensures kept { OnErr result (request.new ≡ request.old) }
+    ensures not_yet { result ≡ Ok None → request.new ≡ request.old }
+{
+    if !request.is_waiting() {
+        return Ok(None);
+    }
+    match lock.attempt_or_park(rt, request, &mut None) {
+        Attempted::Done(output) => Ok(Some(output)),
+        Attempted::Waits(_) => Ok(None),
+        Attempted::Absent => Ok(None),
+        Attempted::Refused(error) => Err(error),
+    }
+}
+
 // The task of the thread that parks on this parker.
 fn task_of(parker: &Arc<Parker, Global>) -> Result<Option<Task>, AllocError> {
     Ok(Some(Task::parked(Arc::try_clone(parker)?)))
@@ -118,7 +145,7 @@ fn park<S, Q: Request<S>, R: Wait + Clock>(
             Attempted::Done(output) => return Ok(Some(output)),
             Attempted::Waits(_) => {}
             Attempted::Absent => continue,
-            Attempted::Refused(error) => return Err(LockError::Listen(error)),
+            Attempted::Refused(error) => return Err(error),
         }
         match limit.left(rt) {
             None => parker.park(rt),

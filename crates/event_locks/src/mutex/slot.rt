@@ -162,9 +162,7 @@ impl<T: Drop> Request<Slot<T, Task>> for Place {
     }
 }
 
-impl<T: Drop> Grantor for Slot<T, Task> {
-    type Grant = T;
-
+impl<T: Drop> Grantor<T> for Slot<T, Task> {
     #[inline(always)]
     fn give_back<K: WakeSink<Task>>(&mut self, grant: T, sink: &mut K) {
         self.put(grant, sink);

@@ -10,46 +10,17 @@ ghost use Rattle.event_locks.specs.Line.{HandsOut, Looked, OnGranted, TellsAll, 
 ghost use Rattle.event_locks.specs.Once.{MakersStay, NobodyWaitsInVain, making_at, making_by, turn_at, turns};
 
 use crate::lock::Task;
-use crate::request::{Attempted, Grantor, Request};
-use crate::waiters::{Left, found, hand_all, hand_out, join_line, leave_line, look_for};
+use crate::request::Grantor;
+use crate::waiters::{Left, hand_all, hand_out, join_line, leave_line, look_for};
 use event_queue::{Key, List, ListenError, RegisterResult, TaskExchange, WakeSink};
 use std::alloc::Global;
 use std::marker::Model;
 
-/// What one asks a cell for.
-#[derive(Clone, Copy, Debug, PartialEq, Eq)]
-pub enum Want {
-    /// The value, or the turn to make it.
-    Make,
-    /// The value.
-    Use,
-}
+/// The value is set. Only a step of the state below makes one.
+#[derive(Clone, Copy)]
+pub struct IsSet(());
 
-/// What one wants of a cell, and its place in the queue of those that want the same, if it has one. A contract sees what it
-/// wants.
-#[derive(Drop)]
-pub struct Seat {
-    want: Want,
-    key: Option<Key>,
-}
-
-impl Model for Seat {
-    ghost use Rattle.event_locks.specs.declared.once_cell.once.Want.{Want};
-
-    ghost Value = { Want };
-
-    ghost view = { λ seat. seat.want };
-}
-
-impl Seat {
-    pub(crate) fn new(want: Want) -> Self
-        ensures { result ≡ want }
-    {
-        Seat { want, key: None }
-    }
-}
-
-/// What one is to do that was granted something.
+/// What one is to do that would make the value.
 #[derive(Clone, Copy)]
 pub enum Turn {
     /// Make the value.
@@ -111,12 +82,12 @@ impl<W> Once<W> {
         Some(Turn::Make)
     }
 
-    /// The turn of one that would use the value, if it is set.
-    pub fn try_use(&self) -> Option<Turn>
-        ensures { MatchOption result (self.now.is_set ≡ false) (λ turn. (turn ≡ Turn.Use) × (self.now.is_set ≡ true)) }
+    /// Whether the value is set, for one that comes to use it.
+    pub fn try_use(&self) -> Option<IsSet>
+        ensures { MatchOption result (self.now.is_set ≡ false) (λ _. self.now.is_set ≡ true) }
     {
         if self.is_set {
-            return Some(Turn::Use);
+            return Some(IsSet(()));
         }
         None
     }
@@ -137,28 +108,19 @@ impl<W> Once<W> {
         Ok(Err(join_line(&mut self.makers)?))
     }
 
-    /// The turn of one that would use the value, or its key: it waits until the value is set.
-    pub fn come_to_use(&mut self) -> Result<Result<Turn, Key>, ListenError>
+    /// Whether the value is set, for one that comes to use it, or its key: it waits until the value is set.
+    pub fn come_to_use(&mut self) -> Result<Result<IsSet, Key>, ListenError>
         ensures kept { self.new.is_set ≡ self.old.is_set }
-        ensures turn { IfOk result (λ came. IfOk came (λ turn. (turn ≡ Turn.Use) × (self.old.is_set ≡ true) × (self.new ≡ self.old))) }
+        ensures set { IfOk result (λ came. IfOk came (λ _. (self.old.is_set ≡ true) × (self.new ≡ self.old))) }
         ensures refused { OnErr result (self.new ≡ self.old) }
         ensures waits { IfOk result (λ came. IfErr came (λ key. Inserts self.old.readers (Ok key) self.new.readers × (self.old.is_set ≡ false))) }
         ensures reason { IfErr result (λ error. Inserts self.old.readers (Err error) self.new.readers × (self.old.is_set ≡ false)) }
         ensures makers { MakersStay self.old self.new }
     {
         if self.is_set {
-            return Ok(Ok(Turn::Use));
+            return Ok(Ok(IsSet(())));
         }
         Ok(Err(join_line(&mut self.readers)?))
-    }
-
-    fn come(&mut self, want: Want) -> Result<Result<Turn, Key>, ListenError>
-        ensures { want ≡ Want.Use → IfOk result (λ came. IfOk came (λ turn. turn ≡ Turn.Use)) }
-    {
-        match want {
-            Want::Make => self.come_to_make(),
-            Want::Use => self.come_to_use(),
-        }
     }
 
     /// What this one is to do, if it is its turn: then it leaves the queue.
@@ -194,15 +156,14 @@ impl<W> Once<W> {
         key: Key,
         exchange: &X,
         on: &mut C,
-    ) -> RegisterResult<Turn>
+    ) -> RegisterResult<IsSet>
         ensures step { RegistersWith (X.exchanged exchange.now) self.old.readers key on.old (as_told result) self.new.readers on.new }
         ensures looked { Looked (X.exchanged exchange.now) on.old result on.new }
-        ensures turn { OnGranted result (λ turn. turn ≡ Turn.Use) }
         ensures kept { self.new.is_set ≡ self.old.is_set }
         ensures makers { MakersStay self.old self.new }
     {
         match look_for(&mut self.readers, key, exchange, on) {
-            RegisterResult::Notified(()) => RegisterResult::Notified(Turn::Use),
+            RegisterResult::Notified(()) => RegisterResult::Notified(IsSet(())),
             RegisterResult::Registered => RegisterResult::Registered,
             RegisterResult::NeverInserted => RegisterResult::NeverInserted,
         }
@@ -233,17 +194,16 @@ impl<W> Once<W> {
     }
 
     /// Takes one out of the queue that waits for the value.
-    pub fn leave_using(&mut self, key: Key) -> Option<Turn>
+    pub fn leave_using(&mut self, key: Key) -> Option<IsSet>
     where
         W: Drop,
         ensures has { MatchOption result (length self.new.readers.told ≡ length self.old.readers.told) (λ _. length self.new.readers.told + 1 ≡ length self.old.readers.told) }
-        ensures turn { IfSome result (λ turn. turn ≡ Turn.Use) }
         ensures kept { self.new.is_set ≡ self.old.is_set }
         ensures others { order_of self.new.readers ≡ without key (order_of self.old.readers) }
         ensures makers { MakersStay self.old self.new }
     {
         match leave_line(&mut self.readers, key) {
-            Left::Told => Some(Turn::Use),
+            Left::Told => Some(IsSet(())),
             Left::Waited => None,
             Left::Absent => None,
         }
@@ -284,77 +244,7 @@ impl<W> Once<W> {
     }
 }
 
-impl Request<Once<Task>> for Seat {
-    ghost use Rattle.event_locks.specs.declared.once_cell.once.Turn.{Turn};
-    ghost use Rattle.event_locks.specs.declared.once_cell.once.Want.{Want};
-
-    type Output = Turn;
-
-    const TRIES: u32 = 0;
-
-    ghost gives = { λ want turn. want ≡ Want.Use → turn ≡ Turn.Use };
-
-    fn is_waiting(&self) -> bool {
-        self.key.is_some()
-    }
-
-    fn attempt<K: WakeSink<Task>>(
-        &mut self,
-        state: &mut Once<Task>,
-        _sink: &mut K,
-    ) -> Option<Turn> {
-        match self.want {
-            Want::Make => state.try_make(),
-            Want::Use => state.try_use(),
-        }
-    }
-
-    fn attempt_or_wait<C, X: TaskExchange<Task, C>, K: WakeSink<Task>>(
-        &mut self,
-        state: &mut Once<Task>,
-        exchange: &X,
-        on: &mut C,
-        _sink: &mut K,
-    ) -> Attempted<Turn> {
-        let key = match self.key.take() {
-            Some(key) => key,
-            None => match state.come(self.want) {
-                Ok(Err(key)) => key,
-                Ok(Ok(turn)) => return Attempted::Done(turn),
-                Err(error) => return Attempted::Refused(error),
-            },
-        };
-        let looked = match self.want {
-            Want::Make => state.look_to_make(key, exchange, on),
-            Want::Use => state.look_to_use(key, exchange, on),
-        };
-        let attempted = found(key, looked);
-        self.key = attempted.key();
-        attempted
-    }
-
-    fn leave<K: WakeSink<Task>>(&mut self, state: &mut Once<Task>, _sink: &mut K) -> Option<Turn> {
-        let key = self.key.take()?;
-        match self.want {
-            Want::Make => state.leave_making(key),
-            Want::Use => state.leave_using(key),
-        }
-    }
-
-    fn give_up<K: WakeSink<Task>>(&mut self, state: &mut Once<Task>, sink: &mut K) {
-        let mut leaving = Seat {
-            want: self.want,
-            key: self.key.take(),
-        };
-        if let Some(turn) = leaving.leave(state, sink) {
-            state.give_back(turn, sink);
-        }
-    }
-}
-
-impl Grantor for Once<Task> {
-    type Grant = Turn;
-
+impl Grantor<Turn> for Once<Task> {
     fn give_back<K: WakeSink<Task>>(&mut self, grant: Turn, sink: &mut K) {
         match grant {
             Turn::Make => self.give_up(sink),
@@ -362,4 +252,8 @@ impl Grantor for Once<Task> {
             Turn::Use => {}
         }
     }
+}
+
+impl Grantor<IsSet> for Once<Task> {
+    fn give_back<K: WakeSink<Task>>(&mut self, _grant: IsSet, _sink: &mut K) {}
 }

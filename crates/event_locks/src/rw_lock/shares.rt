@@ -1,12 +1,13 @@
 //! The state of a read-write lock.
-ghost use Rattle.std.specs.Prelude.{◌≡◌, ◌+◌, ◌-◌, ◌<◌, ◌≤◌, ◌^◌, ◌↔◌, [], None, length, IsTrue, IsFalse, IsOk, IfOk, IfErr, IfSome, OnErr, ◌⊎◌};
+ghost use Rattle.std.specs.Prelude.{◌≡◌, ◌+◌, ◌-◌, ◌<◌, ◌≤◌, ◌^◌, ◌↔◌, [], None, length, IsTrue, IsFalse, IsOk, IfOk, IfErr, IfSome, OnErr};
 ghost use Rattle.event_queue.specs.Exchange.{RegistersWith};
 ghost use Rattle.event_queue.specs.Insert.{Inserts};
 ghost use Rattle.event_queue.specs.Key.{without};
 ghost use Rattle.event_queue.specs.Queue.{order_of};
-ghost use Rattle.event_locks.specs.Line.{HandsOut, Looked, OnGranted, as_told, left_by};
-ghost use Rattle.event_locks.specs.Shares.{HasNoRoom, IsAWriterThere, NobodyWaitsInVain, NoWriterIsThere, NobodyIsIn, ReadersStay, WritersStay, reading, writing};
+ghost use Rattle.event_locks.specs.Line.{HandsOut, Looked, as_told, left_by};
+ghost use Rattle.event_locks.specs.Shares.{HasNoRoom, IsAWriterThere, NobodyWaitsInVain, NoWriterIsThere, NobodyIsIn, ReadersStay, RefusesReader, WritersStay, reading, writing};
 
+use crate::error::LockError;
 use crate::lock::Task;
 use crate::request::Grantor;
 use crate::waiters::{Left, hand_all, hand_out, join_line, leave_line, look_for, somebody_waits};
@@ -14,24 +15,11 @@ use event_queue::{Key, List, ListenError, RegisterResult, TaskExchange, WakeSink
 use std::alloc::Global;
 use std::marker::Model;
 
-/// What one asks for.
-#[derive(Clone, Copy, Debug, PartialEq, Eq)]
-pub enum Access {
-    Read,
-    Write,
-}
+/// The right to read. It is no `Drop`, and only a step of the state below makes one.
+pub struct ReadShare(());
 
-/// The right to read or to write, as a contract sees it by its access. It is no `Drop`, and only a step of the state below
-/// makes one.
-pub struct Share(Access);
-
-impl Model for Share {
-    ghost use Rattle.event_locks.specs.declared.rw_lock.shares.Access.{Access};
-
-    ghost Value = { Access };
-
-    ghost view = { λ share. share.0 };
-}
+/// The right to write, as the right to read.
+pub struct WriteShare(());
 
 /// How many readers and writers have the value, and the queues of both.
 ///
@@ -108,26 +96,29 @@ impl<W> Shares<W> {
     }
 
     /// Counts a reader, or puts it into its queue.
-    pub fn read(&mut self) -> Result<Result<Share, Key>, ListenError>
-        ensures let_in { IfOk result (λ came. IfOk came (λ share. (share ≡ Access.Read) × (self.new ≡ record self.old { readers = self.old.readers + 1 }) × NoWriterIsThere self.old)) }
+    pub fn read(&mut self) -> Result<Result<ReadShare, Key>, LockError>
+        ensures let_in { IfOk result (λ came. IfOk came (λ _. (self.new ≡ record self.old { readers = self.old.readers + 1 }) × NoWriterIsThere self.old)) }
         ensures waits { IfOk result (λ came. IfErr came (λ key. Inserts self.old.read_line (Ok key) self.new.read_line × (self.new.readers ≡ self.old.readers) × IsAWriterThere self.old)) }
         ensures others { WritersStay self.old self.new }
         ensures refused { OnErr result (self.new ≡ self.old) }
-        ensures reason { IfErr result (λ error. Inserts self.old.read_line (Err error) self.new.read_line ⊎ HasNoRoom self.old) }
+        ensures reason { IfErr result (λ error. RefusesReader error self.old self.new) }
     {
         if !self.has_room() {
-            return Err(ListenError::SerialsUsedUp);
+            return Err(LockError::TooManyReaders);
         }
         if self.is_wanted() {
-            return Ok(Err(join_line(&mut self.read_line)?));
+            return match join_line(&mut self.read_line) {
+                Ok(key) => Ok(Err(key)),
+                Err(error) => Err(LockError::Listen(error)),
+            };
         }
         self.readers += 1;
-        Ok(Ok(Share(Access::Read)))
+        Ok(Ok(ReadShare(())))
     }
 
     /// Counts the writer, or puts it into its queue.
-    pub fn write(&mut self) -> Result<Result<Share, Key>, ListenError>
-        ensures let_in { IfOk result (λ came. IfOk came (λ share. (share ≡ Access.Write) × (self.new ≡ record self.old { writers = 1 }) × NobodyIsIn self.old)) }
+    pub fn write(&mut self) -> Result<Result<WriteShare, Key>, ListenError>
+        ensures let_in { IfOk result (λ came. IfOk came (λ _. (self.new ≡ record self.old { writers = 1 }) × NobodyIsIn self.old)) }
         ensures waits { IfOk result (λ came. IfErr came (λ key. Inserts self.old.write_line (Ok key) self.new.write_line × (self.new.writers ≡ self.old.writers) × (0 < reading self.old + writing self.old))) }
         ensures others { ReadersStay self.old self.new }
         ensures refused { OnErr result (self.new ≡ self.old) }
@@ -137,13 +128,13 @@ impl<W> Shares<W> {
             return Ok(Err(join_line(&mut self.write_line)?));
         }
         self.writers = 1;
-        Ok(Ok(Share(Access::Write)))
+        Ok(Ok(WriteShare(())))
     }
 
     /// Counts a reader, if no writer writes or waits.
     #[inline(always)]
-    pub fn try_read(&mut self) -> Option<Share>
-        ensures let_in { IfSome result (λ share. (share ≡ Access.Read) × (self.new ≡ record self.old { readers = self.old.readers + 1 }) × NoWriterIsThere self.old) }
+    pub fn try_read(&mut self) -> Option<ReadShare>
+        ensures let_in { IfSome result (λ _. (self.new ≡ record self.old { readers = self.old.readers + 1 }) × NoWriterIsThere self.old) }
         ensures refused { result ≡ None → self.new ≡ self.old }
         ensures reason { result ≡ None → NoWriterIsThere self.old → HasNoRoom self.old }
     {
@@ -151,20 +142,20 @@ impl<W> Shares<W> {
             return None;
         }
         self.readers += 1;
-        Some(Share(Access::Read))
+        Some(ReadShare(()))
     }
 
     /// Counts the writer, if nobody has the value.
     #[inline(always)]
-    pub fn try_write(&mut self) -> Option<Share>
-        ensures let_in { IfSome result (λ share. (share ≡ Access.Write) × (self.new ≡ record self.old { writers = 1 }) × NobodyIsIn self.old) }
+    pub fn try_write(&mut self) -> Option<WriteShare>
+        ensures let_in { IfSome result (λ _. (self.new ≡ record self.old { writers = 1 }) × NobodyIsIn self.old) }
         ensures refused { result ≡ None → (self.new ≡ self.old) × (0 < reading self.old + writing self.old) }
     {
         if self.is_used() {
             return None;
         }
         self.writers = 1;
-        Some(Share(Access::Write))
+        Some(WriteShare(()))
     }
 
     /// Whether this reader was let in: then it leaves its queue.
@@ -173,18 +164,17 @@ impl<W> Shares<W> {
         key: Key,
         exchange: &X,
         on: &mut C,
-    ) -> RegisterResult<Share>
+    ) -> RegisterResult<ReadShare>
         ensures looked { Looked (X.exchanged exchange.now) on.old result on.new }
         ensures step { RegistersWith (X.exchanged exchange.now) self.old.read_line key on.old (as_told result) self.new.read_line on.new }
         ensures reading { reading self.new ≡ reading self.old }
         ensures readers { self.new.readers ≡ self.old.readers + left_by result }
-        ensures reads { OnGranted result (λ share. share ≡ Access.Read) }
         ensures writers { WritersStay self.old self.new }
     {
         match look_for(&mut self.read_line, key, exchange, on) {
             RegisterResult::Notified(()) => {
                 self.readers += 1;
-                RegisterResult::Notified(Share(Access::Read))
+                RegisterResult::Notified(ReadShare(()))
             }
             RegisterResult::Registered => RegisterResult::Registered,
             RegisterResult::NeverInserted => RegisterResult::NeverInserted,
@@ -197,18 +187,17 @@ impl<W> Shares<W> {
         key: Key,
         exchange: &X,
         on: &mut C,
-    ) -> RegisterResult<Share>
+    ) -> RegisterResult<WriteShare>
         ensures looked { Looked (X.exchanged exchange.now) on.old result on.new }
         ensures step { RegistersWith (X.exchanged exchange.now) self.old.write_line key on.old (as_told result) self.new.write_line on.new }
         ensures writing { writing self.new ≡ writing self.old }
         ensures writers { self.new.writers ≡ self.old.writers + left_by result }
-        ensures writes { OnGranted result (λ share. share ≡ Access.Write) }
         ensures readers { ReadersStay self.old self.new }
     {
         match look_for(&mut self.write_line, key, exchange, on) {
             RegisterResult::Notified(()) => {
                 self.writers = 1;
-                RegisterResult::Notified(Share(Access::Write))
+                RegisterResult::Notified(WriteShare(()))
             }
             RegisterResult::Registered => RegisterResult::Registered,
             RegisterResult::NeverInserted => RegisterResult::NeverInserted,
@@ -216,11 +205,11 @@ impl<W> Shares<W> {
     }
 
     /// Takes this reader out of its queue, with its right if it was let in.
-    pub fn leave_read(&mut self, key: Key) -> Option<Share>
+    pub fn leave_read(&mut self, key: Key) -> Option<ReadShare>
     where
         W: Drop,
         ensures reading { reading self.new ≡ reading self.old }
-        ensures let_in { IfSome result (λ share. (share ≡ Access.Read) × (self.new.readers ≡ self.old.readers + 1)) }
+        ensures let_in { IfSome result (λ _. (self.new.readers ≡ self.old.readers + 1)) }
         ensures not_yet { result ≡ None → self.new.readers ≡ self.old.readers }
         ensures others { order_of self.new.read_line ≡ without key (order_of self.old.read_line) }
         ensures writers { WritersStay self.old self.new }
@@ -228,7 +217,7 @@ impl<W> Shares<W> {
         match leave_line(&mut self.read_line, key) {
             Left::Told => {
                 self.readers += 1;
-                Some(Share(Access::Read))
+                Some(ReadShare(()))
             }
             Left::Waited => None,
             Left::Absent => None,
@@ -236,11 +225,11 @@ impl<W> Shares<W> {
     }
 
     /// Takes this writer out of its queue, with its right if it was let in. If no other one waits, the readers are let in.
-    pub fn leave_write<S: WakeSink<W>>(&mut self, key: Key, sink: &mut S) -> Option<Share>
+    pub fn leave_write<S: WakeSink<W>>(&mut self, key: Key, sink: &mut S) -> Option<WriteShare>
     where
         W: Drop,
         ensures writing { writing self.new ≡ writing self.old }
-        ensures let_in { IfSome result (λ share. (share ≡ Access.Write) × (self.new.writers ≡ self.old.writers + 1)) }
+        ensures let_in { IfSome result (λ _. (self.new.writers ≡ self.old.writers + 1)) }
         ensures not_yet { result ≡ None → self.new.writers ≡ self.old.writers }
         ensures others { order_of self.new.write_line ≡ without key (order_of self.old.write_line) }
         ensures readers { self.new.readers ≡ self.old.readers }
@@ -250,7 +239,7 @@ impl<W> Shares<W> {
         match leave_line(&mut self.write_line, key) {
             Left::Told => {
                 self.writers = 1;
-                Some(Share(Access::Write))
+                Some(WriteShare(()))
             }
             Left::Waited => {
                 if self.writers > 0 || self.write_line.total_listeners() > 0 {
@@ -301,38 +290,34 @@ impl<W> Shares<W> {
     }
 
     /// The writer reads from here on, and all readers are let in that wait.
-    pub fn downgrade<S: WakeSink<W>>(&mut self, share: Share, sink: &mut S) -> Share
+    pub fn downgrade<S: WakeSink<W>>(&mut self, share: WriteShare, sink: &mut S) -> ReadShare
         ensures reads { 0 < self.old.writers → (self.new.readers ≡ 1) × (self.new.writers ≡ 0) }
         ensures step { 0 < self.old.writers → HandsOut S.woke (length self.old.read_line.waiting) self.old.read_line self.new.read_line sink.old sink.new }
         ensures unchanged { self.old.writers ≡ 0 → (self.new ≡ self.old) × (sink.new ≡ sink.old) }
         ensures queue { self.new.write_line ≡ self.old.write_line }
-        ensures share { 0 < self.old.writers → result ≡ Access.Read }
-        ensures same_share { self.old.writers ≡ 0 → result ≡ share }
     {
+        let WriteShare(()) = share;
         if self.writers == 0 {
-            return share;
+            return ReadShare(());
         }
-        let Share(_) = share;
         self.writers = 0;
         self.readers = 1;
         hand_all(&mut self.read_line, sink);
-        Share(Access::Read)
+        ReadShare(())
     }
 
     /// The reader writes from here on, if it is the only one.
-    pub fn try_upgrade(&mut self, share: Share) -> Result<Share, Share>
+    pub fn try_upgrade(&mut self, share: ReadShare) -> Result<WriteShare, ReadShare>
         ensures alone { IsOk result → (reading self.old ≡ 1) × (self.new ≡ record self.old { readers = 0; writers = 1 }) }
         ensures refused { OnErr result ((self.new ≡ self.old) × ((self.old.readers ≡ 1) → 0 < length self.old.read_line.told)) }
-        ensures share { IfOk result (λ new. new ≡ Access.Write) }
-        ensures same_share { IfErr result (λ same. same ≡ share) }
     {
         if self.readers != 1 || self.read_line.is_notified() {
             return Err(share);
         }
-        let Share(_) = share;
+        let ReadShare(()) = share;
         self.readers = 0;
         self.writers = 1;
-        Ok(Share(Access::Write))
+        Ok(WriteShare(()))
     }
 
     /// Nobody waits in vain, and who writes is alone.
@@ -343,15 +328,18 @@ impl<W> Shares<W> {
     }
 }
 
-impl Grantor for Shares<Task> {
-    type Grant = Share;
-
+impl Grantor<ReadShare> for Shares<Task> {
     #[inline(always)]
-    fn give_back<K: WakeSink<Task>>(&mut self, grant: Share, sink: &mut K) {
-        let Share(access) = grant;
-        match access {
-            Access::Read => self.unread(sink),
-            Access::Write => self.unwrite(sink),
-        }
+    fn give_back<K: WakeSink<Task>>(&mut self, grant: ReadShare, sink: &mut K) {
+        let ReadShare(()) = grant;
+        self.unread(sink);
+    }
+}
+
+impl Grantor<WriteShare> for Shares<Task> {
+    #[inline(always)]
+    fn give_back<K: WakeSink<Task>>(&mut self, grant: WriteShare, sink: &mut K) {
+        let WriteShare(()) = grant;
+        self.unwrite(sink);
     }
 }

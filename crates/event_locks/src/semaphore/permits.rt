@@ -124,9 +124,7 @@ impl<W> Permits<W> {
     }
 }
 
-impl Grantor for Permits<Task> {
-    type Grant = Permit;
-
+impl Grantor<Permit> for Permits<Task> {
     #[inline(always)]
     fn give_back<K: WakeSink<Task>>(&mut self, grant: Permit, sink: &mut K) {
         let Permit(()) = grant;
