@@ -1,5 +1,5 @@
 //! The side that receives.
-ghost use Rattle.std.specs.Prelude.{◌≡◌, ◌≤◌, IfOk, IfSome};
+ghost use Rattle.std.specs.Prelude.{◌≡◌, ◌≤◌, IfOk, IfSome, IsSome};
 
 use crate::channel::Link;
 use crate::error::{RecvError, RecvTimeoutError, TryRecvError};
@@ -34,17 +34,19 @@ impl<T: Drop, R: Wait + Clock + Clone> Model for Receiver<T, R> {
     ghost view = { λ receiver. receiver.link };
 }
 
-// What a wait for ever led to.
-fn received<T>(waited: Result<Option<Result<T, Ended>>, LockError>) -> Result<T, RecvError> {
+// What a wait without a limit received.
+fn received<T>(waited: Result<Option<Result<T, Ended>>, LockError>) -> Result<T, RecvError>
+    requires { IfOk waited IsSome }
+{
     match waited {
         Ok(Some(Ok(message))) => Ok(message),
         Ok(Some(Err(Ended))) => Err(RecvError::Closed),
-        Ok(None) => Err(RecvError::WaitFailed(LockError::Finished)),
+        Ok(None) => unreachable!(),
         Err(error) => Err(RecvError::WaitFailed(error)),
     }
 }
 
-// What a wait with a limit led to.
+// What a wait with a limit received.
 fn received_in_time<T>(
     waited: Result<Option<Result<T, Ended>>, LockError>,
 ) -> Result<T, RecvTimeoutError> {
@@ -134,7 +136,9 @@ impl<T: Drop, R: Wait + Clock + Clone> Receiver<T, R> {
     }
 
     #[inline(always)]
-    fn wait(&self, limit: Limit) -> Result<Option<Result<T, Ended>>, LockError> {
+    fn wait(&self, limit: Limit) -> Result<Option<Result<T, Ended>>, LockError>
+        ensures never { limit ≡ Limit.Never → IfOk result IsSome }
+    {
         let mut receiving = Receiving::one();
         self.link
             .channel
@@ -238,7 +242,7 @@ impl<T: Drop, R: Wait + Clock + Clone> Stream for Receiver<T, R> {
         {
             Poll::Ready(Ok(Ok(message))) => Poll::Ready(Some(Ok(message))),
             Poll::Ready(Ok(Err(Ended))) => Poll::Ready(None),
-            Poll::Ready(Err(error)) => Poll::Ready(Some(Err(LockError::Listen(error)))),
+            Poll::Ready(Err(error)) => Poll::Ready(Some(Err(error))),
             Poll::Pending => Poll::Pending,
         }
     }

@@ -1,7 +1,7 @@
 //! Receives that wait for a message.
 use crate::error::TryRecvError;
 use crate::messages::{Messages, Received};
-use event_locks::{Attempted, Request, Task};
+use event_locks::{Attempted, LockError, Request, Task};
 use event_queue::{Key, TaskExchange, WakeSink};
 use std::marker::Model;
 
@@ -82,7 +82,7 @@ impl<T> Request<Messages<T, Task>> for Receiving {
                 Attempted::Waits(key)
             }
             Received::Closed => Attempted::Done(Err(Ended)),
-            Received::WaitFailed(error) => Attempted::Refused(error),
+            Received::WaitFailed(error) => Attempted::Refused(LockError::Listen(error)),
         }
     }
 

@@ -4,7 +4,6 @@ ghost use Rattle.std.specs.Prelude.{◌≡◌};
 use crate::channel::Channel;
 use crate::error::RecvError;
 use crate::receiving::{Ended, Receiving};
-use event_locks::LockError;
 use futures::Future;
 use futures::task::{Context, Poll};
 use std::fmt;
@@ -65,9 +64,7 @@ impl<'a, T: Drop, R: Wait + Clock + Clone> Future for Recv<'a, T, R> {
         match self.channel.lock.poll_in(self.rt, &mut self.receiving, cx) {
             Poll::Ready(Ok(Ok(message))) => Poll::Ready(Ok(message)),
             Poll::Ready(Ok(Err(Ended))) => Poll::Ready(Err(RecvError::Closed)),
-            Poll::Ready(Err(error)) => {
-                Poll::Ready(Err(RecvError::WaitFailed(LockError::Listen(error))))
-            }
+            Poll::Ready(Err(error)) => Poll::Ready(Err(RecvError::WaitFailed(error))),
             Poll::Pending => Poll::Pending,
         }
     }

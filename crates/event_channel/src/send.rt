@@ -5,7 +5,6 @@ ghost use Rattle.event_channel.specs.Handle.{Carries};
 use crate::channel::Channel;
 use crate::error::SendError;
 use crate::sending::Sending;
-use event_locks::LockError;
 use futures::Future;
 use futures::task::{Context, Poll};
 use std::fmt;
@@ -74,7 +73,7 @@ impl<'a, T: Drop, R: Wait + Clock + Clone> Future for Send<'a, T, R> {
             Poll::Ready(Ok(sent)) => Poll::Ready(sent),
             Poll::Ready(Err(error)) => {
                 let message = self.sending.take();
-                Poll::Ready(Err(SendError::WaitFailed(message, LockError::Listen(error))))
+                Poll::Ready(Err(SendError::WaitFailed(message, error)))
             }
             Poll::Pending => Poll::Pending,
         }

@@ -3,7 +3,7 @@ ghost use Rattle.std.specs.Prelude.{◌≡◌, Some, IsSome};
 
 use crate::error::{SendError, TrySendError};
 use crate::messages::{Messages, Sent};
-use event_locks::{Attempted, Request, Task};
+use event_locks::{Attempted, LockError, Request, Task};
 use event_queue::{Key, TaskExchange, WakeSink};
 use std::marker::Model;
 
@@ -116,7 +116,7 @@ impl<T: Drop> Request<Messages<T, Task>> for Sending<T> {
             Sent::Memory(message) => Attempted::Done(Err(SendError::Memory(message))),
             Sent::WaitFailed(message, error) => {
                 self.keep(message);
-                Attempted::Refused(error)
+                Attempted::Refused(LockError::Listen(error))
             }
         }
     }
