@@ -1,7 +1,8 @@
 //! What each lock does in the order in which callers of other crates' locks use it.
 use crate::support::{check, new_task};
 use event_locks::{
-    Barrier, Grants, LockError, Mutex, Obtaining, OnceCell, Request, RwLock, Semaphore,
+    Barrier, Grants, LockError, Mutex, Obtaining, OnceCell, Request, RwLock, Semaphore, SetError,
+    SetReason,
 };
 use std::sync::Arc;
 use std::sync::atomic::{AtomicUsize, Ordering};
@@ -114,8 +115,9 @@ fn a_cell_is_set_once(rt: HostRuntime) {
     check(&rt, "unset", cell.get().copied(), None);
     let set = cell.set(&rt, rt.alloc(), 7).copied();
     check(&rt, "set", set, Ok(7));
-    let again = cell.set(&rt, rt.alloc(), 8).err();
-    check(&rt, "set again", again, Some(8));
+    let again = cell.set(&rt, rt.alloc(), 8).copied();
+    let (value, reason) = (8, SetReason::AlreadySet);
+    check(&rt, "again", again, Err(SetError { value, reason }));
     let made = cell.get_or_try_init(&rt, rt.alloc(), failed).copied();
     check(&rt, "made", made, Ok(7));
     let seen = cell.wait(&rt, rt.alloc()).wait().expect(&rt, "the value");

@@ -1,6 +1,6 @@
 //! Tests that are written once and run with each kind of wait.
 use crate::kinds::{Kind, Of, Read, See, Write};
-use event_locks::{Barrier, Makes, Mutex, OnceCell, RwLock, Semaphore};
+use event_locks::{Barrier, Mutex, OnceCell, RwLock, Semaphore};
 use std::alloc::{AllocError, AllocGlobal};
 use std::sync::{Arc, Wait};
 use std::time::Clock;

@@ -1,9 +1,9 @@
 //! Each kind of wait, so that what is said of every one is written once and run with each.
 use event_locks::{
-    Asking, Barrier, BarrierWait, Borrowed, Claim, Entering, Entry, Grants, LockError, Makes,
-    Mutex, MutexGuard, Obtaining, Once, OnceCell, Permits, Place, Reads, Request, Rounds, RwLock,
-    RwLockReadGuard, RwLockWriteGuard, Seat, Semaphore, SemaphoreGuard, Shared, Shares, Slot, Task,
-    Uses, Vacant, Writes,
+    Arriving, Asking, Barrier, BarrierWait, Borrowed, Claim, Ended, Entering, Grants, IsSet,
+    LockError, Mutex, MutexGuard, Obtaining, Once, OnceCell, Permits, Place, ReadShare, Request,
+    Rounds, RwLock, RwLockReadGuard, RwLockWriteGuard, Seat, Semaphore, SemaphoreGuard, Shared,
+    Shares, Slot, Task, Turn, Vacant, WriteShare,
 };
 use std::alloc::{AllocError, Global};
 use std::marker::PhantomData;
@@ -118,7 +118,7 @@ impl<'a, R: Wait + Clock + Clone + Sync> Kind for Of<'a, Arc<Semaphore, Global>,
 
     type Request = Place;
 
-    type Hold = Shared<Permits<Task>, R>;
+    type Hold = Shared<Semaphore, R>;
 
     type Held = Option<SemaphoreGuard<'a, R>>;
 
@@ -162,7 +162,7 @@ impl<'a, R: Wait + Clock + Clone + Sync> Kind for Of<'a, Arc<Mutex<u64>, Global>
 
     type Request = Place;
 
-    type Hold = Shared<Slot<u64, Task>, R>;
+    type Hold = Shared<Mutex<u64>, R>;
 
     type Held = Option<MutexGuard<'a, u64, R>>;
 
@@ -182,9 +182,9 @@ impl<'a, R: Wait + Clock + Clone + Sync> Kind for Of<'a, Arc<Mutex<u64>, Global>
 impl<'a, R: Wait + Clock + Sync> Kind for Of<'a, RwLock<u64>, R, Read> {
     type State = Shares<Task>;
 
-    type Request = Entry;
+    type Request = Seat<ReadShare>;
 
-    type Hold = Entering<'a, u64, R, Reads>;
+    type Hold = Entering<'a, u64, R>;
 
     type Held = Option<RwLockWriteGuard<'a, u64, R>>;
 
@@ -196,7 +196,7 @@ impl<'a, R: Wait + Clock + Sync> Kind for Of<'a, RwLock<u64>, R, Read> {
         self.lock.try_write(self.rt)
     }
 
-    fn waits(&self) -> Result<Obtaining<Shares<Task>, Entry, Self::Hold>, AllocError> {
+    fn waits(&self) -> Result<Obtaining<Shares<Task>, Seat<ReadShare>, Self::Hold>, AllocError> {
         Ok(self.lock.read(self.rt, self.alloc))
     }
 }
@@ -204,9 +204,9 @@ impl<'a, R: Wait + Clock + Sync> Kind for Of<'a, RwLock<u64>, R, Read> {
 impl<'a, R: Wait + Clock + Sync> Kind for Of<'a, RwLock<u64>, R, Write> {
     type State = Shares<Task>;
 
-    type Request = Entry;
+    type Request = Seat<WriteShare>;
 
-    type Hold = Entering<'a, u64, R, Writes>;
+    type Hold = Entering<'a, u64, R>;
 
     type Held = Option<RwLockReadGuard<'a, u64, R>>;
 
@@ -218,7 +218,7 @@ impl<'a, R: Wait + Clock + Sync> Kind for Of<'a, RwLock<u64>, R, Write> {
         self.lock.try_read(self.rt)
     }
 
-    fn waits(&self) -> Result<Obtaining<Shares<Task>, Entry, Self::Hold>, AllocError> {
+    fn waits(&self) -> Result<Obtaining<Shares<Task>, Seat<WriteShare>, Self::Hold>, AllocError> {
         Ok(self.lock.write(self.rt, self.alloc))
     }
 }
@@ -238,9 +238,9 @@ impl<R: Wait + Clock> Drop for Arrives<'_, R> {
 impl<'a, R: Wait + Clock + Sync> Kind for Of<'a, Barrier, R> {
     type State = Rounds<Task>;
 
-    type Request = Place;
+    type Request = Seat<Ended>;
 
-    type Hold = Borrowed<'a, Rounds<Task>, R>;
+    type Hold = Arriving<'a, R>;
 
     type Held = Arrives<'a, R>;
 
@@ -252,7 +252,7 @@ impl<'a, R: Wait + Clock + Sync> Kind for Of<'a, Barrier, R> {
         Arrives(Some(self.lock.wait(self.rt, self.alloc)))
     }
 
-    fn waits(&self) -> Result<Obtaining<Rounds<Task>, Place, Self::Hold>, AllocError> {
+    fn waits(&self) -> Result<Obtaining<Rounds<Task>, Seat<Ended>, Self::Hold>, AllocError> {
         Ok(self.lock.wait(self.rt, self.alloc))
     }
 }
@@ -260,9 +260,9 @@ impl<'a, R: Wait + Clock + Sync> Kind for Of<'a, Barrier, R> {
 impl<'a, R: Wait + Clock + Sync> Kind for Of<'a, OnceCell<u64>, R> {
     type State = Once<Task>;
 
-    type Request = Seat;
+    type Request = Seat<Turn>;
 
-    type Hold = Asking<'a, u64, R, Makes>;
+    type Hold = Asking<'a, u64, R>;
 
     type Held = Result<Option<Claim<'a, u64, R>>, LockError>;
 
@@ -275,7 +275,7 @@ impl<'a, R: Wait + Clock + Sync> Kind for Of<'a, OnceCell<u64>, R> {
         claiming.wait_timeout(Duration::ZERO)
     }
 
-    fn waits(&self) -> Result<Obtaining<Once<Task>, Seat, Self::Hold>, AllocError> {
+    fn waits(&self) -> Result<Obtaining<Once<Task>, Seat<Turn>, Self::Hold>, AllocError> {
         Ok(self.lock.claim(self.rt, self.alloc))
     }
 }
@@ -295,9 +295,9 @@ impl<R: Wait + Clock> Drop for Sets<'_, R> {
 impl<'a, R: Wait + Clock + Sync> Kind for Of<'a, OnceCell<u64>, R, See> {
     type State = Once<Task>;
 
-    type Request = Seat;
+    type Request = Seat<IsSet>;
 
-    type Hold = Asking<'a, u64, R, Uses>;
+    type Hold = Asking<'a, u64, R>;
 
     type Held = Sets<'a, R>;
 
@@ -313,7 +313,7 @@ impl<'a, R: Wait + Clock + Sync> Kind for Of<'a, OnceCell<u64>, R, See> {
         })
     }
 
-    fn waits(&self) -> Result<Obtaining<Once<Task>, Seat, Self::Hold>, AllocError> {
+    fn waits(&self) -> Result<Obtaining<Once<Task>, Seat<IsSet>, Self::Hold>, AllocError> {
         Ok(self.lock.wait(self.rt, self.alloc))
     }
 }

@@ -191,7 +191,7 @@ fn owned_guards_of_a_read_write_lock(rt: HostRuntime) {
     let write = RwLock::write_arc(&lock, rt, rt.alloc());
     let writer = write.expect(&rt, "a share").wait();
     let mut writer = writer.expect(&rt, "the value");
-    *writer.value() = 8;
+    writer.with(|value| *value = 8);
     let read = RwLock::read_arc(&lock, rt, rt.alloc());
     let mut read = read.expect(&rt, "a share");
     let task = new_task(&rt);
@@ -200,6 +200,6 @@ fn owned_guards_of_a_read_write_lock(rt: HostRuntime) {
     child.ok().expect(&rt, "a thread").join(&rt);
     check(&rt, "woken", task.is_woken(), true);
     let reader = read.wait().expect(&rt, "the value");
-    check(&rt, "the value", *reader.value(), 8);
+    check(&rt, "the value", reader.with(|value| *value), 8);
     check(&rt, "a writer", lock.try_write(&rt).is_none(), true);
 }

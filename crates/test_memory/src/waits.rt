@@ -4,9 +4,25 @@ use event_listener::ListenError;
 use event_locks::{Barrier, LockError};
 use futures::task::Poll;
 use std::cell::Cell;
-use std::time::Duration;
+use std::io;
+use std::sync::atomic::{AtomicU64, Ordering};
+use std::time::{Duration, Instant};
 use test_lock_support::{Case, Kind, Sharing, each};
 use test_queue_memory::Budget;
+use test_support::{OwnClock, WithClock};
+
+// A clock that shows a second more each time it is read: a wait of one and a half looks at it once, waits, and is over.
+#[derive(Drop)]
+struct Ticks {
+    reads: AtomicU64,
+}
+
+impl OwnClock for Ticks {
+    fn read(&self) -> io::Result<Duration> {
+        let reads = self.reads.fetch_add(1, Ordering::SeqCst);
+        Ok(Duration::from_secs(reads))
+    }
+}
 
 // A wait that ends at its limit, or a poll. It counts the refusals of a place in the queue, and of what a thread parks on.
 #[derive(Drop)]
@@ -31,7 +47,7 @@ impl<R: Runtime, K: Kind> Starved for InVain<'_, R, K> {
                 Poll::Pending => None,
             }
         } else {
-            waits.wait_timeout(Duration::from_nanos(1)).err()
+            waits.wait_timeout(Duration::from_millis(1500)).err()
         };
         budget.give_back();
         match refusal {
@@ -41,7 +57,7 @@ impl<R: Runtime, K: Kind> Starved for InVain<'_, R, K> {
             Some(LockError::Memory(_)) => {
                 self.parkers.set(self.parkers.get().saturating_add(1));
             }
-            Some(LockError::Listen(_) | LockError::Finished) => panic!(rt; "another refusal"),
+            Some(_) => panic!(rt; "another refusal"),
             None => {}
         }
         refusal.is_none()
@@ -83,16 +99,33 @@ impl<R: Runtime> Case<R> for EachIsRefused {
 
 #[test]
 fn each_request_of_a_wait_for_a_lock_is_refused(rt: HostRuntime) {
+    let reads = AtomicU64::new(0);
+    let clock = Ticks { reads };
+    let own = WithClock {
+        rt: &rt,
+        clock: &clock,
+    };
     for is_polled in [false, true] {
-        let ran = each(&rt, &rt, &EachIsRefused { is_polled });
+        let ran = each(&rt, &own, &EachIsRefused { is_polled });
         ran.expect(&rt, "memory");
     }
+}
+
+// One that waits until a moment that has passed attempts, and enters no queue.
+fn is_late_without_memory<R: Runtime, K: Kind>(rt: &R, kind: &K) {
+    let now = Instant::now(rt).expect(rt, "the time");
+    let waits = kind.waits().expect(rt, "a share");
+    let hog = all_memory(rt);
+    let late = waits.wait_deadline(now).ok();
+    drop(hog);
+    let given = late.map(|it| it.is_some());
+    check(rt, "late", given, Some(false));
 }
 
 #[derive(Drop)]
 struct NeedsNone;
 
-// Without memory somebody is let in and woken. One that was told and is refused what its thread parks on passes it on.
+// Without memory somebody is let in and woken. One that was told before its thread blocks makes nothing to park on.
 impl<R: Runtime> Case<R> for NeedsNone {
     fn waiters(&self) -> usize {
         2
@@ -100,6 +133,7 @@ impl<R: Runtime> Case<R> for NeedsNone {
 
     fn run<K: Kind>(&self, rt: &R, kind: &K) {
         let (held, task, other) = (kind.hold(), new_task(rt), new_task(rt));
+        is_late_without_memory(rt, kind);
         let mut first = kind.waits().expect(rt, "a share");
         let mut second = kind.waits().expect(rt, "a share");
         check(rt, "waits", task.poll(&mut first).is_pending(), true);
@@ -107,7 +141,8 @@ impl<R: Runtime> Case<R> for NeedsNone {
         let hog = all_memory(rt);
         drop(held);
         check(rt, "woken", task.is_woken(), true);
-        drop(first.wait_timeout(Duration::MAX));
+        let given = first.wait_timeout(Duration::MAX).ok();
+        check(rt, "told", given.map(|it| it.is_some()), Some(true));
         check(rt, "woken", other.is_woken(), true);
         check(rt, "given", other.poll(&mut second).is_ready(), true);
         drop(kind.hold());
