@@ -10,7 +10,7 @@ ghost use Rattle.event_queue.specs.Exchange.{RegistersWith};
 ghost use Rattle.event_queue.specs.StoredTask.{RegistersBy};
 ghost use Rattle.event_queue.specs.Remove.{PassedAs, woken_by_passing, after_passing, IsRemoval};
 ghost use Rattle.event_queue.specs.Notify.{told_by, IsNotification};
-ghost use Rattle.event_queue.specs.Counts.{Opens, counted_on};
+ghost use Rattle.event_queue.specs.Counts.{counted_on};
 ghost use Rattle.event_queue.specs.Visits.{visits_of_insertion, visits_of_registration, visits_of_removal};
 
 use crate::exchange::TaskExchange;
@@ -22,15 +22,15 @@ use crate::reply::{ListenError, NotifyError, RegisterResult, State};
 use crate::stored_task::{Exchanging, Storing};
 use crate::wake::WakeSink;
 use std::alloc::{AllocError, AllocFailed, Global};
-use std::marker::{Brand, Model};
-use std::sync::ledger::{Blank, Ledger};
+use std::marker::Model;
+use std::sync::ledger::Ledger;
 
 /// A queue of listeners.
 ///
 /// A front of the queue is notified, each listener with a tag; the others wait, each with a task if it stored one.
 /// No call takes a lock, waits or panics.
 ///
-/// Five calls count in [`Steps`] how many nodes of other listeners they visit, and how often they look up a key. Each
+/// Six calls count in [`Steps`] how many nodes of other listeners they visit, and how often they look up a key. Each
 /// has a namesake for callers that count nothing, as [`insert_uncounted`](List::insert_uncounted).
 #[derive(Drop)]
 pub struct List<T, W> {
@@ -367,21 +367,16 @@ impl<T, W> List<T, W> {
         self.chain.before_len()
     }
 
-    /// Whether the listener of that key is notified. The call allocates nothing.
-    pub fn is_told(&self, key: Key) -> bool
-        ensures value { IsTrue result ↔ IsSome (lookup (is_key key) self.now.told) }
-        ensures queue { IsQueue self.now }
-    {
-        self.is_told_from::<Brand>(key, Blank::new(1))
-    }
-
+    /// Whether the listener of that key is notified. The call allocates nothing. It adds no visit to `steps`, and one
+    /// look by key.
     #[inline(always)]
-    fn is_told_from<L: Ledger>(&self, key: Key, blank: Blank) -> bool
-        requires { Opens blank L.name L.parts }
+    pub fn is_told<L: Ledger>(&self, key: Key, steps: &mut Steps<L>) -> bool
         ensures value { IsTrue result ↔ IsSome (lookup (is_key key) self.now.told) }
         ensures queue { IsQueue self.now }
+        ensures visits { steps.new.visits ≡ steps.old.visits }
+        ensures looks { steps.new.looks ≤ steps.old.looks + 1 }
+        ensures looked { steps.new.looks ≡ counted_on steps.old.looks 1 }
     {
-        let mut steps = Steps::<L>::new(blank);
-        self.chain.is_before(key, &mut steps)
+        self.chain.is_before(key, steps)
     }
 }

@@ -1,4 +1,8 @@
 //! The calls of a queue for callers that count no visits: each makes the counted call, in a ledger that is dropped.
+ghost use Rattle.std.specs.Prelude.{◌↔◌, IsTrue, IsSome};
+ghost use Rattle.std.specs.Map.{lookup};
+ghost use Rattle.event_queue.specs.Key.{is_key};
+ghost use Rattle.event_queue.specs.Queue.{IsQueue};
 ghost use Rattle.event_queue.specs.Insert.{IsInsertion};
 ghost use Rattle.event_queue.specs.Register.{Registers, IsRegistration};
 ghost use Rattle.event_queue.specs.Exchange.{RegistersWith};
@@ -130,5 +134,22 @@ impl<T, W> List<T, W> {
         ensures { IsNotification N.tag_gives S.woke (N.count n.old) (N.is_additional n.old) self.old n.old sink.old result self.new n.new sink.new }
     {
         self.notify(n, sink, &mut Steps::<L>::new(blank))
+    }
+
+    /// [`is_told`](List::is_told) for a caller that counts no looks.
+    pub fn is_told_uncounted(&self, key: Key) -> bool
+        ensures value { IsTrue result ↔ IsSome (lookup (is_key key) self.now.told) }
+        ensures queue { IsQueue self.now }
+    {
+        self.is_told_from::<Brand>(key, Blank::new(1))
+    }
+
+    #[inline(always)]
+    fn is_told_from<L: Ledger>(&self, key: Key, blank: Blank) -> bool
+        requires { Opens blank L.name L.parts }
+        ensures value { IsTrue result ↔ IsSome (lookup (is_key key) self.now.told) }
+        ensures queue { IsQueue self.now }
+    {
+        self.is_told(key, &mut Steps::<L>::new(blank))
     }
 }

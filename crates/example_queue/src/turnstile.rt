@@ -84,7 +84,7 @@ impl Turnstile {
         ensures entered { IsTrue result → self.new ≡ told_leaves ticket self.old }
         ensures waits { IsFalse result → order_of self.new ≡ order_of self.old }
     {
-        let is_admitted = self.line.is_told(ticket);
+        let is_admitted = self.line.is_told_uncounted(ticket);
         self.line.register_uncounted(ticket, visitor);
         is_admitted
     }

@@ -63,7 +63,7 @@ impl Machine {
             return Reply::Invalid;
         };
         let key = listener.key;
-        if act == Act::Wait && !listener.has_left && !self.queue.is_told(key) {
+        if act == Act::Wait && !listener.has_left && !self.queue.is_told_uncounted(key) {
             return Reply::Invalid;
         }
         let reply = act_by_key(&mut self.queue, key, act, woken);

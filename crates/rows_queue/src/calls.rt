@@ -127,7 +127,7 @@ impl<N: Given> Subject for Queue<N> {
                 Reply::Notified(given.notify(&mut self.list, &mut self.woken))
             }
             QueueCall::TotalListeners => Reply::TotalListeners(self.list.total_listeners()),
-            QueueCall::IsTold(key) => Reply::IsNotified(self.list.is_told(key)),
+            QueueCall::IsTold(key) => Reply::IsNotified(self.list.is_told_uncounted(key)),
         })
     }
 

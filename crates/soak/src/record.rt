@@ -38,7 +38,7 @@ impl Again {
             }
             RecordedCall::Register { key } => {
                 let key = self.key_here(key);
-                let is_told = self.list.is_told(key);
+                let is_told = self.list.is_told_uncounted(key);
                 self.counts.take(is_told);
                 let _ = self.list.register_uncounted(key, ());
             }
@@ -67,7 +67,7 @@ impl Again {
 
     // A told listener that passes its notification on leaves as many told as before.
     fn remove(&mut self, key: Key, propagate: bool) {
-        let is_told = self.list.is_told(key);
+        let is_told = self.list.is_told_uncounted(key);
         let before = self.list.listeners_notified();
         let _ = self.list.remove_uncounted(key, propagate, &mut self.woken);
         let is_passed_on = self.list.listeners_notified() == before;

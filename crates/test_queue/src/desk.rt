@@ -194,7 +194,7 @@ impl<'r, 'a, R: Abort + AllocGlobal, L: Ledger> Desk<'r, 'a, R, L> {
                 self.queue.listeners_notified(),
                 self.queue.is_notified(),
             ),
-            Call::IsTold(listener) => Answer::Is(self.queue.is_told(self.key(listener))),
+            Call::IsTold(listener) => Answer::Is(self.queue.is_told_uncounted(self.key(listener))),
             Call::HasRoom(n) => Answer::Is(self.queue.spare() >= n),
             Call::HasSerial(listener, n) => Answer::Is(self.key(listener).serial() == n),
             Call::ShareSlot(one, other) => Answer::Is(self.key(one).slot == self.key(other).slot),
@@ -268,7 +268,7 @@ impl<'r, 'a, R: Abort + AllocGlobal, L: Ledger> Desk<'r, 'a, R, L> {
             self.remove(listener, false),
             self.remove(listener, true),
         ];
-        let is_told = self.queue.is_told(self.key(listener));
+        let is_told = self.queue.is_told_uncounted(self.key(listener));
         Answer::Is(found == [Answer::Nobody; 4] && !is_told)
     }
 

@@ -47,7 +47,7 @@ fn each_call_but_a_growth(rt: HostRuntime) {
     let passed_on = list.remove_uncounted(third, true, &mut woken);
     let to_late = Some(State::Passed { to: late });
     check(&rt, "passed on", passed_on, to_late);
-    check(&rt, "the last is told", list.is_told(late), true);
+    check(&rt, "the last is told", list.is_told_uncounted(late), true);
     let nobody = list.register_uncounted(third, 5);
     check(&rt, "a stale key", nobody, RegisterResult::NeverInserted);
     let listeners = (list.total_listeners(), list.is_notified());

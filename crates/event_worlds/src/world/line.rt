@@ -55,7 +55,7 @@ impl ClientLine {
         ensures value { result ≡ is_told client self.now }
     {
         match self.keys[client] {
-            Some(key) => self.list.is_told(key),
+            Some(key) => self.list.is_told_uncounted(key),
             None => false,
         }
     }
@@ -109,7 +109,7 @@ impl ClientLine {
         let Some(key) = self.keys[client] else {
             return false;
         };
-        let told = self.list.is_told(key);
+        let told = self.list.is_told_uncounted(key);
         self.keys[client] = None;
         let _left = self.list.remove_uncounted(key, false, &mut self.wakes);
         told

@@ -16,4 +16,4 @@ pub returns : goal.returns
 returns c =
     let told = told-now c.self.inside.additional c.self.inside.list c.self.inside.keys.items c.self.inside.wakes c.self.invariant c.args.self.now c.self.view_is c.args.client c.requires.client c.index.result.now c.index.ensures c.in-Some.key c.in-Some.is in
     let leaves = leaves-now c.self.inside.additional c.self.inside.list c.self.inside.keys.items c.self.inside.wakes c.self.invariant c.args.self.now c.self.view_is c.args.client c.requires.client c.index.result.now c.index.ensures c.in-Some.key c.in-Some.is c.remove_uncounted-left.result c.remove_uncounted-left.new.self c.remove_uncounted-left.new.sink c.remove_uncounted-left.ensures.step c.remove_uncounted-left.ensures.wakes in
-    record { leaves = record { answered = same_test c.is_told-told.result _ c.is_told-told.ensures.value ∙ sym told; line = leaves.is } }
+    record { leaves = record { answered = same_test c.is_told_uncounted-told.result _ c.is_told_uncounted-told.ensures.value ∙ sym told; line = leaves.is } }
