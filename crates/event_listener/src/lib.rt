@@ -201,7 +201,7 @@
 //!
 //! - [`EventIds::next`] and [`given_numbers_are_distinct`]: events of one source differ.
 //! - [`Event::listen`]: which event a listener listens to.
-//! - [`Event::notify`]: no more listeners are notified than were asked for.
+//! - [`Event::notify`]: it returns no greater number than was asked for.
 //! - [`Listener`]: when a listener is finished, that a finished one fails, and that a wait which fails for memory
 //!   returns the same listener.
 //! - [`RecordedEvent::close`]: a record is a history of its queue, and has the notes of each hand.
