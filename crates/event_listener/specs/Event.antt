@@ -18,8 +18,8 @@ module _ {T N : Type 0} (gives : N → Result T AllocError → N → Type 0) whe
     pub gave : GaveTags source told between
     pub refused : gives between (Err alloc_error) after
 
-  -- a notification notifies at most its count of listeners, and gives a tag for each; it fails only if it refused the
-  -- tag of a listener that its count still asked for
+  -- the answer is at most the notification's count, and as many tags were given; it fails only if it refused the tag of a
+  -- listener that its count still asked for
   abbrev pub TellsSome : ℕ → N → Result ℕ NotifyError → Type 0
   TellsSome count source (Ok told) = (told ≤ count) × ((source' : N) × GaveTags source told source')
   TellsSome count source (Err error) = (error.told < count) × GaveThenRefused source error.told

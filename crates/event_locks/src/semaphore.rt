@@ -68,8 +68,8 @@ impl Semaphore {
         Ok(Obtaining::new(Shared { lock, rt }, alloc, Place::new()))
     }
 
-    /// Adds permits. They go to the first that wait, who are woken, and the others are free. As many as a `usize` holds
-    /// are free at most.
+    /// Adds permits, all free at once, and notifies the first that wait of them. As many as a `usize` holds are free at
+    /// most.
     pub fn add_permits<R: Wait>(&self, rt: &R, n: usize) {
         let mut waking = Waking::new();
         self.permits.state(rt).release(n, &mut waking);

@@ -191,8 +191,8 @@ impl<T: Copy + Eq> RecordedEvent<T> {
     }
 
     /// Ends the event, and gives its record, which replays. In it stand the calls of each hand, each once, in its
-    /// order, with the replies that the hand was given. Each other entry is of no hand, and the end of a listener that
-    /// was dropped.
+    /// order, with the replies that the hand was given. Each other entry is of no hand, and a removal that propagates, as
+    /// that of a dropped listener.
     ///
     /// Returns [`CloseError::HandsMissing`] exactly if the numbers of the hands are not all those below the event's
     /// count of hands, each once. Returns [`CloseError::Differs`] if the notes of some hand are not its entries.
