@@ -7,17 +7,18 @@ use test_lock_support::{Case, Kind, each};
 use test_support::Runtime;
 
 // Both wait, and the first is dropped once it is woken.
-fn passes_on<R, S, Q, H, I, G>(
+fn passes_on<R, S, Q, P, H, I, G>(
     rt: &R,
     first: Obtaining<S, Q, H>,
-    second: Obtaining<S, Q, I>,
+    second: Obtaining<S, P, I>,
     held: G,
 )
 where
     R: Runtime,
     Q: Request<S> + Drop,
+    P: Request<S> + Drop,
     H: Grants<S, Q::Output, Output: Drop> + Drop,
-    I: Grants<S, Q::Output, Output: Drop> + Drop,
+    I: Grants<S, P::Output, Output: Drop> + Drop,
     G: Drop,
 {
     let first = Polled::new(rt, first);
