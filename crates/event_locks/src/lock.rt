@@ -45,7 +45,8 @@ fn wait_for_lock<'a, S, R: Wait>(mutex: &'a Mutex<S>, rt: &R) -> MutexGuard<'a, 
 
 /// A state under a lock, with the queues of those that wait for something of it.
 ///
-/// A contract sees the number of the source at which tasks that wait are registered.
+/// If only tasks wait, `tokio::sync` of the kit has a mutex and a semaphore that serve in order; its semaphore can also be
+/// closed, and gives several permits at once, which can be split. A contract sees the number of the source at which tasks that wait are registered.
 #[derive(Drop)]
 pub struct Lock<S> {
     state: Mutex<S>,

@@ -21,11 +21,10 @@ use std::time::{Clock, Duration, Instant};
 /// [`wait_deadline`](Obtaining::wait_deadline). A task awaits it: it is a future. Threads and tasks wait in one queue, and
 /// a thread that waits on a future which was polled before keeps its place. Dropped while it waits, it leaves the queue,
 /// and what it was notified of goes to the next.
-//
-// The struct asks for no `Grants`. Whoever awaits one proves what the struct asks for, and the prover does not cover a bound
-// whose type, as that of a guard, has the lifetime of the borrowed lock: `block_on(rt, lock.lock(rt, alloc))` had no proof.
 #[must_use = "nothing is asked for until it is waited on or polled"]
 pub struct Obtaining<S, Q: Request<S>, H: Hold<S>> {
+    // It is not `H: Grants<..>` here: each function that awaits proves the bounds of this declaration, and the prover does not
+    // cover one whose associated type, the guard, has the lifetime of the borrowed lock.
     hold: Option<H>,
     alloc: Global,
     request: Q,
@@ -55,7 +54,8 @@ impl<S, Q: Request<S> + Drop, H: Grants<S, Q::Output> + Drop> Obtaining<S, Q, H>
     }
 
     /// Blocks the thread until it is granted, or so long. `None` says that it was not granted in time: then the thread is
-    /// in no queue. With no time left it only attempts: it enters no queue and allocates nothing. A clock that can't be read ends the wait; a moment that can't be represented never comes.
+    /// in no queue. With no time left it only attempts: it enters no queue and allocates nothing. A clock that can't be read
+    /// ends the wait; a moment that can't be represented never comes.
     pub fn wait_timeout(self, timeout: Duration) -> Result<Option<H::Output>, LockError> {
         let limit = match &self.hold {
             Some(hold) => Limit::after(hold.rt(), timeout),
@@ -65,7 +65,8 @@ impl<S, Q: Request<S> + Drop, H: Grants<S, Q::Output> + Drop> Obtaining<S, Q, H>
     }
 
     /// Blocks the thread until it is granted, or until this moment. `None` says that it was not granted in time: then the
-    /// thread is in no queue. At a moment that has passed it only attempts: it enters no queue and allocates nothing. A clock that can't be read ends the wait.
+    /// thread is in no queue. At a moment that has passed it only attempts: it enters no queue and allocates nothing. A clock
+    /// that can't be read ends the wait.
     pub fn wait_deadline(self, deadline: Instant) -> Result<Option<H::Output>, LockError> {
         self.wait_until(Limit::At(deadline))
     }
