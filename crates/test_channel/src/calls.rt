@@ -104,6 +104,18 @@ fn one_that_was_told_and_is_dropped_passes_on(rt: HostRuntime) {
     run(&rt, Some(1), &sends);
 }
 
+#[test]
+fn a_stream_that_is_dropped_is_woken_no_more(rt: HostRuntime) {
+    let steps = [
+        (Call::AwaitNext, Answer::Waits, [0, 0, 0]),
+        (Call::AwaitNext, Answer::Waits, [0, 0, 0]),
+        (Call::AwaitReceive, Answer::Waits, [0, 0, 0]),
+        (Call::Drop(0), Answer::Late(None), [0, 0, 0]),
+        (Call::Put(7), Answer::Sent, [0, 1, 1]),
+    ];
+    run(&rt, None, &steps);
+}
+
 // A message that replaces another one needs nobody told.
 #[test]
 fn a_send_by_force_takes_the_first_out(rt: HostRuntime) {

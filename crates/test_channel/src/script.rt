@@ -23,13 +23,14 @@ pub enum Call {
     /// The first poll of a new stream.
     AwaitNext,
     Poll(usize),
-    /// A drop, which answers that it is late.
+    /// A drop, which answers that it is late. The task is left.
     Drop(usize),
     /// A close, which is late if the channel is closed already.
     Close,
 }
 
-/// A call, its answer, and which of the first three that wait are woken then (1) since their last polls began.
+/// A call, its answer, and which of the first three that wait are woken then (1) since their last polls began, or since they
+/// were dropped.
 pub type Step = (Call, Answer, [u8; 3]);
 
 #[derive(Drop)]
@@ -37,35 +38,38 @@ struct Desk<'a, R: Runtime> {
     rt: &'a R,
     sender: &'a Sender<usize, R>,
     receiver: &'a Receiver<usize, R>,
-    waiting: Vec<Option<Waiting<'a, R>>>,
+    waiting: Vec<Waiting<'a, R>>,
 }
 
 impl<'a, R: Runtime> Desk<'a, R> {
     fn await_first(&mut self, waiting: Option<Waiting<'a, R>>) -> Answer {
         let mut waiting = waiting.expect(self.rt, "one that waits");
         let answer = waiting.poll();
-        self.waiting.push(Some(waiting)).expect(self.rt, "room");
+        self.waiting.push(waiting).expect(self.rt, "room");
         answer
     }
 
     fn poll(&mut self, number: usize) -> Answer {
         match self.waiting.get_mut(number) {
-            Some(Some(waiting)) => waiting.poll(),
-            _ => Answer::Failed,
+            Some(waiting) => waiting.poll(),
+            None => Answer::Failed,
         }
     }
 
     fn end(&mut self, number: usize) -> Answer {
-        match self.waiting.get_mut(number).and_then(Option::take) {
-            Some(_) => Answer::Late(None),
+        match self.waiting.get_mut(number) {
+            Some(waiting) => {
+                waiting.give_up();
+                Answer::Late(None)
+            }
             None => Answer::Failed,
         }
     }
 
     fn is_woken(&self, number: usize) -> u8 {
         match self.waiting.get(number) {
-            Some(Some(waiting)) => u8::from(waiting.is_woken()),
-            _ => 0,
+            Some(waiting) => u8::from(waiting.is_woken()),
+            None => 0,
         }
     }
 

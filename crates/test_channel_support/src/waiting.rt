@@ -94,7 +94,13 @@ impl<'a, R: ChannelRuntime> Waiting<'a, R> {
         answer
     }
 
-    /// Whether its task was woken since its last poll began.
+    /// Drops what it awaits. Its task is left, and counts as not woken.
+    pub fn give_up(&mut self) {
+        self.awaited = Awaited::Over;
+        self.task.enter(|_| ());
+    }
+
+    /// Whether its task was woken since its last poll began, or since it gave up.
     pub fn is_woken(&self) -> bool {
         self.task.is_woken()
     }
