@@ -4,10 +4,12 @@
 //! | Module | What it tests |
 //! |---|---|
 //! | `order` | messages in order, what a channel says of itself, and many that are received at once |
-//! | `calls` | tables: what calls answer and whom they wake; polls for another reason, and streams that are left alone; sends by force; a close |
+//! | `calls` | tables: what calls answer and whom they wake; polls for another reason, and streams that are left alone or dropped; sends by force; a close |
 //! | `handles` | clones, weak handles, the last of a side, and what makes no channel |
-//! | `limits` | calls that wait until a limit |
+//! | `limits` | calls that wait until a limit, and what comes while they look at the clock there |
 //! | `errors` | what errors and handles say |
+//! | `wakes` | threads that are blocked, and woken by many received at once, by force, or one by one |
+//! | `races` | the last two handles of a side dropped at once, and a last message as another thread receives |
 //! | `threads` | 8 threads that send and 8 that receive, each in a way of its own; a close among them; calls that are given up |
 //!
 //! What is said of every way to send or to receive is written once, and run with each (`test_channel_support`). Refused
@@ -25,8 +27,12 @@ mod limits;
 #[cfg(test)]
 mod order;
 #[cfg(test)]
+mod races;
+#[cfg(test)]
 mod script;
 #[cfg(test)]
 mod support;
 #[cfg(test)]
 mod threads;
+#[cfg(test)]
+mod wakes;

@@ -1,10 +1,14 @@
 //! Calls that wait until a limit.
-use crate::support::{Runtime, check, sends, sides};
+use crate::support::{Runtime, SharedRuntime, check, sends, sides, until};
 use event_channel::bounded;
 use std::alloc::AllocGlobal;
-use std::time::{Duration, Instant};
+use std::marker::Send;
+use std::sync::Wait;
+use std::sync::atomic::{AtomicUsize, Ordering};
+use std::time::{Clock, Duration, Instant};
+use std::{io, thread};
 use test_channel_support::{Answer, Way};
-use test_support::NoClock;
+use test_support::{NoClock, OwnClock, WithClock};
 
 const MILLISECONDS: u64 = 20;
 
@@ -47,4 +51,69 @@ fn a_clock_that_cannot_be_read_is_past_the_limit(rt: HostRuntime) {
     check(&rt, "a send without room", back, Err(8));
     let message = receiver.recv_timeout(Duration::MAX);
     check(&rt, "a receive", message.ok(), Some(7));
+}
+
+// A clock that shows the time once another thread has made its call: at 1 it is read, at 2 the call is made.
+#[derive(Drop)]
+struct Meets<'a, R> {
+    rt: &'a R,
+    step: &'a AtomicUsize,
+}
+
+impl<'a, R: Runtime> OwnClock for Meets<'a, R> {
+    fn read(&self) -> io::Result<Duration> {
+        self.step.store(1, Ordering::SeqCst);
+        until(self.rt, self.step, 2);
+        self.rt.monotonic()
+    }
+}
+
+// A receive until a moment that has passed when it looks at the clock. The message comes while it does.
+fn a_message_is_taken<R, C>(rt: &R, clock: &C, step: &AtomicUsize)
+where
+    R: SharedRuntime,
+    C: Wait + Clock + Clone + Sync + Send,
+{
+    let due = Instant::now(rt).expect(rt, "the time");
+    let (sender, receiver) = &bounded(clock, rt.alloc(), 1).expect(rt, "a channel");
+    let waits = || receiver.recv_deadline(due).ok();
+    let meanwhile = || {
+        until(rt, step, 1);
+        let sent = sender.try_send(7usize).is_ok();
+        step.store(2, Ordering::SeqCst);
+        sent
+    };
+    let both = thread::join(rt, waits, meanwhile);
+    check(rt, "a receive and a send", both, (Some(7), true));
+}
+
+// It is the same with a send, and room.
+fn a_place_is_taken<R, C>(rt: &R, clock: &C, step: &AtomicUsize)
+where
+    R: SharedRuntime,
+    C: Wait + Clock + Clone + Sync + Send,
+{
+    let due = Instant::now(rt).expect(rt, "the time");
+    let (sender, receiver) = &bounded(clock, rt.alloc(), 1).expect(rt, "a channel");
+    let first = sender.try_send(7usize).is_ok();
+    check(rt, "a send", first, true);
+    let waits = || sender.send_deadline(8, due).is_ok();
+    let meanwhile = || {
+        until(rt, step, 1);
+        let received = receiver.try_recv().ok();
+        step.store(2, Ordering::SeqCst);
+        received
+    };
+    let both = thread::join(rt, waits, meanwhile);
+    check(rt, "a send and a receive", both, (true, Some(7)));
+}
+
+#[test]
+fn what_comes_while_the_clock_is_read_is_taken(rt: HostRuntime) {
+    let (rt, step) = (&rt, &AtomicUsize::new(0));
+    let clock = &Meets { rt, step };
+    let clock = &WithClock { rt, clock };
+    a_message_is_taken(rt, clock, step);
+    step.store(0, Ordering::SeqCst);
+    a_place_is_taken(rt, clock, step);
 }

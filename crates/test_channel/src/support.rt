@@ -3,7 +3,8 @@ use event_channel::{Receiver, Sender};
 use std::fmt::Debug;
 use std::marker::Send;
 use std::process::Abort;
-use std::thread::Threads;
+use std::sync::atomic::{AtomicUsize, Ordering};
+use std::thread::{self, Threads};
 use std::time::Duration;
 use test_channel_support::{Answer, Way, new_channel};
 pub use test_support::Runtime;
@@ -48,4 +49,16 @@ pub fn sends<R: Runtime>(
 pub fn receives<R: Runtime>(rt: &R, way: Way, receiver: &Receiver<usize, R>, expected: Answer) {
     let answer = way.receive(rt, receiver, Duration::ZERO);
     check(rt, way, answer, expected);
+}
+
+/// Waits until others have come so far, and ends the test if they have not in ten seconds: who is not woken would wait for
+/// ever.
+pub fn until<R: Runtime>(rt: &R, come: &AtomicUsize, far: usize) {
+    for _ in 0..10_000u32 {
+        if come.load(Ordering::SeqCst) >= far {
+            return;
+        }
+        thread::sleep(rt, Duration::from_millis(1));
+    }
+    panic!(rt; "somebody waits in vain");
 }

@@ -1,0 +1,178 @@
+//! Two threads that make their calls at the same time, on one channel after another, until time is up.
+use crate::support::{Runtime, SharedRuntime, check, sides};
+use event_channel::{Receiver, Sender};
+use std::alloc::AllocGlobal;
+use std::sync::atomic::{AtomicUsize, Ordering};
+use std::thread;
+use std::time::{Duration, Instant};
+use test_channel_support::{Answer, Way};
+use test_support::deadline_after;
+
+// A thread makes its call so many looks later at most.
+const SKEW: usize = 16;
+
+// The channels of a race, in which each delay of one thread meets each of the other.
+const CHANNELS: usize = 256;
+
+// The races of a test take so long.
+const MILLISECONDS: u64 = 700;
+
+fn end_of_races<R: Runtime>(rt: &R) -> Instant {
+    deadline_after(rt, Duration::from_millis(MILLISECONDS)).expect(rt, "an end")
+}
+
+fn is_over<R: Runtime>(rt: &R, end: Instant) -> bool {
+    Instant::now(rt).expect(rt, "the time") >= end
+}
+
+// Waits until both threads have come to this channel, and a few looks longer.
+fn meet<R: Runtime>(rt: &R, come: &AtomicUsize, number: usize, looks: usize) {
+    come.fetch_add(1, Ordering::SeqCst);
+    let both = number.saturating_mul(2).saturating_add(2);
+    for _ in rt.forever() {
+        if come.load(Ordering::SeqCst) >= both {
+            break;
+        }
+        thread::yield_now();
+    }
+    for _ in 0..looks {
+        come.load(Ordering::SeqCst);
+    }
+}
+
+// A handle of either side.
+#[derive(Drop)]
+enum Handle<R: Runtime> {
+    Sender(Sender<usize, R>),
+    Receiver(Receiver<usize, R>),
+}
+
+impl<R: Runtime> Handle<R> {
+    fn is_closed(&self) -> bool {
+        match self {
+            Handle::Sender(sender) => sender.is_closed(),
+            Handle::Receiver(receiver) => receiver.is_closed(),
+        }
+    }
+}
+
+// All handles of a new channel: two of one side, and one of the other.
+fn last_two<R: Runtime>(rt: &R, are_senders: bool) -> (Handle<R>, Handle<R>, Handle<R>) {
+    let (sender, receiver) = sides(rt, Some(1));
+    if are_senders {
+        let first = Handle::Sender(sender.clone().expect(rt, "a sender"));
+        (first, Handle::Sender(sender), Handle::Receiver(receiver))
+    } else {
+        let first = Handle::Receiver(receiver.clone().expect(rt, "a receiver"));
+        (first, Handle::Receiver(receiver), Handle::Sender(sender))
+    }
+}
+
+fn drop_all<R: Runtime>(rt: &R, handles: Vec<Handle<R>>, come: &AtomicUsize, is_first: bool) {
+    for (number, handle) in handles.into_iter().enumerate() {
+        let looks = if is_first {
+            number % SKEW
+        } else {
+            number / SKEW
+        };
+        meet(rt, come, number, looks);
+        drop(handle);
+    }
+}
+
+fn drop_last_two<R: SharedRuntime>(rt: &R) {
+    let mut first = Vec::new(rt.alloc());
+    let mut second = Vec::new(rt.alloc());
+    let mut others = Vec::new(rt.alloc());
+    for number in 0..CHANNELS {
+        let (one, two, other) = last_two(rt, number % 2 == 0);
+        first.push(one).expect(rt, "room");
+        second.push(two).expect(rt, "room");
+        others.push(other).expect(rt, "room");
+    }
+    let come = &AtomicUsize::new(0);
+    thread::join(
+        rt,
+        || drop_all(rt, first, come, true),
+        || drop_all(rt, second, come, false),
+    );
+    let open = others.iter().filter(|other| !other.is_closed()).count();
+    check(rt, "channels left open", open, 0);
+}
+
+fn drop_again<R: SharedRuntime>(rt: &R) {
+    let end = end_of_races(rt);
+    for _ in rt.forever() {
+        drop_last_two(rt);
+        if is_over(rt, end) {
+            break;
+        }
+    }
+}
+
+#[test]
+fn the_last_two_of_a_side_close_at_once(rt: HostRuntime) {
+    drop_again(&rt);
+}
+
+// Each sends the last message of its channel.
+fn send_last<R: Runtime>(rt: &R, senders: Vec<Sender<usize, R>>, come: &AtomicUsize) {
+    for (number, sender) in senders.into_iter().enumerate() {
+        meet(rt, come, number, number % SKEW);
+        let sent = Way::AtOnce.send(rt, &sender, 7, Duration::ZERO);
+        drop(sender);
+        check(rt, "the last message", sent, Answer::Sent);
+    }
+}
+
+// How many messages are received before the channels are closed.
+fn receive_until_closed<R: Runtime>(
+    rt: &R,
+    receivers: Vec<Receiver<usize, R>>,
+    come: &AtomicUsize,
+) -> usize {
+    let mut received = 0usize;
+    for (number, receiver) in receivers.into_iter().enumerate() {
+        meet(rt, come, number, number / SKEW);
+        for _ in rt.forever() {
+            match receiver.try_recv() {
+                Ok(message) => received = received.saturating_add(message / 7),
+                Err(error) if error.is_closed() => break,
+                Err(_) => {}
+            }
+        }
+    }
+    received
+}
+
+fn end_as_others_receive<R: SharedRuntime>(rt: &R) {
+    let mut senders = Vec::new(rt.alloc());
+    let mut receivers = Vec::new(rt.alloc());
+    for _ in 0..CHANNELS {
+        let (sender, receiver) = sides(rt, Some(1));
+        senders.push(sender).expect(rt, "room");
+        receivers.push(receiver).expect(rt, "room");
+    }
+    let come = &AtomicUsize::new(0);
+    let ((), received) = thread::join(
+        rt,
+        || send_last(rt, senders, come),
+        || receive_until_closed(rt, receivers, come),
+    );
+    check(rt, "messages received", received, CHANNELS);
+}
+
+fn end_again<R: SharedRuntime>(rt: &R) {
+    let end = end_of_races(rt);
+    for _ in rt.forever() {
+        end_as_others_receive(rt);
+        if is_over(rt, end) {
+            break;
+        }
+    }
+}
+
+#[test]
+fn no_receive_answers_closed_before_the_last_message(rt: HostRuntime) {
+    end_again(&rt);
+}
