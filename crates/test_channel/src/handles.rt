@@ -42,6 +42,9 @@ fn handles_are_counted(rt: HostRuntime) {
         let second = more(&rt, &first, by_weak);
         let third = more(&rt, &second, by_weak);
         counts(&rt, &first.0, &third.1, (3, 3));
+        let fourth = first.0.clone().expect(&rt, "a sender");
+        counts(&rt, &fourth, &third.1, (4, 3));
+        drop(fourth);
         drop(first);
         drop(second);
         let (sender, receiver) = third;
