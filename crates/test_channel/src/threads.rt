@@ -11,10 +11,12 @@ use test_support::deadline_after;
 const SIDE: usize = 8;
 
 // The most messages of a sender. Those of the next begin so much later.
-const MOST: usize = 5_000;
+const MOST: usize = 500;
 
-// No message is sent after so long.
-const SECONDS: u64 = 4;
+// No message is sent after so long, once a sender has sent so many.
+const MILLISECONDS: u64 = 700;
+
+const LEAST: usize = 20;
 
 // How the threads of each side send and receive.
 const WAYS: [Way; SIDE] = [
@@ -61,7 +63,8 @@ impl Plan {
         Duration::from_micros(self.patience)
     }
 
-    // Sends the messages of a sender, until the channel is closed or time is up. Each that is not sent comes back.
+    // Sends the messages of a sender, until the channel is closed or it has sent the least and time is up. Each that is not
+    // sent comes back.
     fn send_all<R: Runtime>(
         &self,
         rt: &R,
@@ -72,7 +75,7 @@ impl Plan {
         let mut sent = Vec::with_capacity(rt.alloc(), MOST).expect(rt, "room");
         let first = number.saturating_mul(MOST);
         for message in first..first.saturating_add(MOST) {
-            if Instant::now(rt).expect(rt, "the time") >= end {
+            if sent.len() >= LEAST && Instant::now(rt).expect(rt, "the time") >= end {
                 break;
             }
             match way_of(number).send(rt, &sender, message, self.patience()) {
@@ -142,7 +145,8 @@ impl Plan {
 
     // Runs all threads. Each message that was sent was received once.
     fn run<R: SharedRuntime>(self, rt: &R) {
-        let end = deadline_after(rt, Duration::from_secs(SECONDS)).expect(rt, "an end");
+        let limit = Duration::from_millis(MILLISECONDS);
+        let end = deadline_after(rt, limit).expect(rt, "an end");
         let jobs = self.jobs(rt);
         let done = thread::map_vec(rt, jobs, &|job| self.work(rt, end, job));
         let done = done.expect(rt, "the threads");
