@@ -6,6 +6,7 @@ use event_locks::{
 use futures::test::MockTask;
 use std::sync::Arc;
 use std::thread;
+use std::time::Duration;
 use test_lock_support::{Case, Kind, Sharing, each};
 use test_support::Runtime;
 
@@ -43,6 +44,21 @@ impl<S, Q: Request<S> + Drop, H: Grants<S, Q::Output, Output: Drop> + Drop> Poll
     /// Whether its task was woken since its last poll.
     pub fn is_woken(&self) -> bool {
         self.task.is_woken()
+    }
+
+    /// Polls again, in vain. That wakes nobody: its task is registered.
+    pub fn waits_on<R: Runtime>(&mut self, rt: &R) {
+        let pending = self.task.poll(&mut self.waits).is_pending();
+        check(rt, "whether it waits on", pending, true);
+        check(rt, "whether it is woken", self.task.is_woken(), false);
+    }
+
+    /// It was woken, and a thread that waits in its place is granted what it waited for, and lets it go.
+    pub fn is_granted_to_a_thread<R: Runtime>(self, rt: &R) {
+        check(rt, "whether it is woken", self.is_woken(), true);
+        let given = self.into_waits().wait_timeout(Duration::from_secs(10));
+        let given = given.expect(rt, "an answer").is_some();
+        check(rt, "whether it is granted", given, true);
     }
 
     /// The wait, which nobody polls any more.
@@ -85,7 +101,8 @@ impl<S, Q: Request<S> + Drop, H: Grants<S, Q::Output, Output: Drop> + Drop> Poll
     }
 }
 
-/// Three tasks wait, and all are woken once they are let in, or one after the other.
+/// Three tasks wait, and all are woken once they are let in, or one after the other. A poll before changes nothing, and a
+/// thread goes on in the place of the last.
 #[derive(Drop)]
 pub struct AllAreWoken;
 
@@ -98,14 +115,20 @@ impl<R: Runtime> Case<R> for AllAreWoken {
         let held = kind.hold();
         let mut first = Polled::new(rt, kind.waits().expect(rt, "a share"));
         let mut second = Polled::new(rt, kind.waits().expect(rt, "a share"));
-        let mut third = Polled::new(rt, kind.waits().expect(rt, "a share"));
+        let third = Polled::new(rt, kind.waits().expect(rt, "a share"));
+        second.waits_on(rt);
         drop(held);
         let woken = [first.is_woken(), second.is_woken(), third.is_woken()];
         let all = kind.sharing() != Sharing::One;
         check(rt, "who is woken", woken, [true, all, all]);
         first.is_granted(rt);
         second.is_granted(rt);
-        third.is_granted(rt);
+        third.is_granted_to_a_thread(rt);
+        if matches!(kind.sharing(), Sharing::One | Sharing::All) {
+            // Nobody is left in the queue to whom it could go in the place of this one.
+            let held = kind.hold();
+            Polled::new(rt, kind.waits().expect(rt, "a share")).let_in(rt, held);
+        }
     }
 }
 
