@@ -3,7 +3,8 @@
 //!
 //! | Module | What it tests |
 //! |---|---|
-//! | `threads` | threads that wait in each way, and are woken once they are let in, also at their limit |
+//! | `threads` | threads that wait in each way, and are woken once they are let in |
+//! | `arrivals` | a thread that waits by a request of the test's own: it parks, and who has no time stays out of the queue |
 //! | `stress` | threads and tasks at these locks, which give up at times |
 //! | `behaviours` | what each lock does when it is called in the order that its users know from other crates |
 //! | `accounts` | what the page of the crate shows |
@@ -13,6 +14,8 @@
 
 #[cfg(test)]
 mod accounts;
+#[cfg(test)]
+mod arrivals;
 #[cfg(test)]
 mod behaviours;
 #[cfg(test)]

@@ -24,13 +24,20 @@ pub fn new_task<R: Abort + RandomSource + AllocGlobal>(rt: &R) -> MockTask {
     MockTask::new(rt).expect(rt, "a task")
 }
 
-/// Ends the test if this is not over in ten seconds.
-pub fn is_over_soon<R: Abort + Clock>(rt: &R, is_over: &AtomicBool) {
+/// Ends the test if this is not so in ten seconds.
+pub fn is_so_soon<R: Abort + Clock, F: Fn() -> bool>(rt: &R, is_so: &F)
+    requires { F.IsAlwaysCallable is_so.now }
+{
     for _ in 0..10_000u32 {
-        if is_over.load(Ordering::SeqCst) {
+        if is_so() {
             return;
         }
         thread::sleep(rt, Duration::from_millis(1));
     }
     panic!(rt; "somebody waits in vain");
+}
+
+/// Ends the test if this is not over in ten seconds.
+pub fn is_over_soon<R: Abort + Clock>(rt: &R, is_over: &AtomicBool) {
+    is_so_soon(rt, &|| is_over.load(Ordering::SeqCst));
 }

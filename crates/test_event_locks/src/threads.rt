@@ -1,14 +1,14 @@
-//! Threads that wait in each way, and are woken once they are let in, also at their limit. That each lock wakes whom it lets
-//! in is tested by tasks, in `test_lock_waits`: a thread that is woken differs from a task in nothing else.
-use crate::support::{check, is_over_soon, new_task};
-use event_locks::{Grants, Obtaining, Request, Semaphore};
+//! Threads that wait in each way, and are woken once they are let in. That each lock wakes whom it lets in is tested by
+//! tasks, in `test_lock_waits`: a thread that is woken differs from a task in nothing else.
+use crate::support::{check, is_over_soon, is_so_soon, new_task};
+use event_locks::{Grants, Obtaining, Request, RwLock, Semaphore};
 use futures::executor::block_on;
-use std::cell::Cell;
+use futures::test::MockTask;
+use std::sync::Arc;
 use std::sync::atomic::{AtomicBool, Ordering};
-use std::sync::{Arc, Wait};
-use std::time::{Clock, Duration};
-use std::{io, thread};
-use test_support::{OwnClock, Runtime, WithClock};
+use std::thread;
+use std::time::Duration;
+use test_support::Runtime;
 
 // A way to wait until it is granted.
 #[derive(Clone, Copy)]
@@ -21,17 +21,12 @@ enum Way {
 
 const WAYS: [Way; 4] = [Way::Blocking, Way::Timed, Way::LongestTimed, Way::Awaited];
 
-// Whether it is granted to one that waits in this way, and may have polled before.
+// Whether it is granted to one that waits in this way.
 fn is_granted<R: Runtime, S, Q: Request<S> + Drop, H: Grants<S, Q::Output, Output: Drop> + Drop>(
     rt: &R,
     waits: Obtaining<S, Q, H>,
     way: Way,
-    is_polled: bool,
 ) -> bool {
-    let mut waits = waits;
-    if is_polled {
-        drop(new_task(rt).poll(&mut waits));
-    }
     let limit = match way {
         Way::Blocking => return waits.wait().is_ok(),
         Way::Awaited => return block_on(rt, waits).expect(rt, "an executor").is_ok(),
@@ -42,86 +37,89 @@ fn is_granted<R: Runtime, S, Q: Request<S> + Drop, H: Grants<S, Q::Output, Outpu
     given.expect(rt, "an answer").is_some()
 }
 
-// A thread waits in each way, and is woken by a permit that is added a moment later. It gives that back.
-macro_rules! is_woken_in_each_way {
+// The same wait, after a poll in vain by this task.
+fn polled<R: Runtime, S, Q: Request<S> + Drop, H: Grants<S, Q::Output, Output: Drop> + Drop>(
+    rt: &R,
+    waits: Obtaining<S, Q, H>,
+    task: &MockTask,
+    is_polled: &AtomicBool,
+) -> Obtaining<S, Q, H> {
+    let mut waits = waits;
+    let is_pending = task.poll(&mut waits).is_pending();
+    check(rt, "whether the task waits", is_pending, true);
+    check(rt, "whether it is woken", task.is_woken(), false);
+    is_polled.store(true, Ordering::SeqCst);
+    waits
+}
+
+// A thread waits in this way. Once it is seen to stand in the queue it is let in, and has to be woken.
+macro_rules! is_woken {
+    ($rt:expr, $way:expr, $waits:expr, $is_in_queue:expr, $let_in:expr) => {{
+        let is_over = AtomicBool::new(false);
+        let waits = || {
+            let granted = is_granted($rt, $waits, $way);
+            is_over.store(true, Ordering::SeqCst);
+            granted
+        };
+        let lets_in = || {
+            is_so_soon($rt, &$is_in_queue);
+            $let_in;
+            is_over_soon($rt, &is_over);
+        };
+        let (granted, ()) = thread::join($rt, waits, lets_in);
+        check($rt, "whether it is granted", granted, true);
+    }};
+}
+
+// A task polls, and a thread waits on in its place. That is seen, for the waker of a task wakes it when it is dropped. The
+// permit that wakes the thread comes back, and is forgotten.
+macro_rules! is_woken_in_the_place_of_a_task {
     ($rt:expr, $semaphore:expr, $waits:expr) => {{
         for way in WAYS {
-            for is_polled in [false, true] {
-                let is_over = AtomicBool::new(false);
-                let waits = || {
-                    let granted = is_granted($rt, $waits, way, is_polled);
-                    is_over.store(true, Ordering::SeqCst);
-                    granted
-                };
-                let lets_in = || {
-                    thread::sleep($rt, Duration::from_millis(20));
-                    $semaphore.add_permits($rt, 1);
-                    is_over_soon($rt, &is_over);
-                };
-                let (granted, ()) = thread::join($rt, waits, lets_in);
-                check($rt, "whether it is granted", granted, true);
-                let permit = $semaphore.try_acquire($rt).expect($rt, "the permit");
-                std::mem::forget(permit);
-            }
+            let (task, is_polled) = (new_task($rt), AtomicBool::new(false));
+            is_woken!(
+                $rt,
+                way,
+                polled($rt, $waits, &task, &is_polled),
+                || is_polled.load(Ordering::SeqCst) && task.is_woken(),
+                $semaphore.add_permits($rt, 1)
+            );
+            let permit = $semaphore.try_acquire($rt).expect($rt, "the permit");
+            permit.forget();
+            check($rt, "free", $semaphore.available($rt), 0);
         }
     }};
 }
 
 #[test]
-fn a_thread_that_waits_is_woken(rt: HostRuntime) {
+fn a_thread_that_waits_in_the_place_of_a_task_is_woken(rt: HostRuntime) {
     let semaphore = Semaphore::new(rt.alloc(), 0);
-    is_woken_in_each_way!(&rt, semaphore, semaphore.acquire(&rt, rt.alloc()));
+    is_woken_in_the_place_of_a_task!(&rt, semaphore, semaphore.acquire(&rt, rt.alloc()));
 }
 
 #[test]
 fn a_thread_that_waits_by_a_share_is_woken(rt: HostRuntime) {
     let semaphore = Arc::new(rt.alloc(), Semaphore::new(rt.alloc(), 0));
     let semaphore = semaphore.expect(&rt, "memory");
-    is_woken_in_each_way!(
+    is_woken_in_the_place_of_a_task!(
         &rt,
         semaphore,
         Semaphore::acquire_arc(&semaphore, rt, rt.alloc()).expect(&rt, "a share")
     );
 }
 
-// A clock that goes on by a second at each reading, and adds a permit at the second.
-#[derive(Drop)]
-struct AddsAPermit<'a, R> {
-    rt: &'a R,
-    semaphore: &'a Semaphore,
-    reads: Cell<u64>,
-}
-
-impl<R: Wait> OwnClock for AddsAPermit<'_, R> {
-    fn read(&self) -> io::Result<Duration> {
-        let reads = self.reads.get();
-        self.reads.set(reads.saturating_add(1));
-        if reads == 1 {
-            self.semaphore.add_permits(self.rt, 1);
-        }
-        Ok(Duration::from_secs(reads))
-    }
-}
-
-// Waits for a permit until a second has passed by the clock, and gives it back.
-fn waits_a_second<R: Runtime, W: Wait + Clock>(rt: &R, clock: &W, semaphore: &Semaphore) {
-    let waits = semaphore.acquire(clock, rt.alloc());
-    let given = waits.wait_timeout(Duration::from_secs(1));
-    drop(given.expect(rt, "an answer"));
-}
-
+// A thread that has not polled. It stands in the queue as a writer, which is seen: it keeps other readers out.
 #[test]
-fn what_is_handed_at_the_limit_is_not_lost(rt: HostRuntime) {
-    let semaphore = Semaphore::new(rt.alloc(), 0);
-    let adds = AddsAPermit {
-        rt: &rt,
-        semaphore: &semaphore,
-        reads: Cell::new(0),
-    };
-    let clock = WithClock {
-        rt: &rt,
-        clock: &adds,
-    };
-    waits_a_second(&rt, &clock, &semaphore);
-    check(&rt, "free", semaphore.available(&rt), 1);
+fn a_thread_that_waits_is_woken(rt: HostRuntime) {
+    let lock = RwLock::new(rt.alloc(), 7u64);
+    for way in WAYS {
+        let reader = lock.try_read(&rt).expect(&rt, "the value");
+        is_woken!(
+            &rt,
+            way,
+            lock.write(&rt, rt.alloc()),
+            || lock.try_read(&rt).is_none(),
+            drop(reader)
+        );
+    }
 }
