@@ -7,6 +7,8 @@
 //! | `recorded` | calls on recorded events that are refused the note or the entry; each request of a wait |
 //! | `locks` | locks, polled locks and semaphores, each of whose requests is refused while another one has them; a client that was told before it was refused tells another one; the example programs, refused the counter, the flag or a thread |
 //! | `channels` | attempts until one succeeds, and channels: refused themselves, a place in the queue, what a thread parks on, or room for a message |
+//! | `leaks` | a thousand events, listeners, and guards that share their lock, one after another where little memory is left: what is dropped gives its memory back |
+//! | `until` | a wait that is told already and is refused what its thread parks on: it leaves no listener, and hands its notification on |
 //! | `waits` | waits for each lock of `event_locks`, each of whose requests is refused; calls of these locks without memory |
 //!
 //! A test takes all memory of the process by a `Hog` of `test_queue_memory`, or all but so much by its `Budget`: `support`
@@ -19,10 +21,14 @@ mod channels;
 #[cfg(test)]
 mod events;
 #[cfg(test)]
+mod leaks;
+#[cfg(test)]
 mod locks;
 #[cfg(test)]
 mod recorded;
 #[cfg(test)]
 mod support;
+#[cfg(test)]
+mod until;
 #[cfg(test)]
 mod waits;
