@@ -1,7 +1,7 @@
 //! Threads that wait by a request of the tests' own, which counts how often it is asked to wait. It stands at a barrier, for
 //! one who comes through the queue may end a round there, and then wakes the others.
 use crate::support::{check, is_over_soon, is_so_soon};
-use event_locks::{Attempted, Limit, Lock, Request, Rounds, Task};
+use event_locks::{Attempted, Limit, Lock, LockError, Request, Rounds, Task};
 use event_queue::{Key, RegisterResult, TaskExchange, WakeSink};
 use std::marker::Model;
 use std::sync::atomic::{AtomicBool, AtomicUsize, Ordering};
@@ -54,10 +54,10 @@ impl Request<Rounds<Task>> for Arrival<'_> {
             None => match state.arrive(sink) {
                 Ok(Err(key)) => key,
                 Ok(Ok(_)) => return Attempted::Done(()),
-                Err(error) => return Attempted::Refused(error),
+                Err(error) => return Attempted::Refused(LockError::Listen(error)),
             },
         };
-        match state.look(key, exchange, on) {
+        match state.look_for_end(key, exchange, on) {
             RegisterResult::Notified(_) => Attempted::Done(()),
             RegisterResult::Registered => {
                 self.key = Some(key);
@@ -69,7 +69,7 @@ impl Request<Rounds<Task>> for Arrival<'_> {
 
     fn give_up<K: WakeSink<Task>>(&mut self, state: &mut Rounds<Task>, _sink: &mut K) {
         if let Some(key) = self.key.take() {
-            state.leave(key);
+            state.leave_round(key);
         }
     }
 }
