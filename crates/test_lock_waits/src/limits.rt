@@ -209,14 +209,14 @@ fn waits_in_vain<R: Runtime, C: Wait + Clock>(
 // Each of many waits would have to end late, and not only one, which a busy machine may bring about.
 fn parks_until_its_limit<R: Runtime>(rt: &R) -> bool {
     let semaphore = Semaphore::new(rt.alloc(), 0);
-    let (limit, twice) = (Duration::from_millis(20), Duration::from_millis(40));
-    for _ in 0..50u32 {
+    let (limit, late) = (Duration::from_millis(50), Duration::from_millis(75));
+    for _ in 0..30u32 {
         let reads = Cell::new(0);
         let clock = CountedClock { rt, reads: &reads };
         let took = waits_in_vain(rt, &clock, &semaphore, limit);
         // Who does not park looks all the time.
         check(rt, "whether it parked", reads.get() < 10, true);
-        if took < twice {
+        if took < late {
             return true;
         }
     }
