@@ -4,15 +4,18 @@
 //! A tag is made under the lock of its event, so the lock is held while the function of a notification runs. A call that
 //! wrongly waits for that lock does not return, and its test fails at the limit that the toolchain has for every test.
 //! Where two threads meet, the one that makes the tag sleeps for 50 milliseconds, in which the other one makes its call.
-use crate::script::{Answer, Call, Step, run};
+use crate::script::{Answer, Call, Step, new_task, run};
 use crate::support::{Runtime, check, discard, has_listeners, listen, listen_as, new_event, shows};
 use event_listener::{Event, EventIds, IntoNotification, IntoTagged, ListenError, Listener};
+use futures::task::Poll;
 use std::hint;
 use std::sync::Barrier;
 use std::sync::atomic::{AtomicU64, Ordering};
 use std::thread::{self, Threads};
 use std::time::{Duration, Instant};
-use test_support::{Borrowing, Case, ListenerKind, Sharing, Trial, answered, both, deadline_after};
+use test_support::{
+    Borrowing, Case, ListenerKind, Sharing, Trial, answered, both, deadline_after, waker_of,
+};
 
 const ANOTHER_EVENT: [Step; 6] = [
     (Call::Listen(2), Answer::Done, [false, false]),
@@ -104,12 +107,47 @@ where
 
 fn each_waits_for_the_lock<R: Runtime + Threads + Sync>(rt: &R, event: &Event<u32>) {
     wait_for_the_lock::<Sharing, _, R>(rt, event);
+    take_effect::<Sharing, _, R>(rt, event);
     wait_for_the_lock::<Borrowing, _, R>(rt, event);
+    take_effect::<Borrowing, _, R>(rt, event);
 }
 
 #[test]
 fn calls_of_other_threads_wait_for_the_lock(rt: HostRuntime) {
     each_waits_for_the_lock(&rt, &new_event(&rt));
+}
+
+// While the first four are told, one after another, the second last and the last of them are polled, and one more listens
+// and is told. What each did stands.
+fn take_effect<'ev, K, L, R>(rt: &R, event: &'ev Event<u32>)
+where
+    K: ListenerKind<'ev, u32, R, Listener = L>,
+    L: Listener<u32> + Drop,
+    R: Runtime + Threads + Sync,
+{
+    let next = || listen_as::<K, L, R>(rt, event);
+    let (_first, _second, mut third, mut fourth) = (next(), next(), next(), next());
+    let (task, other) = (new_task(rt), new_task(rt));
+    let mut last = while_one_is_told(rt, event, next);
+    has_listeners(rt, event, 5, true);
+    let waker = waker_of(&task).expect(rt, "a waker");
+    let polled = while_one_is_told(rt, event, || third.poll(waker));
+    check(rt, "a poll", polled, Ok(Poll::Pending));
+    check(rt, "whether it is woken", task.is_woken(), false);
+    let poll = || other.enter(|cx| fourth.poll_in(cx));
+    let polled = while_one_is_told(rt, event, poll);
+    check(rt, "a poll in a task", polled, Ok(Poll::Pending));
+    check(
+        rt,
+        "those woken",
+        (task.is_woken(), other.is_woken()),
+        (true, false),
+    );
+    let notify = || event.notify(rt, 1.additional().tag(9));
+    check(rt, "told", while_one_is_told(rt, event, notify), Ok(1));
+    check(rt, "whether it is woken", other.is_woken(), true);
+    let waker = waker_of(&task).expect(rt, "a waker");
+    check(rt, "the last", last.poll(waker), Ok(Poll::Ready(9)));
 }
 
 // How often a thread looks for the other before it goes on alone.

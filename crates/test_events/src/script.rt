@@ -125,8 +125,8 @@ impl<'a, L: Awaited + Drop, R: Runtime> Desk<'a, L, R> {
     }
 }
 
-// A new task, which is woken until its first poll ends.
-fn new_task<R: Runtime>(rt: &R) -> MockTask {
+/// A new task. It is polled once, since a task is woken until its first poll begins.
+pub fn new_task<R: Runtime>(rt: &R) -> MockTask {
     let task = MockTask::new(rt).expect(rt, "a task");
     task.enter(|_| ());
     task
