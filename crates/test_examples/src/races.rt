@@ -1,10 +1,13 @@
 //! Threads that race, for two seconds each time.
-use crate::support::{Host, check, for_two_seconds, new_id};
+use crate::support::{Host, check, for_two_seconds, new_id, new_task};
 use event_listener::{RecordedCall, RecordedReply, RegisterResult};
+use example_events::desk::Desk;
 use example_events::flag::Flag;
 use example_events::meeting::wait_for_setter;
 use example_events::race::race;
 use example_locks::{count, count_with_permits};
+use futures::test::MockTask;
+use std::sync::atomic::{AtomicBool, Ordering};
 use std::thread;
 
 // Worked row 21, under a lock and with three permits.
@@ -32,6 +35,44 @@ fn a_thread_waits_until_another_one_sets_the_flag(rt: HostRuntime) {
         let waited = wait_for_setter(rt, rt.alloc(), new_id(&rt));
         check(&rt, "the program", waited, Ok(()));
     });
+}
+
+fn spin_until<F: Fn() -> bool, R: Host>(rt: &R, holds: F)
+    requires { F.IsAlwaysCallable holds }
+{
+    for _ in rt.forever() {
+        if holds() {
+            break;
+        }
+    }
+}
+
+// Another thread leaves the seat. The one who waits tries as soon as its task is woken, and needs no lock for that.
+fn who_is_woken_sits<R: Host>(rt: &R, desk: &Desk, task: &MockTask) {
+    let seat = desk.try_sit(rt).expect(rt, "a seat");
+    let mut waiting = desk.sit(rt, rt.alloc());
+    let is_pending = task.poll(&mut waiting).is_pending();
+    check(rt, "whether it waits", is_pending, true);
+    let is_looking = AtomicBool::new(false);
+    let ((), is_seated) = thread::join(
+        rt,
+        || {
+            spin_until(rt, || is_looking.load(Ordering::SeqCst));
+            drop(seat);
+        },
+        || {
+            is_looking.store(true, Ordering::SeqCst);
+            spin_until(rt, || task.is_woken());
+            desk.try_sit(rt).is_some()
+        },
+    );
+    check(rt, "whether it sits", is_seated, true);
+}
+
+#[test]
+fn who_is_woken_finds_the_seat_free(rt: HostRuntime) {
+    let (desk, task) = (Desk::new(new_id(&rt)), new_task(&rt));
+    for_two_seconds(&rt, || who_is_woken_sits(&rt, &desk, &task));
 }
 
 // The record of a race has one notification, which is that of the first hand. Each who listened took it, or was dropped.
