@@ -6,7 +6,7 @@
 //! | `polls` | polls by hand: a poll that is not due attempts nothing and wakes nobody; told and dropped, or blocking from then on, or giving its attempt back; told and too late |
 //! | `deadlines` | who is told at its deadline; limits whose moment can't be represented |
 //! | `shared` | the gate, the watch and the baton, one call after another |
-//! | `threads` | 10 threads that make 1,000 calls each, half of them as futures; how often their tasks are polled; who is woken finds the gate open |
+//! | `threads` | 10 threads that make 1,000 calls each, half of them as futures; how often their tasks are polled; who is woken finds the gate open, a newer value, the baton free |
 //!
 //! `support` has what they share.
 #![tactic(auto)]

@@ -2,14 +2,15 @@
 ghost use Rattle.std.specs.Prelude.{◌≡◌};
 
 use crate::support::{check, new_id, new_task};
-use event_until::{Attempt, UntilError};
-use example_until::{Baton, Gate, OwnedBaton};
+use event_until::{Attempt, Until, UntilError};
+use example_until::{Baton, Gate, OwnedBaton, Watch};
 use futures::Future;
 use futures::executor::block_on;
 use futures::task::{Context, Poll};
 use futures::test::MockTask;
-use std::sync::Arc;
+use std::hint;
 use std::sync::atomic::{AtomicBool, AtomicUsize, Ordering};
+use std::sync::{Arc, Wait};
 use std::thread::{self, Threads};
 use std::time::Duration;
 use test_support::{Runtime, deadline_after};
@@ -97,64 +98,130 @@ fn one_at_a_time_has_the_baton_and_tasks_rest(rt: HostRuntime) {
     check(&rt, "at most so many polls", polls.max(most), most);
 }
 
-// How many tasks wait at the gate behind the one that looks.
-const BEHIND: usize = 100;
-
-// Looks at the gate as soon as the task is woken, and needs no lock for that.
-fn finds_it_open<R: Runtime>(
-    rt: &R,
-    gate: &Gate,
-    task: &MockTask,
-    is_looking: &AtomicBool,
-) -> bool {
-    let mut pass = gate.pass(rt, rt.alloc()).into_attempt();
+// Attempts as soon as the task is woken, and needs no lock of the event for that.
+fn succeeds_once_woken<A, R>(rt: &R, attempt: A, task: &MockTask, is_looking: &AtomicBool) -> bool
+where
+    A: Attempt<Output: Drop> + Drop,
+    R: Wait,
+{
+    let mut attempt = attempt;
     is_looking.store(true, Ordering::SeqCst);
     for _ in rt.forever() {
         if task.is_woken() {
             break;
         }
     }
-    pass.attempt().is_some()
+    attempt.attempt().is_some()
 }
 
-fn opens<R: Runtime>(rt: &R, gate: &Gate, is_looking: &AtomicBool) {
+// Makes the change once the other thread looks.
+fn changes<C, R>(rt: &R, change: C, is_looking: &AtomicBool)
+where
+    C: FnOnce(),
+    R: Wait,
+    requires { C.pre change }
+{
     for _ in rt.forever() {
         if is_looking.load(Ordering::SeqCst) {
             break;
         }
-        thread::yield_now();
+        hint::spin_loop();
     }
-    gate.open(rt);
+    change();
 }
+
+// A thread makes the change and notifies, and the task of one that waits is woken. Then an attempt succeeds, though others
+// may still have to be notified.
+fn who_is_woken_succeeds<A, C, R>(rt: &R, task: &MockTask, attempt: A, change: C)
+where
+    A: Attempt<Output: Drop> + Drop,
+    C: FnOnce() + Send,
+    R: Runtime + Threads + Sync,
+    requires { C.pre change }
+{
+    let is_looking = AtomicBool::new(false);
+    let ((), has_succeeded) = thread::join(
+        rt,
+        || changes(rt, change, &is_looking),
+        || succeeds_once_woken(rt, attempt, task, &is_looking),
+    );
+    check(rt, "whether it succeeds", has_succeeded, true);
+}
+
+// One waits in this task, behind those that wait already.
+fn wait_in_line<'a, A, R>(
+    rt: &R,
+    line: &mut Vec<Until<'a, A, R>>,
+    task: &MockTask,
+    until: Until<'a, A, R>,
+)
+where
+    A: Attempt<Output: Drop> + Drop,
+    R: Runtime,
+{
+    let mut until = until;
+    check(rt, "pending", task.poll(&mut until).is_pending(), true);
+    line.push(until).expect(rt, "room");
+}
+
+// How many wait behind the one whose task is looked at.
+const BEHIND: usize = 100;
 
 fn opens_and_then_wakes<R: Runtime + Threads + Sync>(rt: &R) {
     let gate = Gate::new(new_id(rt));
-    let tasks = (new_task(rt), new_task(rt));
-    let mut first = gate.pass(rt, rt.alloc());
-    check(rt, "the first", tasks.0.poll(&mut first).is_pending(), true);
-    let mut behind = Vec::new(rt.alloc());
+    let (task, other, mut line) = (new_task(rt), new_task(rt), Vec::new(rt.alloc()));
+    wait_in_line(rt, &mut line, &task, gate.pass(rt, rt.alloc()));
     for _ in 0..BEHIND {
-        let mut pass = gate.pass(rt, rt.alloc());
-        check(rt, "another", tasks.1.poll(&mut pass).is_pending(), true);
-        behind.push(pass).expect(rt, "room");
+        wait_in_line(rt, &mut line, &other, gate.pass(rt, rt.alloc()));
     }
-    let is_looking = AtomicBool::new(false);
-    let (is_open, ()) = thread::join(
-        rt,
-        || finds_it_open(rt, &gate, &tasks.0, &is_looking),
-        || opens(rt, &gate, &is_looking),
-    );
-    check(rt, "whether it is open", is_open, true);
+    let pass = gate.pass(rt, rt.alloc()).into_attempt();
+    who_is_woken_succeeds(rt, &task, pass, || gate.open(rt));
 }
 
-// The first is woken while those behind it are still to be notified.
-#[test]
-fn who_is_woken_finds_the_gate_open(rt: HostRuntime) {
-    let end = deadline_after(&rt, Duration::from_secs(2)).expect(&rt, "an end");
+fn replaces_and_then_wakes<R: Runtime + Threads + Sync>(rt: &R) {
+    let watch = Watch::new(new_id(rt), 'a');
+    let (task, other, mut line) = (new_task(rt), new_task(rt), Vec::new(rt.alloc()));
+    wait_in_line(rt, &mut line, &task, watch.newer(rt, rt.alloc(), 1));
+    for _ in 0..BEHIND {
+        wait_in_line(rt, &mut line, &other, watch.newer(rt, rt.alloc(), 1));
+    }
+    let newer = watch.newer(rt, rt.alloc(), 1).into_attempt();
+    who_is_woken_succeeds(rt, &task, newer, || watch.replace(rt, 'b'));
+}
+
+fn frees_and_then_wakes<R: Runtime + Threads + Sync + Send + Drop>(rt: &R) {
+    let baton = Arc::new(rt.alloc(), Baton::new(new_id(rt))).expect(rt, "memory");
+    let held = Baton::take(&baton, rt, rt.alloc()).wait();
+    let held = held.expect(rt, "the baton").expect(rt, "a guard");
+    let (task, mut line) = (new_task(rt), Vec::new(rt.alloc()));
+    wait_in_line(rt, &mut line, &task, Baton::take(&baton, rt, rt.alloc()));
+    let take = Baton::take(&baton, rt, rt.alloc()).into_attempt();
+    who_is_woken_succeeds(rt, &task, take, || drop(held));
+}
+
+fn for_two_seconds<F: Fn(), R: Runtime>(rt: &R, once: F)
+    requires { F.IsAlwaysCallable once }
+{
+    let end = deadline_after(rt, Duration::from_secs(2)).expect(rt, "an end");
     for _ in rt.forever() {
-        opens_and_then_wakes(&rt);
-        if deadline_after(&rt, Duration::ZERO).expect(&rt, "the time") >= end {
+        once();
+        if deadline_after(rt, Duration::ZERO).expect(rt, "the time") >= end {
             break;
         }
     }
+}
+
+#[test]
+fn who_is_woken_finds_the_gate_open(rt: HostRuntime) {
+    for_two_seconds(&rt, || opens_and_then_wakes(&rt));
+}
+
+#[test]
+fn who_is_woken_finds_a_newer_value(rt: HostRuntime) {
+    for_two_seconds(&rt, || replaces_and_then_wakes(&rt));
+}
+
+#[test]
+fn who_is_woken_finds_the_baton_free(rt: HostRuntime) {
+    for_two_seconds(&rt, || frees_and_then_wakes(&rt));
 }
