@@ -105,7 +105,7 @@ fn what_comes_while_the_clock_is_read_is_taken(rt: HostRuntime) {
     is_taken(rt, &WithClock { rt, clock }, semaphore);
 }
 
-// What happens while the clock is read: that is after one that waits has stored its task, and before it parks.
+// What happens while the clock is read: at the third reading and later, one that waits has stored its task, and is to park.
 #[derive(Clone, Copy)]
 enum Meanwhile {
     Nothing,
@@ -184,12 +184,13 @@ fn a_timed_wait_goes_on_until_its_limit_or_a_permit(rt: HostRuntime) {
     use Meanwhile::{Added, AddedAndTaken, Nothing};
     // No time has passed already, by any clock.
     ends(&rt, 0, [Nothing; 4], (false, 0));
-    // It begins at 0, parks at 1 and at 2, though it wakes each time, and is over at 3.
-    ends(&rt, 3, [Nothing; 4], (false, 4));
-    // What is added at the limit is in time.
+    // It begins at 0, enters the queue at 1, parks at 2 and at 3, though it wakes each time, and is over at 4.
+    ends(&rt, 4, [Nothing; 4], (false, 5));
+    // What is added at the limit is in time, before it enters the queue and in it.
     ends(&rt, 1, [Nothing, Added, Nothing, Nothing], (true, 2));
+    ends(&rt, 2, [Nothing, Nothing, Added, Nothing], (true, 3));
     // One who comes first takes the permit that it is woken for. It gets a later one.
-    ends(&rt, 9, [Nothing, AddedAndTaken, Nothing, Added], (true, 4));
+    ends(&rt, 9, [Nothing, Nothing, AddedAndTaken, Added], (true, 4));
 }
 
 // How long one waited in vain.
