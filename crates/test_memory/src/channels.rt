@@ -273,6 +273,26 @@ fn a_receive_that_cannot_wait_loses_nothing(rt: HostRuntime) {
     are_left(rt, &receiver, &[]);
 }
 
+// Room for one message is there, and room for more is refused.
+#[test]
+fn many_without_room_for_more_are_one(rt: HostRuntime) {
+    let rt = &rt;
+    let (sender, receiver) = make(rt, Some(64)).expect(rt, "a channel");
+    for message in 0..64 {
+        sends(rt, &sender, &[message]);
+    }
+    let mut many = Vec::with_capacity(rt.alloc(), 1).expect(rt, "room");
+    let hog = all_memory(rt);
+    let count = receiver.recv_many(&mut many, 64);
+    drop(hog);
+    check(rt, "how many are received", count, Ok(1));
+    check(rt, "them", many.as_slice(), [0].as_slice());
+    check(rt, "how many are left", receiver.len(), 63);
+    for message in 1..64 {
+        check(rt, "the next", receiver.try_recv(), Ok(message));
+    }
+}
+
 // A message that was not taken in wakes nobody, and comes back. Those before it are all there.
 #[test]
 fn a_send_that_finds_no_memory_hands_back(rt: HostRuntime) {
