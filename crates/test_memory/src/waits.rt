@@ -1,7 +1,7 @@
 //! Waits for each lock of `event_locks` that are refused memory, and calls there that need none.
 use crate::support::{Runtime, Starved, all_memory, check, count_refused, leave, new_task};
 use event_listener::ListenError;
-use event_locks::{Barrier, LockError};
+use event_locks::{Barrier, Grants, LockError, Obtaining, Request};
 use futures::task::Poll;
 use std::cell::Cell;
 use std::io;
@@ -112,9 +112,13 @@ fn each_request_of_a_wait_for_a_lock_is_refused(rt: HostRuntime) {
 }
 
 // One that waits until a moment that has passed attempts, and enters no queue.
-fn is_late_without_memory<R: Runtime, K: Kind>(rt: &R, kind: &K) {
+fn is_late_without_memory<R, S, Q, H>(rt: &R, waits: Obtaining<S, Q, H>)
+where
+    R: Runtime,
+    Q: Request<S> + Drop,
+    H: Grants<S, Q::Output, Output: Drop> + Drop,
+{
     let now = Instant::now(rt).expect(rt, "the time");
-    let waits = kind.waits().expect(rt, "a share");
     let hog = all_memory(rt);
     let late = waits.wait_deadline(now).ok();
     drop(hog);
@@ -133,7 +137,7 @@ impl<R: Runtime> Case<R> for NeedsNone {
 
     fn run<K: Kind>(&self, rt: &R, kind: &K) {
         let (held, task, other) = (kind.hold(), new_task(rt), new_task(rt));
-        is_late_without_memory(rt, kind);
+        is_late_without_memory(rt, kind.waits().expect(rt, "a share"));
         let mut first = kind.waits().expect(rt, "a share");
         let mut second = kind.waits().expect(rt, "a share");
         check(rt, "waits", task.poll(&mut first).is_pending(), true);
