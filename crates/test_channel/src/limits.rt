@@ -53,7 +53,8 @@ fn a_clock_that_cannot_be_read_is_past_the_limit(rt: HostRuntime) {
     check(&rt, "a receive", message.ok(), Some(7));
 }
 
-// A clock that shows the time once another thread has made its call: at 1 it is read, at 2 the call is made.
+// A clock that shows the time once another thread has made its call: at 2 it is read, at 3 the call is made. If it begins
+// at 0 it is read once before, and is early.
 #[derive(Drop)]
 struct Meets<'a, R> {
     rt: &'a R,
@@ -62,8 +63,10 @@ struct Meets<'a, R> {
 
 impl<'a, R: Runtime> OwnClock for Meets<'a, R> {
     fn read(&self) -> io::Result<Duration> {
-        self.step.store(1, Ordering::SeqCst);
-        until(self.rt, self.step, 2);
+        if self.step.fetch_add(1, Ordering::SeqCst) == 0 {
+            return Ok(Duration::ZERO);
+        }
+        until(self.rt, self.step, 3);
         self.rt.monotonic()
     }
 }
@@ -78,9 +81,9 @@ where
     let (sender, receiver) = &bounded(clock, rt.alloc(), 1).expect(rt, "a channel");
     let waits = || receiver.recv_deadline(due).ok();
     let meanwhile = || {
-        until(rt, step, 1);
+        until(rt, step, 2);
         let sent = sender.try_send(7usize).is_ok();
-        step.store(2, Ordering::SeqCst);
+        step.store(3, Ordering::SeqCst);
         sent
     };
     let both = thread::join(rt, waits, meanwhile);
@@ -99,9 +102,9 @@ where
     check(rt, "a send", first, true);
     let waits = || sender.send_deadline(8, due).is_ok();
     let meanwhile = || {
-        until(rt, step, 1);
+        until(rt, step, 2);
         let received = receiver.try_recv().ok();
-        step.store(2, Ordering::SeqCst);
+        step.store(3, Ordering::SeqCst);
         received
     };
     let both = thread::join(rt, waits, meanwhile);
@@ -113,7 +116,11 @@ fn what_comes_while_the_clock_is_read_is_taken(rt: HostRuntime) {
     let (rt, step) = (&rt, &AtomicUsize::new(0));
     let clock = &Meets { rt, step };
     let clock = &WithClock { rt, clock };
-    a_message_is_taken(rt, clock, step);
-    step.store(0, Ordering::SeqCst);
-    a_place_is_taken(rt, clock, step);
+    // The first reading comes before the queue, the second in it.
+    for begin in [1, 0] {
+        step.store(begin, Ordering::SeqCst);
+        a_message_is_taken(rt, clock, step);
+        step.store(begin, Ordering::SeqCst);
+        a_place_is_taken(rt, clock, step);
+    }
 }
