@@ -111,16 +111,24 @@ where
     check(rt, "a send and a receive", both, (true, Some(7)));
 }
 
-#[test]
-fn what_comes_while_the_clock_is_read_is_taken(rt: HostRuntime) {
-    let (rt, step) = (&rt, &AtomicUsize::new(0));
-    let clock = &Meets { rt, step };
-    let clock = &WithClock { rt, clock };
-    // The first reading comes before the queue, the second in it.
+// The first reading comes before the queue, the second in it.
+fn each_is_taken<R, C>(rt: &R, clock: &C, step: &AtomicUsize)
+where
+    R: SharedRuntime,
+    C: Wait + Clock + Clone + Sync + Send,
+{
     for begin in [1, 0] {
         step.store(begin, Ordering::SeqCst);
         a_message_is_taken(rt, clock, step);
         step.store(begin, Ordering::SeqCst);
         a_place_is_taken(rt, clock, step);
     }
+}
+
+#[test]
+fn what_comes_while_the_clock_is_read_is_taken(rt: HostRuntime) {
+    let (rt, step) = (&rt, &AtomicUsize::new(0));
+    let clock = &Meets { rt, step };
+    let clock = &WithClock { rt, clock };
+    each_is_taken(rt, clock, step);
 }

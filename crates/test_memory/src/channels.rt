@@ -168,7 +168,8 @@ impl<R: Runtime> Starved for FirstWait<'_, R> {
         let (sender, receiver) = make(rt, Some(1)).expect(rt, "a channel");
         sends(rt, &sender, &[0]);
         leave(rt, budget, bytes);
-        let sent = sender.send_timeout(7, Duration::from_nanos(1));
+        // It has time to enter the queue, also on a machine that is busy.
+        let sent = sender.send_timeout(7, Duration::from_millis(500));
         budget.give_back();
         are_left(rt, &receiver, &[0]);
         let is_late = sent == Err(SendTimeoutError::TimedOut(7));
@@ -206,8 +207,8 @@ fn a_send_that_cannot_wait_hands_back(rt: HostRuntime) {
     check(rt, "a poll", polled, Poll::Ready(Err(refusal)));
     drop(hog);
 
-    // It makes a place in the queue.
-    let timed_out = sender.send_timeout(5, Duration::from_nanos(1));
+    // It makes a place in the queue, for which it has time.
+    let timed_out = sender.send_timeout(5, Duration::from_millis(500));
     refused(rt, timed_out, SendTimeoutError::TimedOut(5));
     let mut sending = sender.send(9);
     let hog = all_memory(rt);
