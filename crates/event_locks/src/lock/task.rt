@@ -1,5 +1,5 @@
 //! What is woken: threads that park, and tasks that poll.
-ghost use Rattle.std.specs.Prelude.{◌≡◌, ◌<◌, ⊤, IfSome};
+ghost use Rattle.std.specs.Prelude.{◌≡◌, ⊤, IfSome};
 ghost use Rattle.event_locks.specs.declared.lock.task.TaskKind.TheVariants.{Polled};
 ghost use Rattle.event_locks.specs.Task.{Repolls};
 
@@ -55,15 +55,15 @@ impl Task {
     }
 }
 
-/// Wakes the tasks that it is handed, in order. The last eight are held back, so that they do not meet the lock under which
-/// they were handed something: [`finish`](Waking::finish) wakes them. More than eight are handed something at once where a
-/// round of a barrier ends, readers are let in, a cell is set or a channel is closed: those before the last eight are woken
-/// under the lock.
+/// Wakes the tasks that it is handed. The last one is held back, so that it does not meet the lock under which it was
+/// handed something: [`finish`](Waking::finish) wakes it. More than one are handed something at once where a round of a
+/// barrier ends, readers are let in, a cell is set or a channel is closed. The others are woken under the lock: room for them
+/// in each sink cost every call of a lock 36 instructions.
 ///
 /// It is no `Drop`, so whoever makes one has to finish it. Its relation says nothing, since no contract can name what
 /// sleeps. Tests show that it wakes.
 pub struct Waking {
-    held_back: Option<Latest>,
+    held_back: Option<Task>,
 }
 
 impl Waking {
@@ -73,12 +73,12 @@ impl Waking {
         Waking { held_back: None }
     }
 
-    /// Wakes the tasks that are held back. It is called with no lock held.
+    /// Wakes the task that is held back. It is called with no lock held.
     #[inline(always)]
     pub fn finish(self) {
         let Waking { held_back } = self;
-        if let Some(latest) = held_back {
-            latest.wake();
+        if let Some(task) = held_back {
+            task.wake();
         }
     }
 }
@@ -86,53 +86,9 @@ impl Waking {
 impl WakeSink<Task> for Waking {
     ghost woke = { λ _ _ _. Unit {0} };
 
-    #[inline(never)]
     fn wake(&mut self, task: Task) {
-        if self.held_back.is_none() {
-            self.held_back = Some(Latest::new());
-        }
-        if let Some(latest) = &mut self.held_back {
-            if let Some(earlier) = latest.put(task) {
-                earlier.wake();
-            }
-        }
-    }
-}
-
-// The latest eight tasks. They are made with the first, so that a call that wakes nobody does not pay for them.
-#[derive(Drop)]
-struct Latest {
-    tasks: [Option<Task>; 8],
-    // Where the next goes, and where the earliest is of eight.
-    next: usize,
-    ghost in_range: { next < 8 },
-}
-
-impl Latest {
-    fn new() -> Self {
-        Latest {
-            tasks: [None, None, None, None, None, None, None, None],
-            next: 0,
-        }
-    }
-
-    // Puts a task in the place of the earliest, which comes back.
-    fn put(&mut self, task: Task) -> Option<Task> {
-        let place = self.next;
-        self.next = (place + 1) % 8;
-        self.tasks[place].replace(task)
-    }
-
-    // Wakes them, the earliest first.
-    #[cold]
-    #[inline(never)]
-    fn wake(self) {
-        let Latest { tasks, next } = self;
-        let mut tasks = tasks;
-        for later in 0..8 {
-            if let Some(task) = tasks[(next + later) % 8].take() {
-                task.wake();
-            }
+        if let Some(earlier) = self.held_back.replace(task) {
+            earlier.wake();
         }
     }
 }
