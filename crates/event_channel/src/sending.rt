@@ -66,8 +66,6 @@ impl<T: Drop> Sending<T> {
 impl<T: Drop> Request<Messages<T, Task>> for Sending<T> {
     type Output = Result<(), SendError<T>>;
 
-    const TRIES: u32 = 4;
-
     ghost use Rattle.std.specs.Prelude.{◌≡◌, Some, IfErr};
     ghost use Rattle.event_channel.specs.Errors.{unsent};
 

@@ -8,9 +8,9 @@ mod identity;
 mod shared;
 
 use crate::listener::EventListener;
-use crate::locks::take_lock;
 use crate::task::Waking;
 use event_queue::{IntoNotification, ListenError, NotifyError};
+use event_wait::take_lock;
 pub use identity::{EventId, EventIds, IdsUsedUp, given_numbers_are_distinct};
 pub use shared::Shared;
 use std::alloc::{AllocError, Global};

@@ -214,7 +214,6 @@
 
 mod event;
 mod listener;
-mod locks;
 mod recorded;
 mod task;
 

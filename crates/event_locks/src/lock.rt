@@ -19,29 +19,10 @@ pub use self::task::{Task, Waking};
 use self::task::{LineSource, Parks};
 use crate::error::LockError;
 use crate::request::{Attempted, Grantor, Request};
+use event_wait::take_lock;
 use futures::task::{Context, Poll};
 use std::marker::Model;
 use std::sync::{Mutex, MutexGuard, Wait};
-
-/// Takes a lock, and waits for it if another thread has it.
-///
-/// After each call of a function that may wait, its caller tests whether it is to end, inlined or not. So this is no
-/// function: a free lock is taken with no such test.
-macro_rules! take_lock {
-    ($mutex:expr, $rt:expr) => {{
-        match $mutex.try_lock() {
-            Some(guard) => guard,
-            None => wait_for_lock(&$mutex, $rt),
-        }
-    }};
-}
-
-// It is a function of its own, so that taking a free lock is a few instructions.
-#[cold]
-#[inline(never)]
-fn wait_for_lock<'a, S, R: Wait>(mutex: &'a Mutex<S>, rt: &R) -> MutexGuard<'a, S> {
-    mutex.lock(rt)
-}
 
 /// A state under a lock, with the queues of those that wait for something of it.
 ///
@@ -71,7 +52,7 @@ impl<S> Lock<S> {
     /// The state, once nobody else has it. It may wait for the lock.
     #[inline(always)]
     pub fn state<R: Wait>(&self, rt: &R) -> MutexGuard<'_, S> {
-        take_lock!(self.state, rt)
+        take_lock!(&self.state, rt)
     }
 
     pub(crate) fn state_mut(&mut self) -> &mut S {
@@ -90,7 +71,7 @@ impl<S> Lock<S> {
         ensures kept { result ≡ None → request.new ≡ request.old }
     {
         let mut waking = Waking::new();
-        let mut state = take_lock!(self.state, rt);
+        let mut state = take_lock!(&self.state, rt);
         let output = request.attempt(&mut *state, &mut waking);
         drop(state);
         waking.finish();
@@ -108,7 +89,7 @@ impl<S> Lock<S> {
         ensures kept { OnUndone result (request.new ≡ request.old) }
     {
         let mut waking = Waking::new();
-        let mut state = take_lock!(self.state, rt);
+        let mut state = take_lock!(&self.state, rt);
         let attempted = request.attempt_or_wait(&mut *state, &Parks {}, task, &mut waking);
         drop(state);
         waking.finish();
@@ -149,7 +130,7 @@ impl<S> Lock<S> {
         ensures kept { Keeps cx.old cx.new }
     {
         let mut waking = Waking::new();
-        let mut state = take_lock!(self.state, rt);
+        let mut state = take_lock!(&self.state, rt);
         let attempted = request.attempt_or_wait(&mut *state, &self.source, cx, &mut waking);
         drop(state);
         waking.finish();
@@ -162,7 +143,7 @@ impl<S> Lock<S> {
         ensures kept { result ≡ None → request.new ≡ request.old }
     {
         let mut waking = Waking::new();
-        let mut state = take_lock!(self.state, rt);
+        let mut state = take_lock!(&self.state, rt);
         let output = request.leave(&mut *state, &mut waking);
         drop(state);
         waking.finish();
@@ -177,7 +158,7 @@ impl<S> Lock<S> {
             return;
         }
         let mut waking = Waking::new();
-        let mut state = take_lock!(self.state, rt);
+        let mut state = take_lock!(&self.state, rt);
         request.give_up(&mut *state, &mut waking);
         drop(state);
         waking.finish();
@@ -191,7 +172,7 @@ impl<S> Lock<S> {
         S: Grantor<G>,
     {
         let mut waking = Waking::new();
-        let mut state = take_lock!(self.state, rt);
+        let mut state = take_lock!(&self.state, rt);
         state.give_back(grant, &mut waking);
         drop(state);
         waking.finish();

@@ -35,9 +35,9 @@ pub trait Request<S> {
     /// What it gets.
     type Output;
 
-    /// How often a thread that did not get it at once yields and tries again before it waits in the queue: a few times where
-    /// others have it for a moment.
-    const TRIES: u32;
+    /// How often a thread that did not get it at once pauses and tries again before it waits in the queue. Where others have it
+    /// for a moment, that spares both threads a sleep; where a wait is long, none does.
+    const TRIES: u32 = 8;
 
     ghost gives: { Self → Self.Output → Type 0 };
 

@@ -349,8 +349,6 @@ impl<T, R: Wait + Clock> Guard<Shares<Task>, EnteringArc<T, R>, WriteShare> {
 }
 
 impl HandsOut<ReadShare> for Shares<Task> {
-    const TRIES: u32 = 4;
-
     #[inline(always)]
     fn try_hand<K: WakeSink<Task>>(&mut self, _sink: &mut K) -> Option<ReadShare> {
         self.try_read()
@@ -378,8 +376,6 @@ impl HandsOut<ReadShare> for Shares<Task> {
 }
 
 impl HandsOut<WriteShare> for Shares<Task> {
-    const TRIES: u32 = 4;
-
     #[inline(always)]
     fn try_hand<K: WakeSink<Task>>(&mut self, _sink: &mut K) -> Option<WriteShare> {
         self.try_write()

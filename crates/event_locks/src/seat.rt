@@ -11,8 +11,8 @@ use std::marker::{Model, PhantomData};
 
 /// A state that hands something to those that wait for it, in order.
 pub trait HandsOut<G>: Grantor<G> {
-    /// How often a thread that was not handed it at once yields and tries again before it waits in the queue.
-    const TRIES: u32;
+    /// How often a thread that was not handed it at once pauses and tries again before it waits in the queue.
+    const TRIES: u32 = 8;
 
     /// Hands it to one that comes, if nobody is due before.
     fn try_hand<K: WakeSink<Task>>(&mut self, sink: &mut K) -> Option<G>;

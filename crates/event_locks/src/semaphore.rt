@@ -121,8 +121,6 @@ impl<H: Hold<Permits<Task>> + Drop> Guard<Permits<Task>, H, Permit> {
 impl Request<Permits<Task>> for Place {
     type Output = Permit;
 
-    const TRIES: u32 = 4;
-
     ghost gives = { λ _ _. Unit {0} };
 
     fn is_waiting(&self) -> bool {

@@ -3,8 +3,8 @@ ghost use Rattle.std.specs.Prelude.{◌≡◌, false, IfOk};
 
 use super::StackListener;
 use crate::event::{Event, Shared};
-use crate::locks::take_lock;
 use event_queue::ListenError;
+use event_wait::take_lock;
 use std::alloc::Global;
 use std::fmt;
 use std::marker::Model;

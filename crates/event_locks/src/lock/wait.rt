@@ -6,10 +6,14 @@ use super::limit::Limit;
 use super::{Lock, Task};
 use crate::error::LockError;
 use crate::request::{Attempted, Request};
+use event_wait::pause;
 use std::alloc::{AllocError, Global};
 use std::sync::{Arc, Wait};
-use std::thread::{self, Parker};
+use std::thread::Parker;
 use std::time::Clock;
+
+// How many pauses a thread makes before it tries again.
+const PAUSES: u32 = 64;
 
 impl<S> Lock<S> {
     /// Blocks the thread until it has what it requests or the limit has passed, which is `None`. It goes on at its place in
@@ -41,7 +45,7 @@ impl<S> Lock<S> {
     }
 }
 
-// Where there is time left, a few tries with a yield between them, and then in the queue.
+// Where there is time left, a few tries with pauses between them, and then in the queue.
 #[inline(never)]
 fn try_then_park<S, Q: Request<S>, R: Wait + Clock>(
     lock: &Lock<S>,
@@ -86,7 +90,7 @@ fn try_a_while<S, Q: Request<S>, R: Wait>(
         if request.is_waiting() {
             return None;
         }
-        thread::yield_now();
+        pause(PAUSES);
         if let Some(output) = lock.attempt(rt, request) {
             return Some(output);
         }

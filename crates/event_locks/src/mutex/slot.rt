@@ -128,8 +128,6 @@ impl<T, W> Slot<T, W> {
 impl<T: Drop> Request<Slot<T, Task>> for Place {
     type Output = T;
 
-    const TRIES: u32 = 4;
-
     ghost gives = { λ _ _. Unit {0} };
 
     fn is_waiting(&self) -> bool {
