@@ -1,5 +1,6 @@
 pub mod Errors
 pub mod Handle
+pub mod Iter
 pub mod Messages
 pub mod Order
 pub mod Steps

@@ -1,6 +1,6 @@
 -- What each call does to the messages.
-use Rattle.std.specs.Prelude.{◌≡◌, ◌<◌, ◌++◌, List, [], ◌∷◌, Option, Some, None, true, false, length}
-use Rattle.event_locks.specs.Line.{TellsUpTo, TellsAll, woken_up_to, woken_at_once}
+use Rattle.std.specs.Prelude.{◌≡◌, ℕ, ◌<◌, ◌++◌, List, [], ◌∷◌, Option, Some, None, true, false, length}
+use Rattle.event_locks.specs.Line.{TellsUpTo, TellsAll, or_more, woken_up_to, woken_at_once}
 use Rattle.event_channel.specs.Messages.{State, IsFull, IsBounded, room_in}
 use Rattle.event_channel.specs.declared.error.TrySendError.{TrySendError}
 use Rattle.event_channel.specs.declared.error.TrySendError.TheVariants.{Closed, Full, Memory}
@@ -8,13 +8,20 @@ use Rattle.event_channel.specs.declared.error.TryRecvError.{TryRecvError}
 use Rattle.event_channel.specs.declared.error.TryRecvError.TheVariants.{Empty, Closed as WasClosed}
 
 module _ {T W : Type 0} where
-  -- the message is put behind all others of an open channel that is not full; a receiver is notified for each message, and all
-  -- streams are
+  -- how many receivers a push has notified: one for each message, and one more than were
+  abbrev pub receivers_due : State T W → State T W → ℕ
+  receivers_due before after = or_more (length after.messages) 1 before.receivers
+
+  -- how many senders a call has notified that took so many messages: one for each free place, and as many more than were
+  abbrev pub senders_due : ℕ → State T W → State T W → ℕ
+  senders_due taken before after = or_more (room_in after) taken before.senders
+
+  -- the message is put behind all others of an open channel that is not full; receivers are notified, and all streams are
   pub record Pushes (message : T) (before after : State T W) : Type 0 where
     pub is_open : before.is_closed ≡ false
     pub has_room : length before.messages < before.capacity
     pub rest : after ≡ record before { messages = before.messages ++ (message ∷ []); receivers = after.receivers; streams = after.streams }
-    pub receivers : TellsUpTo (length after.messages) before.receivers after.receivers
+    pub receivers : TellsUpTo (receivers_due before after) before.receivers after.receivers
     pub streams : TellsAll before.streams after.streams
 
   -- the message comes back from a channel that is closed, or from an open one that is full, or, without a limit, out of memory
@@ -44,17 +51,21 @@ module _ {T W : Type 0} where
   -- the tasks that a push wakes: of receivers, then of all streams
   abbrev pub woken_by_pushing : State T W → State T W → List W
   woken_by_pushing before after =
-      woken_up_to (length after.messages) before.receivers ++ woken_at_once before.streams
+      woken_up_to (receivers_due before after) before.receivers ++ woken_at_once before.streams
 
   abbrev pub woken_by_forcing : Option T → State T W → State T W → List W
   woken_by_forcing None before after = woken_by_pushing before after
   woken_by_forcing (Some first) before after = []
 
-  -- these messages were in front of all others; a sender is notified for each place that is free
+  -- these messages were in front of all others; senders are notified
   pub record Takes (taken : List T) (before after : State T W) : Type 0 where
     pub first : before.messages ≡ taken ++ after.messages
     pub rest : after ≡ record before { messages = after.messages; senders = after.senders }
-    pub senders : TellsUpTo (room_in after) before.senders after.senders
+    pub senders : TellsUpTo (senders_due (length taken) before after) before.senders after.senders
+
+  -- the tasks that it wakes: of senders
+  abbrev pub woken_by_taking : ℕ → State T W → State T W → List W
+  woken_by_taking taken before after = woken_up_to (senders_due taken before after) before.senders
 
   -- there is no message, and the channel is open or closed
   abbrev pub IsEmptyFor : State T W → TryRecvError → Type 0

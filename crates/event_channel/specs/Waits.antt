@@ -2,9 +2,9 @@
 use Rattle.std.specs.Prelude.{◌≡◌, List, [], ◌∷◌, ◌++◌, Option, true, false, length}
 use Rattle.event_queue.specs.declared.key.Key.{Key}
 use Rattle.event_queue.specs.Queue.{Queue}
-use Rattle.event_locks.specs.Line.{Stores, LeavesThenTells, WaitsBy, CannotWait, woken_up_to, woken_by_leaving}
+use Rattle.event_locks.specs.Line.{Stores, LeavesThenTells, WaitsBy, CannotWait, woken_by_leaving}
 use Rattle.event_channel.specs.Messages.{State, IsFull, IsBounded, room_in}
-use Rattle.event_channel.specs.Steps.{Pushes, Takes, woken_by_pushing}
+use Rattle.event_channel.specs.Steps.{Pushes, Takes, woken_by_pushing, woken_by_taking}
 use Rattle.event_channel.specs.declared.messages.waits.Sent.{Sent}
 use Rattle.event_channel.specs.declared.messages.waits.Sent.TheVariants as sent
 use Rattle.event_channel.specs.declared.messages.waits.Received.{Received}
@@ -64,7 +64,7 @@ module _ {T W : Type 0} where
   -- the tasks that this wakes: of senders, and of those that wait in the same queue if one that was notified has left
   abbrev pub woken_by_receiving : Option Key → State T W → Queue (Unit {0}) W → Received T → State T W → List W
   woken_by_receiving key before line (received.Message message) after =
-      woken_up_to (room_in after) before.senders ++ woken_by_leaving key (length after.messages) line
+      woken_by_taking 1 before after ++ woken_by_leaving key (length after.messages) line
   woken_by_receiving key before line (received.Waits waits) after = []
   woken_by_receiving key before line received.Closed after = woken_by_leaving key (length after.messages) line
   woken_by_receiving key before line (received.WaitFailed error) after = []

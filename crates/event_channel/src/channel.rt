@@ -1,5 +1,5 @@
 //! What both sides share.
-ghost use Rattle.std.specs.Prelude.{◌≡◌, ◌≤◌, IfErr, IfOk};
+ghost use Rattle.std.specs.Prelude.{◌≡◌, IfErr, IfOk};
 ghost use Rattle.event_channel.specs.Errors.{IsNotFull, unsent_at_once};
 
 use crate::error::TrySendError;
@@ -107,23 +107,6 @@ impl<T> Channel<T> {
         drop(messages);
         waking.finish();
         sent
-    }
-
-    /// Takes the first messages, `limit` at most, and puts them behind what `into` has.
-    pub(crate) fn take_into<R: Wait>(
-        &self,
-        rt: &R,
-        into: &mut Vec<T>,
-        limit: usize,
-    ) -> Result<usize, AllocError>
-        ensures { IfOk result (λ count. count ≤ limit) }
-    {
-        let mut waking = Waking::new();
-        let mut messages = self.lock.state(rt);
-        let taken = messages.pop_into(into, limit, &mut waking);
-        drop(messages);
-        waking.finish();
-        taken
     }
 
     /// Closes the channel and wakes all that wait, or returns `false` if it is closed already.

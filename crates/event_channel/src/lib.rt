@@ -6,6 +6,7 @@
 
 mod channel;
 mod error;
+mod iter;
 mod messages;
 mod receiver;
 mod receiving;
@@ -18,6 +19,7 @@ pub use channel::ChannelError;
 pub use error::{
     RecvError, RecvTimeoutError, SendError, SendTimeoutError, TryRecvError, TrySendError,
 };
+pub use iter::{Iter, TryIter};
 pub use messages::{Messages, Received, Sent, received_in_order};
 pub use receiver::{Receiver, WeakReceiver};
 pub use recv::Recv;

@@ -2,16 +2,16 @@
 ghost use Rattle.std.specs.Prelude.{◌≡◌, ◌+◌, ◌-◌, ◌<◌, ◌≤◌, ◌↔◌, min, true, false, [], ◌∷◌, ◌++◌, take, drop, length, vec_len, vec_capacity, IfOk, IfErr, OnErr, IsTrue, IsFalse};
 ghost use Rattle.std.specs.List.{FoldsTo};
 ghost use Rattle.std.specs.VecDeque.{deque_capacity};
-ghost use Rattle.event_locks.specs.Line.{TellsAll, TellsUpTo, woken_up_to, woken_at_once};
+ghost use Rattle.event_locks.specs.Line.{TellsAll, TellsUpTo, or_more, woken_up_to, woken_at_once};
 ghost use Rattle.event_channel.specs.Messages.{NobodyWaitsInVain, IsFull, limit_of, new_state, room_in};
 ghost use Rattle.event_channel.specs.Order.{IsReceivedInOrder};
-ghost use Rattle.event_channel.specs.Steps.{Pushes, Refuses, Forces, RefusesForce, Takes, IsEmptyFor, Closes, woken_by_pushing, woken_by_forcing};
+ghost use Rattle.event_channel.specs.Steps.{Pushes, Refuses, Forces, RefusesForce, Takes, IsEmptyFor, Closes, woken_by_forcing, woken_by_pushing, woken_by_taking};
 
 mod waits;
 
 pub use self::waits::{Received, Sent};
 use crate::error::{TryRecvError, TrySendError};
-use event_locks::waiters::{tell, tell_all};
+use event_locks::waiters::{tell_all, tell_more};
 use event_queue::{List, WakeSink};
 use std::alloc::{AllocError, AllocFailed, Global};
 use std::collections::VecDeque;
@@ -21,7 +21,8 @@ use std::marker::Model;
 /// queues of those that wait.
 ///
 /// One that is notified has no message or place of its own: it looks, and waits again if another one came before. A message
-/// notifies one receiver and all streams, since a stream that is left alone must not keep it from the receivers.
+/// notifies one receiver more and all streams, so whoever was notified before and is left alone keeps it from nobody. A
+/// message that is taken does the same for the senders.
 #[derive(Drop)]
 pub struct Messages<T, W> {
     items: VecDeque<T>,
@@ -74,7 +75,7 @@ fn move_first<T>(items: &mut VecDeque<T>, into: &mut Vec<T>, count: usize)
     }
 }
 
-// Notifies as many of the receivers as there are messages, and all streams.
+// Notifies receivers of one more message, so that as many are notified as there are messages, and all streams.
 #[inline(always)]
 fn tell_of<W, S: WakeSink<W>>(
     receivers: &mut List<(), W>,
@@ -82,11 +83,11 @@ fn tell_of<W, S: WakeSink<W>>(
     messages: usize,
     sink: &mut S,
 )
-    ensures receivers { TellsUpTo messages receivers.old receivers.new }
+    ensures receivers { TellsUpTo (or_more messages 1 receivers.old) receivers.old receivers.new }
     ensures streams { TellsAll streams.old streams.new }
-    ensures wakes { FoldsTo S.woke sink.old (woken_up_to messages receivers.old ++ woken_at_once streams.old) sink.new }
+    ensures wakes { FoldsTo S.woke sink.old (woken_up_to (or_more messages 1 receivers.old) receivers.old ++ woken_at_once streams.old) sink.new }
 {
-    tell(receivers, messages, sink);
+    tell_more(receivers, messages, 1, sink);
     tell_all(streams, sink);
 }
 
@@ -156,14 +157,14 @@ impl<T, W> Messages<T, W> {
     /// Takes the first message, and wakes a sender.
     pub fn pop<S: WakeSink<W>>(&mut self, sink: &mut S) -> Result<T, TryRecvError>
         ensures popped { IfOk result (λ message. Takes (message ∷ []) self.old self.new) }
-        ensures wakes { IfOk result (λ _. FoldsTo S.woke sink.old (woken_up_to (room_in self.new) self.old.senders) sink.new) }
+        ensures wakes { IfOk result (λ _. FoldsTo S.woke sink.old (woken_by_taking 1 self.old self.new) sink.new) }
         ensures empty { OnErr result ((self.new ≡ self.old) × (sink.new ≡ sink.old)) }
         ensures reason { IfErr result (IsEmptyFor self.old) }
     {
         match self.items.pop_front() {
             Some(message) => {
                 let room = self.capacity - self.items.len();
-                tell(&mut self.senders, room, sink);
+                tell_more(&mut self.senders, room, 1, sink);
                 Ok(message)
             }
             None if self.is_closed => Err(TryRecvError::Closed),
@@ -171,26 +172,25 @@ impl<T, W> Messages<T, W> {
         }
     }
 
-    /// Takes the first messages, `limit` at most, puts them behind what `into` has, and wakes as many senders. Returns how
-    /// many it took. It reserves room in `into` first; if that fails nothing has changed.
+    /// Takes the first messages, `limit` at most and no more than `into` has room for, puts them behind what `into` has, and
+    /// wakes as many senders. Returns how many it took. It does not allocate.
     pub fn pop_into<S: WakeSink<W>>(
         &mut self,
         into: &mut Vec<T>,
         limit: usize,
         sink: &mut S,
-    ) -> Result<usize, AllocError>
-        ensures count { IfOk result (λ count. count ≡ min limit (length self.old.messages)) }
-        ensures popped { IfOk result (λ count. Takes (take count self.old.messages) self.old self.new) }
-        ensures appended { IfOk result (λ count. into.new.items ≡ into.old.items ++ take count self.old.messages) }
-        ensures wakes { IfOk result (λ _. FoldsTo S.woke sink.old (woken_up_to (room_in self.new) self.old.senders) sink.new) }
-        ensures refused { OnErr result ((self.new ≡ self.old) × (into.new.items ≡ into.old.items) × (sink.new ≡ sink.old)) }
+    ) -> usize
+        ensures count { result ≡ min limit (min (vec_capacity into.old - vec_len into.old) (length self.old.messages)) }
+        ensures popped { Takes (take result self.old.messages) self.old self.new }
+        ensures appended { into.new.items ≡ into.old.items ++ take result self.old.messages }
+        ensures wakes { FoldsTo S.woke sink.old (woken_by_taking result self.old self.new) sink.new }
     {
-        let count = limit.min(self.items.len());
-        into.reserve(count)?;
+        let room = into.capacity() - into.len();
+        let count = limit.min(room).min(self.items.len());
         move_first(&mut self.items, into, count);
-        let room = self.capacity - self.items.len();
-        tell(&mut self.senders, room, sink);
-        Ok(count)
+        let places = self.capacity - self.items.len();
+        tell_more(&mut self.senders, places, count, sink);
+        count
     }
 
     /// Closes the channel, and wakes all that wait: senders, receivers, streams. Returns `false` if it is closed already.

@@ -1,9 +1,9 @@
 //! The side that receives.
-ghost use Rattle.std.specs.Prelude.{◌≡◌, ◌≤◌, IfOk, IfSome, IsSome};
+ghost use Rattle.std.specs.Prelude.{◌≡◌, ◌≤◌, Ok, Some, IfOk, IfSome, IsSome};
 
 use crate::channel::Link;
 use crate::error::{RecvError, RecvTimeoutError, TryRecvError};
-use crate::receiving::{Ended, Receiving};
+use crate::receiving::{Ended, Receiving, ReceivingMany};
 use crate::recv::Recv;
 use event_locks::{Limit, LockError};
 use futures::Stream;
@@ -18,8 +18,8 @@ use std::time::{Clock, Duration, Instant};
 /// Receives the messages of a channel. Clones receive of the same one; when the last is dropped, the channel is closed.
 ///
 /// Each message is received once, and in the order in which they were sent. Each call may wait for the lock of the channel,
-/// which is held for a few instructions. A receiver is a stream of the messages too, which ends when the channel is closed
-/// and empty. A contract sees the number of the channel and its capacity.
+/// as those of a [`Sender`](crate::Sender) do. A receiver is a stream of the messages too, which ends when the channel is
+/// closed and empty. A contract sees the number of the channel and its capacity.
 pub struct Receiver<T: Drop, R: Wait + Clock + Clone> {
     link: Link<T, R>,
     // Where it waits as a stream.
@@ -37,6 +37,7 @@ impl<T: Drop, R: Wait + Clock + Clone> Model for Receiver<T, R> {
 // What a wait without a limit received.
 fn received<T>(waited: Result<Option<Result<T, Ended>>, LockError>) -> Result<T, RecvError>
     requires { IfOk waited IsSome }
+    ensures { IfOk result (λ message. waited ≡ Ok (Some (Ok message))) }
 {
     match waited {
         Ok(Some(Ok(message))) => Ok(message),
@@ -66,6 +67,10 @@ impl<T: Drop, R: Wait + Clock + Clone> Receiver<T, R> {
             link,
             stream: Receiving::stream(),
         }
+    }
+
+    pub(crate) fn runtime(&self) -> &R {
+        &self.link.rt
     }
 
     /// Receives the first message, if one waits. The call does not allocate.
@@ -114,10 +119,12 @@ impl<T: Drop, R: Wait + Clock + Clone> Receiver<T, R> {
     }
 
     /// Receives messages once there is one, `limit` at most, puts them behind what `into` has, and returns how many they
-    /// were: none only if `limit` is 0. It blocks the calling thread until there is one.
+    /// were: none only if `limit` is 0. It blocks the calling thread until there is one. No other receive comes between its
+    /// messages, which it takes in one step.
     ///
-    /// The call allocates where it has to wait, and room in `into`: first for one message, which is an error if it is
-    /// refused; and then for more, which wait on if it is refused.
+    /// The call allocates where it has to wait, and before that room in `into`: for one message, which is an error if it is
+    /// refused, and for as many as wait at the moment, which is no error. It takes no more than there is room for, so
+    /// reserve room for `limit` messages to have as many as it finds.
     pub fn recv_many(&self, into: &mut Vec<T>, limit: usize) -> Result<usize, RecvError>
         ensures { IfOk result (λ count. count ≤ limit) }
     {
@@ -127,12 +134,16 @@ impl<T: Drop, R: Wait + Clock + Clone> Receiver<T, R> {
         if into.reserve(1).is_err() {
             return Err(RecvError::WaitFailed(LockError::Memory(AllocError)));
         }
-        let message = received(self.wait(Limit::Never))?;
-        into.push_reserved(message);
-        match self.link.channel.take_into(&self.link.rt, into, limit - 1) {
-            Ok(more) => Ok(more + 1),
-            Err(AllocError) => Ok(1),
+        if into.capacity() - into.len() < limit {
+            let _ = into.reserve(limit.min(self.len()));
         }
+        let mut many = ReceivingMany::new(into, limit - 1);
+        let waited = self
+            .link
+            .channel
+            .lock
+            .obtain(&self.link.rt, self.link.alloc, &mut many, Limit::Never);
+        received(waited)
     }
 
     #[inline(always)]
@@ -146,7 +157,7 @@ impl<T: Drop, R: Wait + Clock + Clone> Receiver<T, R> {
             .obtain(&self.link.rt, self.link.alloc, &mut receiving, limit)
     }
 
-    /// Closes the channel, and wakes all that wait. Returns `false` if it is closed already.
+    /// Closes the channel, and wakes all that wait, under its lock but for the last. Returns `false` if it is closed already.
     ///
     /// No message is sent any more. Those that wait can still be received.
     pub fn close(&self) -> bool {
@@ -270,12 +281,13 @@ impl<T: Drop, R: Wait + Clock + Clone> Model for WeakReceiver<T, R> {
 }
 
 impl<T: Drop, R: Wait + Clock + Clone> WeakReceiver<T, R> {
-    /// A receiver, if there is one still. It fails if the runtime value can't be cloned.
+    /// A receiver, if there is one still and the channel is open. It fails if the runtime value can't be cloned, and may wait
+    /// for the lock of the channel.
     pub fn upgrade(&self) -> Result<Option<Receiver<T, R>>, AllocError>
         ensures { IfOk result (λ receiver. IfSome receiver (λ receiver. receiver ≡ self.now)) }
     {
         let link = self.link.try_clone()?;
-        if !link.channel.receivers.revive() {
+        if link.channel.is_closed(&link.rt) || !link.channel.receivers.revive() {
             return Ok(None);
         }
         Ok(Some(Receiver::new(link)))

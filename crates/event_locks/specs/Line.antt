@@ -1,5 +1,5 @@
 -- What becomes of a queue, and what one that waits in it learns.
-use Rattle.std.specs.Prelude.{◌≡◌, ℕ, ◌+◌, ◌-◌, min, Bool, true, false, if◌then◌else◌, Option, Some, None, is_some, unwrap_or, List, [], ◌∷◌, ◌++◌, length, drop, Err}
+use Rattle.std.specs.Prelude.{◌≡◌, ℕ, ◌+◌, ◌-◌, min, max, Bool, true, false, if◌then◌else◌, Option, Some, None, is_some, unwrap_or, List, [], ◌∷◌, ◌++◌, length, drop, Err}
 use Rattle.std.specs.List.{FoldsTo}
 use Rattle.std.specs.Map.{lookup, remove_entry, set_value}
 use Rattle.event_queue.specs.declared.key.Key.{Key}
@@ -19,6 +19,10 @@ module _ {T W : Type 0} where
   -- how many are notified anew, so that `n` are notified if there are as many
   abbrev pub told_anew : ℕ → Queue T W → ℕ
   told_anew n q = min (n - length q.told) (length q.waiting)
+
+  -- `n`, or `more` above those that are notified, whichever is more
+  abbrev pub or_more : ℕ → ℕ → Queue T W → ℕ
+  or_more n more q = max n (length q.told + more)
 
   -- the first that wait were notified, until `n` of the queue were, if there are as many; nobody has come or gone
   pub record TellsUpTo (n : ℕ) (old new : Queue T W) : Type 0 where

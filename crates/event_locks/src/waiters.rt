@@ -9,7 +9,7 @@ ghost use Rattle.event_queue.specs.Insert.{Inserts};
 ghost use Rattle.event_queue.specs.Key.{without};
 ghost use Rattle.event_queue.specs.Queue.{order_of};
 ghost use Rattle.event_locks.specs.Attempted.{found_by, waits_by};
-ghost use Rattle.event_locks.specs.Line.{CannotWait, HandsOut, HasLeft, Leaves, LeavesThenTells, Looked, TellsAll, TellsUpTo, WaitsBy, left_by, woken_at_once, woken_by_leaving, woken_up_to};
+ghost use Rattle.event_locks.specs.Line.{CannotWait, HandsOut, HasLeft, Leaves, LeavesThenTells, Looked, TellsAll, TellsUpTo, WaitsBy, left_by, or_more, woken_at_once, woken_by_leaving, woken_up_to};
 ghost use Rattle.event_locks.specs.Left.{left_as, told_of, waited_of};
 
 use crate::error::LockError;
@@ -43,6 +43,20 @@ pub fn tell<W, S: WakeSink<W>>(line: &mut List<(), W>, n: usize, sink: &mut S)
 {
     if somebody_waits(line) {
         tell_waiting(line, n, sink);
+    }
+}
+
+/// Notifies as [`tell`] does, but `more` at least beside those that are notified already, if there are as many. So each of
+/// `more` things that have come finds one, even if one that was notified before is left alone.
+#[inline(always)]
+pub fn tell_more<W, S: WakeSink<W>>(line: &mut List<(), W>, n: usize, more: usize, sink: &mut S)
+    ensures step { TellsUpTo (or_more n more line.old) line.old line.new }
+    ensures wakes { FoldsTo S.woke sink.old (woken_up_to (or_more n more line.old) line.old) sink.new }
+{
+    let told = line.listeners_notified();
+    let waiting = line.total_listeners() - told;
+    if waiting > 0 {
+        tell_waiting(line, n.max(told + more.min(waiting)), sink);
     }
 }
 

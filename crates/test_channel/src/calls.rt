@@ -80,6 +80,32 @@ fn a_poll_for_another_reason_attempts(rt: HostRuntime) {
     run(&rt, Some(1), &sends);
 }
 
+// The first was told of what another call took.
+#[test]
+fn one_that_was_told_and_is_left_alone_keeps_nothing(rt: HostRuntime) {
+    for way in WAYS {
+        let receives = [
+            (Call::AwaitReceive, Answer::Waits, [0, 0, 0]),
+            (Call::AwaitReceive, Answer::Waits, [0, 0, 0]),
+            (Call::Send(way, 7), Answer::Sent, [1, 0, 0]),
+            (Call::Take, Answer::Received(7), [1, 0, 0]),
+            (Call::Send(way, 8), Answer::Sent, [1, 1, 0]),
+            (Call::Poll(1), Answer::Received(8), [1, 0, 0]),
+        ];
+        run(&rt, None, &receives);
+        let sends = [
+            (Call::Put(0), Answer::Sent, [0, 0, 0]),
+            (Call::AwaitSend(1), Answer::Waits, [0, 0, 0]),
+            (Call::AwaitSend(2), Answer::Waits, [0, 0, 0]),
+            (Call::Receive(way), Answer::Received(0), [1, 0, 0]),
+            (Call::Put(3), Answer::Sent, [1, 0, 0]),
+            (Call::Receive(way), Answer::Received(3), [1, 1, 0]),
+            (Call::Poll(1), Answer::Sent, [1, 0, 0]),
+        ];
+        run(&rt, Some(1), &sends);
+    }
+}
+
 #[test]
 fn one_that_was_told_and_is_dropped_passes_on(rt: HostRuntime) {
     let receives = [
@@ -145,15 +171,14 @@ fn a_close_wakes_all_and_leaves_the_messages(rt: HostRuntime) {
             (Call::AwaitReceive, Answer::Waits, [0, 0, 0]),
             (Call::Send(way, 0), Answer::Sent, [1, 0, 0]),
             (Call::AwaitSend(1), Answer::Waits, [1, 0, 0]),
-            (Call::AwaitNext, Answer::Received(0), [1, 0, 1]),
-            (Call::Poll(2), Answer::Sent, [1, 0, 0]),
-            (Call::Close, Answer::Closed(None), [1, 1, 0]),
-            (Call::Close, Answer::Late(None), [1, 1, 0]),
-            (Call::Send(way, 5), Answer::Closed(Some(5)), [1, 1, 0]),
-            (Call::Receive(way), Answer::Received(1), [1, 1, 0]),
-            (Call::Poll(0), Answer::Closed(None), [0, 1, 0]),
-            (Call::Poll(1), Answer::Closed(None), [0, 0, 0]),
-            (Call::Poll(3), Answer::Closed(None), [0, 0, 0]),
+            (Call::Close, Answer::Closed(None), [1, 1, 1]),
+            (Call::Close, Answer::Late(None), [1, 1, 1]),
+            (Call::Send(way, 5), Answer::Closed(Some(5)), [1, 1, 1]),
+            (Call::Receive(way), Answer::Received(0), [1, 1, 1]),
+            (Call::Poll(0), Answer::Closed(None), [0, 1, 1]),
+            (Call::Poll(1), Answer::Closed(None), [0, 0, 1]),
+            (Call::Poll(2), Answer::Closed(Some(1)), [0, 0, 0]),
+            (Call::AwaitNext, Answer::Closed(None), [0, 0, 0]),
             (Call::Receive(way), Answer::Closed(None), [0, 0, 0]),
         ];
         run(&rt, Some(1), &steps);

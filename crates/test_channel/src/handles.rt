@@ -88,6 +88,21 @@ fn the_last_receiver_closes(rt: HostRuntime) {
     check(&rt, "whether no receiver comes back", gone, true);
 }
 
+// Both sides have handles still.
+#[test]
+fn a_closed_channel_makes_no_handle_anew(rt: HostRuntime) {
+    let (sender, receiver) = sides(&rt, Some(1));
+    let weak_sender = sender.downgrade().expect(&rt, "a weak handle");
+    let weak_receiver = receiver.downgrade().expect(&rt, "a weak handle");
+    check(&rt, "a close", receiver.close(), true);
+    let made = weak_sender.upgrade().expect(&rt, "memory").is_some();
+    check(&rt, "whether a sender comes back", made, false);
+    let made = weak_receiver.upgrade().expect(&rt, "memory").is_some();
+    check(&rt, "whether a receiver comes back", made, false);
+    check(&rt, "senders", receiver.sender_count(), 1);
+    check(&rt, "receivers", sender.receiver_count(), 1);
+}
+
 #[test]
 fn what_makes_no_channel(rt: HostRuntime) {
     let made = bounded::<usize, _>(&rt, rt.alloc(), 0);

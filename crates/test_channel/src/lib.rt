@@ -3,14 +3,14 @@
 //!
 //! | Module | What it tests |
 //! |---|---|
-//! | `order` | messages in order, what a channel says of itself, and many that are received at once |
-//! | `calls` | tables: what calls answer and whom they wake; polls for another reason, and streams that are left alone or dropped; sends by force; a close |
-//! | `handles` | clones, weak handles, the last of a side, and what makes no channel |
+//! | `order` | messages in order, what a channel says of itself, many that are received at once, and iterators |
+//! | `calls` | tables: what calls answer and whom they wake; polls for another reason, and who is left alone or dropped; sends by force; a close |
+//! | `handles` | clones, weak handles, the last of a side, a closed channel, and what makes none |
 //! | `limits` | calls that wait until a limit, and what comes while they look at the clock there |
 //! | `errors` | what errors and handles say |
 //! | `wakes` | threads that are blocked, and woken by many received at once, by force, or one by one |
-//! | `races` | the last two handles of a side dropped at once, and a last message as another thread receives |
-//! | `threads` | 8 threads that send and 8 that receive, each in a way of its own; a close among them; calls that are given up |
+//! | `races` | the last two handles of a side dropped at once, a last message as another thread receives, and many received at once as another takes one |
+//! | `threads` | 8 threads that send and 8 that receive, each in a way of its own, or many at once; handles made anew by weak ones; a close among them; calls that are given up |
 //!
 //! What is said of every way to send or to receive is written once, and run with each (`test_channel_support`). Refused
 //! memory is tested in `test_memory`.

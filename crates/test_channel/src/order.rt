@@ -70,3 +70,19 @@ fn many_are_received_at_once(rt: HostRuntime) {
         check(&rt, "whether all are there, in order", all, true);
     }
 }
+
+#[test]
+fn what_waits_is_iterated(rt: HostRuntime) {
+    let (sender, receiver) = sides(&rt, None);
+    for first in [0usize, 10] {
+        for message in first..first.saturating_add(3) {
+            sends(&rt, Way::AtOnce, &sender, message, Answer::Sent);
+        }
+        let mut next = first;
+        for message in receiver.try_iter() {
+            check(&rt, "a message", message, next);
+            next = next.saturating_add(1);
+        }
+        check(&rt, "how many came", next, first.saturating_add(3));
+    }
+}

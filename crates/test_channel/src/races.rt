@@ -176,3 +176,52 @@ fn end_again<R: SharedRuntime>(rt: &R) {
 fn no_receive_answers_closed_before_the_last_message(rt: HostRuntime) {
     end_again(&rt);
 }
+
+// Sends messages by twos, and takes one back, until time is up. Then it closes the channel.
+fn send_and_take<R: Runtime>(rt: &R, sender: &Sender<usize, R>, receiver: &Receiver<usize, R>) {
+    let end = end_of_races(rt);
+    let mut next = 0usize;
+    for _ in rt.forever() {
+        for _ in 0..2 {
+            if sender.try_send(next).is_ok() {
+                next = next.saturating_add(1);
+            }
+        }
+        let _ = receiver.try_recv();
+        if is_over(rt, end) {
+            break;
+        }
+    }
+    sender.close();
+}
+
+// How often two that are received at once are not adjacent.
+fn take_twos<R: Runtime>(rt: &R, receiver: &Receiver<usize, R>) -> usize {
+    let mut torn = 0usize;
+    let mut two = Vec::with_capacity(rt.alloc(), 2).expect(rt, "room");
+    for _ in rt.forever() {
+        two.clear();
+        if receiver.recv_many(&mut two, 2).is_err() {
+            break;
+        }
+        if let [first, second] = two.as_slice() {
+            torn = torn.saturating_add(usize::from(*second != first.saturating_add(1)));
+        }
+    }
+    torn
+}
+
+fn take_twos_as_others_take<R: SharedRuntime>(rt: &R) {
+    let (sender, receiver) = &sides(rt, Some(128));
+    let (torn, ()) = thread::join(
+        rt,
+        || take_twos(rt, receiver),
+        || send_and_take(rt, sender, receiver),
+    );
+    check(rt, "how often they are torn apart", torn, 0);
+}
+
+#[test]
+fn many_received_at_once_are_adjacent(rt: HostRuntime) {
+    take_twos_as_others_take(&rt);
+}

@@ -1,6 +1,6 @@
 //! Many threads and tasks at once: each message that is sent is received once, and those of one sender in order.
 use crate::support::{Runtime, SharedRuntime, check, sides};
-use event_channel::{Receiver, Sender};
+use event_channel::{Receiver, RecvError, Sender};
 use std::alloc::AllocGlobal;
 use std::thread;
 use std::time::{Duration, Instant};
@@ -18,7 +18,7 @@ const MILLISECONDS: u64 = 700;
 
 const LEAST: usize = 20;
 
-// How the threads of each side send and receive.
+// How the threads of each side send and receive. The first receives many at once.
 const WAYS: [Way; SIDE] = [
     Way::Blocking,
     Way::Awaited,
@@ -26,9 +26,12 @@ const WAYS: [Way; SIDE] = [
     Way::Streamed,
     Way::Due,
     Way::GivenUp,
-    Way::GivenUp,
+    Way::Iterated,
     Way::AtOnce,
 ];
+
+// A thread makes its handle anew by a weak one after so many messages.
+const RENEWED: usize = 16;
 
 // What the threads of a run do.
 #[derive(Clone, Copy)]
@@ -58,6 +61,17 @@ fn way_of(number: usize) -> Way {
     WAYS.get(number).copied().unwrap_or(Way::Blocking)
 }
 
+// A handle of the same channel by a weak one, if it is open, in place of this one.
+fn sender_anew<R: Runtime>(rt: &R, sender: Sender<usize, R>) -> Sender<usize, R> {
+    let weak = sender.downgrade().expect(rt, "a weak handle");
+    weak.upgrade().expect(rt, "memory").unwrap_or(sender)
+}
+
+fn receiver_anew<R: Runtime>(rt: &R, receiver: Receiver<usize, R>) -> Receiver<usize, R> {
+    let weak = receiver.downgrade().expect(rt, "a weak handle");
+    weak.upgrade().expect(rt, "memory").unwrap_or(receiver)
+}
+
 impl Plan {
     fn patience(&self) -> Duration {
         Duration::from_micros(self.patience)
@@ -72,11 +86,15 @@ impl Plan {
         number: usize,
         sender: Sender<usize, R>,
     ) -> Vec<usize> {
+        let mut sender = sender;
         let mut sent = Vec::with_capacity(rt.alloc(), MOST).expect(rt, "room");
         let first = number.saturating_mul(MOST);
         for message in first..first.saturating_add(MOST) {
             if sent.len() >= LEAST && Instant::now(rt).expect(rt, "the time") >= end {
                 break;
+            }
+            if sent.len() % RENEWED == 0 {
+                sender = sender_anew(rt, sender);
             }
             match way_of(number).send(rt, &sender, message, self.patience()) {
                 Answer::Sent => sent.push(message).expect(rt, "room"),
@@ -93,6 +111,34 @@ impl Plan {
         sent
     }
 
+    // Receives a message, or many, or none in time. Answers whether more may come.
+    fn receive_some<R: Runtime>(
+        &self,
+        rt: &R,
+        number: usize,
+        receiver: &Receiver<usize, R>,
+        messages: &mut Vec<usize>,
+    ) -> bool {
+        if number == 0 {
+            return match receiver.recv_many(messages, 5) {
+                Ok(count) => count > 0,
+                Err(error) => {
+                    check(rt, "the end", error, RecvError::Closed);
+                    false
+                }
+            };
+        }
+        match way_of(number).receive(rt, receiver, self.patience()) {
+            Answer::Received(message) => messages.push(message).expect(rt, "room"),
+            Answer::Closed(None) => return false,
+            other => {
+                check(rt, "no message", other, Answer::Late(None));
+                thread::yield_now();
+            }
+        }
+        true
+    }
+
     // Receives messages until the channel is closed and empty.
     fn receive_all<R: Runtime>(
         &self,
@@ -100,18 +146,17 @@ impl Plan {
         number: usize,
         receiver: Receiver<usize, R>,
     ) -> Vec<usize> {
+        let mut receiver = receiver;
         let mut messages = Vec::new(rt.alloc());
         for _ in rt.forever() {
-            match way_of(number).receive(rt, &receiver, self.patience()) {
-                Answer::Received(message) => messages.push(message).expect(rt, "room"),
-                Answer::Closed(None) => break,
-                other => {
-                    check(rt, "no message", other, Answer::Late(None));
-                    thread::yield_now();
-                }
+            if !self.receive_some(rt, number, &receiver, &mut messages) {
+                break;
             }
-            if messages.len() == self.closes_after {
+            if messages.len() >= self.closes_after {
                 receiver.close();
+            }
+            if messages.len() % RENEWED == 0 {
+                receiver = receiver_anew(rt, receiver);
             }
         }
         messages

@@ -39,10 +39,12 @@ pub enum Way {
     Streamed,
     /// Polled, and dropped a little later if it is not done.
     GivenUp,
+    /// By an iterator of its own, for one item. A send blocks.
+    Iterated,
 }
 
 /// All ways.
-pub const WAYS: [Way; 7] = [
+pub const WAYS: [Way; 8] = [
     Way::AtOnce,
     Way::Blocking,
     Way::Timed,
@@ -50,6 +52,7 @@ pub const WAYS: [Way; 7] = [
     Way::Awaited,
     Way::Streamed,
     Way::GivenUp,
+    Way::Iterated,
 ];
 
 fn moment<R: Clock>(rt: &R, limit: Duration) -> Option<Instant> {
@@ -67,7 +70,7 @@ impl Way {
     ) -> Answer {
         match self {
             Way::AtOnce => of_try_send(sender.try_send(message)),
-            Way::Blocking => of_send(sender.send_blocking(message)),
+            Way::Blocking | Way::Iterated => of_send(sender.send_blocking(message)),
             Way::Timed => of_timed_send(sender.send_timeout(message, limit)),
             Way::Due => match moment(rt, limit) {
                 Some(moment) => of_timed_send(sender.send_deadline(message, moment)),
@@ -104,6 +107,7 @@ impl Way {
                 Err(_) => Answer::Failed,
             },
             Way::Streamed => first_of(rt, receiver),
+            Way::Iterated => of_item(receiver.iter().next()),
             Way::GivenUp => match Waiting::receive(rt, receiver) {
                 Some(waiting) => once(waiting, None),
                 None => Answer::Failed,

@@ -247,6 +247,8 @@ fn a_receive_that_cannot_wait_loses_nothing(rt: HostRuntime) {
     // An item that says so is not the end of the stream.
     let item = task.poll(&mut stream.next());
     check(rt, "an item", item, Poll::Ready(Some(Err(LISTENING))));
+    let item = Poll::Ready(receiver.iter().next());
+    check(rt, "an item", item, Poll::Ready(Some(Err(NO_MEMORY))));
     sends(rt, &sender, &[5]);
     let refusal = RecvError::WaitFailed(NO_MEMORY);
     refused(rt, receiver.recv_many(&mut many, 2), refusal);

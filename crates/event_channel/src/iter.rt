@@ -1,0 +1,85 @@
+//! The messages of a receiver, one after another.
+ghost use Rattle.std.specs.Iterator.{at_most};
+ghost use Rattle.event_channel.specs.Iter.{iter_left, try_iter_left};
+
+use crate::error::RecvError;
+use crate::receiver::Receiver;
+use event_locks::LockError;
+use std::fmt;
+use std::fmt::{Debug, Formatter};
+use std::sync::{Forever, Wait};
+use std::time::Clock;
+
+/// The messages of a channel, each once it has come: [`iter`](Receiver::iter) makes it.
+#[derive(Drop)]
+pub struct Iter<'a, T: Drop, R: Wait + Clock + Clone> {
+    receiver: &'a Receiver<T, R>,
+    // The prover's measure of a loop over it.
+    turns: Forever<'a, R>,
+}
+
+/// The messages that wait in a channel: [`try_iter`](Receiver::try_iter) makes it.
+#[derive(Drop)]
+pub struct TryIter<'a, T: Drop, R: Wait + Clock + Clone> {
+    receiver: &'a Receiver<T, R>,
+    turns: Forever<'a, R>,
+}
+
+impl<T: Drop, R: Wait + Clock + Clone> Receiver<T, R> {
+    /// The messages, each once it has come; it ends when the channel is closed and empty. Each step blocks the calling thread
+    /// until there is a message, and allocates where it has to wait. An item is an error if it could not wait, as
+    /// [`recv_blocking`](Receiver::recv_blocking) says; then the next step tries again.
+    pub fn iter(&self) -> Iter<'_, T, R> {
+        Iter {
+            receiver: self,
+            turns: self.runtime().forever(),
+        }
+    }
+
+    /// The messages that wait; it ends when there is none, and goes on if one has come since. It does not wait for
+    /// messages, and does not allocate.
+    pub fn try_iter(&self) -> TryIter<'_, T, R> {
+        TryIter {
+            receiver: self,
+            turns: self.runtime().forever(),
+        }
+    }
+}
+
+impl<'a, T: Drop, R: Wait + Clock + Clone> Iterator for Iter<'a, T, R> {
+    type Item = Result<T, LockError>;
+
+    ghost remaining = { λ s. at_most (iter_left s) };
+
+    fn next(&mut self) -> Option<Result<T, LockError>> {
+        self.turns.next();
+        match self.receiver.recv_blocking() {
+            Ok(message) => Some(Ok(message)),
+            Err(RecvError::Closed) => None,
+            Err(RecvError::WaitFailed(error)) => Some(Err(error)),
+        }
+    }
+}
+
+impl<'a, T: Drop, R: Wait + Clock + Clone> Iterator for TryIter<'a, T, R> {
+    type Item = T;
+
+    ghost remaining = { λ s. at_most (try_iter_left s) };
+
+    fn next(&mut self) -> Option<T> {
+        self.turns.next();
+        self.receiver.try_recv().ok()
+    }
+}
+
+impl<'a, T: Drop, R: Wait + Clock + Clone> Debug for Iter<'a, T, R> {
+    fn fmt<W: fmt::Write>(&self, f: &mut Formatter<W>) -> fmt::Result {
+        f.write_str("Iter { .. }")
+    }
+}
+
+impl<'a, T: Drop, R: Wait + Clock + Clone> Debug for TryIter<'a, T, R> {
+    fn fmt<W: fmt::Write>(&self, f: &mut Formatter<W>) -> fmt::Result {
+        f.write_str("TryIter { .. }")
+    }
+}
