@@ -1,10 +1,10 @@
 //! Channels, through which messages pass.
 use crate::locks::Threaded;
 use crate::loops::measured;
-use anyhow::Result;
-use event_channel::{Receiver, Sender, bounded, unbounded};
+use event_channel::{Receiver, Recv, Sender, bounded, unbounded};
+use futures::Future;
 use futures::executor::block_on;
-use futures::future::join;
+use futures::task::{Context, Poll};
 use std::random::RandomSource;
 use std::sync::Wait;
 use std::time::{Clock, Duration};
@@ -14,7 +14,7 @@ const MESSAGE: u64 = 7;
 fn channel<R: Threaded>(
     rt: &R,
     capacity: Option<usize>,
-) -> Result<(Sender<u64, R>, Receiver<u64, R>)> {
+) -> anyhow::Result<(Sender<u64, R>, Receiver<u64, R>)> {
     Ok(match capacity {
         Some(capacity) => bounded(rt, rt.alloc(), capacity)?,
         None => unbounded(rt, rt.alloc())?,
@@ -27,7 +27,7 @@ pub fn pass<R: Threaded>(
     capacity: Option<usize>,
     threads: usize,
     messages: u64,
-) -> Result<Duration> {
+) -> anyhow::Result<Duration> {
     let (sender, receiver) = channel(rt, capacity)?;
     let (sender, receiver) = (&sender, &receiver);
     measured(
@@ -45,7 +45,7 @@ pub fn pass<R: Threaded>(
 }
 
 /// One thread sends a message and receives it.
-pub fn pass_alone<R: Threaded>(rt: &R, messages: u64) -> Result<Duration> {
+pub fn pass_alone<R: Threaded>(rt: &R, messages: u64) -> anyhow::Result<Duration> {
     let (sender, receiver) = channel(rt, Some(128))?;
     let (sender, receiver) = (&sender, &receiver);
     measured(
@@ -56,20 +56,54 @@ pub fn pass_alone<R: Threaded>(rt: &R, messages: u64) -> Result<Duration> {
     )
 }
 
-// A task waits for a message that another sends. It answers whether it came.
-fn pass_awaited<R>(rt: &R, sender: &Sender<u64, R>, receiver: &Receiver<u64, R>) -> bool
-where
-    R: Threaded + RandomSource,
-{
-    match block_on(rt, join(receiver.recv(), sender.send(MESSAGE))) {
-        Ok((Ok(message), Ok(()))) => message == MESSAGE,
-        _ => false,
+// A receive that waits for messages, which the same task sends, each once the receive waits.
+#[derive(Drop)]
+struct Passing<'a, R: Threaded> {
+    sender: &'a Sender<u64, R>,
+    receive: Recv<'a, u64, R>,
+    left: u64,
+}
+
+impl<'a, R: Threaded> Future for Passing<'a, R> {
+    // Whether each message came.
+    type Output = bool;
+
+    fn poll(&mut self, cx: &mut Context<'_>) -> Poll<bool> {
+        if let Poll::Ready(received) = self.receive.poll(cx) {
+            self.left = self.left.saturating_sub(1);
+            if received != Ok(MESSAGE) || self.left == 0 {
+                return Poll::Ready(received == Ok(MESSAGE));
+            }
+            if self.receive.poll(cx).is_ready() {
+                return Poll::Ready(false);
+            }
+        }
+        let mut send = self.sender.send(MESSAGE);
+        match send.poll(cx) {
+            Poll::Ready(Ok(())) => Poll::Pending,
+            _ => Poll::Ready(false),
+        }
     }
 }
 
-/// One thread awaits both tasks, for each message anew.
-pub fn pass_in_tasks<R: Threaded + RandomSource>(rt: &R, messages: u64) -> Result<Duration> {
+fn pass_awaited<R>(rt: &R, sender: &Sender<u64, R>, receiver: &Receiver<u64, R>, left: u64) -> bool
+where
+    R: Threaded + RandomSource,
+{
+    let passing = Passing {
+        sender,
+        receive: receiver.recv(),
+        left,
+    };
+    block_on(rt, passing).unwrap_or(false)
+}
+
+/// One thread awaits messages that it sends, in one executor.
+pub fn pass_in_tasks<R: Threaded + RandomSource>(
+    rt: &R,
+    messages: u64,
+) -> anyhow::Result<Duration> {
     let (sender, receiver) = channel(rt, Some(3))?;
     let (sender, receiver) = (&sender, &receiver);
-    measured(rt, 1, messages, &|_| pass_awaited(rt, sender, receiver))
+    measured(rt, 1, 1, &|_| pass_awaited(rt, sender, receiver, messages))
 }
