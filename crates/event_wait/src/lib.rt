@@ -1,9 +1,18 @@
-//! How a thread takes a lock that is mostly free, as those of events, of `event_locks` and of channels are.
+//! What waits: a state under a lock, the queues in it, and the threads and tasks that wait there. Events, the locks of
+//! `event_locks` and channels stand on it.
 //!
-//! [`take_lock!`] takes a free one at once. While another thread has it, a thread looks ever more seldom, and sleeps at
+//! A [`Lock`] holds a state. Who waits for something of the state is a [`Request`]: it says what one attempt does, made
+//! under the lock, and what leaving the queue does. One loop serves threads ([`Lock::wait`]) and one poll serves tasks
+//! ([`Lock::poll_in`]). An [`Attempt`] is a request that is tried before it waits ([`Lock::obtain`]).
+//!
+//! [`take_lock!`] takes a free lock at once. While another thread has it, a thread looks ever more seldom, and sleeps at
 //! last ([`wait_for_lock`]).
 #![tactic(auto)]
 
+mod back_off;
 mod lock;
+mod request;
 
-pub use lock::{pause, wait_for_lock};
+pub use back_off::{pause, wait_for_lock};
+pub use lock::{Limit, Lock, Parks, Refused, Task, Waking};
+pub use request::{Attempt, Attempted, Request};

@@ -1,0 +1,64 @@
+//! Taking a lock that is mostly free.
+use std::hint;
+use std::sync::{Mutex, MutexGuard, Wait};
+
+/// Takes a [`Lock`](crate::Lock), and waits for it if another thread has it.
+///
+/// After each call of a function that may wait, its caller tests whether it is to end, inlined or not. So this is no
+/// function: a free lock is taken with no such test.
+#[macro_export]
+macro_rules! take_lock {
+    ($lock:expr, $rt:expr) => {{
+        let mutex = $lock.mutex();
+        match mutex.try_lock() {
+            Some(guard) => guard,
+            None => $crate::wait_for_lock(mutex, $rt),
+        }
+    }};
+}
+
+/// Makes one step under a [`Lock`](crate::Lock): an expression over its state and over what it wakes. Whom it wakes last is
+/// woken once the lock is given back.
+#[macro_export]
+macro_rules! step {
+    ($lock:expr, $rt:expr, $state:ident, $waking:ident => $step:expr) => {{
+        let mut $waking = $crate::Waking::new();
+        let mut $state = $crate::take_lock!($lock, $rt);
+        let answer = $step;
+        drop($state);
+        $waking.finish();
+        answer
+    }};
+}
+
+// How many pauses a thread makes before each look. Whoever looks takes the word of the lock from the thread that has it,
+// so it looks seldom.
+const PAUSES: [u32; 6] = [64, 128, 256, 256, 256, 256];
+
+/// Has the processor pause so often, each time for some tens of nanoseconds: what a thread does before it looks again for
+/// what others have for a moment. It lets no other thread run, which would cost a time slice where all processors are
+/// busy.
+pub fn pause(times: u32) {
+    for _ in 0..times {
+        hint::spin_loop();
+    }
+}
+
+/// Takes a lock that another thread had a moment ago.
+///
+/// The thread pauses and looks, ever more seldom, and at last sleeps until the lock is given back. A sleep, with the wake
+/// that ends it, costs far more than a step under such a lock, and once one thread sleeps, the standard lock has all others
+/// sleep, too. The call does not allocate.
+///
+/// It is a function of its own, so that taking a free lock is a few instructions.
+#[cold]
+#[inline(never)]
+pub fn wait_for_lock<'a, T, R: Wait>(mutex: &'a Mutex<T>, rt: &R) -> MutexGuard<'a, T> {
+    for pauses in PAUSES {
+        pause(pauses);
+        if let Some(guard) = mutex.try_lock() {
+            return guard;
+        }
+    }
+    mutex.lock(rt)
+}

@@ -1,0 +1,56 @@
+//! Until when a wait goes on.
+ghost use Rattle.std.specs.Prelude.{◌≡◌, false, None};
+ghost use Rattle.event_wait.specs.declared.lock.limit.Limit.TheVariants.{Never};
+
+use std::time::{Clock, Duration, Instant};
+
+/// Until when a wait goes on if it does not get what it waits for.
+#[derive(Clone, Copy, Debug, PartialEq, Eq)]
+pub enum Limit {
+    /// Without end.
+    Never,
+    /// Until this moment. A clock that can't be read counts as one that shows it.
+    At(Instant),
+    /// It has passed.
+    Past,
+}
+
+impl Limit {
+    /// The limit of a wait that begins now and has this timeout.
+    ///
+    /// It is [`Never`](Limit::Never) if the present moment and the timeout add up to one that can't be represented, and
+    /// [`Past`](Limit::Past) if the clock can't be read. The call neither allocates nor waits.
+    pub fn after<R: Clock>(clock: &R, timeout: Duration) -> Self {
+        match Instant::now(clock) {
+            Ok(now) => match now.checked_add(timeout) {
+                Some(moment) => Limit::At(moment),
+                None => Limit::Never,
+            },
+            Err(_) => Limit::Past,
+        }
+    }
+
+    /// How long until then: zero if it has passed, and `None` if it never comes.
+    pub(super) fn left<R: Clock>(self, clock: &R) -> Option<Duration>
+        ensures never { self ≡ Never → result ≡ None }
+    {
+        match self {
+            Limit::Never => None,
+            Limit::Past => Some(Duration::ZERO),
+            Limit::At(moment) => Some(match Instant::now(clock) {
+                Ok(now) => moment.saturating_duration_since(now),
+                Err(_) => Duration::ZERO,
+            }),
+        }
+    }
+
+    /// Whether it has passed. Where it never comes the clock is not read.
+    pub(super) fn has_passed<R: Clock>(self, clock: &R) -> bool
+        ensures never { self ≡ Never → result ≡ false }
+    {
+        match self.left(clock) {
+            Some(left) => left.is_zero(),
+            None => false,
+        }
+    }
+}

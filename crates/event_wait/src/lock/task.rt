@@ -1,0 +1,145 @@
+//! What is woken: threads that park, and tasks that poll.
+ghost use Rattle.std.specs.Prelude.{◌≡◌, ⊤, IfSome};
+ghost use Rattle.event_wait.specs.declared.lock.task.TaskKind.TheVariants.{Polled};
+ghost use Rattle.event_wait.specs.Task.{Repolls};
+
+use event_queue::{TaskExchange, WakeSink};
+use futures::task::{Context, Poll, Source, Waker};
+use std::alloc::Global;
+use std::sync::Arc;
+use std::thread::Parker;
+
+/// What is woken once it is handed something: a thread or a task.
+#[derive(Drop)]
+pub struct Task(TaskKind);
+
+#[derive(Drop)]
+enum TaskKind {
+    Polled(Waker),
+    Nobody,
+    Parked(Arc<Parker, Global>),
+}
+
+impl Task {
+    /// The task that this waker wakes. The call neither allocates nor waits.
+    pub fn from_waker(waker: Waker) -> Task {
+        Task(TaskKind::Polled(waker))
+    }
+
+    pub(crate) fn parked(parker: Arc<Parker, Global>) -> Task {
+        Task(TaskKind::Parked(parker))
+    }
+
+    fn wake(self) {
+        let Task(kind) = self;
+        match kind {
+            TaskKind::Polled(waker) => waker.wake(),
+            TaskKind::Nobody => {}
+            TaskKind::Parked(parker) => parker.unpark(),
+        }
+    }
+
+    // Its waker, if it is one.
+    fn into_waker(self) -> Option<Waker> {
+        let Task(kind) = self;
+        match kind {
+            TaskKind::Polled(waker) => Some(waker),
+            TaskKind::Nobody => None,
+            TaskKind::Parked(_) => None,
+        }
+    }
+
+    // The task that this waker wakes, if one could be made.
+    fn from_made(waker: Option<Waker>) -> Task
+        ensures { IfSome waker (λ w. result.0 ≡ Polled w) }
+    {
+        Task(match waker {
+            Some(waker) => TaskKind::Polled(waker),
+            None => TaskKind::Nobody,
+        })
+    }
+}
+
+/// Wakes the tasks that it is handed. The last one is held back, so that it does not meet the lock under which it was
+/// handed something: [`finish`](Waking::finish) wakes it.
+///
+/// It is no `Drop`, so whoever makes one has to finish it. Its relation says nothing, since no contract can name what
+/// sleeps. Tests show that it wakes.
+pub struct Waking {
+    held_back: Option<Task>,
+}
+
+impl Waking {
+    /// It has woken nobody.
+    #[inline(always)]
+    pub fn new() -> Self {
+        Waking { held_back: None }
+    }
+
+    /// Wakes the task that is held back. It is called with no lock held.
+    #[inline(always)]
+    pub fn finish(self) {
+        let Waking { held_back } = self;
+        if let Some(task) = held_back {
+            task.wake();
+        }
+    }
+}
+
+impl WakeSink<Task> for Waking {
+    ghost woke = { λ _ _ _. Unit {0} };
+
+    fn wake(&mut self, task: Task) {
+        if let Some(earlier) = self.held_back.replace(task) {
+            earlier.wake();
+        }
+    }
+}
+
+/// Stores the task that it is given, in the place of any that is stored: that may be of a task that polled before.
+pub struct Parks {}
+
+impl TaskExchange<Task, Option<Task>> for Parks {
+    ghost exchanged = { λ _ _ _ _ _. ⊤ };
+
+    fn exchange(&self, on: &mut Option<Task>, stored: Option<Task>) -> Task
+        ensures { ⊤ }
+    {
+        match on.take() {
+            Some(task) => task,
+            None => match stored {
+                Some(task) => task,
+                None => Task(TaskKind::Nobody),
+            },
+        }
+    }
+}
+
+/// What a task that polls registers at.
+#[derive(Drop)]
+pub(crate) struct LineSource {
+    source: Source,
+}
+
+impl LineSource {
+    pub(crate) fn new() -> Self {
+        LineSource {
+            source: Source::new(),
+        }
+    }
+}
+
+impl<'cx> TaskExchange<Task, Context<'cx>> for LineSource {
+    ghost exchanged = { λ line before _ task after. Repolls line.source.id before task after };
+
+    fn exchange(&self, cx: &mut Context<'cx>, stored: Option<Task>) -> Task
+        ensures { Repolls self.now.source.id cx.old result cx.new }
+    {
+        let mut waker = match stored {
+            Some(task) => task.into_waker(),
+            None => None,
+        };
+        let _: Poll<()> = cx.register(&self.source, &mut waker);
+        Task::from_made(waker)
+    }
+}
