@@ -1,21 +1,18 @@
 -- What users rely on, from the steps: who is gone, in which order the others stand, and how many are told.
-use Rattle.std.proofs.Common.{◌≡◌, ◌+◌, ◌-◌, ◌≤◌, min, max, Bool, true, false, [], ◌∷◌, take, length, refl, sym, ap, ◌∙◌, subst, arith, rules, Option, Some, None, Result, Ok, Err}
+use Rattle.std.proofs.Common.{◌≡◌, ◌+◌, ◌-◌, ◌≤◌, min, max, Bool, true, false, [], ◌∷◌, take, length, refl, sym, ap, ◌∙◌, subst, arith, rules, Option, Some, None}
 use Rattle.std.proofs.Common.{IsSomeAnd, OnSome, length-take}
 use Rattle.std.specs.List.{FoldsTo}
 use Rattle.std.specs.Map.{keys_of, lookup}
 use Rattle.std.proofs.lemmas.Map.Entries.{length-keys_of}
 use Rattle.event_queue.specs.declared.key.Key.{Key}
 use Rattle.event_queue.specs.declared.notice.Notice.{Notice}
-use Rattle.event_queue.specs.declared.reply.ListenError.{ListenError}
-use Rattle.event_queue.specs.declared.reply.ListenError.TheVariants.{Memory, SerialsUsedUp}
 use Rattle.event_queue.specs.declared.reply.State.{State}
 use Rattle.event_queue.specs.declared.reply.State.TheVariants.{Created, Notified as WasNotified, Task, Passed, Lost}
 use Rattle.event_queue.specs.Key.{is_key, without}
 use Rattle.event_queue.specs.Queue.{Queue, IsQueue, IsGone, IsToldAs, order_of, listeners_of, how_many, told_leaves}
-use Rattle.event_queue.specs.Insert.{Inserts, IsInsertion}
 use Rattle.event_queue.specs.Remove.{Removes, PassesTo, told_by_passing, after_passing, woken_by_removal, IsRemoval}
 use Rattle.event_queue.proofs.OrderLemmas.{without-none, lookup-none_is, none_before, length-remove_entry}
-use Rattle.event_queue.proofs.QueueLemmas.{rises_along, order_of-push, order_of-told_leaves, order_of-waiting_leaves, IsAbsent-none, IsGone-without}
+use Rattle.event_queue.proofs.QueueLemmas.{rises_along, order_of-told_leaves, order_of-waiting_leaves, IsAbsent-none, IsGone-without}
 use Rattle.event_queue.proofs.QueueLemmas.{told_serial, waiting_serial}
 use Rattle.event_queue.proofs.TellingLemmas.{order_of-after_telling, length-after_telling}
 
@@ -42,19 +39,6 @@ module _ {T W : Type 0} where
   took_tag-order key old tag queue told =
       let found = found_value (lookup (is_key key) old.told) (λ n. n.tag ≡ tag) told in
       order_of-told_leaves key old found.0 queue found.1
-
-  -- the laws of an insertion follow from its step
-  pub IsInsertion-step : (old : Queue T W) (answer : Result Key ListenError) (new : Queue T W) → IsQueue new → Inserts old answer new → IsInsertion old answer new
-  IsInsertion-step old (Ok key) new queue step = record {
-    step = step;
-    queue = queue;
-    order = ap order_of step.queue ∙ order_of-push old key None;
-    serial = omega (arith, ap (λ q. q.next_serial) step.queue);
-  }
-  IsInsertion-step old (Err Memory) new queue step =
-      record { step = step; queue = queue; order = tt; serial = omega (arith, ap (λ q. q.next_serial) step.2) }
-  IsInsertion-step old (Err SerialsUsedUp) new queue step =
-      record { step = step; queue = queue; order = tt; serial = omega (arith, ap (λ q. q.next_serial) step.1) }
 
   -- a told listener left with propagation, and its notification told somebody or nobody
   pub record Propagates (old : Queue T W) (key : Key) (propagate : Bool) (new : Queue T W) : Type 0 where

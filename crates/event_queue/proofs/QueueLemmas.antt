@@ -29,11 +29,16 @@ module _ {T W : Type 0} where
   order_of-push q key task =
       ap (λ keys. keys_of q.told ++ keys) (map-append (λ e. e.0) q.waiting ((key, task) ∷ [])) ∙ sym (append_assoc (keys_of q.told) (keys_of q.waiting) (key ∷ []))
 
+  pub IsQueue-push_storing : (q : Queue T W) (key : Key) (stored : Option W) (spare : ℕ) → IsQueue q → key.serial ≡ q.next_serial → q.next_serial + 1 < 2 ^ 64
+      → length q.told + length (q.waiting ++ (key, stored) ∷ []) + spare < 2 ^ 64
+      → IsQueue {T = T} {W = W} (record { told = q.told; waiting = q.waiting ++ (key, stored) ∷ []; next_serial = q.next_serial + 1; spare = spare })
+  IsQueue-push_storing q key stored spare queue same left fits =
+      IsQueue-from_Rises _ (subst (λ keys. Rises keys (q.next_serial + 1)) (sym (order_of-push q key stored)) (Rises-push (order_of q) key q.next_serial same (rises_along q queue))) left fits
+
   pub IsQueue-push : (q : Queue T W) (key : Key) (spare : ℕ) → IsQueue q → key.serial ≡ q.next_serial → q.next_serial + 1 < 2 ^ 64
       → length q.told + length (q.waiting ++ (key, None) ∷ []) + spare < 2 ^ 64
       → IsQueue {T = T} {W = W} (record { told = q.told; waiting = q.waiting ++ (key, None) ∷ []; next_serial = q.next_serial + 1; spare = spare })
-  IsQueue-push q key spare queue same left fits =
-      IsQueue-from_Rises _ (subst (λ keys. Rises keys (q.next_serial + 1)) (sym (order_of-push q key None)) (Rises-push (order_of q) key q.next_serial same (rises_along q queue))) left fits
+  IsQueue-push q key spare queue same left fits = IsQueue-push_storing q key None spare queue same left fits
 
   -- the others keep their order where a listener leaves
   pub order_of-told_leaves : (key : Key) (q : Queue T W) (notice : Notice T) → IsQueue q → lookup (is_key key) q.told ≡ Some notice → order_of (told_leaves key q) ≡ without key (order_of q)

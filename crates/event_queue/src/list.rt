@@ -1,12 +1,12 @@
 //! The queue: listeners in order of listening, a front of them notified.
-ghost use Rattle.std.specs.Prelude.{◌≡◌, ◌+◌, ◌<◌, ◌≤◌, ◌↔◌, [], ◌∷◌, length, take, IsTrue, IsFalse, IsOk, IsSome, OnOk};
+ghost use Rattle.std.specs.Prelude.{◌≡◌, ◌+◌, ◌<◌, ◌≤◌, ◌↔◌, [], ◌∷◌, length, take, IsTrue, IsFalse, IsOk, IsSome, OnOk, IfOk, IfErr, Err};
 ghost use Rattle.std.specs.List.{FoldsTo};
 ghost use Rattle.std.specs.Map.{keys_of, lookup};
 ghost use Rattle.event_queue.specs.Key.{is_key};
 ghost use Rattle.event_queue.specs.Queue.{IsQueue, how_many, after_telling, tasks_of};
-ghost use Rattle.event_queue.specs.Insert.{IsInsertion};
+ghost use Rattle.event_queue.specs.Insert.{HasSerialLeft, JoinsStoring, Inserts, IsInsertion, IsInsertionBy};
 ghost use Rattle.event_queue.specs.Register.{Registers, IsRegistration};
-ghost use Rattle.event_queue.specs.Exchange.{RegistersWith};
+ghost use Rattle.event_queue.specs.Exchange.{RegistersWith, InsertsWith};
 ghost use Rattle.event_queue.specs.StoredTask.{RegistersBy};
 ghost use Rattle.event_queue.specs.Remove.{PassedAs, woken_by_passing, after_passing, IsRemoval};
 ghost use Rattle.event_queue.specs.Notify.{told_by, IsNotification};
@@ -21,7 +21,7 @@ use crate::notify::Notification;
 use crate::reply::{ListenError, NotifyError, RegisterResult, State};
 use crate::stored_task::{Exchanging, Storing};
 use crate::wake::WakeSink;
-use std::alloc::{AllocError, AllocFailed, Global};
+use std::alloc::{AllocError, Global};
 use std::marker::Model;
 use std::sync::ledger::Ledger;
 
@@ -30,7 +30,7 @@ use std::sync::ledger::Ledger;
 /// A front of the queue is notified, each listener with a tag; the others wait, each with a task if it stored one.
 /// No call takes a lock, waits or panics.
 ///
-/// Six calls count in [`Steps`] how many nodes of other listeners they visit, and how often they look up a key. Each
+/// Seven calls count in [`Steps`] how many nodes of other listeners they visit, and how often they look up a key. Each
 /// has a namesake for callers that count nothing, as [`insert_uncounted`](List::insert_uncounted).
 #[derive(Drop)]
 pub struct List<T, W> {
@@ -107,22 +107,70 @@ impl<T, W> List<T, W> {
         ensures counted { steps.new.visits ≡ steps.old.visits + visits_of_insertion result }
         ensures looks { steps.new.looks ≡ steps.old.looks }
     {
+        let serial = self.make_room()?;
+        Ok(self.join(serial, None, steps))
+    }
+
+    /// Inserts a listener, which waits at the end of the queue with a task that the exchange makes of none, and returns
+    /// its key.
+    ///
+    /// The task is made only if the insertion is not refused. The refusals are those of [`insert`](List::insert), and
+    /// leave the queue as it was, and `on` too. The call drops no task. It allocates as an insertion does, and if the
+    /// exchange does, and waits only if the exchange does. It adds its visits to `steps`, three at most, and looks up no
+    /// key.
+    #[inline(always)]
+    pub fn insert_with<C, X: TaskExchange<W, C>, L: Ledger>(
+        &mut self,
+        exchange: &X,
+        on: &mut C,
+        steps: &mut Steps<L>,
+    ) -> Result<Key, ListenError>
+        ensures law { IsInsertionBy (InsertsWith (X.exchanged exchange.now) self.old on.old result self.new on.new) self.old result self.new }
+        ensures visits { steps.new.visits ≤ steps.old.visits + 3 }
+        ensures counted { steps.new.visits ≡ steps.old.visits + visits_of_insertion result }
+        ensures looks { steps.new.looks ≡ steps.old.looks }
+    {
+        let serial = self.make_room()?;
+        let task = exchange.exchange(on, None);
+        Ok(self.join(serial, Some(task), steps))
+    }
+
+    // Sees to it that one more listener can be inserted: that a serial is left and a slot spare, for which it may allocate.
+    // Returns the serial, so that it is read once.
+    #[inline(always)]
+    fn make_room(&mut self) -> Result<u64, ListenError>
+        ensures serial { IfOk result (λ serial. serial ≡ self.new.next_serial) }
+        ensures left { OnOk result (HasSerialLeft self.new) }
+        ensures slot { OnOk result (0 < self.new.spare) }
+        ensures listeners { self.new ≡ record self.old { spare = self.new.spare } }
+        ensures enough { 0 < self.old.spare → self.new ≡ self.old }
+        ensures refused { IfErr result (λ error. Inserts self.old (Err error) self.new) }
+        ensures queue { IsQueue self.new }
+    {
         if self.next_serial == u64::MAX {
             return Err(ListenError::SerialsUsedUp);
         }
-        match self.chain.push_back(self.next_serial, None, steps) {
-            Ok(key) => {
-                self.next_serial += 1;
-                Ok(key)
-            }
-            Err(refused) => {
-                let AllocFailed { value } = refused;
-                match value {
-                    None => Err(ListenError::Memory),
-                    _ => unreachable!(),
-                }
-            }
+        let serial = self.next_serial;
+        match self.chain.reserve(1) {
+            Ok(()) => Ok(serial),
+            Err(AllocError) => Err(ListenError::Memory),
         }
+    }
+
+    // Has a newcomer wait at the end of the queue, which has the next serial and stores this. It can't be refused.
+    #[inline(always)]
+    fn join<L: Ledger>(&mut self, serial: u64, stored: Option<W>, steps: &mut Steps<L>) -> Key
+        requires serial { serial ≡ self.old.next_serial }
+        requires left { HasSerialLeft self.old }
+        requires slot { 0 < self.old.spare }
+        ensures joins { JoinsStoring stored self.old result self.new }
+        ensures queue { IsQueue self.new }
+        ensures visits { steps.new.visits ≡ steps.old.visits + 1 }
+        ensures looks { steps.new.looks ≡ steps.old.looks }
+    {
+        let key = self.chain.push_spare(serial, stored, steps);
+        self.next_serial += 1;
+        key
     }
 
     /// Registers the task of a listener: a notified one takes its tag and leaves the queue, one that waits stores

@@ -1,5 +1,5 @@
 //! A sequence with a cursor: nodes on the heap with raw links, and a table that leads from a key to its node.
-ghost use Rattle.std.specs.Prelude.{◌≡◌, ◌≢◌, ◌+◌, ◌-◌, ◌<◌, ◌≤◌, ◌^◌, ◌↔◌, [], ◌∷◌, ◌++◌, length, All, IsTrue, IsOk, IsSome, OnOk, OnErr, IfOk, IfErr, OnSome, IfNone};
+ghost use Rattle.std.specs.Prelude.{◌≡◌, ◌≢◌, ◌+◌, ◌-◌, ◌<◌, ◌≤◌, ◌^◌, ◌↔◌, [], ◌∷◌, ◌++◌, length, All, IsTrue, IsOk, IsSome, OnOk, OnErr};
 ghost use Rattle.std.specs.Map.{lookup};
 ghost use Rattle.event_queue.specs.Key.{is_key};
 ghost use Rattle.event_queue.specs.Counts.{counted_on};
@@ -8,7 +8,7 @@ ghost use Rattle.event_queue.specs.Nodes.{nodes_of, IsStarted, Takes, TakesOrCha
 use crate::key::Key;
 use crate::node::entries::Entries;
 use crate::node::table::Table;
-use std::alloc::{AllocError, AllocFailed, Global};
+use std::alloc::{AllocError, Global};
 use std::marker::Model;
 use std::mem;
 use std::sync::ledger::Ledger;
@@ -32,7 +32,7 @@ pub enum Side<A, B> {
 /// Entries in the order in which they were pushed, each under a key that the chain gives it, and a cursor between
 /// two of them: those before it carry an `A`, those after it a `B` or nothing.
 ///
-/// An entry that leaves makes its node spare, and a push takes a spare node before it allocates.
+/// An entry that leaves makes its node spare, and a push takes a spare node: it never allocates.
 #[derive(Drop)]
 pub struct Chain<A, B> {
     // Made with the first node.
@@ -77,7 +77,7 @@ fn start<A, B>(entries: &mut Option<Entries<A, B>>, alloc: Global) -> Result<(),
 }
 
 impl<A, B> Chain<A, B> {
-    /// A chain with no entry, which allocates with the first push.
+    /// A chain with no entry and no room, which allocates nothing.
     pub fn new(alloc: Global) -> Self
         ensures { result ≡ record { before = []; after = []; spare = 0 } }
     {
@@ -98,11 +98,14 @@ impl<A, B> Chain<A, B> {
     }
 
     /// Makes room for `n` more entries, which allocates if fewer are spare. If that fails no room is lost.
+    #[inline(always)]
     pub fn reserve(&mut self, n: usize) -> Result<(), AllocError>
         ensures room { OnOk result (n ≤ self.new.spare) }
         ensures entries { self.new ≡ record self.old { spare = self.new.spare } }
         ensures kept { self.old.spare ≤ self.new.spare }
         ensures succeeds { n ≤ self.old.spare → IsOk result }
+        ensures enough { n ≤ self.old.spare → self.new ≡ self.old }
+        ensures too_few { OnErr result (self.new.spare < n) }
         ensures slots_fit { length self.new.before + length self.new.after + self.new.spare < 2 ^ 64 }
     {
         let spare = self.table.spare();
@@ -160,52 +163,24 @@ impl<A, B> Chain<A, B> {
         entries.is_before(&own)
     }
 
-    /// Appends an entry, whose serial is below `u64::MAX`. It allocates only if no slot is spare; if that fails, the
-    /// value is returned.
+    /// Appends an entry, whose serial is below `u64::MAX`, on a node that is spare.
     #[inline(always)]
-    pub fn push_back<L: Ledger>(
+    pub fn push_spare<L: Ledger>(
         &mut self,
         serial: u64,
         value: Option<B>,
         steps: &mut Steps<L>,
-    ) -> Result<Key, AllocFailed<Option<B>>>
-        requires { serial < 2 ^ 64 - 1 }
-        ensures serial { IfOk result (λ key. key.serial ≡ serial) }
-        ensures before { OnOk result (self.new.before ≡ self.old.before) }
-        ensures after { IfOk result (λ key. self.new.after ≡ self.old.after ++ (key, value) ∷ []) }
-
-        // No other entry has its slot.
-        ensures slot_before { IfOk result (λ key. All (λ entry. entry.0.slot ≢ key.slot) self.old.before) }
-        ensures slot_after { IfOk result (λ key. All (λ entry. entry.0.slot ≢ key.slot) self.old.after) }
-
-        // A spare slot is taken where there is one, and then the push does not fail.
-        ensures succeeds { 0 < self.old.spare → IsOk result }
-        ensures spare { OnOk result (0 < self.old.spare → self.new.spare + 1 ≡ self.old.spare) }
-        ensures slots_fit { length self.new.before + length self.new.after + self.new.spare < 2 ^ 64 }
-
-        ensures err { OnErr result (self.new ≡ self.old) }
-        ensures value_returned { IfErr result (λ failed. failed.value ≡ value) }
-
-        ensures visits { OnOk result (steps.new.visits ≡ steps.old.visits + 1) }
-        ensures looks { steps.new.looks ≡ steps.old.looks }
-        ensures no_visit { OnErr result (steps.new.visits ≡ steps.old.visits) }
-    {
-        if self.table.spare() == 0 && self.grow(1).is_err() {
-            return Err(AllocFailed { value });
-        }
-        Ok(self.push_spare(serial, value, steps))
-    }
-
-    // Appends an entry on a spare node.
-    #[inline(always)]
-    fn push_spare<L: Ledger>(&mut self, serial: u64, value: Option<B>, steps: &mut Steps<L>) -> Key
+    ) -> Key
         requires spare { 0 < self.old.spare }
         requires serial { serial < 2 ^ 64 - 1 }
         ensures serial { result.serial ≡ serial }
         ensures before { self.new.before ≡ self.old.before }
         ensures after { self.new.after ≡ self.old.after ++ (result, value) ∷ [] }
+
+        // No other entry has its slot.
         ensures slot_before { All (λ entry. entry.0.slot ≢ result.slot) self.old.before }
         ensures slot_after { All (λ entry. entry.0.slot ≢ result.slot) self.old.after }
+
         ensures spare { self.new.spare + 1 ≡ self.old.spare }
         ensures slots_fit { length self.new.before + length self.new.after + self.new.spare < 2 ^ 64 }
         ensures visits { steps.new.visits ≡ steps.old.visits + 1 }

@@ -3,9 +3,9 @@ ghost use Rattle.std.specs.Prelude.{◌↔◌, IsTrue, IsSome};
 ghost use Rattle.std.specs.Map.{lookup};
 ghost use Rattle.event_queue.specs.Key.{is_key};
 ghost use Rattle.event_queue.specs.Queue.{IsQueue};
-ghost use Rattle.event_queue.specs.Insert.{IsInsertion};
+ghost use Rattle.event_queue.specs.Insert.{IsInsertion, IsInsertionBy};
 ghost use Rattle.event_queue.specs.Register.{Registers, IsRegistration};
-ghost use Rattle.event_queue.specs.Exchange.{RegistersWith};
+ghost use Rattle.event_queue.specs.Exchange.{RegistersWith, InsertsWith};
 ghost use Rattle.event_queue.specs.Remove.{IsRemoval};
 ghost use Rattle.event_queue.specs.Notify.{IsNotification};
 ghost use Rattle.event_queue.specs.Counts.{Opens};
@@ -35,6 +35,31 @@ impl<T, W> List<T, W> {
         ensures { IsInsertion self.old result self.new }
     {
         self.insert(&mut Steps::<L>::new(blank))
+    }
+
+    /// [`insert_with`](List::insert_with), with its refusals, for a caller that counts no visits.
+    #[inline(always)]
+    pub fn insert_with_uncounted<C, X: TaskExchange<W, C>>(
+        &mut self,
+        exchange: &X,
+        on: &mut C,
+    ) -> Result<Key, ListenError>
+        ensures { IsInsertionBy (InsertsWith (X.exchanged exchange.now) self.old on.old result self.new on.new) self.old result self.new }
+    {
+        self.insert_with_from::<C, X, Brand>(exchange, on, Blank::new(1))
+    }
+
+    #[inline(always)]
+    fn insert_with_from<C, X: TaskExchange<W, C>, L: Ledger>(
+        &mut self,
+        exchange: &X,
+        on: &mut C,
+        blank: Blank,
+    ) -> Result<Key, ListenError>
+        requires { Opens blank L.name L.parts }
+        ensures { IsInsertionBy (InsertsWith (X.exchanged exchange.now) self.old on.old result self.new on.new) self.old result self.new }
+    {
+        self.insert_with(exchange, on, &mut Steps::<L>::new(blank))
     }
 
     /// [`register`](List::register) for a caller that counts no visits.
