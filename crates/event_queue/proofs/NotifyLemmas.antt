@@ -5,7 +5,7 @@ use Rattle.std.specs.List.{FoldsTo}
 use Rattle.std.specs.declared.alloc.AllocError.{AllocError}
 use Rattle.event_queue.specs.declared.reply.NotifyError.{NotifyError}
 use Rattle.event_queue.specs.Queue.{Queue, IsQueue, order_of, listeners_of, how_many, after_telling, tasks_of}
-use Rattle.event_queue.specs.Notify.{Tells, Notifies, NeverRefuses, told_by, IsNotification}
+use Rattle.event_queue.specs.Notify.{Tells, Notifies, told_by, IsNotification}
 use Rattle.event_queue.proofs.TellingLemmas.{FoldsTo-append, after_telling-push, tasks_of-push, order_of-after_telling, length-after_telling}
 
 module _ {T W N S : Type 0} (gives : N → Result T AllocError → N → Type 0) (can_tag : N → Type 0) (woke : S → W → S → Type 0) where
