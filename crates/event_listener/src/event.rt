@@ -5,25 +5,29 @@ ghost use Rattle.event_listener.specs.Event.{TellsSome};
 
 mod debug;
 mod identity;
-mod shared;
 
 use crate::listener::EventListener;
-use crate::task::Waking;
-use event_queue::{IntoNotification, ListenError, NotifyError};
-use event_wait::take_lock;
+use event_queue::{IntoNotification, List, ListenError, NotifyError};
+use event_wait::{Lock, Task, step, take_lock};
 pub use identity::{EventId, EventIds, IdsUsedUp, given_numbers_are_distinct};
-pub use shared::Shared;
 use std::alloc::{AllocError, Global};
 use std::marker::Model;
 use std::sync::{Arc, OnceLock, Wait};
 use std::time::Clock;
 
+/// The queue of one event, under a lock that no other event has.
+///
+/// A contract sees it as the number of the source at which a task registers that polls a listener.
+pub type Shared<T> = Lock<List<T, Task>>;
+
 /// What others listen to, and are notified of.
 ///
 /// Its listeners are in one queue, in order of listening. The first of them, or the first
 /// [`StackSlot`](crate::StackSlot), makes the queue. Each call that reads or changes the queue is one step under a lock
-/// that no other event has, and may wait for that lock. Inside that step tags are made and tasks are woken: calling the
-/// same event from a tag's function or clone there deadlocks. A lost tag is dropped after the step.
+/// that no other event has, and may wait for that lock. Tags are made inside that step: calling the same event from a
+/// tag's function or clone there deadlocks. So does calling it from what a waker runs: the tasks that a call wakes are
+/// woken there too, in queue order, but for the last, which is woken once the lock is given back. A lost tag is dropped
+/// after the step.
 ///
 /// A contract sees an event as the number of its identity. No contract can name what is in its queue, since other
 /// threads may change it at any time.
@@ -64,7 +68,7 @@ impl<T> Event<T> {
         T: Drop,
         ensures { IfOk result (λ event. event ≡ id) }
     {
-        let queue = Arc::new(alloc, Shared::starting_at(alloc, first_serial))?;
+        let queue = Arc::new(alloc, Shared::of(List::starting_at(alloc, first_serial)))?;
         let shared = OnceLock::from(queue);
         Ok(Event { id, shared })
     }
@@ -95,7 +99,7 @@ impl<T> Event<T> {
         let Ok(runtime) = rt.clone() else {
             return Err(ListenError::Memory);
         };
-        let key = take_lock!(shared.queue(), rt).insert_uncounted()?;
+        let key = take_lock!(shared, rt).insert_uncounted()?;
         let number = self.id.number();
         Ok(EventListener::new(shared, key, number, runtime, alloc))
     }
@@ -133,7 +137,7 @@ impl<T> Event<T> {
     where
         T: Drop,
     {
-        let made = Arc::new(alloc, Shared::new(alloc))?;
+        let made = Arc::new(alloc, Shared::of(List::new(alloc)))?;
         let token = match self.shared.try_insert(rt, made) {
             Ok(token) => token,
             Err((token, _second)) => token,
@@ -149,7 +153,7 @@ impl<T> Event<T> {
     }
 
     /// Notifies the first of the waiting listeners, in order, each with the notification's next tag, and wakes their
-    /// tasks. Returns how many it notified.
+    /// tasks, the last of them once the lock is given back. Returns how many it notified.
     ///
     /// It notifies as many as the notification counts, less those that are notified already if it is a default one, and
     /// no more than wait. A notification that finds no listener waiting is not kept. Before a listener was made the
@@ -174,13 +178,7 @@ impl<T> Event<T> {
         let mut notification = n.into_notification();
         match self.shared.get() {
             Some(shared) => {
-                let mut waking = Waking::new(rt);
-                let told = take_lock!(shared.queue(), rt).notify_uncounted(
-                    &mut notification,
-                    &mut waking,
-                );
-                waking.finish();
-                told
+                step!(shared, rt, queue, waking => queue.notify_uncounted(&mut notification, &mut waking))
             }
             None => Ok(0),
         }
@@ -191,7 +189,7 @@ impl<T> Event<T> {
     /// The call does not allocate. It may wait for the lock of the event.
     pub fn is_notified<R: Wait>(&self, rt: &R) -> bool {
         match self.shared.get() {
-            Some(shared) => take_lock!(shared.queue(), rt).is_notified(),
+            Some(shared) => take_lock!(shared, rt).is_notified(),
             None => false,
         }
     }
@@ -201,7 +199,7 @@ impl<T> Event<T> {
     /// The call does not allocate. It may wait for the lock of the event.
     pub fn total_listeners<R: Wait>(&self, rt: &R) -> usize {
         match self.shared.get() {
-            Some(shared) => take_lock!(shared.queue(), rt).total_listeners(),
+            Some(shared) => take_lock!(shared, rt).total_listeners(),
             None => 0,
         }
     }

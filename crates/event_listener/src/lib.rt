@@ -215,7 +215,6 @@
 mod event;
 mod listener;
 mod recorded;
-mod task;
 
 #[doc(hidden)]
 pub use event::Shared;
@@ -229,6 +228,7 @@ pub use event_queue::{
 };
 #[doc(hidden)]
 pub use event_queue::{Notice, TagList};
+pub use event_wait::Task;
 pub use listener::{
     EventListener, Hold, Limit, Listener, NeverInserted, QueueListener, StackListener, StackSlot,
     WaitError, WaitReason,
@@ -238,4 +238,3 @@ pub use recorded::{
     RecordedListener, RecordedPollError, RecordedReply, RecordedState, StepCall, equal_calls,
     equal_replies, replays, replays_exactly_the_runs,
 };
-pub use task::Task;

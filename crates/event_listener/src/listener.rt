@@ -3,28 +3,23 @@ ghost use Rattle.std.specs.Prelude.{◌≡◌, ◌↔◌, ℕ, Bool, true, false
 ghost use Rattle.futures.specs.Poll.{IfReady, OnPending};
 ghost use Rattle.futures.specs.Task.{Covers, Keeps};
 ghost use Rattle.event_listener.specs.Waiting.{HandsBack};
-ghost use Rattle.event_listener.specs.declared.listener.limit.Limit.TheVariants.{Never};
+ghost use Rattle.event_wait.specs.declared.lock.limit.Limit.TheVariants.{Never};
 
 mod hold;
-mod limit;
 mod macros;
 mod membership;
-mod polled;
 mod queue_listener;
 mod stack_slot;
-mod wait;
 mod wait_error;
 
 use crate::event::Event;
+pub use event_wait::Limit;
 use futures::task::{Context, Poll, Waker};
 pub use hold::Hold;
-pub use limit::Limit;
-pub(crate) use polled::poll_of;
 pub use queue_listener::{EventListener, QueueListener, StackListener};
 pub use stack_slot::StackSlot;
 use std::time::{Duration, Instant};
 use thiserror::Error;
-pub(crate) use wait::{WaitSteps, answer_to_registration, wait_in};
 pub use wait_error::{WaitError, WaitReason};
 
 /// The listener is not in the queue: it has given its tag.
@@ -37,7 +32,7 @@ pub struct NeverInserted;
 /// Dropping a listener removes it from the queue. If it was notified, that propagates its notification: the event is
 /// notified of one, of the same kind and with the same tag. So a default notification is lost while another listener
 /// stays notified, and an additional one only if none waits. The drop does not allocate, and may wait for the lock of
-/// the event.
+/// the event. A finished listener takes no lock when it is polled, discarded or dropped.
 ///
 /// The trait is open. Generic callers know an implementation by its ghost members: `event_number`, the number of the
 /// event that it listens to, and `is_finished`, whether it has given its tag.

@@ -109,11 +109,9 @@ pub fn ends_at_once<S: Trial>(trial: &S) {
         // has one reading before, which fixes its deadline.
         (Notifies(0), Deadline, zero, Some(7), LEAVES_TOLD),
         (Notifies(1), Timeout, zero, Some(7), LEAVES_TOLD),
-        // Before the thread parks there is one reading, and one more as it does. No lock is held at either.
+        // Before the thread parks there is one reading, and none as it does. No lock is held at it.
         (Notifies(0), Deadline, limit(), Some(7), TOLD),
-        (Notifies(1), Deadline, limit(), Some(7), TOLD),
         (Notifies(1), Timeout, limit(), Some(7), TOLD),
-        (Notifies(2), Timeout, limit(), Some(7), TOLD),
     ] {
         let (listener, behind, start) = (trial.listen(), trial.listen(), now(rt));
         trial.stage().set(habit);
@@ -134,7 +132,7 @@ fn a_wait_ends_at_once_by_its_clock(rt: HostRuntime) {
 }
 
 pub fn ends_by_any_clock<S: Trial>(trial: &S) {
-    // The first reading fails, or one of those that come as the thread parks; or the clock goes back.
+    // The first reading fails, or one of those between parks; or the clock goes back.
     for readings in 0..9 {
         let habit = if readings < 8 { Fails(readings) } else { Back };
         for wait in TIMED_WAITS {

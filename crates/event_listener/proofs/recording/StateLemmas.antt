@@ -21,7 +21,7 @@ use Rattle.event_queue.specs.Remove.{Removes}
 use Rattle.event_queue.proofs.LawLemmas.{Propagates, propagates-passed, propagates-lost}
 use Rattle.event_queue.proofs.OrderLemmas.{length-remove_entry}
 use Rattle.event_queue.proofs.TellingLemmas.{listeners_of-after_telling}
-use Rattle.event_listener.specs.declared.task.Task.{Task}
+use Rattle.event_wait.specs.declared.lock.task.Task.{Task}
 use Rattle.event_listener.specs.declared.recorded.call.RecordedCall.{RecordedCall}
 use Rattle.event_listener.specs.declared.recorded.call.RecordedCall.TheVariants as call
 use Rattle.event_listener.specs.declared.recorded.entry.Entry.{Entry}

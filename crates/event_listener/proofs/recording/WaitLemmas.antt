@@ -1,85 +1,85 @@
 -- From the steps of a recorded wait to the notes that its hand keeps.
 use Rattle.std.proofs.Common.{◌≡◌, ◌∙◌, refl, sym, ◌++◌, ◌∷◌, [], ap, ℕ, zero, suc, List, replicate, inl, inr, arith, Option, Some, None, Result, Ok, Err}
+use Rattle.std.specs.Option.{option_transpose}
 use Rattle.std.proofs.lemmas.List.{append-nil, append_assoc, replicate_more}
 use Rattle.std.proofs.Math.Numerals.{suc-eq-add-one}
+use Rattle.event_queue.specs.declared.key.Key.{Key}
+use Rattle.event_wait.specs.Rounds.{Rounds, Waits}
 use Rattle.event_listener.specs.declared.listener.wait_error.WaitError.{WaitError}
-use Rattle.event_listener.specs.declared.listener.wait_error.WaitReason.{WaitReason}
-use Rattle.event_listener.specs.declared.listener.wait_error.WaitReason.TheVariants.{NeverInserted, Memory}
+use Rattle.event_listener.specs.declared.listener.wait_error.WaitError.TheVariants as wait
 use Rattle.event_listener.specs.declared.recorded.hand.Note.{Note}
 use Rattle.event_listener.specs.declared.recorded.wait.RecordedPlace.{RecordedPlace}
 use Rattle.event_listener.specs.Noting.{HandNotes, RecordedListening}
 use Rattle.event_listener.specs.recording.Wait.{NotesWait, still_waiting}
-use Rattle.event_listener.specs.recording.WaitSteps.{NotesAttempt, NotesRemoval}
-use Rattle.event_listener.specs.Waiting.{Rounds, Waits, error_of}
+use Rattle.event_listener.specs.recording.WaitSteps.{NotesAttempt, NotesRemoval, NotesRound}
 
 module _ {T : Type 0} where
-  abbrev pub Attempts : RecordedPlace × HandNotes T → Result (Option T) WaitReason → RecordedPlace × HandNotes T → Type 0
-  Attempts before answer after = (after.0 ≡ before.0) × NotesAttempt before.0.key before.1 answer after.1
-
-  abbrev pub Leaves : RecordedPlace × HandNotes T → Result (Option T) WaitReason → RecordedPlace × HandNotes T → Type 0
-  Leaves before answer after = (after.0 ≡ before.0) × NotesRemoval before.0.key before.1 answer after.1
-
-  -- what the wait of this listener returns
-  abbrev pub answer_of : RecordedListening → Result (Option T) WaitReason → Result (Option T) (WaitError RecordedListening)
-  answer_of listener (Ok tag) = Ok tag
-  answer_of listener (Err reason) = Err (error_of reason listener)
+  abbrev pub WaitsOn : RecordedPlace T → RecordedPlace T → Type 0
+  WaitsOn before after = (after.key ≡ before.key) × NotesRound before.key before.hand after.hand
 
   -- the hand once it has noted so many registrations that found the listener of that key waiting
-  abbrev pub after_rounds : HandNotes T → ℕ → RecordedPlace → HandNotes T
-  after_rounds hand rounds place = record hand { notes = hand.notes ++ replicate rounds (still_waiting place.key) }
+  abbrev pub after_rounds : HandNotes T → ℕ → Key → HandNotes T
+  after_rounds hand rounds key = record hand { notes = hand.notes ++ replicate rounds (still_waiting key) }
 
-  noted_rounds : (rounds : ℕ) (before after : RecordedPlace × HandNotes T) → Rounds Attempts Leaves rounds before after → (after.0 ≡ before.0) × (after.1 ≡ after_rounds before.1 rounds before.0)
+  noted_rounds : (rounds : ℕ) (before after : RecordedPlace T) → Rounds WaitsOn rounds before after → (after.key ≡ before.key) × (after.hand ≡ after_rounds before.hand rounds before.key)
   noted_rounds zero before after same =
-      (ap (λ place. place.0) same, rw (append-nil before.1.notes) (ap (λ place. place.1) same))
+      (ap (λ place. place.key) same, rw (append-nil before.hand.notes) (ap (λ place. place.hand) same))
   noted_rounds (suc rounds) before after waited =
       let earlier = noted_rounds rounds before waited.0 waited.1 in
       let now = rw (earlier.0, earlier.1) at waited.2.1 in
-      let more : replicate rounds (still_waiting {T = T} before.0.key) ++ still_waiting before.0.key ∷ [] ≡ replicate (suc rounds) (still_waiting before.0.key) =
-      replicate_more rounds (still_waiting before.0.key) ∙ ap (λ count. replicate count (still_waiting {T = T} before.0.key)) (sym (suc-eq-add-one rounds)) in
-      let notes = append_assoc before.1.notes (replicate rounds (still_waiting before.0.key)) (still_waiting before.0.key ∷ []) ∙ ap (λ later. before.1.notes ++ later) more in
-      (waited.2.0 ∙ earlier.0, now ∙ ap (λ (all : List (Note T)). record before.1 { notes = all }) notes)
+      let more : replicate rounds (still_waiting {T = T} before.key) ++ still_waiting before.key ∷ [] ≡ replicate (suc rounds) (still_waiting before.key) =
+      replicate_more rounds (still_waiting before.key) ∙ ap (λ count. replicate count (still_waiting {T = T} before.key)) (sym (suc-eq-add-one rounds)) in
+      let notes = append_assoc before.hand.notes (replicate rounds (still_waiting before.key)) (still_waiting before.key ∷ []) ∙ ap (λ later. before.hand.notes ++ later) more in
+      (waited.2.0 ∙ earlier.0, now ∙ ap (λ (all : List (Note T)). record before.hand { notes = all }) notes)
 
-  pub noted_wait : (may_end : Type 0) (before : RecordedPlace × HandNotes T) (listener : RecordedListening) (answer : Result (Option T) WaitReason) (after : RecordedPlace × HandNotes T)
-      → before.0.key ≡ listener.key → Waits Attempts Leaves may_end before answer after
-      → NotesWait may_end listener before.1 (answer_of listener answer) after.1
-  noted_wait may_end before listener (Ok (Some tag)) after key (inl round) =
-      let earlier = noted_rounds round.rounds before round.between round.waited in
-      let last = rw (earlier.0, earlier.1, key) at round.ended.1 in
-      record { rounds = round.rounds; last = _; notes = last; ended = inl refl }
-  noted_wait may_end before listener (Err NeverInserted) after key (inl round) =
-      let earlier = noted_rounds round.rounds before round.between round.waited in
-      let last = rw (earlier.0, earlier.1, key) at round.ended.1 in
-      record { rounds = round.rounds; last = _; notes = last; ended = inl refl }
-  noted_wait may_end before listener (Ok None) after key (inl round) = absurd (round.over refl)
-  noted_wait may_end before listener (Err Memory) after key (inl round) =
-      let earlier = noted_rounds round.rounds before round.between round.waited in
-      let last = rw (earlier.1, key) at round.ended.1 in
-      record { rounds = round.rounds; last = []; notes = rw (append-nil (before.1.notes ++ replicate round.rounds (still_waiting listener.key))) last; ended = (refl, refl) }
-  noted_wait may_end before listener (Ok (Some tag)) after key (inr (inl late)) =
-      let earlier = noted_rounds (suc late.1.rounds) before late.1.between late.1.waited in
-      let last = rw (earlier.0, earlier.1, key) at late.1.left.1.1 in
-      record { rounds = suc late.1.rounds; last = _; notes = last; ended = inr (late.1.left.1.0, record { has_deadline = late.0; registered = omega arith; removal = refl }) }
-  noted_wait may_end before listener (Ok None) after key (inr (inl late)) = by_answer late.1.left.1
-    where
-      earlier : (late.1.between.0 ≡ before.0) × (late.1.between.1 ≡ after_rounds before.1 (suc late.1.rounds) before.0)
-      earlier = noted_rounds (suc late.1.rounds) before late.1.between late.1.waited
+  abbrev pub Succeeds : {E : Type 0} → RecordedPlace T → Result T E → RecordedPlace T → Type 0
+  Succeeds before output after = (after.key ≡ before.key) × NotesAttempt before.key before.hand output after.hand
 
-      by_answer : NotesRemoval late.1.between.0.key late.1.between.1 (Ok None) after.1 → NotesWait may_end listener before.1 (answer_of listener (Ok None)) after.1
-      by_answer (inl created) =
-          let last = rw (earlier.0, earlier.1, key) at created in
-          record { rounds = suc late.1.rounds; last = _; notes = last; ended = inl (record { has_deadline = late.0; registered = omega arith; removal = refl }) }
-      by_answer (inr task) =
-          let last = rw (earlier.0, earlier.1, key) at task in
-          record { rounds = suc late.1.rounds; last = _; notes = last; ended = inr (record { has_deadline = late.0; registered = omega arith; removal = refl }) }
-  noted_wait may_end before listener (Err NeverInserted) after key (inr (inl late)) =
-      let earlier = noted_rounds (suc late.1.rounds) before late.1.between late.1.waited in
-      let last = rw (earlier.0, earlier.1, key) at late.1.left.1 in
-      record { rounds = suc late.1.rounds; last = _; notes = last; ended = inr (record { has_deadline = late.0; registered = omega arith; removal = refl }) }
-  noted_wait may_end before listener (Err Memory) after key (inr (inl late)) =
-      let earlier = noted_rounds (suc late.1.rounds) before late.1.between late.1.waited in
-      let last = rw (earlier.1, key) at late.1.left.1 in
-      record { rounds = suc late.1.rounds; last = []; notes = rw (append-nil (before.1.notes ++ replicate (suc late.1.rounds) (still_waiting listener.key))) last; ended = (refl, refl) }
-  noted_wait may_end before listener answer after key (inr (inr over)) =
-      let earlier = noted_rounds over.rounds before after over.waited in
-      let last = rw (key) at earlier.1 in
-      rw over.refused (record { rounds = over.rounds; last = []; notes = rw (append-nil (before.1.notes ++ replicate over.rounds (still_waiting listener.key))) last; ended = (refl, refl) })
+  abbrev pub Leaves : {E : Type 0} → RecordedPlace T → Option (Result T E) → RecordedPlace T → Type 0
+  Leaves before answer after = (after.key ≡ before.key) × NotesRemoval before.key before.hand answer after.hand
+
+  -- what the wait of this listener returns
+  abbrev pub answered : {E : Type 0} → Result (Option T) E → Result (Option T) (WaitError RecordedListening)
+  answered (Ok tag) = Ok tag
+  answered (Err error) = Err wait.NeverInserted
+
+  module _ {E R : Type 0} where
+    abbrev pub returned : RecordedListening → Result (Option (Result T E)) R → Result (Option T) (WaitError RecordedListening)
+    returned listener (Ok answer) = answered (option_transpose answer)
+    returned listener (Err refused) = Err (wait.Memory listener)
+
+    pub noted_wait : (may_end : Type 0) (before : RecordedPlace T) (listener : RecordedListening) (result : Result (Option (Result T E)) R) (after : RecordedPlace T)
+        → before.key ≡ listener.key → Waits WaitsOn Succeeds Leaves may_end before result after
+        → NotesWait may_end listener before.hand (returned listener result) after.hand
+    noted_wait may_end before listener (Ok (Some (Ok tag))) after key (inl round) =
+        let earlier = noted_rounds round.waited.0 before round.between round.waited.1 in
+        let last = rw (earlier.0, earlier.1, key) at round.succeeded.1 in
+        record { rounds = round.waited.0; last = _; notes = last; ended = inl refl }
+    noted_wait may_end before listener (Ok (Some (Err error))) after key (inl round) =
+        let earlier = noted_rounds round.waited.0 before round.between round.waited.1 in
+        let last = rw (earlier.0, earlier.1, key) at round.succeeded.1 in
+        record { rounds = round.waited.0; last = _; notes = last; ended = inl refl }
+    noted_wait may_end before listener (Ok (Some (Ok tag))) after key (inr late) =
+        let earlier = noted_rounds (suc late.waited.0) before late.between late.waited.1 in
+        let last = rw (earlier.0, earlier.1, key) at late.left.1.1 in
+        record { rounds = suc late.waited.0; last = _; notes = last; ended = inr (late.left.1.0, record { has_deadline = late.has_limit; registered = omega arith; removal = refl }) }
+    noted_wait may_end before listener (Ok None) after key late = by_answer late.left.1
+      where
+        earlier : (late.between.key ≡ before.key) × (late.between.hand ≡ after_rounds before.hand (suc late.waited.0) before.key)
+        earlier = noted_rounds (suc late.waited.0) before late.between late.waited.1
+
+        by_answer : NotesRemoval {T = T} {E = E} late.between.key late.between.hand None after.hand → NotesWait may_end listener before.hand (Ok None) after.hand
+        by_answer (inl created) =
+            let last = rw (earlier.0, earlier.1, key) at created in
+            record { rounds = suc late.waited.0; last = _; notes = last; ended = inl (record { has_deadline = late.has_limit; registered = omega arith; removal = refl }) }
+        by_answer (inr task) =
+            let last = rw (earlier.0, earlier.1, key) at task in
+            record { rounds = suc late.waited.0; last = _; notes = last; ended = inr (record { has_deadline = late.has_limit; registered = omega arith; removal = refl }) }
+    noted_wait may_end before listener (Ok (Some (Err error))) after key (inr late) =
+        let earlier = noted_rounds (suc late.waited.0) before late.between late.waited.1 in
+        let last = rw (earlier.0, earlier.1, key) at late.left.1 in
+        record { rounds = suc late.waited.0; last = _; notes = last; ended = inr (record { has_deadline = late.has_limit; registered = omega arith; removal = refl }) }
+    noted_wait may_end before listener (Err refused) after key some =
+        let earlier = noted_rounds some.0 before after some.1 in
+        let last = rw (key) at earlier.1 in
+        record { rounds = some.0; last = []; notes = rw (append-nil (before.hand.notes ++ replicate some.0 (still_waiting listener.key))) last; ended = (refl, refl) }

@@ -3,7 +3,7 @@
 use Rattle.std.specs.Prelude.{◌≡◌, ℕ, Option}
 use Rattle.event_queue.specs.declared.reply.RegisterResult.TheVariants as register
 use Rattle.event_queue.specs.Queue.{Queue}
-use Rattle.event_listener.specs.declared.task.Task.{Task}
+use Rattle.event_wait.specs.declared.lock.task.Task.{Task}
 use Rattle.event_listener.specs.declared.recorded.call.RecordedCall.{RecordedCall}
 use Rattle.event_listener.specs.declared.recorded.reply.RecordedReply.{RecordedReply}
 use Rattle.event_listener.specs.declared.recorded.reply.RecordedReply.TheVariants as reply

@@ -2,7 +2,7 @@
 use Rattle.std.specs.Prelude.{◌≡◌, ◌+◌, ◌≤◌, ℕ, Bool, true, List, [], ◌∷◌, ◌++◌, All, None, Some, ⊤}
 use Rattle.event_queue.specs.declared.key.Key.{Key}
 use Rattle.event_queue.specs.Queue.{Queue, IsQueue, listeners_of}
-use Rattle.event_listener.specs.declared.task.Task.{Task}
+use Rattle.event_wait.specs.declared.lock.task.Task.{Task}
 use Rattle.event_listener.specs.declared.recorded.call.RecordedCall.{RecordedCall}
 use Rattle.event_listener.specs.declared.recorded.call.RecordedCall.TheVariants.{Remove}
 use Rattle.event_listener.specs.declared.recorded.entry.Entry.{Entry}

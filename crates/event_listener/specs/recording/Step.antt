@@ -8,7 +8,7 @@ use Rattle.event_queue.specs.Queue.{Queue, listeners_of, how_many, after_telling
 use Rattle.event_queue.specs.Insert.{Inserts}
 use Rattle.event_queue.specs.Register.{Registers}
 use Rattle.event_queue.specs.Remove.{Removes, woken_by_removal}
-use Rattle.event_listener.specs.declared.task.Task.{Task}
+use Rattle.event_wait.specs.declared.lock.task.Task.{Task}
 use Rattle.event_listener.specs.declared.recorded.call.StepCall.{StepCall}
 use Rattle.event_listener.specs.declared.recorded.call.StepCall.TheVariants as step
 use Rattle.event_listener.specs.declared.recorded.call.RecordedCall.{RecordedCall}

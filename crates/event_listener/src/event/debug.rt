@@ -12,7 +12,7 @@ impl<T> fmt::Debug for Event<T> {
                 .field(&format_args!("<uninitialized>"))
                 .finish();
         };
-        let Some(queue) = shared.queue().try_lock() else {
+        let Some(queue) = shared.mutex().try_lock() else {
             return f
                 .debug_tuple("Event")
                 .field(&format_args!("<locked>"))

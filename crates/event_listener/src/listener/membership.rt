@@ -1,22 +1,17 @@
 //! A listener's membership in the queue of its event.
-ghost use Rattle.std.specs.Prelude.{◌≡◌, ◌≢◌, ◌+◌, ◌<◌, ◌^◌, true, false, None};
-ghost use Rattle.event_queue.specs.declared.reply.RegisterResult.TheVariants.{Registered, NeverInserted};
-ghost use Rattle.futures.specs.Task.{Covers, Keeps};
-ghost use Rattle.event_listener.specs.Waiting.{IsKept, EndsWait, StaysOrEnds};
+ghost use Rattle.std.specs.Prelude.{◌≡◌, ◌≢◌, ◌+◌, ◌<◌, ◌^◌, true, false, None, Some};
+ghost use Rattle.event_queue.specs.declared.reply.RegisterResult.TheVariants as register;
+ghost use Rattle.event_listener.specs.Waiting.{EndsWait, IsKept, Registers, Stays};
 
-use super::wait::{WaitSteps, answer_to_registration, answer_to_removal};
-use super::wait_error::WaitReason;
-use crate::event::Shared;
-use crate::task::{Task, Waking};
-use event_queue::{Key, RegisterResult, State};
-use event_wait::take_lock;
-use futures::task::Context;
+use super::NeverInserted;
+use event_queue::{Key, List, RegisterResult, State, TaskExchange, WakeSink};
+use event_wait::{Attempted, Request, Task};
+use std::convert::Infallible;
 use std::marker::Model;
-use std::sync::Wait;
 
 /// A listener's key in the queue of its event, and whether the listener has left the queue by a call of its own.
 ///
-/// The key is private to this file. So only the three calls below take the listener out of the queue, and each of them
+/// The key is private to this file. So only the two calls below take the listener out of the queue, and each of them
 /// notes that it did: a listener that is not finished after a call was not taken out by that call.
 ///
 /// The note is in the key itself: a finished listener has the greatest `u64` for its serial, which no queue gives. A
@@ -49,8 +44,9 @@ impl Membership {
         Membership { key }
     }
 
+    /// Whether the listener has left the queue.
     #[inline(always)]
-    fn is_finished(&self) -> bool
+    pub(super) fn is_finished(&self) -> bool
         ensures { result ≡ self.now.is_finished }
     {
         self.key.serial == u64::MAX
@@ -63,50 +59,24 @@ impl Membership {
         self.key.serial = u64::MAX;
     }
 
-    /// Takes the tag if the listener was notified, which takes it out of the queue; else stores the task.
+    /// Takes the tag if the listener was notified, which takes it out of the queue; else stores the task that the exchange
+    /// makes.
     #[inline(always)]
-    pub(super) fn register<T, R: Wait>(
+    pub(super) fn register<T, C, X: TaskExchange<Task, C>>(
         &mut self,
-        rt: &R,
-        shared: &Shared<T>,
-        task: Task,
+        queue: &mut List<T, Task>,
+        exchange: &X,
+        on: &mut C,
     ) -> RegisterResult<T>
-        ensures finished { self.old.is_finished ≡ true → result ≡ NeverInserted }
-        ensures stays { result ≡ Registered → (self.old.is_finished ≡ false) × (self.new ≡ self.old) }
-        ensures leaves { result ≢ Registered → self.new.is_finished ≡ true }
+        ensures finished { self.old.is_finished ≡ true → result ≡ register.NeverInserted }
+        ensures stays { result ≡ register.Registered → Stays self.old self.new }
+        ensures leaves { result ≢ register.Registered → self.new.is_finished ≡ true }
+        ensures exchanged { Registers (X.exchanged exchange.now) on.old result on.new }
     {
         if self.is_finished() {
             return RegisterResult::NeverInserted;
         }
-        let found = take_lock!(shared.queue(), rt).register_uncounted(self.key, task);
-        if !matches!(found, RegisterResult::Registered) {
-            self.finish();
-        }
-        found
-    }
-
-    /// Takes the tag of a notified listener, which takes it out of the queue; else registers the task that polls, whose
-    /// waker stays if it is stored already.
-    pub(super) fn register_in<T, R: Wait>(
-        &mut self,
-        rt: &R,
-        shared: &Shared<T>,
-        cx: &mut Context<'_>,
-    ) -> RegisterResult<T>
-        ensures finished { self.old.is_finished ≡ true → result ≡ NeverInserted }
-        ensures stays { result ≡ Registered → (self.old.is_finished ≡ false) × (self.new ≡ self.old) }
-        ensures leaves { result ≢ Registered → self.new.is_finished ≡ true }
-        ensures registered { result ≡ Registered → Covers cx.new (λ s. s ≡ shared.now) }
-        ensures kept { Keeps cx.old cx.new }
-    {
-        if self.is_finished() {
-            return RegisterResult::NeverInserted;
-        }
-        let found = take_lock!(shared.queue(), rt).register_with_uncounted(
-            self.key,
-            &shared.source,
-            cx,
-        );
+        let found = queue.register_with_uncounted(self.key, exchange, on);
         if !matches!(found, RegisterResult::Registered) {
             self.finish();
         }
@@ -116,11 +86,11 @@ impl Membership {
     /// Takes the listener out of the queue, if it is there, and returns what it was. With `propagate` its notification
     /// is propagated.
     #[inline(always)]
-    pub(super) fn remove<T, R: Wait>(
+    pub(super) fn remove<T, K: WakeSink<Task>>(
         &mut self,
-        rt: &R,
-        shared: &Shared<T>,
+        queue: &mut List<T, Task>,
         propagate: bool,
+        sink: &mut K,
     ) -> Option<State<T, Task>>
         ensures finished { self.old.is_finished ≡ true → result ≡ None }
         ensures leaves { self.new.is_finished ≡ true }
@@ -131,38 +101,46 @@ impl Membership {
         }
         let key = self.key;
         self.finish();
-        let mut waking = Waking::new(rt);
-        let former = take_lock!(shared.queue(), rt).remove_uncounted(key, propagate, &mut waking);
-        waking.finish();
-        former
+        queue.remove_uncounted(key, propagate, sink)
     }
 }
 
-impl<T: Drop> WaitSteps<T> for Membership {
-    type Queue = Shared<T>;
+/// It gets the tag, or finds that the listener has given it. It is never refused.
+impl<T: Drop> Request<List<T, Task>> for Membership {
+    type Output = Result<T, NeverInserted>;
 
-    type Notes = ();
+    type Refusal = Infallible;
 
-    ghost attempts = { λ before answer after. StaysOrEnds before.0 answer after.0 };
+    ghost succeeds = { λ before output after. EndsWait before (Some output) after };
 
-    ghost leaves = { λ before answer after. EndsWait before.0 answer after.0 };
+    ghost waits = { Stays };
 
-    fn attempt<R: Wait>(
+    ghost leaves = { EndsWait };
+
+    fn attempt_or_wait<C, X: TaskExchange<Task, C>, K: WakeSink<Task>>(
         &mut self,
-        rt: &R,
-        queue: &Shared<T>,
-        _notes: &mut (),
-        task: Task,
-    ) -> Result<Option<T>, WaitReason> {
-        answer_to_registration(self.register(rt, queue, task))
+        queue: &mut List<T, Task>,
+        exchange: &X,
+        on: &mut C,
+        _sink: &mut K,
+    ) -> Attempted<Result<T, NeverInserted>, Infallible> {
+        match self.register(queue, exchange, on) {
+            RegisterResult::Registered => Attempted::Waits(self.key),
+            RegisterResult::Notified(tag) => Attempted::Done(Ok(tag)),
+            RegisterResult::NeverInserted => Attempted::Done(Err(NeverInserted)),
+        }
     }
 
-    fn time_out<R: Wait>(
+    fn leave<K: WakeSink<Task>>(
         &mut self,
-        rt: &R,
-        queue: &Shared<T>,
-        _notes: &mut (),
-    ) -> Result<Option<T>, WaitReason> {
-        answer_to_removal(self.remove(rt, queue, false))
+        queue: &mut List<T, Task>,
+        sink: &mut K,
+    ) -> Result<Option<Result<T, NeverInserted>>, Infallible> {
+        match self.remove(queue, false, sink) {
+            Some(State::Notified { additional: _, tag }) => Ok(Some(Ok(tag))),
+            Some(State::Created | State::Task(_)) => Ok(None),
+            Some(State::Passed { .. } | State::Lost { .. }) => unreachable!(),
+            None => Ok(Some(Err(NeverInserted))),
+        }
     }
 }

@@ -3,12 +3,10 @@ ghost use Rattle.std.specs.Prelude.{◌≡◌, ◌+◌, ◌<◌, ◌^◌, true, 
 
 use super::hold::Hold;
 use super::membership::Membership;
-use super::polled::poll_of;
-use super::wait::wait_in;
 use super::{Limit, Listener, NeverInserted, WaitError};
 use crate::event::{Event, Shared};
-use crate::task::Task;
-use event_queue::{Key, State};
+use event_queue::{Key, RegisterResult, State};
+use event_wait::{Parks, Refused, Task, step, take_lock};
 use futures::Future;
 use futures::task::{Context, Poll, Waker};
 use std::alloc::Global;
@@ -92,7 +90,13 @@ impl<T, H: Hold<T>, R: Wait + Clock + Clone> QueueListener<T, H, R> {
             alloc: _,
             tag: _,
         } = self;
-        match membership.remove(&runtime, held.queue(), propagate) {
+        // A finished listener takes no lock. So it is in both polls.
+        if membership.is_finished() {
+            return false;
+        }
+        let former =
+            step!(held.queue(), &runtime, queue, waking => membership.remove(&mut *queue, propagate, &mut waking));
+        match former {
             Some(State::Notified { additional: _, tag } | State::Lost { additional: _, tag }) => {
                 drop(tag);
                 true
@@ -116,34 +120,54 @@ impl<T: Drop, H: Hold<T> + Drop, R: Wait + Clock + Clone> Listener<T> for QueueL
 
     #[inline(always)]
     fn poll(&mut self, waker: Waker) -> Result<Poll<T>, NeverInserted> {
-        let task = Task::from_waker(waker);
-        let found = self
-            .membership
-            .register(&self.runtime, self.held.queue(), task);
-        poll_of(found, NeverInserted)
+        if self.membership.is_finished() {
+            return Err(NeverInserted);
+        }
+        let mut task = Some(Task::from_waker(waker));
+        let lock = self.held.queue();
+        let mut queue = take_lock!(lock, &self.runtime);
+        let found = self.membership.register(&mut *queue, &Parks {}, &mut task);
+        drop(queue);
+        match found {
+            RegisterResult::Notified(tag) => Ok(Poll::Ready(tag)),
+            RegisterResult::Registered => Ok(Poll::Pending),
+            RegisterResult::NeverInserted => Err(NeverInserted),
+        }
     }
 
     fn poll_in(&mut self, cx: &mut Context<'_>) -> Result<Poll<T>, NeverInserted> {
-        let found = self
-            .membership
-            .register_in(&self.runtime, self.held.queue(), cx);
-        poll_of(found, NeverInserted)
+        if self.membership.is_finished() {
+            return Err(NeverInserted);
+        }
+        let polled = self
+            .held
+            .queue()
+            .poll_in(&self.runtime, &mut self.membership, cx);
+        match polled {
+            Poll::Ready(Ok(Ok(tag))) => Ok(Poll::Ready(tag)),
+            Poll::Ready(Ok(Err(gone))) => Err(gone),
+            Poll::Ready(Err(never)) => match never {},
+            Poll::Pending => Ok(Poll::Pending),
+        }
     }
 
     fn wait_until(self, limit: Limit) -> Result<Option<T>, WaitError<Self>> {
         let mut listener = self;
         let waiting = &mut listener;
-        let answer = wait_in(
-            &mut waiting.membership,
+        let waited = waiting.held.queue().wait(
             &waiting.runtime,
             waiting.alloc,
-            waiting.held.queue(),
-            &mut (),
+            &mut waiting.membership,
             limit,
         );
-        match answer {
+        let answer = match waited {
+            Ok(answer) => answer,
+            Err(Refused::Memory) => return Err(WaitError::Memory(listener)),
+            Err(Refused::Request(never)) => match never {},
+        };
+        match answer.transpose() {
             Ok(tag) => Ok(tag),
-            Err(reason) => Err(WaitError::of(reason, listener)),
+            Err(NeverInserted) => Err(WaitError::NeverInserted),
         }
     }
 

@@ -74,7 +74,7 @@ impl<'ev, T> StackSlot<'ev, T> {
         let Ok(runtime) = rt.clone() else {
             return Err(ListenError::Memory);
         };
-        let key = take_lock!(self.shared.queue(), rt).insert_uncounted()?;
+        let key = take_lock!(self.shared, rt).insert_uncounted()?;
         Ok(StackListener::new(self.shared, key, self.event_number, runtime, self.alloc))
     }
 }

@@ -1,6 +1,6 @@
 //! Why a wait gave no answer.
 ghost use Rattle.std.specs.Prelude.{◌≡◌};
-ghost use Rattle.event_listener.specs.Waiting.{error_of, reason_of};
+ghost use Rattle.event_listener.specs.Waiting.{reason_of};
 
 use std::error::Error;
 use std::fmt;
@@ -33,18 +33,6 @@ pub enum WaitReason {
 }
 
 impl<L> WaitError<L> {
-    /// The error with this reason, of a wait of this listener. It drops the listener unless that may wait again.
-    pub(super) fn of(reason: WaitReason, listener: L) -> Self
-    where
-        L: Drop,
-        ensures { result ≡ error_of reason listener }
-    {
-        match reason {
-            WaitReason::NeverInserted => WaitError::NeverInserted,
-            WaitReason::Memory => WaitError::Memory(listener),
-        }
-    }
-
     /// The same without the listener, which stays where it is.
     pub fn reason(&self) -> WaitReason
         ensures { result ≡ reason_of self.now }

@@ -2,8 +2,8 @@
 ghost use Rattle.std.specs.Prelude.{◌≡◌, ◌≤◌};
 ghost use Rattle.event_listener.specs.recording.Step.{without_task, newcomers_of};
 
-use crate::task::Task;
 use event_queue::Key;
+use event_wait::Task;
 
 /// One call of a recorded queue, as [`RecordedState::apply`](crate::RecordedState::apply) makes it.
 #[derive(Drop)]

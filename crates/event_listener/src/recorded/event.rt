@@ -16,9 +16,10 @@ use super::reply::RecordedReply;
 use super::state::RecordedState;
 use crate::event::EventId;
 use event_queue::ListenError;
+use event_wait::Lock;
 use std::alloc::Global;
 use std::marker::Model;
-use std::sync::{Mutex, Wait};
+use std::sync::Wait;
 use std::time::Clock;
 
 /// An event that keeps a record of every step that its queue makes, and whose callers each note their own calls.
@@ -33,14 +34,14 @@ use std::time::Clock;
 /// condition that the event [`owns`](RecordedEvent::owns) it; the clauses of each call let the caller carry that over
 /// to the next.
 ///
-/// Tags are copied, and compared by `close` and [`replays`](crate::replays) alone. Tasks are woken under the lock:
-/// calling the same event from what a waker runs there deadlocks. The record grows by an entry with each step, and
+/// Tags are copied, and compared by `close` and [`replays`](crate::replays) alone. Tasks are woken under the lock, but
+/// for the last of a call: calling the same event from what a waker runs there deadlocks. The record grows by an entry with each step, and
 /// never shrinks. No call but `close` and `replays` looks at older entries.
 #[derive(Drop)]
 pub struct RecordedEvent<T: Copy + Eq> {
     id: EventId,
     hands: usize,
-    state: Mutex<RecordedState<T>>,
+    state: Lock<RecordedState<T>>,
     alloc: Global,
 }
 
@@ -72,14 +73,14 @@ impl<T: Copy + Eq> RecordedEvent<T> {
         let event = RecordedEvent {
             id,
             hands,
-            state: Mutex::new(RecordedState::new(alloc)),
+            state: Lock::of(RecordedState::new(alloc)),
             alloc,
         };
         Ok((event, made))
     }
 
     // What stands under the lock.
-    pub(super) fn state(&self) -> &Mutex<RecordedState<T>> {
+    pub(super) fn state(&self) -> &Lock<RecordedState<T>> {
         &self.state
     }
 
@@ -220,7 +221,7 @@ impl<T: Copy + Eq> RecordedEvent<T> {
         if !are_all_hands(hands.as_slice(), count) {
             return Err(CloseError::HandsMissing);
         }
-        let entries = state.into_inner().into_entries();
+        let entries = state.into_state().into_entries();
         if !are_hands_below(entries.as_slice(), count) {
             return Err(CloseError::Differs);
         }

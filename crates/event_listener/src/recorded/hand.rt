@@ -10,11 +10,10 @@ use super::error::RecordError;
 use super::reply::RecordedReply;
 use super::state::RecordedState;
 use super::step::MakesStep;
-use crate::task::Waking;
-use event_wait::take_lock;
+use event_wait::{Lock, step};
 use std::alloc::{AllocError, Global};
 use std::marker::Model;
-use std::sync::{Mutex, Wait};
+use std::sync::Wait;
 
 /// One call of a hand, and the reply that it got.
 #[derive(Clone, Copy, Debug, PartialEq, Eq, Drop)]
@@ -67,7 +66,7 @@ impl<T> Model for Hand<T> {
 
 impl<T> Hand<T> {
     // A hand of that event, with no notes.
-    fn new(number: usize, event_number: u64, alloc: Global) -> Self
+    pub(super) fn new(number: usize, event_number: u64, alloc: Global) -> Self
         ensures { result ≡ record { number = number; event_number = event_number; notes = [] } }
     {
         Hand {
@@ -115,12 +114,12 @@ pub(super) fn new_hands<T>(
 }
 
 impl<T: Copy + Eq> Hand<T> {
-    // Performs one call, and notes it with its reply. What it wakes is woken once the lock is given back.
+    // Performs one call, and notes it with its reply. Whom it wakes last is woken once the lock is given back.
     #[inline(always)]
     pub(super) fn perform<R: Wait>(
         &mut self,
         rt: &R,
-        state: &Mutex<RecordedState<T>>,
+        lock: &Lock<RecordedState<T>>,
         call: StepCall<T>,
     ) -> Result<RecordedReply<T>, RecordError>
         ensures noted { IfOk result (λ reply. self.new ≡ noted self.old (without_task call) reply) }
@@ -128,19 +127,15 @@ impl<T: Copy + Eq> Hand<T> {
         ensures unchanged { OnErr result (self.new ≡ self.old) }
         ensures memory { IfErr result (λ error. error ≡ RecordError.Memory) }
     {
-        let mut waking = Waking::new(rt);
-        let reply = self.perform_step(rt, state, call, &mut waking);
-        waking.finish();
-        reply
+        step!(lock, rt, state, waking => self.note_step(&mut *state, call, &mut waking))
     }
 
-    // Makes one step under the lock, and notes it with its reply. Room for the note is made first, so a failure leaves
-    // queue, record and notes as they were.
+    // Makes one step, and notes it with its reply. Room for the note is made first, so a failure leaves queue, record and
+    // notes as they were.
     #[inline(always)]
-    pub(super) fn perform_step<R: Wait, C, P: MakesStep<T, C>>(
+    pub(super) fn note_step<C, P: MakesStep<T, C>>(
         &mut self,
-        rt: &R,
-        state: &Mutex<RecordedState<T>>,
+        state: &mut RecordedState<T>,
         step: P,
         beside: &mut C,
     ) -> Result<RecordedReply<T>, RecordError>
@@ -152,7 +147,7 @@ impl<T: Copy + Eq> Hand<T> {
         ensures memory { IfErr result (λ error. error ≡ RecordError.Memory) }
     {
         self.notes.reserve(1)?;
-        let entry = take_lock!(state, rt).record_step(self.number, step, beside)?;
+        let entry = state.record_step(self.number, step, beside)?;
         self.notes.push_reserved(Note::of(&entry));
         Ok(entry.reply)
     }

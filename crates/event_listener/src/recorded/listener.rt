@@ -9,10 +9,9 @@ use super::event::RecordedEvent;
 use super::hand::Hand;
 use super::reply::{Former, RecordedReply};
 use super::wait::wait_until;
-use crate::listener::{Limit, WaitError, poll_of};
-use crate::task::{Task, Waking};
-use event_queue::Key;
-use event_wait::take_lock;
+use crate::listener::{Limit, WaitError};
+use event_queue::{Key, RegisterResult};
+use event_wait::{Task, step};
 use futures::task::{Poll, Waker};
 use std::fmt;
 use std::marker::Model;
@@ -92,7 +91,11 @@ impl<'ev, T: Copy + Eq, R: Wait + Clock + Clone> RecordedListener<'ev, T, R> {
             return Err(RecordedPollError::Memory);
         };
         match reply {
-            RecordedReply::Registered(found) => poll_of(found, RecordedPollError::NeverInserted),
+            RecordedReply::Registered(RegisterResult::Notified(tag)) => Ok(Poll::Ready(tag)),
+            RecordedReply::Registered(RegisterResult::Registered) => Ok(Poll::Pending),
+            RecordedReply::Registered(RegisterResult::NeverInserted) => {
+                Err(RecordedPollError::NeverInserted)
+            }
             _ => unreachable!(),
         }
     }
@@ -193,9 +196,7 @@ impl<T: Copy + Eq, R: Wait + Clock + Clone> Drop for RecordedListener<'_, T, R> 
             key,
             runtime,
         } = self;
-        let mut waking = Waking::new(&runtime);
-        take_lock!(event.state(), &runtime).apply_end(key, &mut waking);
-        waking.finish();
+        step!(event.state(), &runtime, state, waking => state.apply_end(key, &mut waking))
     }
 }
 

@@ -7,10 +7,8 @@ ghost use Rattle.event_listener.specs.recording.Calls.{Polls};
 
 use super::hand::Hand;
 use super::listener::{RecordedListener, RecordedPollError};
-use super::reply::RecordedReply;
-use super::step::PollStep;
-use crate::listener::poll_of;
-use crate::task::EventSource;
+use super::wait::RecordedPlace;
+use crate::listener::NeverInserted;
 use futures::task::{Context, Poll};
 use std::sync::Wait;
 use std::time::Clock;
@@ -32,17 +30,14 @@ impl<T: Copy + Eq, R: Wait + Clock + Clone> RecordedListener<'_, T, R> {
         ensures registered { IfOk result (λ polled. OnPending polled (IsArmed cx.new)) }
         ensures kept { Keeps cx.old cx.new }
     {
-        let source = EventSource::new();
-        let step = PollStep {
-            key: self.key,
-            exchange: &source,
-        };
-        let Ok(reply) = hand.perform_step(&self.runtime, self.event.state(), step, cx) else {
-            return Err(RecordedPollError::Memory);
-        };
-        match reply {
-            RecordedReply::Registered(found) => poll_of(found, RecordedPollError::NeverInserted),
-            _ => unreachable!(),
+        let mut place = RecordedPlace::of(self.key, hand, self.event.alloc());
+        let polled = self.event.state().poll_in(&self.runtime, &mut place, cx);
+        place.give_back(hand);
+        match polled {
+            Poll::Ready(Ok(Ok(tag))) => Ok(Poll::Ready(tag)),
+            Poll::Ready(Ok(Err(NeverInserted))) => Err(RecordedPollError::NeverInserted),
+            Poll::Ready(Err(_)) => Err(RecordedPollError::Memory),
+            Poll::Pending => Ok(Poll::Pending),
         }
     }
 }

@@ -13,8 +13,8 @@ use super::entry::Entry;
 use super::error::RecordError;
 use super::reply::RecordedReply;
 use super::step::{MakesStep, perform_removal};
-use crate::task::Task;
 use event_queue::{Key, List, WakeSink};
+use event_wait::Task;
 use std::alloc::Global;
 use std::marker::Model;
 

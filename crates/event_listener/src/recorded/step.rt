@@ -11,14 +11,14 @@ ghost use Rattle.event_listener.specs.declared.recorded.call.RecordedCall.TheVar
 use super::call::{RecordedCall, StepCall};
 use super::copied_tag::CopiedTag;
 use super::reply::{Former, RecordedReply};
-use crate::task::Task;
 use event_queue::{Key, List, TaskExchange, WakeSink};
+use event_wait::Task;
 
 /// What makes one step of a recorded queue: a call, with the sink of the tasks that it wakes beside the queue, or a
 /// [`PollStep`], with the context of the task that polls.
 pub(super) trait MakesStep<T: Copy, C>: Drop {
     ghost use Rattle.event_queue.specs.Queue.{Queue};
-    ghost use Rattle.event_listener.specs.declared.task.Task.{Task};
+    ghost use Rattle.event_wait.specs.declared.lock.task.Task.{Task};
     ghost use Rattle.event_listener.specs.declared.recorded.call.RecordedCall.{RecordedCall};
     ghost use Rattle.event_listener.specs.declared.recorded.reply.RecordedReply.{RecordedReply};
 

@@ -1,66 +1,102 @@
 //! How a recorded listener waits: as any listener does, with a note of each step.
 ghost use Rattle.std.specs.Prelude.{◌≡◌, ◌≢◌};
-ghost use Rattle.event_listener.specs.declared.listener.limit.Limit.TheVariants.{Never};
+ghost use Rattle.event_wait.specs.declared.lock.limit.Limit.TheVariants.{Never};
 ghost use Rattle.event_listener.specs.recording.Wait.{NotesWait};
-ghost use Rattle.event_listener.specs.recording.WaitSteps.{NotesAttempt, NotesRemoval};
+ghost use Rattle.event_listener.specs.recording.WaitSteps.{NotesAttempt, NotesRemoval, NotesRound};
 
 use super::call::StepCall;
+use super::error::RecordError;
 use super::hand::Hand;
 use super::listener::RecordedListener;
 use super::reply::{Former, RecordedReply};
 use super::state::RecordedState;
-use crate::listener::{Limit, WaitError, WaitReason, WaitSteps, answer_to_registration, wait_in};
-use crate::task::Task;
-use event_queue::Key;
-use std::sync::{Mutex, Wait};
+use super::step::PollStep;
+use crate::listener::{Limit, NeverInserted, WaitError};
+use event_queue::{Key, RegisterResult, TaskExchange, WakeSink};
+use event_wait::{Attempted, Refused, Request, Task};
+use std::alloc::Global;
+use std::mem;
+use std::sync::Wait;
 use std::time::Clock;
 
-// A recorded listener as a wait uses it: its key in the queue.
-#[derive(Drop)]
-struct RecordedPlace {
+/// A recorded listener as a wait uses it: its key in the queue, and the hand, which notes each step.
+pub(super) struct RecordedPlace<T> {
     key: Key,
+    hand: Hand<T>,
 }
 
-impl<T: Copy + Eq> WaitSteps<T> for RecordedPlace {
-    type Queue = Mutex<RecordedState<T>>;
-
-    type Notes = Hand<T>;
-
-    ghost attempts = { λ before answer after. (after.0 ≡ before.0) × NotesAttempt before.0.key before.1 answer after.1 };
-
-    ghost leaves = { λ before answer after. (after.0 ≡ before.0) × NotesRemoval before.0.key before.1 answer after.1 };
-
-    fn attempt<R: Wait>(
-        &mut self,
-        rt: &R,
-        queue: &Mutex<RecordedState<T>>,
-        notes: &mut Hand<T>,
-        task: Task,
-    ) -> Result<Option<T>, WaitReason> {
-        let key = self.key;
-        match notes.perform(rt, queue, StepCall::Register { key, task }) {
-            Ok(RecordedReply::Registered(found)) => answer_to_registration(found),
-            Ok(_) => unreachable!(),
-            Err(_) => Err(WaitReason::Memory),
+impl<T> RecordedPlace<T> {
+    /// Takes the hand, and leaves one without notes in its place.
+    pub(super) fn of(key: Key, hand: &mut Hand<T>, alloc: Global) -> Self
+        ensures key { result.key ≡ key }
+        ensures hand { result.hand ≡ hand.old }
+    {
+        let nobody = Hand::new(0, 0, alloc);
+        RecordedPlace {
+            key,
+            hand: mem::replace(hand, nobody),
         }
     }
 
-    fn time_out<R: Wait>(
+    /// Gives the hand back.
+    pub(super) fn give_back(self, hand: &mut Hand<T>)
+    where
+        T: Drop,
+        ensures { hand.new ≡ self.hand }
+    {
+        let RecordedPlace { key: _, hand: its } = self;
+        *hand = its;
+    }
+}
+
+impl<T: Copy + Eq> Request<RecordedState<T>> for RecordedPlace<T> {
+    type Output = Result<T, NeverInserted>;
+
+    type Refusal = RecordError;
+
+    ghost succeeds = { λ before output after. (after.key ≡ before.key) × NotesAttempt before.key before.hand output after.hand };
+
+    ghost waits = { λ before after. (after.key ≡ before.key) × NotesRound before.key before.hand after.hand };
+
+    ghost leaves = { λ before answer after. (after.key ≡ before.key) × NotesRemoval before.key before.hand answer after.hand };
+
+    fn attempt_or_wait<C, X: TaskExchange<Task, C>, K: WakeSink<Task>>(
         &mut self,
-        rt: &R,
-        queue: &Mutex<RecordedState<T>>,
-        notes: &mut Hand<T>,
-    ) -> Result<Option<T>, WaitReason> {
+        state: &mut RecordedState<T>,
+        exchange: &X,
+        on: &mut C,
+        _sink: &mut K,
+    ) -> Attempted<Result<T, NeverInserted>, RecordError> {
         let key = self.key;
-        let propagate = false;
-        match notes.perform(rt, queue, StepCall::Remove { key, propagate }) {
-            Ok(RecordedReply::Removed(Some(Former::Notified { additional: _, tag }))) => {
-                Ok(Some(tag))
+        match self.hand.note_step(state, PollStep { key, exchange }, on) {
+            Ok(RecordedReply::Registered(RegisterResult::Notified(tag))) => {
+                Attempted::Done(Ok(tag))
             }
-            Ok(RecordedReply::Removed(Some(Former::Created | Former::Task))) => Ok(None),
-            Ok(RecordedReply::Removed(None)) => Err(WaitReason::NeverInserted),
+            Ok(RecordedReply::Registered(RegisterResult::Registered)) => Attempted::Waits(key),
+            Ok(RecordedReply::Registered(RegisterResult::NeverInserted)) => {
+                Attempted::Done(Err(NeverInserted))
+            }
             Ok(_) => unreachable!(),
-            Err(_) => Err(WaitReason::Memory),
+            Err(error) => Attempted::Refused(error),
+        }
+    }
+
+    fn leave<K: WakeSink<Task>>(
+        &mut self,
+        state: &mut RecordedState<T>,
+        sink: &mut K,
+    ) -> Result<Option<Result<T, NeverInserted>>, RecordError> {
+        let removal = StepCall::Remove {
+            key: self.key,
+            propagate: false,
+        };
+        match self.hand.note_step(state, removal, sink)? {
+            RecordedReply::Removed(Some(Former::Notified { additional: _, tag })) => {
+                Ok(Some(Ok(tag)))
+            }
+            RecordedReply::Removed(Some(Former::Created | Former::Task)) => Ok(None),
+            RecordedReply::Removed(None) => Ok(Some(Err(NeverInserted))),
+            _ => unreachable!(),
         }
     }
 }
@@ -73,18 +109,18 @@ pub(super) fn wait_until<'ev, T: Copy + Eq, R: Wait + Clock + Clone>(
 ) -> Result<Option<T>, WaitError<RecordedListener<'ev, T, R>>>
     ensures { NotesWait (limit ≢ Never) listener.entry hand.old result hand.new }
 {
-    let mut place = RecordedPlace { key: listener.key };
-    let (rt, state) = (&listener.runtime, listener.event.state());
     let alloc = listener.event.alloc();
-    match wait_in(&mut place, rt, alloc, state, hand, limit) {
-        Ok(tag) => {
-            listener.forget();
-            Ok(tag)
-        }
-        Err(WaitReason::NeverInserted) => {
-            listener.forget();
-            Err(WaitError::NeverInserted)
-        }
-        Err(WaitReason::Memory) => Err(WaitError::Memory(listener)),
+    let mut place = RecordedPlace::of(listener.key, hand, alloc);
+    let lock = listener.event.state();
+    let waited = lock.wait(&listener.runtime, alloc, &mut place, limit);
+    place.give_back(hand);
+    let answer = match waited {
+        Ok(answer) => answer,
+        Err(Refused::Memory | Refused::Request(_)) => return Err(WaitError::Memory(listener)),
+    };
+    listener.forget();
+    match answer.transpose() {
+        Ok(tag) => Ok(tag),
+        Err(NeverInserted) => Err(WaitError::NeverInserted),
     }
 }
