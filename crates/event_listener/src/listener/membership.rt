@@ -1,7 +1,11 @@
 //! A listener's membership in the queue of its event.
-ghost use Rattle.std.specs.Prelude.{◌≡◌, ◌≢◌, ◌+◌, ◌<◌, ◌^◌, true, false, None, Some};
+ghost use Rattle.std.specs.Prelude.{◌≡◌, ◌≢◌, ◌+◌, ◌<◌, ◌^◌, true, false, None, Some, IfOk, OnErr};
+ghost use Rattle.std.specs.List.{FoldsTo};
 ghost use Rattle.event_queue.specs.declared.reply.RegisterResult.TheVariants as register;
-ghost use Rattle.event_listener.specs.Waiting.{EndsWait, IsKept, Registers, Stays};
+ghost use Rattle.event_queue.specs.Exchange.{RegistersWith};
+ghost use Rattle.event_queue.specs.Remove.{Removes, woken_by_removal};
+ghost use Rattle.event_wait.specs.Attempted.{Attempts, OnDone, OnRefused, OnUndone};
+ghost use Rattle.event_listener.specs.Waiting.{AttemptsInQueue, EndsWait, IsKept, LeavesQueue, Registers, Stays};
 
 use super::NeverInserted;
 use event_queue::{Key, List, RegisterResult, State, TaskExchange, WakeSink};
@@ -68,7 +72,9 @@ impl Membership {
         exchange: &X,
         on: &mut C,
     ) -> RegisterResult<T>
+        ensures step { self.old.is_finished ≡ false → RegistersWith (X.exchanged exchange.now) queue.old self.old.key on.old result queue.new on.new }
         ensures finished { self.old.is_finished ≡ true → result ≡ register.NeverInserted }
+        ensures unchanged { self.old.is_finished ≡ true → queue.new ≡ queue.old }
         ensures stays { result ≡ register.Registered → Stays self.old self.new }
         ensures leaves { result ≢ register.Registered → self.new.is_finished ≡ true }
         ensures exchanged { Registers (X.exchanged exchange.now) on.old result on.new }
@@ -92,7 +98,10 @@ impl Membership {
         propagate: bool,
         sink: &mut K,
     ) -> Option<State<T, Task>>
+        ensures step { self.old.is_finished ≡ false → Removes queue.old self.old.key propagate result queue.new }
+        ensures wakes { self.old.is_finished ≡ false → FoldsTo K.woke sink.old (woken_by_removal self.old.key propagate queue.old) sink.new }
         ensures finished { self.old.is_finished ≡ true → result ≡ None }
+        ensures unchanged { self.old.is_finished ≡ true → (queue.new ≡ queue.old) × (sink.new ≡ sink.old) }
         ensures leaves { self.new.is_finished ≡ true }
         ensures kept { propagate ≡ false → IsKept result }
     {
@@ -122,8 +131,17 @@ impl<T: Drop> Request<List<T, Task>> for Membership {
         queue: &mut List<T, Task>,
         exchange: &X,
         on: &mut C,
-        _sink: &mut K,
-    ) -> Attempted<Result<T, NeverInserted>, Infallible> {
+        sink: &mut K,
+    ) -> Attempted<Result<T, NeverInserted>, Infallible>
+        // One registration in the queue, and what it found. It wakes nobody.
+        ensures step { self.old.is_finished ≡ false → AttemptsInQueue (X.exchanged exchange.now) queue.old self.old.key on.old result queue.new on.new }
+        ensures unchanged { self.old.is_finished ≡ true → queue.new ≡ queue.old }
+        ensures wakes { sink.new ≡ sink.old }
+        ensures succeeded { OnDone result (λ output. EndsWait self.old (Some output) self.new) }
+        ensures waited { OnUndone result (Stays self.old self.new) }
+        ensures kept { OnRefused result (self.new ≡ self.old) }
+        ensures exchanged { Attempts (X.exchanged exchange.now) on.old result on.new }
+    {
         match self.register(queue, exchange, on) {
             RegisterResult::Registered => Attempted::Waits(self.key),
             RegisterResult::Notified(tag) => Attempted::Done(Ok(tag)),
@@ -135,7 +153,14 @@ impl<T: Drop> Request<List<T, Task>> for Membership {
         &mut self,
         queue: &mut List<T, Task>,
         sink: &mut K,
-    ) -> Result<Option<Result<T, NeverInserted>>, Infallible> {
+    ) -> Result<Option<Result<T, NeverInserted>>, Infallible>
+        // One removal from the queue, and the tag that came until then. It wakes nobody.
+        ensures step { self.old.is_finished ≡ false → IfOk result (λ answer. LeavesQueue queue.old self.old.key answer queue.new) }
+        ensures unchanged { self.old.is_finished ≡ true → queue.new ≡ queue.old }
+        ensures wakes { sink.new ≡ sink.old }
+        ensures left { IfOk result (λ answer. EndsWait self.old answer self.new) }
+        ensures kept { OnErr result (self.new ≡ self.old) }
+    {
         match self.remove(queue, false, sink) {
             Some(State::Notified { additional: _, tag }) => Ok(Some(Ok(tag))),
             Some(State::Created | State::Task(_)) => Ok(None),

@@ -3,9 +3,10 @@ ghost use Rattle.std.specs.Prelude.{◌≡◌, ◌+◌, ◌<◌, ◌^◌, true, 
 
 use super::hold::Hold;
 use super::membership::Membership;
+use super::polled::poll_of;
 use super::{Limit, Listener, NeverInserted, WaitError};
 use crate::event::{Event, Shared};
-use event_queue::{Key, RegisterResult, State};
+use event_queue::{Key, State};
 use event_wait::{Parks, Refused, Task, step, take_lock};
 use futures::Future;
 use futures::task::{Context, Poll, Waker};
@@ -128,11 +129,7 @@ impl<T: Drop, H: Hold<T> + Drop, R: Wait + Clock + Clone> Listener<T> for QueueL
         let mut queue = take_lock!(lock, &self.runtime);
         let found = self.membership.register(&mut *queue, &Parks {}, &mut task);
         drop(queue);
-        match found {
-            RegisterResult::Notified(tag) => Ok(Poll::Ready(tag)),
-            RegisterResult::Registered => Ok(Poll::Pending),
-            RegisterResult::NeverInserted => Err(NeverInserted),
-        }
+        poll_of(found, NeverInserted)
     }
 
     fn poll_in(&mut self, cx: &mut Context<'_>) -> Result<Poll<T>, NeverInserted> {

@@ -9,8 +9,8 @@ use super::event::RecordedEvent;
 use super::hand::Hand;
 use super::reply::{Former, RecordedReply};
 use super::wait::wait_until;
-use crate::listener::{Limit, WaitError};
-use event_queue::{Key, RegisterResult};
+use crate::listener::{Limit, WaitError, poll_of};
+use event_queue::Key;
 use event_wait::{Task, step};
 use futures::task::{Poll, Waker};
 use std::fmt;
@@ -91,11 +91,7 @@ impl<'ev, T: Copy + Eq, R: Wait + Clock + Clone> RecordedListener<'ev, T, R> {
             return Err(RecordedPollError::Memory);
         };
         match reply {
-            RecordedReply::Registered(RegisterResult::Notified(tag)) => Ok(Poll::Ready(tag)),
-            RecordedReply::Registered(RegisterResult::Registered) => Ok(Poll::Pending),
-            RecordedReply::Registered(RegisterResult::NeverInserted) => {
-                Err(RecordedPollError::NeverInserted)
-            }
+            RecordedReply::Registered(found) => poll_of(found, RecordedPollError::NeverInserted),
             _ => unreachable!(),
         }
     }

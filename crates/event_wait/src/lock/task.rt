@@ -10,6 +10,9 @@ use std::sync::Arc;
 use std::thread::Parker;
 
 /// What is woken once it is handed something: a thread or a task.
+///
+/// A waker wakes its task also when it is dropped. So one that another takes the place of wakes its task, and so does one
+/// that is dropped with its place in the queue. A thread is woken only once it is handed something.
 #[derive(Drop)]
 pub struct Task(TaskKind);
 

@@ -1,0 +1,19 @@
+//! What a poll returns.
+ghost use Rattle.std.specs.Prelude.{◌≡◌};
+ghost use Rattle.event_listener.specs.Polling.{poll_of};
+
+use event_queue::RegisterResult;
+use futures::task::Poll;
+
+/// What a poll returns whose registration found this. An absent listener has an error, which the kinds of listeners
+/// name differently.
+#[inline(always)]
+pub(crate) fn poll_of<T, E: Copy>(found: RegisterResult<T>, absent: E) -> Result<Poll<T>, E>
+    ensures { result ≡ poll_of found absent }
+{
+    match found {
+        RegisterResult::Notified(tag) => Ok(Poll::Ready(tag)),
+        RegisterResult::Registered => Ok(Poll::Pending),
+        RegisterResult::NeverInserted => Err(absent),
+    }
+}
