@@ -1,7 +1,7 @@
 pub mod Line
 pub mod Left
 pub mod Attempted
-pub mod Task
+pub mod Refused
 pub mod Permits
 pub mod Slot
 pub mod Shares

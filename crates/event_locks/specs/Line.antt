@@ -9,6 +9,7 @@ use Rattle.event_queue.specs.declared.reply.RegisterResult.TheVariants.{Notified
 use Rattle.event_queue.specs.Insert.{Inserts}
 use Rattle.event_queue.specs.Key.{is_key, without}
 use Rattle.event_queue.specs.Queue.{Queue, order_of, listeners_of, tasks_of}
+use Rattle.event_wait.specs.Attempted.{Stores}
 
 -- the entries but that of this key, if it is one
 abbrev pub others_of : {X : Type 0} → Option Key → List (Key × X) → List (Key × X)
@@ -131,16 +132,10 @@ as_told Registered = Registered
 as_told NeverInserted = NeverInserted
 
 module _ {W C : Type 0} (exchanged : C → Option W → W → C → Type 0) where
-  -- a task was stored that was exchanged for the one before
-  pub record Stores (before after : C) : Type 0 where
-    pub handed_out : Option W
-    pub task : W
-    pub made : exchanged before handed_out task after
-
   -- only the task of one that waits on is exchanged
   abbrev pub Looked : {G : Type 0} → C → RegisterResult G → C → Type 0
   Looked before (Notified grant) after = after ≡ before
-  Looked before Registered after = Stores before after
+  Looked before Registered after = Stores exchanged before after
   Looked before NeverInserted after = after ≡ before
 
 module _ {T W S : Type 0} (woke : S → W → S → Type 0) where

@@ -3,9 +3,10 @@ use Rattle.std.specs.Prelude.{◌≡◌, ℕ, ◌+◌, ◌<◌, length, Option, 
 use Rattle.event_queue.specs.declared.key.Key.{Key}
 use Rattle.event_queue.specs.Queue.{Queue}
 use Rattle.event_locks.specs.Line.{LeavesThenTells, WaitsBy, CannotWait, woken_by_leaving}
+use Rattle.event_locks.specs.declared.error.LockError.{LockError}
 use Rattle.event_locks.specs.declared.error.LockError.TheVariants.{Listen, Memory, TooManyReaders, Finished}
-use Rattle.event_locks.specs.declared.request.Attempted.{Attempted}
-use Rattle.event_locks.specs.declared.request.Attempted.TheVariants.{Done, Waits, Absent, Refused}
+use Rattle.event_wait.specs.declared.request.Attempted.{Attempted}
+use Rattle.event_wait.specs.declared.request.Attempted.TheVariants.{Done, Waits, Absent, Refused}
 use Rattle.event_locks.specs.declared.semaphore.permits.Permit.{Permit}
 
 -- the free permits, and the queue of those that wait
@@ -30,7 +31,7 @@ module _ {W : Type 0} where
 
   module _ {C : Type 0} (exchanged : C → Option W → W → C → Type 0) where
     -- of one that was to take a permit, or else to wait: it has it; or it waits; or it could not come into the queue
-    abbrev pub Obtains : Option Key → State W → C → Attempted Permit → State W → C → Type 0
+    abbrev pub Obtains : Option Key → State W → C → Attempted Permit LockError → State W → C → Type 0
     Obtains key old before (Done permit) new after = Takes key old new × (after ≡ before)
     Obtains key old before (Waits waits) new after = NoneIsFree old new × WaitsBy exchanged key old.line before waits new.line after
     Obtains key old before Absent new after = ⊥
@@ -40,7 +41,7 @@ module _ {W : Type 0} where
     Obtains key old before (Refused Finished) new after = ⊥
 
   -- the tasks that this wakes
-  abbrev pub woken_by_obtaining : Option Key → State W → Attempted Permit → State W → List W
+  abbrev pub woken_by_obtaining : Option Key → State W → Attempted Permit LockError → State W → List W
   woken_by_obtaining key old (Done permit) new = woken_by_leaving key new.free old.line
   woken_by_obtaining key old (Waits waits) new = []
   woken_by_obtaining key old Absent new = []

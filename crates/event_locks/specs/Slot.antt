@@ -3,9 +3,10 @@ use Rattle.std.specs.Prelude.{◌≡◌, ℕ, ◌<◌, length, Option, Some, Non
 use Rattle.event_queue.specs.declared.key.Key.{Key}
 use Rattle.event_queue.specs.Queue.{Queue}
 use Rattle.event_locks.specs.Line.{Leaves, WaitsBy, CannotWait}
+use Rattle.event_locks.specs.declared.error.LockError.{LockError}
 use Rattle.event_locks.specs.declared.error.LockError.TheVariants.{Listen, Memory, TooManyReaders, Finished}
-use Rattle.event_locks.specs.declared.request.Attempted.{Attempted}
-use Rattle.event_locks.specs.declared.request.Attempted.TheVariants.{Done, Waits, Absent, Refused}
+use Rattle.event_wait.specs.declared.request.Attempted.{Attempted}
+use Rattle.event_wait.specs.declared.request.Attempted.TheVariants.{Done, Waits, Absent, Refused}
 
 -- the value, unless a guard has it, and the queue of those that wait for it
 pub record State (T W : Type 0) : Type 0 where
@@ -35,7 +36,7 @@ module _ {T W : Type 0} where
 
   module _ {C : Type 0} (exchanged : C → Option W → W → C → Type 0) where
     -- of one that was to take the value, or else to wait: it has it; or it waits; or it could not come into the queue
-    abbrev pub Obtains : Option Key → State T W → C → Attempted T → State T W → C → Type 0
+    abbrev pub Obtains : Option Key → State T W → C → Attempted T LockError → State T W → C → Type 0
     Obtains key old before (Done value) new after = Takes key value old new × (after ≡ before)
     Obtains key old before (Waits waits) new after = IsOut old new × WaitsBy exchanged key old.line before waits new.line after
     Obtains key old before Absent new after = ⊥

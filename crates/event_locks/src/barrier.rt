@@ -5,9 +5,10 @@ mod rounds;
 
 pub use self::rounds::{Ended, Rounds};
 use crate::error::LockError;
-use crate::lock::{Grants, Hold, Lock, Obtaining, Task};
+use crate::lock::{Grants, Hold, Obtaining};
 use crate::seat::{HandsOut, Seat};
 use event_queue::{Key, RegisterResult, TaskExchange, WakeSink};
+use event_wait::{Lock, Task};
 use std::alloc::Global;
 use std::sync::Wait;
 use std::time::Clock;

@@ -1,7 +1,9 @@
 //! Why nothing was obtained, and why nothing was set.
 ghost use Rattle.std.specs.Prelude.{◌≡◌};
+ghost use Rattle.event_locks.specs.Refused.{Means};
 
 use event_queue::ListenError;
+use event_wait::Refused;
 use std::alloc::AllocError;
 use std::error::Error;
 use std::fmt;
@@ -23,6 +25,17 @@ pub enum LockError {
     /// The future has given its output already.
     #[error("the wait is over")]
     Finished,
+}
+
+impl From<Refused<LockError>> for LockError {
+    ghost from_gives = { Means };
+
+    fn from(refused: Refused<LockError>) -> Self {
+        match refused {
+            Refused::Memory => LockError::Memory(AllocError),
+            Refused::Request(error) => error,
+        }
+    }
 }
 
 /// Why a cell was not set.

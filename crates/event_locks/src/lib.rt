@@ -3,11 +3,11 @@
 
 mod barrier;
 mod error;
+mod grantor;
 mod lock;
 mod mutex;
 mod once_cell;
 mod place;
-mod request;
 mod rw_lock;
 mod seat;
 mod semaphore;
@@ -15,11 +15,12 @@ pub mod waiters;
 
 pub use barrier::{Arriving, Barrier, BarrierWait, BarrierWaitResult, Ended, Rounds};
 pub use error::{LockError, SetError, SetReason};
-pub use lock::{Borrowed, Grants, Guard, Hold, Limit, Lock, Obtaining, Shared, Task, Waking};
+pub use event_wait::{Attempt, Attempted, Limit, Lock, Request, Task, Waking};
+pub use grantor::Grantor;
+pub use lock::{Borrowed, Grants, Guard, Hold, Obtaining, Shared};
 pub use mutex::{Locking, LockingArc, Mutex, MutexGuard, MutexGuardArc, Slot};
 pub use once_cell::{Asking, Claim, Claiming, IsSet, Once, OnceCell, Seeing, Turn, Vacant};
 pub use place::Place;
-pub use request::{Attempted, Grantor, Request};
 pub use rw_lock::{
     Entering, EnteringArc, Read, ReadArc, ReadShare, RwLock, RwLockReadGuard, RwLockReadGuardArc,
     RwLockWriteGuard, RwLockWriteGuardArc, Shares, Write, WriteArc, WriteShare,

@@ -4,8 +4,9 @@ ghost use Rattle.std.specs.Arc.{arc_value};
 mod slot;
 
 pub use self::slot::Slot;
-use crate::lock::{Borrowed, Grants, Guard, Hold, Lock, Obtaining, Shared, Task};
+use crate::lock::{Borrowed, Grants, Guard, Hold, Obtaining, Shared};
 use crate::place::Place;
+use event_wait::{Lock, Task};
 use std::alloc::{AllocError, Global};
 use std::ops::{Deref, DerefMut};
 use std::sync::{Arc, Wait};

@@ -5,9 +5,10 @@ mod once;
 
 pub use self::once::{IsSet, Once, Turn};
 use crate::error::{LockError, SetError, SetReason};
-use crate::lock::{Borrowed, Grants, Guard, Hold, Lock, Obtaining, Task};
+use crate::lock::{Borrowed, Grants, Guard, Hold, Obtaining};
 use crate::seat::{HandsOut, Seat};
 use event_queue::{Key, RegisterResult, TaskExchange, WakeSink};
+use event_wait::{Lock, Task};
 use std::alloc::Global;
 use std::sync::{OnceLock, Wait};
 use std::time::Clock;

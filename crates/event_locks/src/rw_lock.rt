@@ -6,9 +6,10 @@ mod shares;
 
 pub use self::shares::{ReadShare, Shares, WriteShare};
 use crate::error::LockError;
-use crate::lock::{Borrowed, Grants, Guard, Hold, Lock, Obtaining, Task, Waking};
+use crate::lock::{Borrowed, Grants, Guard, Hold, Obtaining};
 use crate::seat::{HandsOut, Seat};
 use event_queue::{Key, RegisterResult, TaskExchange, WakeSink};
+use event_wait::{Lock, Task, step};
 use std::alloc::{AllocError, Global};
 use std::ops::{Deref, DerefMut};
 use std::sync::{self, Arc, Wait};
@@ -197,9 +198,7 @@ impl<'a, T, R: Wait + Clock> RwLockWriteGuard<'a, T, R> {
         } = self;
         drop(value);
         let (hold, share) = right.into_parts();
-        let mut waking = Waking::new();
-        let share = lock.shares.state(rt).downgrade(share, &mut waking);
-        waking.finish();
+        let share = step!(lock.shares, rt, shares, waking => shares.downgrade(share, &mut waking));
         lock.reader(rt, Guard::new(hold, share))
     }
 }

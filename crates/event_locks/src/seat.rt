@@ -1,12 +1,13 @@
 //! The place of one that is handed what it waits for.
-ghost use Rattle.std.specs.Prelude.{◌≡◌};
+ghost use Rattle.std.specs.Prelude.{◌≡◌, ⊤};
+ghost use Rattle.event_wait.specs.Attempted.{LeavesBy};
 ghost use Rattle.event_locks.specs.Line.{Looked};
 
 use crate::error::LockError;
-use crate::lock::Task;
-use crate::request::{Attempted, Grantor, Request};
+use crate::grantor::Grantor;
 use crate::waiters::found;
 use event_queue::{Key, RegisterResult, TaskExchange, WakeSink};
+use event_wait::{Attempt, Attempted, Request, Task};
 use std::marker::{Model, PhantomData};
 
 /// A state that hands something to those that wait for it, in order.
@@ -67,18 +68,11 @@ impl<G> Drop for Seat<G> {
 impl<G, S: HandsOut<G>> Request<S> for Seat<G> {
     type Output = G;
 
-    const TRIES: u32 = S::TRIES;
+    type Refusal = LockError;
 
-    ghost gives = { λ _ _. Unit {0} };
+    ghost succeeds = { λ _ _ _. ⊤ };
 
-    fn is_waiting(&self) -> bool {
-        self.key.is_some()
-    }
-
-    #[inline(always)]
-    fn attempt<K: WakeSink<Task>>(&mut self, state: &mut S, sink: &mut K) -> Option<G> {
-        state.try_hand(sink)
-    }
+    ghost leaves = { LeavesBy (λ _ _ _. ⊤) };
 
     fn attempt_or_wait<C, X: TaskExchange<Task, C>, K: WakeSink<Task>>(
         &mut self,
@@ -86,7 +80,7 @@ impl<G, S: HandsOut<G>> Request<S> for Seat<G> {
         exchange: &X,
         on: &mut C,
         sink: &mut K,
-    ) -> Attempted<G> {
+    ) -> Attempted<G, LockError> {
         let key = match self.key.take() {
             Some(key) => key,
             None => match state.hand_or_join(sink) {
@@ -100,8 +94,28 @@ impl<G, S: HandsOut<G>> Request<S> for Seat<G> {
         attempted
     }
 
-    fn leave<K: WakeSink<Task>>(&mut self, state: &mut S, sink: &mut K) -> Option<G> {
-        state.leave(self.key.take()?, sink)
+    fn leave<K: WakeSink<Task>>(
+        &mut self,
+        state: &mut S,
+        sink: &mut K,
+    ) -> Result<Option<G>, LockError> {
+        match self.key.take() {
+            Some(key) => Ok(state.leave(key, sink)),
+            None => Ok(None),
+        }
+    }
+}
+
+impl<G, S: HandsOut<G>> Attempt<S> for Seat<G> {
+    const TRIES: u32 = S::TRIES;
+
+    fn is_waiting(&self) -> bool {
+        self.key.is_some()
+    }
+
+    #[inline(always)]
+    fn attempt<K: WakeSink<Task>>(&mut self, state: &mut S, sink: &mut K) -> Option<G> {
+        state.try_hand(sink)
     }
 
     fn give_up<K: WakeSink<Task>>(&mut self, state: &mut S, sink: &mut K) {

@@ -1,13 +1,16 @@
 //! A semaphore.
+ghost use Rattle.std.specs.Prelude.{⊤};
 ghost use Rattle.std.specs.Arc.{arc_value};
+ghost use Rattle.event_wait.specs.Attempted.{LeavesBy};
 
 mod permits;
 
 pub use self::permits::{Permit, Permits};
-use crate::lock::{Borrowed, Grants, Guard, Hold, Lock, Obtaining, Shared, Task, Waking};
+use crate::error::LockError;
+use crate::lock::{Borrowed, Grants, Guard, Hold, Obtaining, Shared};
 use crate::place::Place;
-use crate::request::{Attempted, Request};
 use event_queue::{TaskExchange, WakeSink};
+use event_wait::{Attempt, Attempted, Lock, Request, Task, step};
 use std::alloc::{AllocError, Global};
 use std::sync::{Arc, Wait};
 use std::time::Clock;
@@ -71,9 +74,7 @@ impl Semaphore {
     /// Adds permits, all free at once, and notifies the first that wait of them. As many as a `usize` holds are free at
     /// most.
     pub fn add_permits<R: Wait>(&self, rt: &R, n: usize) {
-        let mut waking = Waking::new();
-        self.permits.state(rt).release(n, &mut waking);
-        waking.finish();
+        step!(self.permits, rt, permits, waking => permits.release(n, &mut waking))
     }
 
     #[inline(always)]
@@ -121,8 +122,36 @@ impl<H: Hold<Permits<Task>> + Drop> Guard<Permits<Task>, H, Permit> {
 impl Request<Permits<Task>> for Place {
     type Output = Permit;
 
-    ghost gives = { λ _ _. Unit {0} };
+    type Refusal = LockError;
 
+    ghost succeeds = { λ _ _ _. ⊤ };
+
+    ghost leaves = { LeavesBy (λ _ _ _. ⊤) };
+
+    fn attempt_or_wait<C, X: TaskExchange<Task, C>, K: WakeSink<Task>>(
+        &mut self,
+        state: &mut Permits<Task>,
+        exchange: &X,
+        on: &mut C,
+        sink: &mut K,
+    ) -> Attempted<Permit, LockError> {
+        let attempted = state.take_or_wait(self.key, exchange, on, sink);
+        self.key = attempted.key();
+        attempted
+    }
+
+    fn leave<K: WakeSink<Task>>(
+        &mut self,
+        state: &mut Permits<Task>,
+        sink: &mut K,
+    ) -> Result<Option<Permit>, LockError> {
+        let permit = state.try_take();
+        state.cancel(self.key.take(), sink);
+        Ok(permit)
+    }
+}
+
+impl Attempt<Permits<Task>> for Place {
     fn is_waiting(&self) -> bool {
         self.key.is_some()
     }
@@ -134,18 +163,6 @@ impl Request<Permits<Task>> for Place {
         _sink: &mut K,
     ) -> Option<Permit> {
         state.try_take()
-    }
-
-    fn attempt_or_wait<C, X: TaskExchange<Task, C>, K: WakeSink<Task>>(
-        &mut self,
-        state: &mut Permits<Task>,
-        exchange: &X,
-        on: &mut C,
-        sink: &mut K,
-    ) -> Attempted<Permit> {
-        let attempted = state.take_or_wait(self.key, exchange, on, sink);
-        self.key = attempted.key();
-        attempted
     }
 
     fn give_up<K: WakeSink<Task>>(&mut self, state: &mut Permits<Task>, sink: &mut K) {

@@ -13,10 +13,10 @@ ghost use Rattle.event_locks.specs.Line.{CannotWait, HandsOut, HasLeft, Leaves, 
 ghost use Rattle.event_locks.specs.Left.{left_as, told_of, waited_of};
 
 use crate::error::LockError;
-use crate::request::Attempted;
 use event_queue::{
     IntoNotification, Key, List, ListenError, RegisterResult, State, TaskExchange, WakeSink,
 };
+use event_wait::Attempted;
 
 // A sink for a call that wakes nobody.
 struct Nobody {}
@@ -174,7 +174,7 @@ fn wait_at_end<W, C, X: TaskExchange<W, C>>(
 }
 
 // What a wait in a queue led to.
-pub(crate) fn waiting<G>(waits: Result<Key, ListenError>) -> Attempted<G>
+pub(crate) fn waiting<G>(waits: Result<Key, ListenError>) -> Attempted<G, LockError>
     ensures { result ≡ waits_by waits }
 {
     match waits {
@@ -184,7 +184,7 @@ pub(crate) fn waiting<G>(waits: Result<Key, ListenError>) -> Attempted<G>
 }
 
 // What a look by this key led to.
-pub(crate) fn found<G>(key: Key, looked: RegisterResult<G>) -> Attempted<G>
+pub(crate) fn found<G>(key: Key, looked: RegisterResult<G>) -> Attempted<G, LockError>
     ensures { result ≡ found_by key looked }
 {
     match looked {

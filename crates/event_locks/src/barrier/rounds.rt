@@ -7,10 +7,10 @@ ghost use Rattle.event_queue.specs.Queue.{order_of};
 ghost use Rattle.event_locks.specs.Line.{HandsOut, Looked, OnGranted, as_told, left_by};
 ghost use Rattle.event_locks.specs.Rounds.{NobodyWaitsInVain};
 
-use crate::lock::Task;
-use crate::request::Grantor;
+use crate::grantor::Grantor;
 use crate::waiters::{Left, hand_all, join_line, leave_line, look_for};
 use event_queue::{Key, List, ListenError, RegisterResult, TaskExchange, WakeSink};
+use event_wait::Task;
 use std::alloc::Global;
 use std::marker::Model;
 

@@ -1,6 +1,7 @@
 //! What was granted.
 use super::Hold;
-use crate::request::Grantor;
+use crate::grantor::Grantor;
+use event_wait::step;
 use std::marker::PhantomData;
 
 /// What was granted, with a hold of its lock. Dropping it gives the grant back.
@@ -40,6 +41,6 @@ impl<S: Grantor<G>, H: Hold<S> + Drop, G> Drop for Guard<S, H, G> {
             grant,
             state: _,
         } = self;
-        hold.lock().give_back(hold.rt(), grant);
+        step!(hold.lock(), hold.rt(), state, waking => state.give_back(grant, &mut waking))
     }
 }

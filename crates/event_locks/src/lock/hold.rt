@@ -1,8 +1,9 @@
 //! How waits and guards hold their lock.
 ghost use Rattle.std.specs.Prelude.{◌≡◌, ℕ};
 
-use super::{Guard, Lock};
-use crate::request::Grantor;
+use super::Guard;
+use crate::grantor::Grantor;
+use event_wait::Lock;
 use std::alloc::Global;
 use std::sync::{Arc, Wait};
 use std::time::Clock;

@@ -2,12 +2,11 @@
 ghost use Rattle.std.specs.Prelude.{◌≡◌, Some, IfOk, IsSome, IsSomeAnd};
 ghost use Rattle.futures.specs.Poll.{OnPending};
 ghost use Rattle.futures.specs.Task.{Covers, Keeps};
-ghost use Rattle.event_locks.specs.declared.lock.limit.Limit.TheVariants.{Never};
+ghost use Rattle.event_wait.specs.declared.lock.limit.Limit.TheVariants.{Never};
 
-use super::limit::Limit;
 use super::{Grants, Hold};
 use crate::error::LockError;
-use crate::request::Request;
+use event_wait::{Attempt, Limit};
 use futures::Future;
 use futures::task::{Context, Poll};
 use std::alloc::Global;
@@ -22,7 +21,7 @@ use std::time::{Clock, Duration, Instant};
 /// a thread that waits on a future which was polled before keeps its place. Dropped while it waits, it leaves the queue,
 /// and what it was notified of goes to the next.
 #[must_use = "nothing is asked for until it is waited on or polled"]
-pub struct Obtaining<S, Q: Request<S>, H: Hold<S>> {
+pub struct Obtaining<S, Q: Attempt<S>, H: Hold<S>> {
     // It is not `H: Grants<..>` here: each function that awaits proves the bounds of this declaration, and the prover does not
     // cover one whose associated type, the guard, has the lifetime of the borrowed lock.
     hold: Option<H>,
@@ -31,7 +30,7 @@ pub struct Obtaining<S, Q: Request<S>, H: Hold<S>> {
     state: PhantomData<S>,
 }
 
-impl<S, Q: Request<S>, H: Hold<S>> Obtaining<S, Q, H> {
+impl<S, Q: Attempt<S>, H: Hold<S>> Obtaining<S, Q, H> {
     #[inline(always)]
     pub(crate) fn new(hold: H, alloc: Global, request: Q) -> Self {
         Obtaining {
@@ -43,7 +42,11 @@ impl<S, Q: Request<S>, H: Hold<S>> Obtaining<S, Q, H> {
     }
 }
 
-impl<S, Q: Request<S> + Drop, H: Grants<S, Q::Output> + Drop> Obtaining<S, Q, H> {
+impl<S, Q: Attempt<S, Refusal = LockError> + Drop, H: Grants<S, Q::Output> + Drop> Obtaining<
+    S,
+    Q,
+    H,
+> {
     /// Blocks the thread until it is granted. It allocates what the thread parks on, if it has to wait.
     #[inline(always)]
     pub fn wait(self) -> Result<H::Output, LockError> {
@@ -97,7 +100,7 @@ impl<S, Q: Request<S> + Drop, H: Grants<S, Q::Output> + Drop> Obtaining<S, Q, H>
     }
 }
 
-impl<S, Q: Request<S> + Drop, H: Hold<S> + Drop> Drop for Obtaining<S, Q, H> {
+impl<S, Q: Attempt<S> + Drop, H: Hold<S> + Drop> Drop for Obtaining<S, Q, H> {
     fn drop(self) {
         let Obtaining {
             hold,
@@ -113,7 +116,8 @@ impl<S, Q: Request<S> + Drop, H: Hold<S> + Drop> Drop for Obtaining<S, Q, H> {
 }
 
 /// Gives what was asked for once it is granted. A poll after that, or after an error, gives [`LockError::Finished`].
-impl<S, Q: Request<S> + Drop, H: Grants<S, Q::Output> + Drop> Future for Obtaining<S, Q, H> {
+impl<S, Q: Attempt<S, Refusal = LockError> + Drop, H: Grants<S, Q::Output> + Drop> Future
+    for Obtaining<S, Q, H> {
     type Output = Result<H::Output, LockError>;
 
     ghost needs = { λ obtaining s. IsSomeAnd obtaining.hold (λ hold. s ≡ H.source hold) };

@@ -1,15 +1,17 @@
 //! The state of a mutex.
-ghost use Rattle.std.specs.Prelude.{◌≡◌, ◌-◌, [], length, None, Some, IsSome, MatchOption};
+ghost use Rattle.std.specs.Prelude.{◌≡◌, ◌-◌, ⊤, [], length, None, Some, IsSome, MatchOption};
 ghost use Rattle.std.specs.List.{FoldsTo};
 ghost use Rattle.std.specs.Option.{option_copied_mut};
+ghost use Rattle.event_wait.specs.Attempted.{LeavesBy};
 ghost use Rattle.event_locks.specs.Line.{LeavesThenTells, TellsUpTo, woken_by_leaving, woken_up_to};
 ghost use Rattle.event_locks.specs.Slot.{NobodyWaitsInVain, Obtains, count};
 
-use crate::lock::Task;
+use crate::error::LockError;
+use crate::grantor::Grantor;
 use crate::place::Place;
-use crate::request::{Attempted, Grantor, Request};
 use crate::waiters::{leave, leave_then_tell, tell, wait_in_line, waiting};
 use event_queue::{Key, List, TaskExchange, WakeSink};
+use event_wait::{Attempt, Attempted, Request, Task};
 use std::alloc::Global;
 use std::marker::Model;
 
@@ -58,7 +60,7 @@ impl<T, W> Slot<T, W> {
         key: Option<Key>,
         exchange: &X,
         on: &mut C,
-    ) -> Attempted<T>
+    ) -> Attempted<T, LockError>
     where
         W: Drop,
         ensures { Obtains (X.exchanged exchange.now) key self.old on.old result self.new on.new }
@@ -128,8 +130,36 @@ impl<T, W> Slot<T, W> {
 impl<T: Drop> Request<Slot<T, Task>> for Place {
     type Output = T;
 
-    ghost gives = { λ _ _. Unit {0} };
+    type Refusal = LockError;
 
+    ghost succeeds = { λ _ _ _. ⊤ };
+
+    ghost leaves = { LeavesBy (λ _ _ _. ⊤) };
+
+    fn attempt_or_wait<C, X: TaskExchange<Task, C>, K: WakeSink<Task>>(
+        &mut self,
+        state: &mut Slot<T, Task>,
+        exchange: &X,
+        on: &mut C,
+        _sink: &mut K,
+    ) -> Attempted<T, LockError> {
+        let attempted = state.take_or_wait(self.key, exchange, on);
+        self.key = attempted.key();
+        attempted
+    }
+
+    fn leave<K: WakeSink<Task>>(
+        &mut self,
+        state: &mut Slot<T, Task>,
+        sink: &mut K,
+    ) -> Result<Option<T>, LockError> {
+        let value = state.try_take();
+        state.cancel(self.key.take(), sink);
+        Ok(value)
+    }
+}
+
+impl<T: Drop> Attempt<Slot<T, Task>> for Place {
     fn is_waiting(&self) -> bool {
         self.key.is_some()
     }
@@ -141,18 +171,6 @@ impl<T: Drop> Request<Slot<T, Task>> for Place {
         _sink: &mut K,
     ) -> Option<T> {
         state.try_take()
-    }
-
-    fn attempt_or_wait<C, X: TaskExchange<Task, C>, K: WakeSink<Task>>(
-        &mut self,
-        state: &mut Slot<T, Task>,
-        exchange: &X,
-        on: &mut C,
-        _sink: &mut K,
-    ) -> Attempted<T> {
-        let attempted = state.take_or_wait(self.key, exchange, on);
-        self.key = attempted.key();
-        attempted
     }
 
     fn give_up<K: WakeSink<Task>>(&mut self, state: &mut Slot<T, Task>, sink: &mut K) {

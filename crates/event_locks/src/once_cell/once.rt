@@ -9,10 +9,10 @@ ghost use Rattle.event_queue.specs.Queue.{order_of};
 ghost use Rattle.event_locks.specs.Line.{HandsOut, Looked, OnGranted, TellsAll, as_told, is_granted, left_by};
 ghost use Rattle.event_locks.specs.Once.{MakersStay, NobodyWaitsInVain, making_at, making_by, turn_at, turns};
 
-use crate::lock::Task;
-use crate::request::Grantor;
+use crate::grantor::Grantor;
 use crate::waiters::{Left, hand_all, hand_out, join_line, leave_line, look_for};
 use event_queue::{Key, List, ListenError, RegisterResult, TaskExchange, WakeSink};
+use event_wait::Task;
 use std::alloc::Global;
 use std::marker::Model;
 

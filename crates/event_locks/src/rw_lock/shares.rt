@@ -8,10 +8,10 @@ ghost use Rattle.event_locks.specs.Line.{HandsOut, Looked, as_told, left_by};
 ghost use Rattle.event_locks.specs.Shares.{HasNoRoom, IsAWriterThere, NobodyWaitsInVain, NoWriterIsThere, NobodyIsIn, ReadersStay, RefusesReader, WritersStay, reading, writing};
 
 use crate::error::LockError;
-use crate::lock::Task;
-use crate::request::Grantor;
+use crate::grantor::Grantor;
 use crate::waiters::{Left, hand_all, hand_out, join_line, leave_line, look_for, somebody_waits};
 use event_queue::{Key, List, ListenError, RegisterResult, TaskExchange, WakeSink};
+use event_wait::Task;
 use std::alloc::Global;
 use std::marker::Model;
 

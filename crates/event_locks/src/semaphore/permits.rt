@@ -4,10 +4,11 @@ ghost use Rattle.std.specs.List.{FoldsTo};
 ghost use Rattle.event_locks.specs.Line.{LeavesThenTells, TellsUpTo, woken_by_leaving, woken_up_to};
 ghost use Rattle.event_locks.specs.Permits.{NobodyWaitsInVain, Obtains, woken_by_obtaining};
 
-use crate::lock::Task;
-use crate::request::{Attempted, Grantor};
+use crate::error::LockError;
+use crate::grantor::Grantor;
 use crate::waiters::{leave_then_tell, tell, wait_in_line, waiting};
 use event_queue::{Key, List, TaskExchange, WakeSink};
+use event_wait::{Attempted, Task};
 use std::alloc::Global;
 use std::marker::Model;
 
@@ -78,7 +79,7 @@ impl<W> Permits<W> {
         exchange: &X,
         on: &mut C,
         sink: &mut S,
-    ) -> Attempted<Permit>
+    ) -> Attempted<Permit, LockError>
     where
         W: Drop,
         ensures obtains { Obtains (X.exchanged exchange.now) key self.old on.old result self.new on.new }

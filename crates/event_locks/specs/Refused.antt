@@ -1,0 +1,12 @@
+-- Why a wait for a lock was refused.
+use Rattle.std.specs.Prelude.{◌≡◌}
+use Rattle.std.specs.declared.alloc.AllocError.{AllocError}
+use Rattle.event_wait.specs.declared.lock.wait.Refused.{Refused}
+use Rattle.event_wait.specs.declared.lock.wait.Refused.TheVariants.{Memory, Request}
+use Rattle.event_locks.specs.declared.error.LockError.{LockError}
+use Rattle.event_locks.specs.declared.error.LockError.TheVariants.{Memory as NoMemory}
+
+-- the lock's error of a refused wait
+abbrev pub Means : Refused LockError → LockError → Type 0
+Means Memory error = (refused : AllocError) × (error ≡ NoMemory refused)
+Means (Request reason) error = error ≡ reason
