@@ -7,8 +7,9 @@ pub use self::rounds::{Ended, Rounds};
 use crate::error::LockError;
 use crate::lock::{Grants, Hold, Obtaining};
 use crate::seat::{HandsOut, Seat};
-use event_queue::{Key, RegisterResult, TaskExchange, WakeSink};
-use event_wait::{Lock, Task};
+use crate::waiters::found;
+use event_queue::{Key, TaskExchange, WakeSink};
+use event_wait::{Attempted, Lock, Task};
 use std::alloc::Global;
 use std::sync::Wait;
 use std::time::Clock;
@@ -89,20 +90,17 @@ impl HandsOut<Ended> for Rounds<Task> {
         self.try_end(sink)
     }
 
-    fn hand_or_join<K: WakeSink<Task>>(
+    fn hand_or_wait<C, X: TaskExchange<Task, C>, K: WakeSink<Task>>(
         &mut self,
-        sink: &mut K,
-    ) -> Result<Result<Ended, Key>, LockError> {
-        Ok(self.arrive(sink)?)
-    }
-
-    fn look<C, X: TaskExchange<Task, C>>(
-        &mut self,
-        key: Key,
+        key: Option<Key>,
         exchange: &X,
         on: &mut C,
-    ) -> RegisterResult<Ended> {
-        self.look_for_end(key, exchange, on)
+        sink: &mut K,
+    ) -> Attempted<Ended, LockError> {
+        match key {
+            Some(key) => found(key, self.look_for_end(key, exchange, on)),
+            None => self.arrive(exchange, on, sink),
+        }
     }
 
     fn leave<K: WakeSink<Task>>(&mut self, key: Key, _sink: &mut K) -> Option<Ended> {

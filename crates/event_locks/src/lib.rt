@@ -7,7 +7,6 @@ mod grantor;
 mod lock;
 mod mutex;
 mod once_cell;
-mod place;
 mod rw_lock;
 mod seat;
 mod semaphore;
@@ -20,7 +19,6 @@ pub use grantor::Grantor;
 pub use lock::{Borrowed, Grants, Guard, Hold, Obtaining, Shared};
 pub use mutex::{Locking, LockingArc, Mutex, MutexGuard, MutexGuardArc, Slot};
 pub use once_cell::{Asking, Claim, Claiming, IsSet, Once, OnceCell, Seeing, Turn, Vacant};
-pub use place::Place;
 pub use rw_lock::{
     Entering, EnteringArc, Read, ReadArc, ReadShare, RwLock, RwLockReadGuard, RwLockReadGuardArc,
     RwLockWriteGuard, RwLockWriteGuardArc, Shares, Write, WriteArc, WriteShare,

@@ -5,7 +5,7 @@ mod slot;
 
 pub use self::slot::Slot;
 use crate::lock::{Borrowed, Grants, Guard, Hold, Obtaining, Shared};
-use crate::place::Place;
+use crate::seat::Seat;
 use event_wait::{Lock, Task};
 use std::alloc::{AllocError, Global};
 use std::ops::{Deref, DerefMut};
@@ -29,10 +29,10 @@ pub type MutexGuard<'a, T, R> = Guard<Slot<T, Task>, Borrowed<'a, Slot<T, Task>,
 pub type MutexGuardArc<T, R> = Guard<Slot<T, Task>, Shared<Mutex<T>, R>, T>;
 
 /// A wait for the value of a mutex.
-pub type Locking<'a, T, R> = Obtaining<Slot<T, Task>, Place, Borrowed<'a, Slot<T, Task>, R>>;
+pub type Locking<'a, T, R> = Obtaining<Slot<T, Task>, Seat<T>, Borrowed<'a, Slot<T, Task>, R>>;
 
 /// A wait for the value of a mutex that shares the mutex.
-pub type LockingArc<T, R> = Obtaining<Slot<T, Task>, Place, Shared<Mutex<T>, R>>;
+pub type LockingArc<T, R> = Obtaining<Slot<T, Task>, Seat<T>, Shared<Mutex<T>, R>>;
 
 impl<T: Drop> Mutex<T> {
     /// A mutex round this value, which nobody has. It takes no memory until somebody waits.
@@ -46,14 +46,14 @@ impl<T: Drop> Mutex<T> {
     #[must_use = "a guard that is dropped at once gives back what it holds"]
     #[inline(always)]
     pub fn try_lock<'a, R: Wait + Clock>(&'a self, rt: &'a R) -> Option<MutexGuard<'a, T, R>> {
-        let value = self.slot.attempt(rt, &mut Place::new())?;
+        let value = self.slot.attempt(rt, &mut Seat::<T>::new())?;
         Some(Guard::new(self.borrowed(rt), value))
     }
 
     /// A wait for the value.
     #[inline(always)]
     pub fn lock<'a, R: Wait + Clock>(&'a self, rt: &'a R, alloc: Global) -> Locking<'a, T, R> {
-        Obtaining::new(self.borrowed(rt), alloc, Place::new())
+        Obtaining::new(self.borrowed(rt), alloc, Seat::new())
     }
 
     /// A wait for the value by a guard that may go to another thread. It returns an error if no share of the mutex can be
@@ -64,7 +64,7 @@ impl<T: Drop> Mutex<T> {
         alloc: Global,
     ) -> Result<LockingArc<T, R>, AllocError> {
         let lock = Arc::try_clone(this)?;
-        Ok(Obtaining::new(Shared { lock, rt }, alloc, Place::new()))
+        Ok(Obtaining::new(Shared { lock, rt }, alloc, Seat::new()))
     }
 
     /// The value, without a lock. `None` says that a guard was forgotten, and the value with it.

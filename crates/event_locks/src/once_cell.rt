@@ -7,8 +7,9 @@ pub use self::once::{IsSet, Once, Turn};
 use crate::error::{LockError, SetError, SetReason};
 use crate::lock::{Borrowed, Grants, Guard, Hold, Obtaining};
 use crate::seat::{HandsOut, Seat};
-use event_queue::{Key, RegisterResult, TaskExchange, WakeSink};
-use event_wait::{Lock, Task};
+use crate::waiters::found;
+use event_queue::{Key, TaskExchange, WakeSink};
+use event_wait::{Attempted, Lock, Task};
 use std::alloc::Global;
 use std::sync::{OnceLock, Wait};
 use std::time::Clock;
@@ -205,20 +206,17 @@ impl HandsOut<Turn> for Once<Task> {
         self.try_make()
     }
 
-    fn hand_or_join<K: WakeSink<Task>>(
+    fn hand_or_wait<C, X: TaskExchange<Task, C>, K: WakeSink<Task>>(
         &mut self,
-        _sink: &mut K,
-    ) -> Result<Result<Turn, Key>, LockError> {
-        Ok(self.come_to_make()?)
-    }
-
-    fn look<C, X: TaskExchange<Task, C>>(
-        &mut self,
-        key: Key,
+        key: Option<Key>,
         exchange: &X,
         on: &mut C,
-    ) -> RegisterResult<Turn> {
-        self.look_to_make(key, exchange, on)
+        _sink: &mut K,
+    ) -> Attempted<Turn, LockError> {
+        match key {
+            Some(key) => found(key, self.look_to_make(key, exchange, on)),
+            None => self.come_to_make(exchange, on),
+        }
     }
 
     fn leave<K: WakeSink<Task>>(&mut self, key: Key, _sink: &mut K) -> Option<Turn> {
@@ -233,20 +231,17 @@ impl HandsOut<IsSet> for Once<Task> {
         self.try_use()
     }
 
-    fn hand_or_join<K: WakeSink<Task>>(
+    fn hand_or_wait<C, X: TaskExchange<Task, C>, K: WakeSink<Task>>(
         &mut self,
-        _sink: &mut K,
-    ) -> Result<Result<IsSet, Key>, LockError> {
-        Ok(self.come_to_use()?)
-    }
-
-    fn look<C, X: TaskExchange<Task, C>>(
-        &mut self,
-        key: Key,
+        key: Option<Key>,
         exchange: &X,
         on: &mut C,
-    ) -> RegisterResult<IsSet> {
-        self.look_to_use(key, exchange, on)
+        _sink: &mut K,
+    ) -> Attempted<IsSet, LockError> {
+        match key {
+            Some(key) => found(key, self.look_to_use(key, exchange, on)),
+            None => self.come_to_use(exchange, on),
+        }
     }
 
     fn leave<K: WakeSink<Task>>(&mut self, key: Key, _sink: &mut K) -> Option<IsSet> {

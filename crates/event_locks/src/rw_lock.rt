@@ -8,8 +8,9 @@ pub use self::shares::{ReadShare, Shares, WriteShare};
 use crate::error::LockError;
 use crate::lock::{Borrowed, Grants, Guard, Hold, Obtaining};
 use crate::seat::{HandsOut, Seat};
-use event_queue::{Key, RegisterResult, TaskExchange, WakeSink};
-use event_wait::{Lock, Task, step};
+use crate::waiters::found;
+use event_queue::{Key, TaskExchange, WakeSink};
+use event_wait::{Attempted, Lock, Task, step};
 use std::alloc::{AllocError, Global};
 use std::ops::{Deref, DerefMut};
 use std::sync::{self, Arc, Wait};
@@ -353,20 +354,17 @@ impl HandsOut<ReadShare> for Shares<Task> {
         self.try_read()
     }
 
-    fn hand_or_join<K: WakeSink<Task>>(
+    fn hand_or_wait<C, X: TaskExchange<Task, C>, K: WakeSink<Task>>(
         &mut self,
-        _sink: &mut K,
-    ) -> Result<Result<ReadShare, Key>, LockError> {
-        self.read()
-    }
-
-    fn look<C, X: TaskExchange<Task, C>>(
-        &mut self,
-        key: Key,
+        key: Option<Key>,
         exchange: &X,
         on: &mut C,
-    ) -> RegisterResult<ReadShare> {
-        self.look_read(key, exchange, on)
+        _sink: &mut K,
+    ) -> Attempted<ReadShare, LockError> {
+        match key {
+            Some(key) => found(key, self.look_read(key, exchange, on)),
+            None => self.read(exchange, on),
+        }
     }
 
     fn leave<K: WakeSink<Task>>(&mut self, key: Key, _sink: &mut K) -> Option<ReadShare> {
@@ -380,20 +378,17 @@ impl HandsOut<WriteShare> for Shares<Task> {
         self.try_write()
     }
 
-    fn hand_or_join<K: WakeSink<Task>>(
+    fn hand_or_wait<C, X: TaskExchange<Task, C>, K: WakeSink<Task>>(
         &mut self,
-        _sink: &mut K,
-    ) -> Result<Result<WriteShare, Key>, LockError> {
-        Ok(self.write()?)
-    }
-
-    fn look<C, X: TaskExchange<Task, C>>(
-        &mut self,
-        key: Key,
+        key: Option<Key>,
         exchange: &X,
         on: &mut C,
-    ) -> RegisterResult<WriteShare> {
-        self.look_write(key, exchange, on)
+        _sink: &mut K,
+    ) -> Attempted<WriteShare, LockError> {
+        match key {
+            Some(key) => found(key, self.look_write(key, exchange, on)),
+            None => self.write(exchange, on),
+        }
     }
 
     fn leave<K: WakeSink<Task>>(&mut self, key: Key, sink: &mut K) -> Option<WriteShare> {

@@ -1,16 +1,14 @@
-//! The place of one that is handed what it waits for.
+//! The place in a queue of one that wants something of a state.
 ghost use Rattle.std.specs.Prelude.{◌≡◌, ⊤};
-ghost use Rattle.event_wait.specs.Attempted.{LeavesBy};
-ghost use Rattle.event_locks.specs.Line.{Looked};
+ghost use Rattle.event_wait.specs.Attempted.{Attempts, LeavesBy};
 
 use crate::error::LockError;
 use crate::grantor::Grantor;
-use crate::waiters::found;
-use event_queue::{Key, RegisterResult, TaskExchange, WakeSink};
+use event_queue::{Key, TaskExchange, WakeSink};
 use event_wait::{Attempt, Attempted, Request, Task};
 use std::marker::{Model, PhantomData};
 
-/// A state that hands something to those that wait for it, in order.
+/// A state that hands something to those that come, or that wait for it in its queue.
 pub trait HandsOut<G>: Grantor<G> {
     /// How often a thread that was not handed it at once pauses and tries again before it waits in the queue.
     const TRIES: u32 = 8;
@@ -18,26 +16,29 @@ pub trait HandsOut<G>: Grantor<G> {
     /// Hands it to one that comes, if nobody is due before.
     fn try_hand<K: WakeSink<Task>>(&mut self, sink: &mut K) -> Option<G>;
 
-    /// Hands it to one that comes, or puts that one into the queue.
-    fn hand_or_join<K: WakeSink<Task>>(
+    /// Hands it to one that comes, or that waits by this key, and then is in the queue no more; else has it wait, with the
+    /// task that the exchange makes.
+    fn hand_or_wait<C, X: TaskExchange<Task, C>, K: WakeSink<Task>>(
         &mut self,
-        sink: &mut K,
-    ) -> Result<Result<G, Key>, LockError>;
-
-    /// Whether it was handed to this one: then that one leaves the queue, and else stores its task.
-    fn look<C, X: TaskExchange<Task, C>>(
-        &mut self,
-        key: Key,
+        key: Option<Key>,
         exchange: &X,
         on: &mut C,
-    ) -> RegisterResult<G>
-        ensures { Looked (X.exchanged exchange.now) on.old result on.new };
+        sink: &mut K,
+    ) -> Attempted<G, LockError>
+        ensures { Attempts (X.exchanged exchange.now) on.old result on.new };
 
-    /// Takes this one out of the queue, with what it was handed.
+    /// Takes this one out of the queue, with what it can have.
     fn leave<K: WakeSink<Task>>(&mut self, key: Key, sink: &mut K) -> Option<G>;
+
+    /// Takes this one out of the queue, and hands on what it can have.
+    fn withdraw<K: WakeSink<Task>>(&mut self, key: Key, sink: &mut K) {
+        if let Some(grant) = self.leave(key, sink) {
+            self.give_back(grant, sink);
+        }
+    }
 }
 
-/// The place in the queue of one that wants a `G` of a state, if it has one.
+/// The place of one that wants a `G` of a state, in its queue, if it has one.
 pub struct Seat<G> {
     key: Option<Key>,
     wanted: PhantomData<G>,
@@ -81,15 +82,7 @@ impl<G, S: HandsOut<G>> Request<S> for Seat<G> {
         on: &mut C,
         sink: &mut K,
     ) -> Attempted<G, LockError> {
-        let key = match self.key.take() {
-            Some(key) => key,
-            None => match state.hand_or_join(sink) {
-                Ok(Err(key)) => key,
-                Ok(Ok(grant)) => return Attempted::Done(grant),
-                Err(error) => return Attempted::Refused(error),
-            },
-        };
-        let attempted = found(key, state.look(key, exchange, on));
+        let attempted = state.hand_or_wait(self.key, exchange, on, sink);
         self.key = attempted.key();
         attempted
     }
@@ -101,7 +94,7 @@ impl<G, S: HandsOut<G>> Request<S> for Seat<G> {
     ) -> Result<Option<G>, LockError> {
         match self.key.take() {
             Some(key) => Ok(state.leave(key, sink)),
-            None => Ok(None),
+            None => Ok(state.try_hand(sink)),
         }
     }
 }
@@ -119,11 +112,8 @@ impl<G, S: HandsOut<G>> Attempt<S> for Seat<G> {
     }
 
     fn give_up<K: WakeSink<Task>>(&mut self, state: &mut S, sink: &mut K) {
-        let Some(key) = self.key.take() else {
-            return;
-        };
-        if let Some(grant) = state.leave(key, sink) {
-            state.give_back(grant, sink);
+        if let Some(key) = self.key.take() {
+            state.withdraw(key, sink);
         }
     }
 }

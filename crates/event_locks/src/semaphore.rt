@@ -1,16 +1,15 @@
 //! A semaphore.
-ghost use Rattle.std.specs.Prelude.{⊤};
+ghost use Rattle.std.specs.Prelude.{◌≡◌};
 ghost use Rattle.std.specs.Arc.{arc_value};
-ghost use Rattle.event_wait.specs.Attempted.{LeavesBy};
 
 mod permits;
 
 pub use self::permits::{Permit, Permits};
 use crate::error::LockError;
 use crate::lock::{Borrowed, Grants, Guard, Hold, Obtaining, Shared};
-use crate::place::Place;
-use event_queue::{TaskExchange, WakeSink};
-use event_wait::{Attempt, Attempted, Lock, Request, Task, step};
+use crate::seat::{HandsOut, Seat};
+use event_queue::{Key, TaskExchange, WakeSink};
+use event_wait::{Attempted, Lock, Task, step};
 use std::alloc::{AllocError, Global};
 use std::sync::{Arc, Wait};
 use std::time::Clock;
@@ -29,10 +28,10 @@ pub type SemaphoreGuard<'a, R> = Guard<Permits<Task>, Borrowed<'a, Permits<Task>
 pub type SemaphoreGuardArc<R> = Guard<Permits<Task>, Shared<Semaphore, R>, Permit>;
 
 /// A wait for a permit.
-pub type Acquire<'a, R> = Obtaining<Permits<Task>, Place, Borrowed<'a, Permits<Task>, R>>;
+pub type Acquire<'a, R> = Obtaining<Permits<Task>, Seat<Permit>, Borrowed<'a, Permits<Task>, R>>;
 
 /// A wait for a permit that shares its semaphore.
-pub type AcquireArc<R> = Obtaining<Permits<Task>, Place, Shared<Semaphore, R>>;
+pub type AcquireArc<R> = Obtaining<Permits<Task>, Seat<Permit>, Shared<Semaphore, R>>;
 
 impl Semaphore {
     /// A semaphore with `permits` permits, all free. It takes no memory until somebody waits.
@@ -51,14 +50,14 @@ impl Semaphore {
     #[must_use = "a guard that is dropped at once gives back what it holds"]
     #[inline(always)]
     pub fn try_acquire<'a, R: Wait + Clock>(&'a self, rt: &'a R) -> Option<SemaphoreGuard<'a, R>> {
-        let permit = self.permits.attempt(rt, &mut Place::new())?;
+        let permit = self.permits.attempt(rt, &mut Seat::<Permit>::new())?;
         Some(Guard::new(self.borrowed(rt), permit))
     }
 
     /// A wait for a permit.
     #[inline(always)]
     pub fn acquire<'a, R: Wait + Clock>(&'a self, rt: &'a R, alloc: Global) -> Acquire<'a, R> {
-        Obtaining::new(self.borrowed(rt), alloc, Place::new())
+        Obtaining::new(self.borrowed(rt), alloc, Seat::new())
     }
 
     /// A wait for a permit that may go to another thread. It returns an error if no share of the semaphore can be made.
@@ -68,7 +67,7 @@ impl Semaphore {
         alloc: Global,
     ) -> Result<AcquireArc<R>, AllocError> {
         let lock = Arc::try_clone(this)?;
-        Ok(Obtaining::new(Shared { lock, rt }, alloc, Place::new()))
+        Ok(Obtaining::new(Shared { lock, rt }, alloc, Seat::new()))
     }
 
     /// Adds permits, all free at once, and notifies the first that wait of them. As many as a `usize` holds are free at
@@ -119,53 +118,29 @@ impl<H: Hold<Permits<Task>> + Drop> Guard<Permits<Task>, H, Permit> {
     }
 }
 
-impl Request<Permits<Task>> for Place {
-    type Output = Permit;
+impl HandsOut<Permit> for Permits<Task> {
+    #[inline(always)]
+    fn try_hand<K: WakeSink<Task>>(&mut self, _sink: &mut K) -> Option<Permit> {
+        self.try_take()
+    }
 
-    type Refusal = LockError;
-
-    ghost succeeds = { λ _ _ _. ⊤ };
-
-    ghost leaves = { LeavesBy (λ _ _ _. ⊤) };
-
-    fn attempt_or_wait<C, X: TaskExchange<Task, C>, K: WakeSink<Task>>(
+    fn hand_or_wait<C, X: TaskExchange<Task, C>, K: WakeSink<Task>>(
         &mut self,
-        state: &mut Permits<Task>,
+        key: Option<Key>,
         exchange: &X,
         on: &mut C,
         sink: &mut K,
     ) -> Attempted<Permit, LockError> {
-        let attempted = state.take_or_wait(self.key, exchange, on, sink);
-        self.key = attempted.key();
-        attempted
+        self.take_or_wait(key, exchange, on, sink)
     }
 
-    fn leave<K: WakeSink<Task>>(
-        &mut self,
-        state: &mut Permits<Task>,
-        sink: &mut K,
-    ) -> Result<Option<Permit>, LockError> {
-        let permit = state.try_take();
-        state.cancel(self.key.take(), sink);
-        Ok(permit)
-    }
-}
-
-impl Attempt<Permits<Task>> for Place {
-    fn is_waiting(&self) -> bool {
-        self.key.is_some()
+    fn leave<K: WakeSink<Task>>(&mut self, key: Key, sink: &mut K) -> Option<Permit> {
+        let permit = self.try_take();
+        self.cancel(Some(key), sink);
+        permit
     }
 
-    #[inline(always)]
-    fn attempt<K: WakeSink<Task>>(
-        &mut self,
-        state: &mut Permits<Task>,
-        _sink: &mut K,
-    ) -> Option<Permit> {
-        state.try_take()
-    }
-
-    fn give_up<K: WakeSink<Task>>(&mut self, state: &mut Permits<Task>, sink: &mut K) {
-        state.cancel(self.key.take(), sink);
+    fn withdraw<K: WakeSink<Task>>(&mut self, key: Key, sink: &mut K) {
+        self.cancel(Some(key), sink);
     }
 }

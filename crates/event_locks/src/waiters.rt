@@ -4,7 +4,7 @@
 //! handed something has it, and nobody comes between.
 ghost use Rattle.std.specs.Prelude.{◌≡◌, ◌+◌, ◌<◌, ◌≤◌, ◌↔◌, min, drop, length, Err, None, Some, IsTrue, IfOk, IfErr, OnErr};
 ghost use Rattle.std.specs.List.{FoldsTo};
-ghost use Rattle.event_queue.specs.Exchange.{RegistersWith};
+ghost use Rattle.event_queue.specs.Exchange.{InsertsWith, RegistersWith};
 ghost use Rattle.event_queue.specs.Insert.{Inserts};
 ghost use Rattle.event_queue.specs.Key.{without};
 ghost use Rattle.event_queue.specs.Queue.{order_of};
@@ -132,7 +132,7 @@ pub fn wait_in_line<W, C, X: TaskExchange<W, C>>(
 {
     match key {
         Some(key) => wait_on(line, key, exchange, on),
-        None => wait_at_end(line, exchange, on),
+        None => join_line(line, exchange, on),
     }
 }
 
@@ -149,28 +149,26 @@ fn wait_on<W, C, X: TaskExchange<W, C>>(
 {
     match line.register_with_uncounted(key, exchange, on) {
         RegisterResult::Registered => Ok(key),
-        RegisterResult::Notified(()) => wait_at_end(line, exchange, on),
-        RegisterResult::NeverInserted => wait_at_end(line, exchange, on),
+        RegisterResult::Notified(()) => join_line(line, exchange, on),
+        RegisterResult::NeverInserted => join_line(line, exchange, on),
     }
 }
 
-// Has a newcomer wait at the end of the queue.
-fn wait_at_end<W, C, X: TaskExchange<W, C>>(
+// Has a newcomer wait at the end of the queue, with the task that the exchange makes.
+pub(crate) fn join_line<W, C, X: TaskExchange<W, C>>(
     line: &mut List<(), W>,
     exchange: &X,
     on: &mut C,
 ) -> Result<Key, ListenError>
+    ensures step { InsertsWith (X.exchanged exchange.now) line.old on.old result line.new on.new }
     ensures waits { IfOk result (λ waits. WaitsBy (X.exchanged exchange.now) None line.old on.old waits line.new on.new) }
+    ensures joined { IfOk result (λ _. length line.new.waiting ≡ length line.old.waiting + 1) }
+    ensures told { line.new.told ≡ line.old.told }
     ensures refused { OnErr result (line.new ≡ line.old) }
     ensures kept { OnErr result (on.new ≡ on.old) }
     ensures reason { IfErr result (λ error. Inserts line.old (Err error) line.new) }
 {
-    let key = line.insert_uncounted()?;
-    match line.register_with_uncounted(key, exchange, on) {
-        RegisterResult::Registered => Ok(key),
-        RegisterResult::Notified(()) => unreachable!(),
-        RegisterResult::NeverInserted => unreachable!(),
-    }
+    line.insert_with_uncounted(exchange, on)
 }
 
 // What a wait in a queue led to.
@@ -266,16 +264,6 @@ pub(crate) fn leave_line<W: Drop>(line: &mut List<(), W>, key: Key) -> Left
     let left = line.remove_uncounted(key, false, &mut nobody);
     let Nobody {} = nobody;
     left_as(left)
-}
-
-// Puts one at the end of the queue.
-pub(crate) fn join_line<W>(line: &mut List<(), W>) -> Result<Key, ListenError>
-    ensures step { Inserts line.old result line.new }
-    ensures joined { IfOk result (λ _. length line.new.waiting ≡ length line.old.waiting + 1) }
-    ensures refused { OnErr result (length line.new.waiting ≡ length line.old.waiting) }
-    ensures told { line.new.told ≡ line.old.told }
-{
-    line.insert_uncounted()
 }
 
 // Hands something to all that wait. Returns to how many.

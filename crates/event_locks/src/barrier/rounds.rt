@@ -1,16 +1,18 @@
 //! The state of a barrier.
-ghost use Rattle.std.specs.Prelude.{◌≡◌, ◌+◌, ◌<◌, ◌≤◌, max, [], length, true, false, None, IfOk, IfErr, IfSome, OnErr};
+ghost use Rattle.std.specs.Prelude.{◌≡◌, ◌+◌, ◌<◌, ◌≤◌, max, [], length, true, false, None, IfSome};
 ghost use Rattle.event_queue.specs.Exchange.{RegistersWith};
-ghost use Rattle.event_queue.specs.Insert.{Inserts};
 ghost use Rattle.event_queue.specs.Key.{without};
 ghost use Rattle.event_queue.specs.Queue.{order_of};
+ghost use Rattle.event_wait.specs.Attempted.{OnDone, OnRefused, OnWaits};
+ghost use Rattle.event_locks.specs.Attempted.{CannotJoin, Comes, IfRefused};
 ghost use Rattle.event_locks.specs.Line.{HandsOut, Looked, OnGranted, as_told, left_by};
 ghost use Rattle.event_locks.specs.Rounds.{NobodyWaitsInVain};
 
+use crate::error::LockError;
 use crate::grantor::Grantor;
 use crate::waiters::{Left, hand_all, join_line, leave_line, look_for};
-use event_queue::{Key, List, ListenError, RegisterResult, TaskExchange, WakeSink};
-use event_wait::Task;
+use event_queue::{Key, List, RegisterResult, TaskExchange, WakeSink};
+use event_wait::{Attempted, Task};
 use std::alloc::Global;
 use std::marker::Model;
 
@@ -82,23 +84,30 @@ impl<W> Rounds<W> {
         Some(Ended { is_leader: true })
     }
 
-    /// Arrives: the last one ends the round, and wakes all; the others wait.
-    pub fn arrive<S: WakeSink<W>>(
+    /// Arrives: the last one ends the round, and wakes all; the others wait, with the task that the exchange makes.
+    pub fn arrive<C, X: TaskExchange<W, C>, S: WakeSink<W>>(
         &mut self,
+        exchange: &X,
+        on: &mut C,
         sink: &mut S,
-    ) -> Result<Result<Ended, Key>, ListenError>
-        ensures ends { IfOk result (λ came. IfOk came (λ is_leader. (is_leader ≡ true) × (self.old.parties ≤ self.old.arrived + 1) × (self.new.arrived ≡ 0) × HandsOut S.woke (length self.old.line.waiting) self.old.line self.new.line sink.old sink.new)) }
-        ensures joins { IfOk result (λ came. IfErr came (λ key. (self.new.arrived ≡ self.old.arrived + 1) × Inserts self.old.line (Ok key) self.new.line × (sink.new ≡ sink.old))) }
+    ) -> Attempted<Ended, LockError>
+        ensures ends { OnDone result (λ is_leader. (is_leader ≡ true) × (self.old.parties ≤ self.old.arrived + 1) × (self.new.arrived ≡ 0) × HandsOut S.woke (length self.old.line.waiting) self.old.line self.new.line sink.old sink.new) }
+        ensures joins { Comes (X.exchanged exchange.now) self.old.line on.old result self.new.line on.new }
+        ensures arrives { OnWaits result ((self.new.arrived ≡ self.old.arrived + 1) × (sink.new ≡ sink.old)) }
         ensures parties { self.new.parties ≡ self.old.parties }
-        ensures refused { OnErr result ((self.new ≡ self.old) × (sink.new ≡ sink.old)) }
-        ensures reason { IfErr result (λ error. Inserts self.old.line (Err error) self.new.line × (self.old.arrived + 1 < self.old.parties)) }
+        ensures refused { OnRefused result ((self.new ≡ self.old) × (sink.new ≡ sink.old)) }
+        ensures reason { IfRefused result (λ error. CannotJoin error self.old.line self.new.line × (self.old.arrived + 1 < self.old.parties)) }
     {
         if let Some(ended) = self.try_end(sink) {
-            return Ok(Ok(ended));
+            return Attempted::Done(ended);
         }
-        let key = join_line(&mut self.line)?;
-        self.arrived += 1;
-        Ok(Err(key))
+        match join_line(&mut self.line, exchange, on) {
+            Ok(key) => {
+                self.arrived += 1;
+                Attempted::Waits(key)
+            }
+            Err(error) => Attempted::Refused(LockError::Listen(error)),
+        }
     }
 
     /// Whether the round of this one has ended: then it leaves the queue.

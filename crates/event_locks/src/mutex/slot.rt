@@ -1,17 +1,16 @@
 //! The state of a mutex.
-ghost use Rattle.std.specs.Prelude.{◌≡◌, ◌-◌, ⊤, [], length, None, Some, IsSome, MatchOption};
+ghost use Rattle.std.specs.Prelude.{◌≡◌, ◌-◌, [], length, None, Some, IsSome, MatchOption};
 ghost use Rattle.std.specs.List.{FoldsTo};
 ghost use Rattle.std.specs.Option.{option_copied_mut};
-ghost use Rattle.event_wait.specs.Attempted.{LeavesBy};
 ghost use Rattle.event_locks.specs.Line.{LeavesThenTells, TellsUpTo, woken_by_leaving, woken_up_to};
 ghost use Rattle.event_locks.specs.Slot.{NobodyWaitsInVain, Obtains, count};
 
 use crate::error::LockError;
 use crate::grantor::Grantor;
-use crate::place::Place;
+use crate::seat::HandsOut;
 use crate::waiters::{leave, leave_then_tell, tell, wait_in_line, waiting};
 use event_queue::{Key, List, TaskExchange, WakeSink};
-use event_wait::{Attempt, Attempted, Request, Task};
+use event_wait::{Attempted, Task};
 use std::alloc::Global;
 use std::marker::Model;
 
@@ -127,60 +126,36 @@ impl<T, W> Slot<T, W> {
     }
 }
 
-impl<T: Drop> Request<Slot<T, Task>> for Place {
-    type Output = T;
-
-    type Refusal = LockError;
-
-    ghost succeeds = { λ _ _ _. ⊤ };
-
-    ghost leaves = { LeavesBy (λ _ _ _. ⊤) };
-
-    fn attempt_or_wait<C, X: TaskExchange<Task, C>, K: WakeSink<Task>>(
-        &mut self,
-        state: &mut Slot<T, Task>,
-        exchange: &X,
-        on: &mut C,
-        _sink: &mut K,
-    ) -> Attempted<T, LockError> {
-        let attempted = state.take_or_wait(self.key, exchange, on);
-        self.key = attempted.key();
-        attempted
-    }
-
-    fn leave<K: WakeSink<Task>>(
-        &mut self,
-        state: &mut Slot<T, Task>,
-        sink: &mut K,
-    ) -> Result<Option<T>, LockError> {
-        let value = state.try_take();
-        state.cancel(self.key.take(), sink);
-        Ok(value)
-    }
-}
-
-impl<T: Drop> Attempt<Slot<T, Task>> for Place {
-    fn is_waiting(&self) -> bool {
-        self.key.is_some()
-    }
-
-    #[inline(always)]
-    fn attempt<K: WakeSink<Task>>(
-        &mut self,
-        state: &mut Slot<T, Task>,
-        _sink: &mut K,
-    ) -> Option<T> {
-        state.try_take()
-    }
-
-    fn give_up<K: WakeSink<Task>>(&mut self, state: &mut Slot<T, Task>, sink: &mut K) {
-        state.cancel(self.key.take(), sink);
-    }
-}
-
 impl<T: Drop> Grantor<T> for Slot<T, Task> {
     #[inline(always)]
     fn give_back<K: WakeSink<Task>>(&mut self, grant: T, sink: &mut K) {
         self.put(grant, sink);
+    }
+}
+
+impl<T: Drop> HandsOut<T> for Slot<T, Task> {
+    #[inline(always)]
+    fn try_hand<K: WakeSink<Task>>(&mut self, _sink: &mut K) -> Option<T> {
+        self.try_take()
+    }
+
+    fn hand_or_wait<C, X: TaskExchange<Task, C>, K: WakeSink<Task>>(
+        &mut self,
+        key: Option<Key>,
+        exchange: &X,
+        on: &mut C,
+        _sink: &mut K,
+    ) -> Attempted<T, LockError> {
+        self.take_or_wait(key, exchange, on)
+    }
+
+    fn leave<K: WakeSink<Task>>(&mut self, key: Key, sink: &mut K) -> Option<T> {
+        let value = self.try_take();
+        self.cancel(Some(key), sink);
+        value
+    }
+
+    fn withdraw<K: WakeSink<Task>>(&mut self, key: Key, sink: &mut K) {
+        self.cancel(Some(key), sink);
     }
 }

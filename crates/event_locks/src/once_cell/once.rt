@@ -1,18 +1,20 @@
 //! The state of a cell that is set once.
-ghost use Rattle.std.specs.Prelude.{◌≡◌, ◌+◌, ◌<◌, ◌≤◌, ◌++◌, true, false, [], is_some, length, None, IfOk, IfErr, IfSome, OnErr, MatchOption};
+ghost use Rattle.std.specs.Prelude.{◌≡◌, ◌+◌, ◌<◌, ◌≤◌, ◌++◌, true, false, [], is_some, length, None, IfSome, MatchOption};
 ghost use Rattle.std.specs.List.{FoldsTo};
 ghost use Rattle.event_queue.specs.Queue.{tasks_of};
 ghost use Rattle.event_queue.specs.Exchange.{RegistersWith};
-ghost use Rattle.event_queue.specs.Insert.{Inserts};
 ghost use Rattle.event_queue.specs.Key.{without};
 ghost use Rattle.event_queue.specs.Queue.{order_of};
+ghost use Rattle.event_wait.specs.Attempted.{OnDone, OnRefused, OnWaits};
+ghost use Rattle.event_locks.specs.Attempted.{CannotJoin, Comes, IfRefused};
 ghost use Rattle.event_locks.specs.Line.{HandsOut, Looked, OnGranted, TellsAll, as_told, is_granted, left_by};
 ghost use Rattle.event_locks.specs.Once.{MakersStay, NobodyWaitsInVain, making_at, making_by, turn_at, turns};
 
+use crate::error::LockError;
 use crate::grantor::Grantor;
-use crate::waiters::{Left, hand_all, hand_out, join_line, leave_line, look_for};
-use event_queue::{Key, List, ListenError, RegisterResult, TaskExchange, WakeSink};
-use event_wait::Task;
+use crate::waiters::{Left, hand_all, hand_out, join_line, leave_line, look_for, waiting};
+use event_queue::{Key, List, RegisterResult, TaskExchange, WakeSink};
+use event_wait::{Attempted, Task};
 use std::alloc::Global;
 use std::marker::Model;
 
@@ -92,35 +94,47 @@ impl<W> Once<W> {
         None
     }
 
-    /// The turn of one that would make the value, or its key: it waits while another one makes it.
-    pub fn come_to_make(&mut self) -> Result<Result<Turn, Key>, ListenError>
+    /// The turn of one that comes to make the value; it waits while another one makes it, with the task that the exchange
+    /// makes.
+    pub fn come_to_make<C, X: TaskExchange<W, C>>(
+        &mut self,
+        exchange: &X,
+        on: &mut C,
+    ) -> Attempted<Turn, LockError>
         ensures kept { self.new.is_set ≡ self.old.is_set }
-        ensures turn { IfOk result (λ came. IfOk came (λ turn. turn ≡ turn_at self.old)) }
-        ensures takes { IfOk result (λ came. IfOk came (λ _. (self.new.making ≡ making_at self.old) × (self.new.makers ≡ self.old.makers))) }
-        ensures waits { IfOk result (λ came. IfErr came (λ key. Inserts self.old.makers (Ok key) self.new.makers × (self.new.making ≡ self.old.making) × (0 < turns self.old))) }
-        ensures refused { OnErr result (self.new ≡ self.old) }
-        ensures reason { IfErr result (λ error. Inserts self.old.makers (Err error) self.new.makers × (0 < turns self.old)) }
+        ensures turn { OnDone result (λ turn. turn ≡ turn_at self.old) }
+        ensures takes { OnDone result (λ _. (self.new.making ≡ making_at self.old) × (self.new.makers ≡ self.old.makers)) }
+        ensures joins { Comes (X.exchanged exchange.now) self.old.makers on.old result self.new.makers on.new }
+        ensures waits { OnWaits result ((self.new.making ≡ self.old.making) × (0 < turns self.old)) }
+        ensures refused { OnRefused result (self.new ≡ self.old) }
+        ensures reason { IfRefused result (λ error. CannotJoin error self.old.makers self.new.makers × (0 < turns self.old)) }
         ensures readers { self.new.readers ≡ self.old.readers }
     {
         if let Some(turn) = self.try_make() {
-            return Ok(Ok(turn));
+            return Attempted::Done(turn);
         }
-        Ok(Err(join_line(&mut self.makers)?))
+        waiting(join_line(&mut self.makers, exchange, on))
     }
 
-    /// Whether the value is set, for one that comes to use it, or its key: it waits until the value is set.
-    pub fn come_to_use(&mut self) -> Result<Result<IsSet, Key>, ListenError>
+    /// That the value is set, for one that comes to use it; it waits until the value is set, with the task that the exchange
+    /// makes.
+    pub fn come_to_use<C, X: TaskExchange<W, C>>(
+        &mut self,
+        exchange: &X,
+        on: &mut C,
+    ) -> Attempted<IsSet, LockError>
         ensures kept { self.new.is_set ≡ self.old.is_set }
-        ensures set { IfOk result (λ came. IfOk came (λ _. (self.old.is_set ≡ true) × (self.new ≡ self.old))) }
-        ensures refused { OnErr result (self.new ≡ self.old) }
-        ensures waits { IfOk result (λ came. IfErr came (λ key. Inserts self.old.readers (Ok key) self.new.readers × (self.old.is_set ≡ false))) }
-        ensures reason { IfErr result (λ error. Inserts self.old.readers (Err error) self.new.readers × (self.old.is_set ≡ false)) }
+        ensures set { OnDone result (λ _. (self.old.is_set ≡ true) × (self.new ≡ self.old)) }
+        ensures joins { Comes (X.exchanged exchange.now) self.old.readers on.old result self.new.readers on.new }
+        ensures waits { OnWaits result (self.old.is_set ≡ false) }
+        ensures refused { OnRefused result (self.new ≡ self.old) }
+        ensures reason { IfRefused result (λ error. CannotJoin error self.old.readers self.new.readers × (self.old.is_set ≡ false)) }
         ensures makers { MakersStay self.old self.new }
     {
         if self.is_set {
-            return Ok(Ok(IsSet(())));
+            return Attempted::Done(IsSet(()));
         }
-        Ok(Err(join_line(&mut self.readers)?))
+        waiting(join_line(&mut self.readers, exchange, on))
     }
 
     /// What this one is to do, if it is its turn: then it leaves the queue.

@@ -1,17 +1,20 @@
 //! The state of a read-write lock.
-ghost use Rattle.std.specs.Prelude.{◌≡◌, ◌+◌, ◌-◌, ◌<◌, ◌≤◌, ◌^◌, ◌↔◌, [], None, length, IsTrue, IsFalse, IsOk, IfOk, IfErr, IfSome, OnErr};
+ghost use Rattle.std.specs.Prelude.{◌≡◌, ◌+◌, ◌-◌, ◌<◌, ◌≤◌, ◌^◌, ◌↔◌, [], None, length, IsTrue, IsFalse, IsOk, IfSome, OnErr};
 ghost use Rattle.event_queue.specs.Exchange.{RegistersWith};
-ghost use Rattle.event_queue.specs.Insert.{Inserts};
 ghost use Rattle.event_queue.specs.Key.{without};
 ghost use Rattle.event_queue.specs.Queue.{order_of};
+ghost use Rattle.event_wait.specs.Attempted.{OnDone, OnRefused, OnWaits};
+ghost use Rattle.event_locks.specs.Attempted.{CannotJoin, Comes, IfRefused};
 ghost use Rattle.event_locks.specs.Line.{HandsOut, Looked, as_told, left_by};
 ghost use Rattle.event_locks.specs.Shares.{HasNoRoom, IsAWriterThere, NobodyWaitsInVain, NoWriterIsThere, NobodyIsIn, ReadersStay, RefusesReader, WritersStay, reading, writing};
 
 use crate::error::LockError;
 use crate::grantor::Grantor;
-use crate::waiters::{Left, hand_all, hand_out, join_line, leave_line, look_for, somebody_waits};
-use event_queue::{Key, List, ListenError, RegisterResult, TaskExchange, WakeSink};
-use event_wait::Task;
+use crate::waiters::{
+    Left, hand_all, hand_out, join_line, leave_line, look_for, somebody_waits, waiting,
+};
+use event_queue::{Key, List, RegisterResult, TaskExchange, WakeSink};
+use event_wait::{Attempted, Task};
 use std::alloc::Global;
 use std::marker::Model;
 
@@ -95,40 +98,47 @@ impl<W> Shares<W> {
         self.write_line.is_notified()
     }
 
-    /// Counts a reader, or puts it into its queue.
-    pub fn read(&mut self) -> Result<Result<ReadShare, Key>, LockError>
-        ensures let_in { IfOk result (λ came. IfOk came (λ _. (self.new ≡ record self.old { readers = self.old.readers + 1 }) × NoWriterIsThere self.old)) }
-        ensures waits { IfOk result (λ came. IfErr came (λ key. Inserts self.old.read_line (Ok key) self.new.read_line × (self.new.readers ≡ self.old.readers) × IsAWriterThere self.old)) }
+    /// Counts a reader, or has it wait in its queue, with the task that the exchange makes.
+    pub fn read<C, X: TaskExchange<W, C>>(
+        &mut self,
+        exchange: &X,
+        on: &mut C,
+    ) -> Attempted<ReadShare, LockError>
+        ensures let_in { OnDone result (λ _. (self.new ≡ record self.old { readers = self.old.readers + 1 }) × NoWriterIsThere self.old) }
+        ensures joins { Comes (X.exchanged exchange.now) self.old.read_line on.old result self.new.read_line on.new }
+        ensures waits { OnWaits result ((self.new.readers ≡ self.old.readers) × IsAWriterThere self.old) }
         ensures others { WritersStay self.old self.new }
-        ensures refused { OnErr result (self.new ≡ self.old) }
-        ensures reason { IfErr result (λ error. RefusesReader error self.old self.new) }
+        ensures refused { OnRefused result (self.new ≡ self.old) }
+        ensures reason { IfRefused result (λ error. RefusesReader error self.old self.new) }
     {
         if !self.has_room() {
-            return Err(LockError::TooManyReaders);
+            return Attempted::Refused(LockError::TooManyReaders);
         }
         if self.is_wanted() {
-            return match join_line(&mut self.read_line) {
-                Ok(key) => Ok(Err(key)),
-                Err(error) => Err(LockError::Listen(error)),
-            };
+            return waiting(join_line(&mut self.read_line, exchange, on));
         }
         self.readers += 1;
-        Ok(Ok(ReadShare(())))
+        Attempted::Done(ReadShare(()))
     }
 
-    /// Counts the writer, or puts it into its queue.
-    pub fn write(&mut self) -> Result<Result<WriteShare, Key>, ListenError>
-        ensures let_in { IfOk result (λ came. IfOk came (λ _. (self.new ≡ record self.old { writers = 1 }) × NobodyIsIn self.old)) }
-        ensures waits { IfOk result (λ came. IfErr came (λ key. Inserts self.old.write_line (Ok key) self.new.write_line × (self.new.writers ≡ self.old.writers) × (0 < reading self.old + writing self.old))) }
+    /// Counts the writer, or has it wait in its queue, with the task that the exchange makes.
+    pub fn write<C, X: TaskExchange<W, C>>(
+        &mut self,
+        exchange: &X,
+        on: &mut C,
+    ) -> Attempted<WriteShare, LockError>
+        ensures let_in { OnDone result (λ _. (self.new ≡ record self.old { writers = 1 }) × NobodyIsIn self.old) }
+        ensures joins { Comes (X.exchanged exchange.now) self.old.write_line on.old result self.new.write_line on.new }
+        ensures waits { OnWaits result ((self.new.writers ≡ self.old.writers) × (0 < reading self.old + writing self.old)) }
         ensures others { ReadersStay self.old self.new }
-        ensures refused { OnErr result (self.new ≡ self.old) }
-        ensures reason { IfErr result (λ error. Inserts self.old.write_line (Err error) self.new.write_line × (0 < reading self.old + writing self.old)) }
+        ensures refused { OnRefused result (self.new ≡ self.old) }
+        ensures reason { IfRefused result (λ error. CannotJoin error self.old.write_line self.new.write_line × (0 < reading self.old + writing self.old)) }
     {
         if self.is_used() {
-            return Ok(Err(join_line(&mut self.write_line)?));
+            return waiting(join_line(&mut self.write_line, exchange, on));
         }
         self.writers = 1;
-        Ok(Ok(WriteShare(())))
+        Attempted::Done(WriteShare(()))
     }
 
     /// Counts a reader, if no writer writes or waits.
