@@ -1,8 +1,13 @@
 //! Threads that wait by a request of the tests' own, which counts how often it is asked to wait. It stands at a barrier, for
 //! one who comes through the queue may end a round there, and then wakes the others.
+ghost use Rattle.std.specs.Prelude.{⊤};
+ghost use Rattle.event_wait.specs.Attempted.{LeavesBy};
+
 use crate::support::{check, is_over_soon, is_so_soon};
-use event_locks::{Attempted, Limit, Lock, LockError, Request, Rounds, Task};
-use event_queue::{Key, RegisterResult, TaskExchange, WakeSink};
+use event_locks::{
+    Attempt, Attempted, Ended, HandsOut, Limit, Lock, LockError, Request, Rounds, Task,
+};
+use event_queue::{Key, TaskExchange, WakeSink};
 use std::marker::Model;
 use std::sync::atomic::{AtomicBool, AtomicUsize, Ordering};
 use std::thread;
@@ -23,11 +28,41 @@ impl<'a> Model for Arrival<'a> {
 }
 
 impl Request<Rounds<Task>> for Arrival<'_> {
-    type Output = ();
+    type Output = Ended;
 
+    type Refusal = LockError;
+
+    ghost succeeds = { λ _ _ _. ⊤ };
+
+    ghost leaves = { LeavesBy (λ _ _ _. ⊤) };
+
+    fn attempt_or_wait<C, X: TaskExchange<Task, C>, K: WakeSink<Task>>(
+        &mut self,
+        state: &mut Rounds<Task>,
+        exchange: &X,
+        on: &mut C,
+        sink: &mut K,
+    ) -> Attempted<Ended, LockError> {
+        self.looks.fetch_add(1, Ordering::SeqCst);
+        let attempted = state.hand_or_wait(self.key, exchange, on, sink);
+        self.key = attempted.key();
+        attempted
+    }
+
+    fn leave<K: WakeSink<Task>>(
+        &mut self,
+        state: &mut Rounds<Task>,
+        _sink: &mut K,
+    ) -> Result<Option<Ended>, LockError> {
+        match self.key.take() {
+            Some(key) => Ok(state.leave_round(key)),
+            None => Ok(None),
+        }
+    }
+}
+
+impl Attempt<Rounds<Task>> for Arrival<'_> {
     const TRIES: u32 = 2;
-
-    ghost gives = { λ _ _. Unit {0} };
 
     fn is_waiting(&self) -> bool {
         self.key.is_some()
@@ -37,34 +72,8 @@ impl Request<Rounds<Task>> for Arrival<'_> {
         &mut self,
         _state: &mut Rounds<Task>,
         _sink: &mut K,
-    ) -> Option<()> {
+    ) -> Option<Ended> {
         None
-    }
-
-    fn attempt_or_wait<C, X: TaskExchange<Task, C>, K: WakeSink<Task>>(
-        &mut self,
-        state: &mut Rounds<Task>,
-        exchange: &X,
-        on: &mut C,
-        sink: &mut K,
-    ) -> Attempted<()> {
-        self.looks.fetch_add(1, Ordering::SeqCst);
-        let key = match self.key.take() {
-            Some(key) => key,
-            None => match state.arrive(sink) {
-                Ok(Err(key)) => key,
-                Ok(Ok(_)) => return Attempted::Done(()),
-                Err(error) => return Attempted::Refused(LockError::Listen(error)),
-            },
-        };
-        match state.look_for_end(key, exchange, on) {
-            RegisterResult::Notified(_) => Attempted::Done(()),
-            RegisterResult::Registered => {
-                self.key = Some(key);
-                Attempted::Waits(key)
-            }
-            RegisterResult::NeverInserted => Attempted::Absent,
-        }
     }
 
     fn give_up<K: WakeSink<Task>>(&mut self, state: &mut Rounds<Task>, _sink: &mut K) {
@@ -83,6 +92,7 @@ fn arrives<R: Runtime>(
 ) -> bool {
     let mut arrival = Arrival { key: None, looks };
     let ended = barrier.obtain(rt, rt.alloc(), &mut arrival, limit);
+    let ended = ended.map_err(LockError::from);
     ended.expect(rt, "an answer").is_some()
 }
 

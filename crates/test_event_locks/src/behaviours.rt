@@ -1,7 +1,7 @@
 //! What each lock does in the order in which callers of other crates' locks use it.
 use crate::support::{check, new_task};
 use event_locks::{
-    Barrier, Grants, LockError, Mutex, Obtaining, OnceCell, Request, RwLock, Semaphore, SetError,
+    Attempt, Barrier, Grants, LockError, Mutex, Obtaining, OnceCell, RwLock, Semaphore, SetError,
     SetReason,
 };
 use std::sync::Arc;
@@ -13,7 +13,7 @@ use test_support::Runtime;
 fn is_over_once_granted<
     R: Runtime,
     S,
-    Q: Request<S> + Drop,
+    Q: Attempt<S, Refusal = LockError> + Drop,
     H: Grants<S, Q::Output, Output: Drop> + Drop,
 >(rt: &R, waits: Obtaining<S, Q, H>) {
     let mut waits = waits;

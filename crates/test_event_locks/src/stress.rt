@@ -1,6 +1,8 @@
 //! Threads and tasks that wait at once, and give up at times.
 use crate::support::{check, new_task};
-use event_locks::{Barrier, Grants, Mutex, Obtaining, OnceCell, Request, RwLock, Semaphore};
+use event_locks::{
+    Attempt, Barrier, Grants, LockError, Mutex, Obtaining, OnceCell, RwLock, Semaphore,
+};
 use futures::executor::block_on;
 use std::alloc::AllocError;
 use std::thread;
@@ -10,11 +12,12 @@ use test_support::Runtime;
 const THREADS: usize = 8;
 
 // What is given in this way, or `None` if it gave up.
-fn in_some_way<R: Runtime, S, Q: Request<S> + Drop, H: Grants<S, Q::Output, Output: Drop> + Drop>(
-    rt: &R,
-    way: usize,
-    waits: Obtaining<S, Q, H>,
-) -> Option<H::Output> {
+fn in_some_way<
+    R: Runtime,
+    S,
+    Q: Attempt<S, Refusal = LockError> + Drop,
+    H: Grants<S, Q::Output, Output: Drop> + Drop,
+>(rt: &R, way: usize, waits: Obtaining<S, Q, H>) -> Option<H::Output> {
     let mut waits = waits;
     match way % 4 {
         0 => Some(waits.wait().expect(rt, "a grant")),
@@ -127,10 +130,12 @@ fn barrier_rounds<R: Runtime>(rt: &R, barrier: &Barrier, thread: usize) -> usize
 }
 
 // Three wait for a fourth.
-fn all_wait<R: Runtime, S, Q: Request<S> + Drop, H: Grants<S, Q::Output, Output: Drop> + Drop>(
-    rt: &R,
-    waits: (Obtaining<S, Q, H>, Obtaining<S, Q, H>, Obtaining<S, Q, H>),
-) {
+fn all_wait<
+    R: Runtime,
+    S,
+    Q: Attempt<S, Refusal = LockError> + Drop,
+    H: Grants<S, Q::Output, Output: Drop> + Drop,
+>(rt: &R, waits: (Obtaining<S, Q, H>, Obtaining<S, Q, H>, Obtaining<S, Q, H>)) {
     let ((mut first, mut second, mut third), task) = (waits, new_task(rt));
     check(rt, "one", task.poll(&mut first).is_pending(), true);
     check(rt, "two", task.poll(&mut second).is_pending(), true);

@@ -1,7 +1,7 @@
 //! Threads that wait in each way, and are woken once they are let in. That each lock wakes whom it lets in is tested by
 //! tasks, in `test_lock_waits`: a thread that is woken differs from a task in nothing else.
 use crate::support::{check, is_over_soon, is_so_soon, new_task};
-use event_locks::{Grants, Obtaining, Request, RwLock, Semaphore};
+use event_locks::{Attempt, Grants, LockError, Obtaining, RwLock, Semaphore};
 use futures::executor::block_on;
 use futures::test::MockTask;
 use std::sync::Arc;
@@ -22,11 +22,12 @@ enum Way {
 const WAYS: [Way; 4] = [Way::Blocking, Way::Timed, Way::LongestTimed, Way::Awaited];
 
 // Whether it is granted to one that waits in this way.
-fn is_granted<R: Runtime, S, Q: Request<S> + Drop, H: Grants<S, Q::Output, Output: Drop> + Drop>(
-    rt: &R,
-    waits: Obtaining<S, Q, H>,
-    way: Way,
-) -> bool {
+fn is_granted<
+    R: Runtime,
+    S,
+    Q: Attempt<S, Refusal = LockError> + Drop,
+    H: Grants<S, Q::Output, Output: Drop> + Drop,
+>(rt: &R, waits: Obtaining<S, Q, H>, way: Way) -> bool {
     let limit = match way {
         Way::Blocking => return waits.wait().is_ok(),
         Way::Awaited => return block_on(rt, waits).expect(rt, "an executor").is_ok(),
@@ -38,7 +39,12 @@ fn is_granted<R: Runtime, S, Q: Request<S> + Drop, H: Grants<S, Q::Output, Outpu
 }
 
 // The same wait, after a poll in vain by this task.
-fn polled<R: Runtime, S, Q: Request<S> + Drop, H: Grants<S, Q::Output, Output: Drop> + Drop>(
+fn polled<
+    R: Runtime,
+    S,
+    Q: Attempt<S, Refusal = LockError> + Drop,
+    H: Grants<S, Q::Output, Output: Drop> + Drop,
+>(
     rt: &R,
     waits: Obtaining<S, Q, H>,
     task: &MockTask,

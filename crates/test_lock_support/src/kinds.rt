@@ -1,9 +1,9 @@
 //! Each kind of wait, so that what is said of every one is written once and run with each.
 use event_locks::{
-    Arriving, Asking, Barrier, BarrierWait, Borrowed, Claim, Ended, Entering, Grants, IsSet,
-    LockError, Mutex, MutexGuard, Obtaining, Once, OnceCell, Permits, Place, ReadShare, Request,
-    Rounds, RwLock, RwLockReadGuard, RwLockWriteGuard, Seat, Semaphore, SemaphoreGuard, Shared,
-    Shares, Slot, Task, Turn, Vacant, WriteShare,
+    Arriving, Asking, Attempt, Barrier, BarrierWait, Borrowed, Claim, Ended, Entering, Grants,
+    IsSet, LockError, Mutex, MutexGuard, Obtaining, Once, OnceCell, Permit, Permits, ReadShare,
+    Request, Rounds, RwLock, RwLockReadGuard, RwLockWriteGuard, Seat, Semaphore, SemaphoreGuard,
+    Shared, Shares, Slot, Task, Turn, Vacant, WriteShare,
 };
 use std::alloc::{AllocError, Global};
 use std::marker::PhantomData;
@@ -29,7 +29,7 @@ pub trait Kind: Sync {
     type State;
 
     /// What a wait requests.
-    type Request: Request<Self::State> + Drop;
+    type Request: Attempt<Self::State, Refusal = LockError> + Drop;
 
     /// How a wait holds the lock.
     type Hold: Grants<Self::State, <Self::Request as Request<Self::State>>::Output, Output: Drop>
@@ -94,7 +94,7 @@ pub struct See;
 impl<'a, R: Wait + Clock + Sync> Kind for Of<'a, Semaphore, R> {
     type State = Permits<Task>;
 
-    type Request = Place;
+    type Request = Seat<Permit>;
 
     type Hold = Borrowed<'a, Permits<Task>, R>;
 
@@ -108,7 +108,7 @@ impl<'a, R: Wait + Clock + Sync> Kind for Of<'a, Semaphore, R> {
         self.lock.try_acquire(self.rt)
     }
 
-    fn waits(&self) -> Result<Obtaining<Permits<Task>, Place, Self::Hold>, AllocError> {
+    fn waits(&self) -> Result<Obtaining<Permits<Task>, Seat<Permit>, Self::Hold>, AllocError> {
         Ok(self.lock.acquire(self.rt, self.alloc))
     }
 }
@@ -116,7 +116,7 @@ impl<'a, R: Wait + Clock + Sync> Kind for Of<'a, Semaphore, R> {
 impl<'a, R: Wait + Clock + Clone + Sync> Kind for Of<'a, Arc<Semaphore, Global>, R> {
     type State = Permits<Task>;
 
-    type Request = Place;
+    type Request = Seat<Permit>;
 
     type Hold = Shared<Semaphore, R>;
 
@@ -130,7 +130,7 @@ impl<'a, R: Wait + Clock + Clone + Sync> Kind for Of<'a, Arc<Semaphore, Global>,
         self.lock.try_acquire(self.rt)
     }
 
-    fn waits(&self) -> Result<Obtaining<Permits<Task>, Place, Self::Hold>, AllocError> {
+    fn waits(&self) -> Result<Obtaining<Permits<Task>, Seat<Permit>, Self::Hold>, AllocError> {
         Semaphore::acquire_arc(self.lock, self.rt.clone()?, self.alloc)
     }
 }
@@ -138,7 +138,7 @@ impl<'a, R: Wait + Clock + Clone + Sync> Kind for Of<'a, Arc<Semaphore, Global>,
 impl<'a, R: Wait + Clock + Sync> Kind for Of<'a, Mutex<u64>, R> {
     type State = Slot<u64, Task>;
 
-    type Request = Place;
+    type Request = Seat<u64>;
 
     type Hold = Borrowed<'a, Slot<u64, Task>, R>;
 
@@ -152,7 +152,7 @@ impl<'a, R: Wait + Clock + Sync> Kind for Of<'a, Mutex<u64>, R> {
         self.lock.try_lock(self.rt)
     }
 
-    fn waits(&self) -> Result<Obtaining<Slot<u64, Task>, Place, Self::Hold>, AllocError> {
+    fn waits(&self) -> Result<Obtaining<Slot<u64, Task>, Seat<u64>, Self::Hold>, AllocError> {
         Ok(self.lock.lock(self.rt, self.alloc))
     }
 }
@@ -160,7 +160,7 @@ impl<'a, R: Wait + Clock + Sync> Kind for Of<'a, Mutex<u64>, R> {
 impl<'a, R: Wait + Clock + Clone + Sync> Kind for Of<'a, Arc<Mutex<u64>, Global>, R> {
     type State = Slot<u64, Task>;
 
-    type Request = Place;
+    type Request = Seat<u64>;
 
     type Hold = Shared<Mutex<u64>, R>;
 
@@ -174,7 +174,7 @@ impl<'a, R: Wait + Clock + Clone + Sync> Kind for Of<'a, Arc<Mutex<u64>, Global>
         self.lock.try_lock(self.rt)
     }
 
-    fn waits(&self) -> Result<Obtaining<Slot<u64, Task>, Place, Self::Hold>, AllocError> {
+    fn waits(&self) -> Result<Obtaining<Slot<u64, Task>, Seat<u64>, Self::Hold>, AllocError> {
         Mutex::lock_arc(self.lock, self.rt.clone()?, self.alloc)
     }
 }

@@ -1,7 +1,7 @@
 //! One that gives up: what it was handed goes to the next, and who waited for it alone is let in.
 use crate::support::check;
 use crate::waits::Polled;
-use event_locks::{Grants, Obtaining, Request, RwLock};
+use event_locks::{Attempt, Grants, LockError, Obtaining, RwLock};
 use std::time::Duration;
 use test_lock_support::{Case, Kind, each};
 use test_support::Runtime;
@@ -15,8 +15,8 @@ fn passes_on<R, S, Q, P, H, I, G>(
 )
 where
     R: Runtime,
-    Q: Request<S> + Drop,
-    P: Request<S> + Drop,
+    Q: Attempt<S, Refusal = LockError> + Drop,
+    P: Attempt<S, Refusal = LockError> + Drop,
     H: Grants<S, Q::Output, Output: Drop> + Drop,
     I: Grants<S, P::Output, Output: Drop> + Drop,
     G: Drop,

@@ -1,7 +1,7 @@
 //! Tasks that wait in each way, and are woken once they are let in.
 use crate::support::{check, new_task};
 use event_locks::{
-    Barrier, Claim, Grants, Obtaining, OnceCell, Request, RwLock, Semaphore, Vacant,
+    Attempt, Barrier, Claim, Grants, LockError, Obtaining, OnceCell, RwLock, Semaphore, Vacant,
 };
 use futures::test::MockTask;
 use std::sync::Arc;
@@ -11,13 +11,13 @@ use test_lock_support::{Case, Kind, Sharing, each};
 use test_support::Runtime;
 
 /// A wait that a task of its own polls.
-pub struct Polled<S, Q: Request<S>, H: Grants<S, Q::Output>> {
+pub struct Polled<S, Q: Attempt<S>, H: Grants<S, Q::Output>> {
     task: MockTask,
     waits: Obtaining<S, Q, H>,
     is_granted: bool,
 }
 
-impl<S, Q: Request<S> + Drop, H: Grants<S, Q::Output> + Drop> Drop for Polled<S, Q, H> {
+impl<S, Q: Attempt<S> + Drop, H: Grants<S, Q::Output> + Drop> Drop for Polled<S, Q, H> {
     fn drop(self) {
         let Polled {
             task: _,
@@ -27,7 +27,11 @@ impl<S, Q: Request<S> + Drop, H: Grants<S, Q::Output> + Drop> Drop for Polled<S,
     }
 }
 
-impl<S, Q: Request<S> + Drop, H: Grants<S, Q::Output, Output: Drop> + Drop> Polled<S, Q, H> {
+impl<
+    S,
+    Q: Attempt<S, Refusal = LockError> + Drop,
+    H: Grants<S, Q::Output, Output: Drop> + Drop,
+> Polled<S, Q, H> {
     /// Polls this wait, which is not granted at once, and wakes nobody.
     pub fn new<R: Runtime>(rt: &R, waits: Obtaining<S, Q, H>) -> Self {
         let (mut waits, task) = (waits, new_task(rt));
@@ -154,10 +158,12 @@ fn added_permits_wake_as_many(rt: HostRuntime) {
 }
 
 // It is granted at the first poll.
-fn comes_last<R: Runtime, S, Q: Request<S> + Drop, H: Grants<S, Q::Output, Output: Drop> + Drop>(
-    rt: &R,
-    waits: Obtaining<S, Q, H>,
-) {
+fn comes_last<
+    R: Runtime,
+    S,
+    Q: Attempt<S, Refusal = LockError> + Drop,
+    H: Grants<S, Q::Output, Output: Drop> + Drop,
+>(rt: &R, waits: Obtaining<S, Q, H>) {
     let mut waits = waits;
     let ready = new_task(rt).poll(&mut waits).is_ready();
     check(rt, "whether the round has ended", ready, true);

@@ -61,8 +61,9 @@ impl<S, Q: Attempt<S, Refusal = LockError> + Drop, H: Grants<S, Q::Output> + Dro
     /// ends the wait; a moment that can't be represented never comes.
     pub fn wait_timeout(self, timeout: Duration) -> Result<Option<H::Output>, LockError> {
         let limit = match &self.hold {
-            Some(hold) => Limit::after(hold.rt(), timeout),
-            None => Limit::Past,
+            // No time at all has passed already, and no clock is read.
+            Some(hold) if !timeout.is_zero() => Limit::after(hold.rt(), timeout),
+            _ => Limit::Past,
         };
         self.wait_until(limit)
     }
