@@ -1,30 +1,25 @@
--- The message that an error hands back.
-use Rattle.event_channel.specs.declared.error.TrySendError.{TrySendError}
-use Rattle.event_channel.specs.declared.error.SendError.{SendError}
-use Rattle.event_channel.specs.declared.error.SendTimeoutError.{SendTimeoutError}
-use Rattle.event_channel.specs.declared.error.TrySendError.TheVariants as Try
-use Rattle.event_channel.specs.declared.error.SendError.TheVariants as Send
-use Rattle.event_channel.specs.declared.error.SendTimeoutError.TheVariants as Timeout
+-- Which reasons a send can give.
+use Rattle.event_channel.specs.declared.error.SendReason.{SendReason}
+use Rattle.event_channel.specs.declared.error.SendReason.TheVariants.{Closed, Full, TimedOut, Memory, WaitFailed}
 
-module _ {T : Type 0} where
-  abbrev pub unsent_at_once : TrySendError T → T
-  unsent_at_once (Try.Full message) = message
-  unsent_at_once (Try.Closed message) = message
-  unsent_at_once (Try.Memory message) = message
+-- why a message is not sent: the channel is closed, or there is no memory; beside these it can be full, or have been so for
+-- too long, or a wait can be refused, only where that is said
+abbrev pub Unsent : Type 0 → Type 0 → Type 0 → SendReason → Type 0
+Unsent full late refused Closed = Unit {0}
+Unsent full late refused Full = full
+Unsent full late refused TimedOut = late
+Unsent full late refused Memory = Unit {0}
+Unsent full late refused (WaitFailed error) = refused
 
-  -- it is none of a full channel
-  abbrev pub IsNotFull : TrySendError T → Type 0
-  IsNotFull (Try.Full message) = ⊥
-  IsNotFull (Try.Closed message) = Unit {0}
-  IsNotFull (Try.Memory message) = Unit {0}
+-- by a call that makes room, by one that does not wait, by one that waits, and by one whose wait has a limit
+abbrev pub IsUnsent : SendReason → Type 0
+IsUnsent = Unsent ⊥ ⊥ ⊥
 
-  abbrev pub unsent : SendError T → T
-  unsent (Send.Closed message) = message
-  unsent (Send.Memory message) = message
-  unsent (Send.WaitFailed message reason) = message
+abbrev pub IsUnsentAtOnce : SendReason → Type 0
+IsUnsentAtOnce = Unsent (Unit {0}) ⊥ ⊥
 
-  abbrev pub unsent_in_time : SendTimeoutError T → T
-  unsent_in_time (Timeout.TimedOut message) = message
-  unsent_in_time (Timeout.Closed message) = message
-  unsent_in_time (Timeout.Memory message) = message
-  unsent_in_time (Timeout.WaitFailed message reason) = message
+abbrev pub IsUnsentByWaiting : SendReason → Type 0
+IsUnsentByWaiting = Unsent ⊥ ⊥ (Unit {0})
+
+abbrev pub IsUnsentInTime : SendReason → Type 0
+IsUnsentInTime = Unsent ⊥ (Unit {0}) (Unit {0})

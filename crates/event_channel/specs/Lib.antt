@@ -1,6 +1,7 @@
 pub mod Errors
 pub mod Handle
 pub mod Iter
+pub mod Many
 pub mod Messages
 pub mod Order
 pub mod Steps

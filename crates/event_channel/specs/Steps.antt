@@ -2,8 +2,8 @@
 use Rattle.std.specs.Prelude.{◌≡◌, ℕ, ◌<◌, ◌++◌, List, [], ◌∷◌, Option, Some, None, true, false, length}
 use Rattle.event_locks.specs.Line.{TellsUpTo, TellsAll, or_more, woken_up_to, woken_at_once}
 use Rattle.event_channel.specs.Messages.{State, IsFull, IsBounded, room_in}
-use Rattle.event_channel.specs.declared.error.TrySendError.{TrySendError}
-use Rattle.event_channel.specs.declared.error.TrySendError.TheVariants.{Closed, Full, Memory}
+use Rattle.event_channel.specs.declared.error.SendReason.{SendReason}
+use Rattle.event_channel.specs.declared.error.SendReason.TheVariants.{Closed, Full, TimedOut, Memory, WaitFailed}
 use Rattle.event_channel.specs.declared.error.TryRecvError.{TryRecvError}
 use Rattle.event_channel.specs.declared.error.TryRecvError.TheVariants.{Empty, Closed as WasClosed}
 
@@ -24,11 +24,13 @@ module _ {T W : Type 0} where
     pub receivers : TellsUpTo (receivers_due before after) before.receivers after.receivers
     pub streams : TellsAll before.streams after.streams
 
-  -- the message comes back from a channel that is closed, or from an open one that is full, or, without a limit, out of memory
-  abbrev pub Refuses : T → State T W → TrySendError T → Type 0
-  Refuses message before (Closed back) = (back ≡ message) × (before.is_closed ≡ true)
-  Refuses message before (Full back) = (back ≡ message) × (before.is_closed ≡ false) × IsFull before
-  Refuses message before (Memory back) = (back ≡ message) × (before.is_closed ≡ false) × ¬ IsBounded before
+  -- a channel refuses a message if it is closed, or open and full, or, without a limit, out of memory
+  abbrev pub Refuses : State T W → SendReason → Type 0
+  Refuses before Closed = before.is_closed ≡ true
+  Refuses before Full = (before.is_closed ≡ false) × IsFull before
+  Refuses before TimedOut = ⊥
+  Refuses before Memory = (before.is_closed ≡ false) × ¬ IsBounded before
+  Refuses before (WaitFailed error) = ⊥
 
   -- the message is put behind all others of a full channel, and the first of all goes out; nobody need be notified
   pub record Replaces (message first : T) (before after : State T W) : Type 0 where
@@ -41,12 +43,6 @@ module _ {T W : Type 0} where
   abbrev pub Forces : T → Option T → State T W → State T W → Type 0
   Forces message None before after = Pushes message before after
   Forces message (Some first) before after = Replaces message first before after
-
-  -- a message that is put in by force comes back from a channel that is closed, or, without a limit, out of memory
-  abbrev pub RefusesForce : T → State T W → TrySendError T → Type 0
-  RefusesForce message before (Closed back) = (back ≡ message) × (before.is_closed ≡ true)
-  RefusesForce message before (Full back) = ⊥
-  RefusesForce message before (Memory back) = (back ≡ message) × (before.is_closed ≡ false) × ¬ IsBounded before
 
   -- the tasks that a push wakes: of receivers, then of all streams
   abbrev pub woken_by_pushing : State T W → State T W → List W

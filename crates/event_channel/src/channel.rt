@@ -1,10 +1,12 @@
 //! What both sides share.
 ghost use Rattle.std.specs.Prelude.{◌≡◌, IfErr, IfOk};
-ghost use Rattle.event_channel.specs.Errors.{IsNotFull, unsent_at_once};
+ghost use Rattle.event_channel.specs.Errors.{IsUnsent, IsUnsentAtOnce};
 
-use crate::error::TrySendError;
+use crate::error::SendError;
 use crate::messages::Messages;
-use event_locks::{Lock, Task, Waking};
+use event_locks::LockError;
+use event_queue::ListenError;
+use event_wait::{Lock, Refused, Task, step};
 use std::alloc::{AllocError, Global};
 use std::marker::Model;
 use std::sync::atomic::{AtomicUsize, Ordering};
@@ -65,6 +67,14 @@ impl<T: Drop, R: Clone + Drop> Link<T, R> {
 #[derive(Drop)]
 pub(crate) struct Handles(AtomicUsize);
 
+/// Why a wait was refused.
+pub(crate) fn wait_error(refused: Refused<ListenError>) -> LockError {
+    match refused {
+        Refused::Memory => LockError::Memory(AllocError),
+        Refused::Request(error) => LockError::Listen(error),
+    }
+}
+
 impl<T> Channel<T> {
     /// An open channel without messages, with one handle of each side.
     pub(crate) fn new(alloc: Global, capacity: Option<usize>) -> Result<Self, AllocError>
@@ -81,42 +91,24 @@ impl<T> Channel<T> {
 
     /// Puts a message behind all others, if the channel is open and not full.
     #[inline(always)]
-    pub(crate) fn try_send<R: Wait>(&self, rt: &R, message: T) -> Result<(), TrySendError<T>>
-        ensures { IfErr result (λ error. unsent_at_once error ≡ message) }
+    pub(crate) fn try_send<R: Wait>(&self, rt: &R, message: T) -> Result<(), SendError<T>>
+        ensures returned { IfErr result (λ error. error.message ≡ message) }
+        ensures reason { IfErr result (λ error. IsUnsentAtOnce error.reason) }
     {
-        let mut waking = Waking::new();
-        let mut messages = self.lock.state(rt);
-        let sent = messages.push(message, &mut waking);
-        drop(messages);
-        waking.finish();
-        sent
+        step!(self.lock, rt, messages, waking => messages.push(message, &mut waking))
     }
 
     /// Puts a message behind all others, if the channel is open, and takes the first out if it is full.
-    pub(crate) fn force_send<R: Wait>(
-        &self,
-        rt: &R,
-        message: T,
-    ) -> Result<Option<T>, TrySendError<T>>
-        ensures returned { IfErr result (λ error. unsent_at_once error ≡ message) }
-        ensures unfull { IfErr result IsNotFull }
+    pub(crate) fn force_send<R: Wait>(&self, rt: &R, message: T) -> Result<Option<T>, SendError<T>>
+        ensures returned { IfErr result (λ error. error.message ≡ message) }
+        ensures reason { IfErr result (λ error. IsUnsent error.reason) }
     {
-        let mut waking = Waking::new();
-        let mut messages = self.lock.state(rt);
-        let sent = messages.push_forced(message, &mut waking);
-        drop(messages);
-        waking.finish();
-        sent
+        step!(self.lock, rt, messages, waking => messages.push_forced(message, &mut waking))
     }
 
     /// Closes the channel and wakes all that wait, or returns `false` if it is closed already.
     pub(crate) fn close<R: Wait>(&self, rt: &R) -> bool {
-        let mut waking = Waking::new();
-        let mut messages = self.lock.state(rt);
-        let is_closed = messages.close(&mut waking);
-        drop(messages);
-        waking.finish();
-        is_closed
+        step!(self.lock, rt, messages, waking => messages.close(&mut waking))
     }
 
     pub(crate) fn is_closed<R: Wait>(&self, rt: &R) -> bool {

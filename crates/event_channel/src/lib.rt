@@ -16,11 +16,9 @@ mod sender;
 mod sending;
 
 pub use channel::ChannelError;
-pub use error::{
-    RecvError, RecvTimeoutError, SendError, SendTimeoutError, TryRecvError, TrySendError,
-};
+pub use error::{RecvError, RecvTimeoutError, SendError, SendReason, TryRecvError};
 pub use iter::{Iter, TryIter};
-pub use messages::{Messages, Received, Sent, received_in_order};
+pub use messages::{Messages, received_in_order};
 pub use receiver::{Receiver, WeakReceiver};
 pub use recv::Recv;
 pub use send::Send;

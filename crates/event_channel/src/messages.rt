@@ -3,14 +3,14 @@ ghost use Rattle.std.specs.Prelude.{◌≡◌, ◌+◌, ◌-◌, ◌<◌, ◌≤
 ghost use Rattle.std.specs.List.{FoldsTo};
 ghost use Rattle.std.specs.VecDeque.{deque_capacity};
 ghost use Rattle.event_locks.specs.Line.{TellsAll, TellsUpTo, or_more, woken_up_to, woken_at_once};
+ghost use Rattle.event_channel.specs.Errors.{IsUnsent, IsUnsentAtOnce};
 ghost use Rattle.event_channel.specs.Messages.{NobodyWaitsInVain, IsFull, limit_of, new_state, room_in};
 ghost use Rattle.event_channel.specs.Order.{IsReceivedInOrder};
-ghost use Rattle.event_channel.specs.Steps.{Pushes, Refuses, Forces, RefusesForce, Takes, IsEmptyFor, Closes, woken_by_forcing, woken_by_pushing, woken_by_taking};
+ghost use Rattle.event_channel.specs.Steps.{Pushes, Refuses, Forces, Takes, IsEmptyFor, Closes, woken_by_forcing, woken_by_pushing, woken_by_taking};
 
 mod waits;
 
-pub use self::waits::{Received, Sent};
-use crate::error::{TryRecvError, TrySendError};
+use crate::error::{SendError, SendReason, TryRecvError};
 use event_locks::waiters::{tell_all, tell_more};
 use event_queue::{List, WakeSink};
 use std::alloc::{AllocError, AllocFailed, Global};
@@ -113,17 +113,19 @@ impl<T, W> Messages<T, W> {
 
     /// Puts a message behind all others, if the channel is open and not full, and wakes a receiver and all streams. It
     /// allocates only where there is no limit.
-    pub fn push<S: WakeSink<W>>(&mut self, message: T, sink: &mut S) -> Result<(), TrySendError<T>>
+    pub fn push<S: WakeSink<W>>(&mut self, message: T, sink: &mut S) -> Result<(), SendError<T>>
         ensures pushed { IfOk result (λ _. Pushes message self.old self.new) }
         ensures wakes { IfOk result (λ _. FoldsTo S.woke sink.old (woken_by_pushing self.old self.new) sink.new) }
+        ensures returned { IfErr result (λ error. error.message ≡ message) }
         ensures refused { OnErr result ((self.new ≡ self.old) × (sink.new ≡ sink.old)) }
-        ensures reason { IfErr result (Refuses message self.old) }
+        ensures reason { IfErr result (λ error. Refuses self.old error.reason) }
+        ensures at_once { IfErr result (λ error. IsUnsentAtOnce error.reason) }
     {
         if self.is_closed {
-            return Err(TrySendError::Closed(message));
+            return Err(SendError::new(message, SendReason::Closed));
         }
         if self.items.len() >= self.capacity {
-            return Err(TrySendError::Full(message));
+            return Err(SendError::new(message, SendReason::Full));
         }
         match self.items.push_back(message) {
             Ok(()) => {
@@ -131,21 +133,23 @@ impl<T, W> Messages<T, W> {
                 tell_of(&mut self.receivers, &mut self.streams, messages, sink);
                 Ok(())
             }
-            Err(AllocFailed { value }) => Err(TrySendError::Memory(value)),
+            Err(AllocFailed { value }) => Err(SendError::new(value, SendReason::Memory)),
         }
     }
 
     /// [`push`](Messages::push), but where the channel is full the first message of all goes out, and is returned: then nobody
-    /// is woken. It never returns [`TrySendError::Full`].
+    /// is woken.
     pub fn push_forced<S: WakeSink<W>>(
         &mut self,
         message: T,
         sink: &mut S,
-    ) -> Result<Option<T>, TrySendError<T>>
+    ) -> Result<Option<T>, SendError<T>>
         ensures forced { IfOk result (λ out. Forces message out self.old self.new) }
         ensures wakes { IfOk result (λ out. FoldsTo S.woke sink.old (woken_by_forcing out self.old self.new) sink.new) }
+        ensures returned { IfErr result (λ error. error.message ≡ message) }
         ensures refused { OnErr result ((self.new ≡ self.old) × (sink.new ≡ sink.old)) }
-        ensures reason { IfErr result (RefusesForce message self.old) }
+        ensures reason { IfErr result (λ error. Refuses self.old error.reason) }
+        ensures unfull { IfErr result (λ error. IsUnsent error.reason) }
     {
         if !self.is_closed && self.items.len() >= self.capacity {
             return Ok(Some(replace_first(&mut self.items, message)));

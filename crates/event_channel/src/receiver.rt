@@ -1,19 +1,23 @@
 //! The side that receives.
-ghost use Rattle.std.specs.Prelude.{◌≡◌, ◌≤◌, Ok, Some, IfOk, IfSome, IsSome};
+ghost use Rattle.std.specs.Prelude.{◌≡◌, ◌<◌, ◌≤◌, Ok, Some, IfOk, IfSome, IsSome, OnErr};
+ghost use Rattle.event_channel.specs.Many.{Appends, Collects};
+ghost use Rattle.event_channel.specs.Waits.{Gets};
 
-use crate::channel::Link;
+use crate::channel::{Link, wait_error};
 use crate::error::{RecvError, RecvTimeoutError, TryRecvError};
-use crate::receiving::{Ended, Receiving, ReceivingMany};
+use crate::receiving::{Receiving, ReceivingMany};
 use crate::recv::Recv;
-use event_locks::{Limit, LockError};
+use event_locks::LockError;
+use event_queue::ListenError;
+use event_wait::{Limit, Refused};
 use futures::Stream;
 use futures::task::{Context, Poll};
 use std::alloc::AllocError;
-use std::fmt;
 use std::fmt::{Debug, Formatter};
 use std::marker::Model;
 use std::sync::Wait;
 use std::time::{Clock, Duration, Instant};
+use std::{fmt, mem};
 
 /// Receives the messages of a channel. Clones receive of the same one; when the last is dropped, the channel is closed.
 ///
@@ -35,27 +39,27 @@ impl<T: Drop, R: Wait + Clock + Clone> Model for Receiver<T, R> {
 }
 
 // What a wait without a limit received.
-fn received<T>(waited: Result<Option<Result<T, Ended>>, LockError>) -> Result<T, RecvError>
+fn received<T>(waited: Result<Option<Option<T>>, Refused<ListenError>>) -> Result<T, RecvError>
     requires { IfOk waited IsSome }
-    ensures { IfOk result (λ message. waited ≡ Ok (Some (Ok message))) }
+    ensures { IfOk result (λ message. waited ≡ Ok (Some (Some message))) }
 {
     match waited {
-        Ok(Some(Ok(message))) => Ok(message),
-        Ok(Some(Err(Ended))) => Err(RecvError::Closed),
+        Ok(Some(Some(message))) => Ok(message),
+        Ok(Some(None)) => Err(RecvError::Closed),
         Ok(None) => unreachable!(),
-        Err(error) => Err(RecvError::WaitFailed(error)),
+        Err(error) => Err(RecvError::WaitFailed(wait_error(error))),
     }
 }
 
 // What a wait with a limit received.
 fn received_in_time<T>(
-    waited: Result<Option<Result<T, Ended>>, LockError>,
+    waited: Result<Option<Option<T>>, Refused<ListenError>>,
 ) -> Result<T, RecvTimeoutError> {
     match waited {
-        Ok(Some(Ok(message))) => Ok(message),
-        Ok(Some(Err(Ended))) => Err(RecvTimeoutError::Closed),
+        Ok(Some(Some(message))) => Ok(message),
+        Ok(Some(None)) => Err(RecvTimeoutError::Closed),
         Ok(None) => Err(RecvTimeoutError::TimedOut),
-        Err(error) => Err(RecvTimeoutError::WaitFailed(error)),
+        Err(error) => Err(RecvTimeoutError::WaitFailed(wait_error(error))),
     }
 }
 
@@ -82,8 +86,8 @@ impl<T: Drop, R: Wait + Clock + Clone> Receiver<T, R> {
             .lock
             .attempt(&self.link.rt, &mut Receiving::one())
         {
-            Some(Ok(message)) => Ok(message),
-            Some(Err(Ended)) => Err(TryRecvError::Closed),
+            Some(Some(message)) => Ok(message),
+            Some(None) => Err(TryRecvError::Closed),
             None => Err(TryRecvError::Empty),
         }
     }
@@ -126,7 +130,10 @@ impl<T: Drop, R: Wait + Clock + Clone> Receiver<T, R> {
     /// refused, and for as many as wait at the moment, which is no error. It takes no more than there is room for, so
     /// reserve room for `limit` messages to have as many as it finds.
     pub fn recv_many(&self, into: &mut Vec<T>, limit: usize) -> Result<usize, RecvError>
-        ensures { IfOk result (λ count. count ≤ limit) }
+        ensures most { IfOk result (λ count. count ≤ limit) }
+        ensures one { IfOk result (λ count. 0 < limit → 0 < count) }
+        ensures appended { IfOk result (λ count. Appends count into.old.items into.new.items) }
+        ensures kept { OnErr result (into.new.items ≡ into.old.items) }
     {
         if limit == 0 {
             return Ok(0);
@@ -137,17 +144,33 @@ impl<T: Drop, R: Wait + Clock + Clone> Receiver<T, R> {
         if into.capacity() - into.len() < limit {
             let _ = into.reserve(limit.min(self.len()));
         }
-        let mut many = ReceivingMany::new(into, limit - 1);
-        let waited = self
-            .link
+        let before = mem::replace(into, Vec::new(self.link.alloc));
+        let mut many = ReceivingMany::new(before, limit - 1);
+        let collected = self.collect(&mut many);
+        *into = many.into_messages();
+        match collected {
+            Ok(Some(Some(count))) => Ok(count),
+            Ok(Some(None)) => Err(RecvError::Closed),
+            Ok(None) => unreachable!(),
+            Err(error) => Err(RecvError::WaitFailed(wait_error(error))),
+        }
+    }
+
+    fn collect(
+        &self,
+        many: &mut ReceivingMany<T>,
+    ) -> Result<Option<Option<usize>>, Refused<ListenError>>
+        ensures never { IfOk result IsSome }
+        ensures gets { Gets Collects many.old result many.new }
+    {
+        self.link
             .channel
             .lock
-            .obtain(&self.link.rt, self.link.alloc, &mut many, Limit::Never);
-        received(waited)
+            .obtain(&self.link.rt, self.link.alloc, many, Limit::Never)
     }
 
     #[inline(always)]
-    fn wait(&self, limit: Limit) -> Result<Option<Result<T, Ended>>, LockError>
+    fn wait(&self, limit: Limit) -> Result<Option<Option<T>>, Refused<ListenError>>
         ensures never { limit ≡ Limit.Never → IfOk result IsSome }
     {
         let mut receiving = Receiving::one();
@@ -251,9 +274,9 @@ impl<T: Drop, R: Wait + Clock + Clone> Stream for Receiver<T, R> {
             .lock
             .poll_in(&self.link.rt, &mut self.stream, cx)
         {
-            Poll::Ready(Ok(Ok(message))) => Poll::Ready(Some(Ok(message))),
-            Poll::Ready(Ok(Err(Ended))) => Poll::Ready(None),
-            Poll::Ready(Err(error)) => Poll::Ready(Some(Err(error))),
+            Poll::Ready(Ok(Some(message))) => Poll::Ready(Some(Ok(message))),
+            Poll::Ready(Ok(None)) => Poll::Ready(None),
+            Poll::Ready(Err(error)) => Poll::Ready(Some(Err(LockError::Listen(error)))),
             Poll::Pending => Poll::Pending,
         }
     }

@@ -1,16 +1,11 @@
 //! Receives that wait for a message.
-ghost use Rattle.std.specs.Prelude.{◌≡◌};
+ghost use Rattle.std.specs.Prelude.{◌≡◌, vec_len};
 
 use crate::error::TryRecvError;
-use crate::messages::{Messages, Received};
-use event_locks::{Attempted, LockError, Request, Task};
-use event_queue::{Key, TaskExchange, WakeSink};
-use std::alloc::AllocError;
+use crate::messages::Messages;
+use event_queue::{Key, ListenError, TaskExchange, WakeSink};
+use event_wait::{Attempt, Attempted, Request, Task};
 use std::marker::Model;
-
-/// The end: the channel is closed, and no message waits.
-#[derive(Clone, Copy)]
-pub(crate) struct Ended;
 
 /// The place of one that receives a message, or all as a stream, in its queue.
 #[derive(Drop)]
@@ -42,10 +37,46 @@ impl Receiving {
 }
 
 impl<T> Request<Messages<T, Task>> for Receiving {
-    type Output = Result<T, Ended>;
+    // A message, or the end: there is none, and the channel is closed.
+    type Output = Option<T>;
 
-    ghost gives = { λ _ _. Unit {0} };
+    type Refusal = ListenError;
 
+    ghost use Rattle.event_wait.specs.Attempted.{LeavesBy};
+
+    ghost succeeds = { λ _ _ _. Unit {0} };
+
+    ghost leaves = { LeavesBy (λ _ _ _. Unit {0}) };
+
+    fn attempt_or_wait<C, X: TaskExchange<Task, C>, K: WakeSink<Task>>(
+        &mut self,
+        state: &mut Messages<T, Task>,
+        exchange: &X,
+        on: &mut C,
+        sink: &mut K,
+    ) -> Attempted<Option<T>, ListenError> {
+        let key = self.key.take();
+        let attempted = if self.is_stream {
+            state.next_or_wait(key, exchange, on, sink)
+        } else {
+            state.pop_or_wait(key, exchange, on, sink)
+        };
+        self.key = attempted.key();
+        attempted
+    }
+
+    fn leave<K: WakeSink<Task>>(
+        &mut self,
+        state: &mut Messages<T, Task>,
+        sink: &mut K,
+    ) -> Result<Option<Option<T>>, ListenError> {
+        let received = self.attempt(state, sink);
+        self.give_up(state, sink);
+        Ok(received)
+    }
+}
+
+impl<T> Attempt<Messages<T, Task>> for Receiving {
     fn is_waiting(&self) -> bool {
         self.key.is_some()
     }
@@ -55,35 +86,11 @@ impl<T> Request<Messages<T, Task>> for Receiving {
         &mut self,
         state: &mut Messages<T, Task>,
         sink: &mut K,
-    ) -> Option<Result<T, Ended>> {
+    ) -> Option<Option<T>> {
         match state.pop(sink) {
-            Ok(message) => Some(Ok(message)),
+            Ok(message) => Some(Some(message)),
             Err(TryRecvError::Empty) => None,
-            Err(TryRecvError::Closed) => Some(Err(Ended)),
-        }
-    }
-
-    fn attempt_or_wait<C, X: TaskExchange<Task, C>, K: WakeSink<Task>>(
-        &mut self,
-        state: &mut Messages<T, Task>,
-        exchange: &X,
-        on: &mut C,
-        sink: &mut K,
-    ) -> Attempted<Result<T, Ended>> {
-        let key = self.key.take();
-        let received = if self.is_stream {
-            state.next_or_wait(key, exchange, on, sink)
-        } else {
-            state.pop_or_wait(key, exchange, on, sink)
-        };
-        match received {
-            Received::Message(message) => Attempted::Done(Ok(message)),
-            Received::Waits(key) => {
-                self.key = Some(key);
-                Attempted::Waits(key)
-            }
-            Received::Closed => Attempted::Done(Err(Ended)),
-            Received::WaitFailed(error) => Attempted::Refused(LockError::Listen(error)),
+            Err(TryRecvError::Closed) => Some(None),
         }
     }
 
@@ -97,27 +104,28 @@ impl<T> Request<Messages<T, Task>> for Receiving {
     }
 }
 
-/// The place of one that receives many messages at once, and where they go. A contract sees how many beside the first it
-/// takes at most.
+/// The place of one that receives many messages at once, and where they go. A contract sees where, and how many beside the
+/// first it takes at most.
 #[derive(Drop)]
-pub(crate) struct ReceivingMany<'a, T> {
+pub(crate) struct ReceivingMany<T> {
     one: Receiving,
-    into: &'a mut Vec<T>,
+    into: Vec<T>,
     more: usize,
 }
 
-impl<'a, T> Model for ReceivingMany<'a, T> {
-    ghost use Rattle.std.specs.Prelude.{ℕ};
+impl<T> Model for ReceivingMany<T> {
+    ghost use Rattle.event_channel.specs.Many.{Many};
 
-    ghost Value = { ℕ };
+    ghost Value = { Many T };
 
-    ghost view = { λ many. many.more };
+    ghost view = { λ many. record { into = many.into.items; more = many.more } };
 }
 
-impl<'a, T> ReceivingMany<'a, T> {
+impl<T> ReceivingMany<T> {
     /// Of a vector that has room for one message at least.
-    pub(crate) fn new(into: &'a mut Vec<T>, more: usize) -> Self
-        ensures { result ≡ more }
+    pub(crate) fn new(into: Vec<T>, more: usize) -> Self
+        ensures into { result.into ≡ into.items }
+        ensures more { result.more ≡ more }
     {
         ReceivingMany {
             one: Receiving::one(),
@@ -125,35 +133,31 @@ impl<'a, T> ReceivingMany<'a, T> {
             more,
         }
     }
+
+    pub(crate) fn into_messages(self) -> Vec<T>
+        ensures { result.items ≡ self.into }
+    {
+        let ReceivingMany {
+            one: _,
+            into,
+            more: _,
+        } = self;
+        into
+    }
 }
 
-impl<'a, T> Request<Messages<T, Task>> for ReceivingMany<'a, T> {
-    type Output = Result<usize, Ended>;
+impl<T> Request<Messages<T, Task>> for ReceivingMany<T> {
+    // How many messages, or the end.
+    type Output = Option<usize>;
 
-    ghost use Rattle.std.specs.Prelude.{◌+◌, ◌≤◌, IfOk};
+    type Refusal = ListenError;
 
-    ghost gives = { λ before output. IfOk output (λ count. count ≤ before + 1) };
+    ghost use Rattle.event_wait.specs.Attempted.{LeavesBy};
+    ghost use Rattle.event_channel.specs.Many.{Collects};
 
-    fn is_waiting(&self) -> bool {
-        self.one.key.is_some()
-    }
+    ghost succeeds = { Collects };
 
-    fn attempt<K: WakeSink<Task>>(
-        &mut self,
-        state: &mut Messages<T, Task>,
-        sink: &mut K,
-    ) -> Option<Result<usize, Ended>> {
-        if self.into.len() == self.into.capacity() {
-            return None;
-        }
-        match self.one.attempt(state, sink)? {
-            Ok(message) => {
-                self.into.push_reserved(message);
-                Some(Ok(1 + state.pop_into(self.into, self.more, sink)))
-            }
-            Err(Ended) => Some(Err(Ended)),
-        }
-    }
+    ghost leaves = { LeavesBy Collects };
 
     // It leaves the queue once it has all that it takes, so nobody is notified of that. Room was reserved before: without any
     // it is refused.
@@ -163,24 +167,57 @@ impl<'a, T> Request<Messages<T, Task>> for ReceivingMany<'a, T> {
         exchange: &X,
         on: &mut C,
         sink: &mut K,
-    ) -> Attempted<Result<usize, Ended>> {
+    ) -> Attempted<Option<usize>, ListenError> {
         if let Some(output) = self.attempt(state, sink) {
-            self.one.give_up(state, sink);
+            self.give_up(state, sink);
             return Attempted::Done(output);
         }
         if self.into.len() == self.into.capacity() {
-            self.one.give_up(state, sink);
-            return Attempted::Refused(LockError::Memory(AllocError));
+            self.give_up(state, sink);
+            return Attempted::Refused(ListenError::Memory);
         }
         match self.one.attempt_or_wait(state, exchange, on, sink) {
-            Attempted::Done(Ok(message)) => {
+            Attempted::Done(Some(message)) => {
                 self.into.push_reserved(message);
-                Attempted::Done(Ok(1))
+                Attempted::Done(Some(1))
             }
-            Attempted::Done(Err(Ended)) => Attempted::Done(Err(Ended)),
+            Attempted::Done(None) => Attempted::Done(None),
             Attempted::Waits(key) => Attempted::Waits(key),
             Attempted::Absent => Attempted::Absent,
             Attempted::Refused(error) => Attempted::Refused(error),
+        }
+    }
+
+    fn leave<K: WakeSink<Task>>(
+        &mut self,
+        state: &mut Messages<T, Task>,
+        sink: &mut K,
+    ) -> Result<Option<Option<usize>>, ListenError> {
+        let received = self.attempt(state, sink);
+        self.give_up(state, sink);
+        Ok(received)
+    }
+}
+
+impl<T> Attempt<Messages<T, Task>> for ReceivingMany<T> {
+    fn is_waiting(&self) -> bool {
+        self.one.key.is_some()
+    }
+
+    fn attempt<K: WakeSink<Task>>(
+        &mut self,
+        state: &mut Messages<T, Task>,
+        sink: &mut K,
+    ) -> Option<Option<usize>> {
+        if self.into.len() == self.into.capacity() {
+            return None;
+        }
+        match self.one.attempt(state, sink)? {
+            Some(message) => {
+                self.into.push_reserved(message);
+                Some(Some(1 + state.pop_into(&mut self.into, self.more, sink)))
+            }
+            None => Some(None),
         }
     }
 

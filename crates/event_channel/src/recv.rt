@@ -3,7 +3,8 @@ ghost use Rattle.std.specs.Prelude.{◌≡◌};
 
 use crate::channel::Channel;
 use crate::error::RecvError;
-use crate::receiving::{Ended, Receiving};
+use crate::receiving::Receiving;
+use event_locks::LockError;
 use futures::Future;
 use futures::task::{Context, Poll};
 use std::fmt;
@@ -62,9 +63,11 @@ impl<'a, T: Drop, R: Wait + Clock + Clone> Future for Recv<'a, T, R> {
 
     fn poll(&mut self, cx: &mut Context<'_>) -> Poll<Result<T, RecvError>> {
         match self.channel.lock.poll_in(self.rt, &mut self.receiving, cx) {
-            Poll::Ready(Ok(Ok(message))) => Poll::Ready(Ok(message)),
-            Poll::Ready(Ok(Err(Ended))) => Poll::Ready(Err(RecvError::Closed)),
-            Poll::Ready(Err(error)) => Poll::Ready(Err(RecvError::WaitFailed(error))),
+            Poll::Ready(Ok(Some(message))) => Poll::Ready(Ok(message)),
+            Poll::Ready(Ok(None)) => Poll::Ready(Err(RecvError::Closed)),
+            Poll::Ready(Err(error)) => {
+                Poll::Ready(Err(RecvError::WaitFailed(LockError::Listen(error))))
+            }
             Poll::Pending => Poll::Pending,
         }
     }

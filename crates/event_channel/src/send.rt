@@ -3,8 +3,9 @@ ghost use Rattle.std.specs.Prelude.{◌≡◌, Some};
 ghost use Rattle.event_channel.specs.Handle.{Carries};
 
 use crate::channel::Channel;
-use crate::error::SendError;
+use crate::error::{SendError, SendReason};
 use crate::sending::Sending;
+use event_locks::LockError;
 use futures::Future;
 use futures::task::{Context, Poll};
 use std::fmt;
@@ -59,21 +60,22 @@ impl<'a, T: Drop, R: Wait + Clock + Clone> Future for Send<'a, T, R> {
     type Output = Result<(), SendError<T>>;
 
     ghost use Rattle.std.specs.Prelude.{◌≡◌, IfErr};
-    ghost use Rattle.event_channel.specs.Errors.{unsent};
+    ghost use Rattle.event_channel.specs.Errors.{IsUnsentByWaiting};
     ghost use Rattle.event_channel.specs.Handle.{Carries};
 
     ghost can_poll = { λ send. (message : T) × Carries message send };
 
     ghost needs = { λ send s. s ≡ send.channel };
 
-    ghost gives = { λ send output. IfErr output (λ error. Carries (unsent error) send) };
+    ghost gives = { λ send output. IfErr output (λ error. Carries error.message send × IsUnsentByWaiting error.reason) };
 
     fn poll(&mut self, cx: &mut Context<'_>) -> Poll<Result<(), SendError<T>>> {
         match self.channel.lock.poll_in(self.rt, &mut self.sending, cx) {
-            Poll::Ready(Ok(sent)) => Poll::Ready(sent),
+            Poll::Ready(Ok(Ok(()))) => Poll::Ready(Ok(())),
+            Poll::Ready(Ok(Err(reason))) => Poll::Ready(Err(self.sending.refuse(reason))),
             Poll::Ready(Err(error)) => {
-                let message = self.sending.take();
-                Poll::Ready(Err(SendError::WaitFailed(message, error)))
+                let reason = SendReason::WaitFailed(LockError::Listen(error));
+                Poll::Ready(Err(self.sending.refuse(reason)))
             }
             Poll::Pending => Poll::Pending,
         }

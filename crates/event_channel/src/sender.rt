@@ -1,15 +1,18 @@
 //! The side that sends.
-ghost use Rattle.std.specs.Prelude.{◌≡◌, ◌≢◌, ◌↔◌, Some, None, Err, IfOk, IfErr, IfSome};
-ghost use Rattle.event_channel.specs.Errors.{unsent, unsent_in_time, unsent_at_once};
+ghost use Rattle.std.specs.Prelude.{◌≡◌, ◌≢◌, ◌↔◌, Some, None, Err, IfOk, IfErr, IfSome, IsSome};
+ghost use Rattle.event_channel.specs.Errors.{IsUnsent, IsUnsentAtOnce, IsUnsentByWaiting, IsUnsentInTime};
 ghost use Rattle.event_channel.specs.Handle.{Carries};
+ghost use Rattle.event_channel.specs.Waits.{Empties, Gets};
 ghost use Rattle.event_channel.specs.declared.channel.ChannelError.TheVariants.{ZeroCapacity};
+ghost use Rattle.event_wait.specs.declared.lock.limit.Limit.TheVariants.{Never};
 
-use crate::channel::{Channel, ChannelError, Link};
-use crate::error::{SendError, SendTimeoutError, TrySendError};
+use crate::channel::{Channel, ChannelError, Link, wait_error};
+use crate::error::{SendError, SendReason};
 use crate::receiver::Receiver;
 use crate::send::Send;
 use crate::sending::Sending;
-use event_locks::Limit;
+use event_queue::ListenError;
+use event_wait::{Limit, Refused};
 use std::alloc::{AllocError, Global};
 use std::fmt;
 use std::fmt::{Debug, Formatter};
@@ -103,8 +106,9 @@ impl<T: Drop, R: Wait + Clock + Clone> Sender<T, R> {
     ///
     /// An error hands the message back. The call allocates if the channel has no limit and no room.
     #[inline(always)]
-    pub fn try_send(&self, message: T) -> Result<(), TrySendError<T>>
-        ensures returned { IfErr result (λ error. unsent_at_once error ≡ message) }
+    pub fn try_send(&self, message: T) -> Result<(), SendError<T>>
+        ensures returned { IfErr result (λ error. error.message ≡ message) }
+        ensures reason { IfErr result (λ error. IsUnsentAtOnce error.reason) }
     {
         self.link.channel.try_send(&self.link.rt, message)
     }
@@ -113,14 +117,10 @@ impl<T: Drop, R: Wait + Clock + Clone> Sender<T, R> {
     ///
     /// An error hands the message back. The call allocates if the channel has no limit and no room.
     pub fn force_send(&self, message: T) -> Result<Option<T>, SendError<T>>
-        ensures returned { IfErr result (λ error. unsent error ≡ message) }
+        ensures returned { IfErr result (λ error. error.message ≡ message) }
+        ensures reason { IfErr result (λ error. IsUnsent error.reason) }
     {
-        match self.link.channel.force_send(&self.link.rt, message) {
-            Ok(out) => Ok(out),
-            Err(TrySendError::Closed(message)) => Err(SendError::Closed(message)),
-            Err(TrySendError::Memory(message)) => Err(SendError::Memory(message)),
-            Err(TrySendError::Full(_)) => unreachable!(),
-        }
+        self.link.channel.force_send(&self.link.rt, message)
     }
 
     /// Sends a message once there is room: to be awaited. Nothing is sent before it is polled.
@@ -138,27 +138,19 @@ impl<T: Drop, R: Wait + Clock + Clone> Sender<T, R> {
     /// parks on.
     #[inline(always)]
     pub fn send_blocking(&self, message: T) -> Result<(), SendError<T>>
-        ensures returned { IfErr result (λ error. unsent error ≡ message) }
+        ensures returned { IfErr result (λ error. error.message ≡ message) }
+        ensures reason { IfErr result (λ error. IsUnsentByWaiting error.reason) }
     {
-        let mut sending = Sending::new(message);
-        let sent = self
-            .link
-            .channel
-            .lock
-            .obtain(&self.link.rt, self.link.alloc, &mut sending, Limit::Never);
-        match sent {
-            Ok(Some(sent)) => sent,
-            Ok(None) => unreachable!(),
-            Err(error) => Err(SendError::WaitFailed(sending.take(), error)),
-        }
+        self.send_until(message, Limit::Never)
     }
 
     /// Sends a message once there is room, and blocks the calling thread until then, or until so much time has passed. With
     /// a timeout of zero, too, it is attempted.
     ///
     /// An error hands the message back. The call allocates where it has to wait.
-    pub fn send_timeout(&self, message: T, timeout: Duration) -> Result<(), SendTimeoutError<T>>
-        ensures returned { IfErr result (λ error. unsent_in_time error ≡ message) }
+    pub fn send_timeout(&self, message: T, timeout: Duration) -> Result<(), SendError<T>>
+        ensures returned { IfErr result (λ error. error.message ≡ message) }
+        ensures reason { IfErr result (λ error. IsUnsentInTime error.reason) }
     {
         self.send_until(message, Limit::after(&self.link.rt, timeout))
     }
@@ -167,27 +159,41 @@ impl<T: Drop, R: Wait + Clock + Clone> Sender<T, R> {
     /// has passed, too, it is attempted.
     ///
     /// An error hands the message back. The call allocates where it has to wait.
-    pub fn send_deadline(&self, message: T, deadline: Instant) -> Result<(), SendTimeoutError<T>>
-        ensures returned { IfErr result (λ error. unsent_in_time error ≡ message) }
+    pub fn send_deadline(&self, message: T, deadline: Instant) -> Result<(), SendError<T>>
+        ensures returned { IfErr result (λ error. error.message ≡ message) }
+        ensures reason { IfErr result (λ error. IsUnsentInTime error.reason) }
     {
         self.send_until(message, Limit::At(deadline))
     }
 
-    fn send_until(&self, message: T, limit: Limit) -> Result<(), SendTimeoutError<T>>
-        ensures { IfErr result (λ error. unsent_in_time error ≡ message) }
+    #[inline(always)]
+    fn send_until(&self, message: T, limit: Limit) -> Result<(), SendError<T>>
+        ensures returned { IfErr result (λ error. error.message ≡ message) }
+        ensures reason { IfErr result (λ error. IsUnsentInTime error.reason) }
+        ensures never { limit ≡ Never → IfErr result (λ error. IsUnsentByWaiting error.reason) }
     {
         let mut sending = Sending::new(message);
-        let sent = self
-            .link
+        match self.wait(&mut sending, limit) {
+            Ok(Some(Ok(()))) => Ok(()),
+            Ok(Some(Err(reason))) => Err(sending.refuse(reason)),
+            Ok(None) => Err(sending.refuse(SendReason::TimedOut)),
+            Err(error) => Err(sending.refuse(SendReason::WaitFailed(wait_error(error)))),
+        }
+    }
+
+    #[inline(always)]
+    fn wait(
+        &self,
+        sending: &mut Sending<T>,
+        limit: Limit,
+    ) -> Result<Option<Result<(), SendReason>>, Refused<ListenError>>
+        ensures never { limit ≡ Never → IfOk result IsSome }
+        ensures gets { Gets Empties sending.old result sending.new }
+    {
+        self.link
             .channel
             .lock
-            .obtain(&self.link.rt, self.link.alloc, &mut sending, limit);
-        match sent {
-            Ok(Some(Ok(()))) => Ok(()),
-            Ok(Some(Err(error))) => Err(SendTimeoutError::from(error)),
-            Ok(None) => Err(SendTimeoutError::TimedOut(sending.take())),
-            Err(error) => Err(SendTimeoutError::WaitFailed(sending.take(), error)),
-        }
+            .obtain(&self.link.rt, self.link.alloc, sending, limit)
     }
 
     /// Closes the channel, and wakes all that wait, under its lock but for the last. Returns `false` if it is closed already.

@@ -1,10 +1,10 @@
 //! Sends that wait for room.
 ghost use Rattle.std.specs.Prelude.{◌≡◌, Some, IsSome};
 
-use crate::error::{SendError, TrySendError};
-use crate::messages::{Messages, Sent};
-use event_locks::{Attempted, LockError, Request, Task};
-use event_queue::{Key, TaskExchange, WakeSink};
+use crate::error::{SendError, SendReason};
+use crate::messages::Messages;
+use event_queue::{Key, ListenError, TaskExchange, WakeSink};
+use event_wait::{Attempt, Attempted, Request, Task};
 use std::marker::Model;
 
 /// A message that is to be sent, and the place of its sender in the queue. A contract sees the message until it is sent or
@@ -33,45 +33,55 @@ impl<T> Sending<T> {
         }
     }
 
-    /// The message of a send that is not done.
-    pub(crate) fn take(&mut self) -> T
+    /// The message was not sent, for this reason.
+    pub(crate) fn refuse(&mut self, reason: SendReason) -> SendError<T>
         requires { IsSome self.old }
-        ensures { self.old ≡ Some result }
+        ensures message { self.old ≡ Some result.message }
+        ensures reason { result.reason ≡ reason }
     {
         match self.message.take() {
-            Some(message) => message,
+            Some(message) => SendError::new(message, reason),
             None => unreachable!(),
         }
     }
 }
 
-impl<T: Drop> Sending<T> {
-    // The sender waits by this key.
-    fn wait(&mut self, key: Key, message: T)
-        ensures { self.new ≡ Some message }
-    {
-        self.key = Some(key);
-        self.message = Some(message);
+impl<T: Drop> Request<Messages<T, Task>> for Sending<T> {
+    type Output = Result<(), SendReason>;
+
+    type Refusal = ListenError;
+
+    ghost use Rattle.event_wait.specs.Attempted.{LeavesBy};
+    ghost use Rattle.event_channel.specs.Waits.{Empties};
+
+    ghost succeeds = { Empties };
+
+    ghost leaves = { LeavesBy Empties };
+
+    fn attempt_or_wait<C, X: TaskExchange<Task, C>, K: WakeSink<Task>>(
+        &mut self,
+        state: &mut Messages<T, Task>,
+        exchange: &X,
+        on: &mut C,
+        sink: &mut K,
+    ) -> Attempted<Result<(), SendReason>, ListenError> {
+        let attempted = state.push_or_wait(&mut self.message, self.key.take(), exchange, on, sink);
+        self.key = attempted.key();
+        attempted
     }
 
-    // The message was not sent.
-    fn keep(&mut self, message: T)
-        ensures { self.new ≡ Some message }
-    {
-        self.key = None;
-        self.message = Some(message);
+    fn leave<K: WakeSink<Task>>(
+        &mut self,
+        state: &mut Messages<T, Task>,
+        sink: &mut K,
+    ) -> Result<Option<Result<(), SendReason>>, ListenError> {
+        let sent = self.attempt(state, sink);
+        self.give_up(state, sink);
+        Ok(sent)
     }
 }
 
-impl<T: Drop> Request<Messages<T, Task>> for Sending<T> {
-    type Output = Result<(), SendError<T>>;
-
-    ghost use Rattle.std.specs.Prelude.{◌≡◌, Some, IfErr};
-    ghost use Rattle.event_channel.specs.Errors.{unsent};
-
-    // What comes back is the message.
-    ghost gives = { λ before output. IfErr output (λ error. before ≡ Some (unsent error)) };
-
+impl<T: Drop> Attempt<Messages<T, Task>> for Sending<T> {
     fn is_waiting(&self) -> bool {
         self.key.is_some()
     }
@@ -81,40 +91,16 @@ impl<T: Drop> Request<Messages<T, Task>> for Sending<T> {
         &mut self,
         state: &mut Messages<T, Task>,
         sink: &mut K,
-    ) -> Option<Result<(), SendError<T>>> {
+    ) -> Option<Result<(), SendReason>> {
         let message = self.message.take()?;
         match state.push(message, sink) {
             Ok(()) => Some(Ok(())),
-            Err(TrySendError::Full(message)) => {
+            Err(SendError { message, reason }) => {
                 self.message = Some(message);
-                None
-            }
-            Err(TrySendError::Closed(message)) => Some(Err(SendError::Closed(message))),
-            Err(TrySendError::Memory(message)) => Some(Err(SendError::Memory(message))),
-        }
-    }
-
-    fn attempt_or_wait<C, X: TaskExchange<Task, C>, K: WakeSink<Task>>(
-        &mut self,
-        state: &mut Messages<T, Task>,
-        exchange: &X,
-        on: &mut C,
-        sink: &mut K,
-    ) -> Attempted<Result<(), SendError<T>>> {
-        let Some(message) = self.message.take() else {
-            return Attempted::Absent;
-        };
-        match state.push_or_wait(message, self.key.take(), exchange, on, sink) {
-            Sent::Done => Attempted::Done(Ok(())),
-            Sent::Waits(key, message) => {
-                self.wait(key, message);
-                Attempted::Waits(key)
-            }
-            Sent::Closed(message) => Attempted::Done(Err(SendError::Closed(message))),
-            Sent::Memory(message) => Attempted::Done(Err(SendError::Memory(message))),
-            Sent::WaitFailed(message, error) => {
-                self.keep(message);
-                Attempted::Refused(LockError::Listen(error))
+                match reason {
+                    SendReason::Full => None,
+                    reason => Some(Err(reason)),
+                }
             }
         }
     }

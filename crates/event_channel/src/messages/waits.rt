@@ -1,99 +1,106 @@
 //! One that sends or receives, and waits where it can't.
-ghost use Rattle.std.specs.Prelude.{◌≡◌, [], false, length};
+ghost use Rattle.std.specs.Prelude.{◌≡◌, None, Some, length};
 ghost use Rattle.std.specs.List.{FoldsTo};
 ghost use Rattle.event_locks.specs.Line.{LeavesThenTells, woken_by_leaving};
-ghost use Rattle.event_channel.specs.Messages.{IsFull, room_in};
+ghost use Rattle.event_wait.specs.Attempted.{Attempts, OnDone, OnRefused, OnUndone};
+ghost use Rattle.event_channel.specs.Messages.{room_in};
 ghost use Rattle.event_channel.specs.Steps.{KeepsAllButSenders, KeepsAllButReceivers, KeepsAllButStreams};
-ghost use Rattle.event_channel.specs.Waits.{Sends, Receives, SendsOn, ReceivesOn, woken_by_sending, woken_by_receiving};
+ghost use Rattle.event_channel.specs.Waits.{Empties, Receives, Sends, woken_by_receiving, woken_by_sending};
 
 use super::Messages;
-use crate::error::{TryRecvError, TrySendError};
+use crate::error::{SendError, SendReason, TryRecvError};
 use event_locks::waiters::{leave_then_tell, wait_in_line};
 use event_queue::{Key, ListenError, TaskExchange, WakeSink};
+use event_wait::Attempted;
 
-/// What became of a message that was to be sent.
-#[derive(Drop)]
-pub enum Sent<T> {
-    /// It was put behind all others.
-    Done,
-    /// The channel is full: the message comes back, and its sender waits by this key.
-    Waits(Key, T),
-    /// The channel is closed.
-    Closed(T),
-    /// There was no memory for the message. A channel with a limit never answers this.
-    Memory(T),
-    /// The channel is full, and its sender could not be put into the queue.
-    WaitFailed(T, ListenError),
-}
-
-/// What came to one that was to receive a message.
-#[derive(Drop)]
-pub enum Received<T> {
-    /// The first message.
-    Message(T),
-    /// There is none: it waits by this key.
-    Waits(Key),
-    /// There is none, and the channel is closed, so none will come.
-    Closed,
-    /// There is none, and it could not be put into the queue.
-    WaitFailed(ListenError),
+// Puts back what was taken out.
+fn put_back<T>(slot: &mut Option<T>, value: T)
+    requires { slot.old ≡ None }
+    ensures { slot.new ≡ Some value }
+{
+    match slot.replace(value) {
+        None => {}
+        _ => unreachable!(),
+    }
 }
 
 impl<T, W: Drop> Messages<T, W> {
-    /// [`push`](Messages::push); where the channel is full the message comes back, and its sender waits, with the task that
-    /// the exchange makes. It tries each time, notified or not; one that was notified in vain goes to the end of the queue. One
-    /// that does not wait is in the queue no more, and another is notified in its place if one is due. A newcomer that
-    /// waits may allocate.
+    /// [`push`](Messages::push) of the message in a slot; where the channel is full its sender waits, with the task that the
+    /// exchange makes. A message that is not sent stays in its slot, and one that finds none there is absent. It tries each
+    /// time, notified or not; one that was notified in vain goes to the end of the queue. One that does not wait is in the
+    /// queue no more, and another is notified in its place if one is due. A newcomer that waits may allocate.
     pub fn push_or_wait<C, X: TaskExchange<W, C>, S: WakeSink<W>>(
         &mut self,
-        message: T,
+        message: &mut Option<T>,
         key: Option<Key>,
         exchange: &X,
         on: &mut C,
         sink: &mut S,
-    ) -> Sent<T>
-        ensures sends { Sends (X.exchanged exchange.now) message key self.old on.old result (record self.new { senders = self.old.senders }) self.new.senders on.new }
-        ensures exchanges { SendsOn (X.exchanged exchange.now) on.old result on.new }
+    ) -> Attempted<Result<(), SendReason>, ListenError>
+        ensures sends { Sends (X.exchanged exchange.now) message.old key self.old on.old result (record self.new { senders = self.old.senders }) self.new.senders on.new }
+        ensures ends { OnDone result (λ sent. Empties message.old sent message.new) }
+        ensures waits { OnUndone result (message.new ≡ message.old) }
+        ensures refused { OnRefused result (message.new ≡ message.old) }
+        ensures exchanges { Attempts (X.exchanged exchange.now) on.old result on.new }
         ensures wakes { FoldsTo S.woke sink.old (woken_by_sending key self.old result self.new) sink.new }
     {
-        match self.push(message, sink) {
+        let Some(unsent) = message.take() else {
+            self.cancel_sender(key, sink);
+            return Attempted::Absent;
+        };
+        match self.push(unsent, sink) {
             Ok(()) => {
                 self.cancel_sender(key, sink);
-                Sent::Done
+                Attempted::Done(Ok(()))
             }
-            Err(TrySendError::Full(message)) => self.wait_for_room(message, key, exchange, on),
-            Err(TrySendError::Closed(message)) => {
-                self.cancel_sender(key, sink);
-                Sent::Closed(message)
-            }
-            Err(TrySendError::Memory(message)) => {
-                self.cancel_sender(key, sink);
-                Sent::Memory(message)
+            Err(
+                SendError {
+                    message: unsent,
+                    reason,
+                },
+            ) => {
+                put_back(message, unsent);
+                match reason {
+                    SendReason::Full => match wait_in_line(&mut self.senders, key, exchange, on) {
+                        Ok(key) => Attempted::Waits(key),
+                        Err(error) => Attempted::Refused(error),
+                    },
+                    reason => {
+                        self.cancel_sender(key, sink);
+                        Attempted::Done(Err(reason))
+                    }
+                }
             }
         }
     }
 
-    /// [`pop`](Messages::pop); one for whom there is no message waits, as a sender does.
+    /// [`pop`](Messages::pop); one for whom there is no message waits, as a sender does. `None` is the end: there is no
+    /// message, and the channel is closed, so none will come.
     pub fn pop_or_wait<C, X: TaskExchange<W, C>, S: WakeSink<W>>(
         &mut self,
         key: Option<Key>,
         exchange: &X,
         on: &mut C,
         sink: &mut S,
-    ) -> Received<T>
+    ) -> Attempted<Option<T>, ListenError>
         ensures receives { Receives (X.exchanged exchange.now) key self.old self.old.receivers on.old result (record self.new { receivers = self.old.receivers }) self.new.receivers on.new }
-        ensures exchanges { ReceivesOn (X.exchanged exchange.now) on.old result on.new }
+        ensures exchanges { Attempts (X.exchanged exchange.now) on.old result on.new }
         ensures wakes { FoldsTo S.woke sink.old (woken_by_receiving key self.old self.old.receivers result self.new) sink.new }
     {
         match self.pop(sink) {
             Ok(message) => {
                 self.cancel_receiver(key, sink);
-                Received::Message(message)
+                Attempted::Done(Some(message))
             }
-            Err(TryRecvError::Empty) => self.wait_for_message(key, exchange, on),
+            Err(TryRecvError::Empty) => {
+                match wait_in_line(&mut self.receivers, key, exchange, on) {
+                    Ok(key) => Attempted::Waits(key),
+                    Err(error) => Attempted::Refused(error),
+                }
+            }
             Err(TryRecvError::Closed) => {
                 self.cancel_receiver(key, sink);
-                Received::Closed
+                Attempted::Done(None)
             }
         }
     }
@@ -105,20 +112,25 @@ impl<T, W: Drop> Messages<T, W> {
         exchange: &X,
         on: &mut C,
         sink: &mut S,
-    ) -> Received<T>
+    ) -> Attempted<Option<T>, ListenError>
         ensures receives { Receives (X.exchanged exchange.now) key self.old self.old.streams on.old result (record self.new { streams = self.old.streams }) self.new.streams on.new }
-        ensures exchanges { ReceivesOn (X.exchanged exchange.now) on.old result on.new }
+        ensures exchanges { Attempts (X.exchanged exchange.now) on.old result on.new }
         ensures wakes { FoldsTo S.woke sink.old (woken_by_receiving key self.old self.old.streams result self.new) sink.new }
     {
         match self.pop(sink) {
             Ok(message) => {
                 self.cancel_stream(key, sink);
-                Received::Message(message)
+                Attempted::Done(Some(message))
             }
-            Err(TryRecvError::Empty) => self.wait_for_next(key, exchange, on),
+            Err(TryRecvError::Empty) => {
+                match wait_in_line(&mut self.streams, key, exchange, on) {
+                    Ok(key) => Attempted::Waits(key),
+                    Err(error) => Attempted::Refused(error),
+                }
+            }
             Err(TryRecvError::Closed) => {
                 self.cancel_stream(key, sink);
-                Received::Closed
+                Attempted::Done(None)
             }
         }
     }
@@ -155,60 +167,5 @@ impl<T, W: Drop> Messages<T, W> {
         ensures others { KeepsAllButStreams self.old self.new }
     {
         leave_then_tell(&mut self.streams, key, self.items.len(), sink);
-    }
-
-    fn wait_for_room<C, X: TaskExchange<W, C>>(
-        &mut self,
-        message: T,
-        key: Option<Key>,
-        exchange: &X,
-        on: &mut C,
-    ) -> Sent<T>
-        requires open { self.old.is_closed ≡ false }
-        requires full { IsFull self.old }
-        ensures sends { Sends (X.exchanged exchange.now) message key self.old on.old result (record self.new { senders = self.old.senders }) self.new.senders on.new }
-        ensures exchanges { SendsOn (X.exchanged exchange.now) on.old result on.new }
-        ensures wakes { woken_by_sending key self.old result self.new ≡ [] }
-    {
-        match wait_in_line(&mut self.senders, key, exchange, on) {
-            Ok(key) => Sent::Waits(key, message),
-            Err(error) => Sent::WaitFailed(message, error),
-        }
-    }
-
-    fn wait_for_message<C, X: TaskExchange<W, C>>(
-        &mut self,
-        key: Option<Key>,
-        exchange: &X,
-        on: &mut C,
-    ) -> Received<T>
-        requires open { self.old.is_closed ≡ false }
-        requires empty { self.old.messages ≡ [] }
-        ensures receives { Receives (X.exchanged exchange.now) key self.old self.old.receivers on.old result (record self.new { receivers = self.old.receivers }) self.new.receivers on.new }
-        ensures exchanges { ReceivesOn (X.exchanged exchange.now) on.old result on.new }
-        ensures wakes { woken_by_receiving key self.old self.old.receivers result self.new ≡ [] }
-    {
-        match wait_in_line(&mut self.receivers, key, exchange, on) {
-            Ok(key) => Received::Waits(key),
-            Err(error) => Received::WaitFailed(error),
-        }
-    }
-
-    fn wait_for_next<C, X: TaskExchange<W, C>>(
-        &mut self,
-        key: Option<Key>,
-        exchange: &X,
-        on: &mut C,
-    ) -> Received<T>
-        requires open { self.old.is_closed ≡ false }
-        requires empty { self.old.messages ≡ [] }
-        ensures receives { Receives (X.exchanged exchange.now) key self.old self.old.streams on.old result (record self.new { streams = self.old.streams }) self.new.streams on.new }
-        ensures exchanges { ReceivesOn (X.exchanged exchange.now) on.old result on.new }
-        ensures wakes { woken_by_receiving key self.old self.old.streams result self.new ≡ [] }
-    {
-        match wait_in_line(&mut self.streams, key, exchange, on) {
-            Ok(key) => Received::Waits(key),
-            Err(error) => Received::WaitFailed(error),
-        }
     }
 }
