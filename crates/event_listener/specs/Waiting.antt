@@ -36,13 +36,13 @@ IsKept (Some (Lost additional tag)) = ⊥
 IsKept _ = ⊤
 
 -- only the task of a listener that waits on is exchanged
-abbrev pub Registers : {T W C : Type 0} → (C → Option W → W → C → Type 0) → C → RegisterResult T → C → Type 0
-Registers exchanged before (register.Notified tag) after = after ≡ before
-Registers exchanged before register.Registered after = Stores exchanged before after
-Registers exchanged before register.NeverInserted after = after ≡ before
+abbrev pub StoresIfWaiting : {T W C : Type 0} → (C → Option W → W → C → Type 0) → C → RegisterResult T → C → Type 0
+StoresIfWaiting exchanged before (register.Notified tag) after = after ≡ before
+StoresIfWaiting exchanged before register.Registered after = Stores exchanged before after
+StoresIfWaiting exchanged before register.NeverInserted after = after ≡ before
 
 module _ {T W E : Type 0} where
-  -- one attempt of a listener that is in its queue or was: one registration, answered by what that finds
+  -- one attempt of an unfinished listener: one registration, answered by what that finds
   abbrev pub AttemptsInQueue : {C R : Type 0} → (C → Option W → W → C → Type 0) → Queue T W → Key → C → Attempted (Result T E) R → Queue T W → C → Type 0
   AttemptsInQueue exchanged old key before (Done (Ok tag)) new after =
       RegistersWith exchanged old key before (register.Notified tag) new after
@@ -53,7 +53,7 @@ module _ {T W E : Type 0} where
   AttemptsInQueue exchanged old key before Absent new after = ⊥
   AttemptsInQueue exchanged old key before (Refused error) new after = ⊥
 
-  -- it leaves its queue at the limit: with the tag if it was notified, with none if it waited, and notifies nobody
+  -- it leaves the queue at the limit: with the tag if it was notified, with none if it waited, and tells nobody
   abbrev pub LeavesQueue : Queue T W → Key → Option (Result T E) → Queue T W → Type 0
   LeavesQueue old key (Some (Ok tag)) new =
       IsSomeAnd (lookup (is_key key) old.told) (λ notice. notice.tag ≡ tag) × (new ≡ told_leaves key old)

@@ -228,9 +228,9 @@ pub use event_queue::{
 };
 #[doc(hidden)]
 pub use event_queue::{Notice, TagList};
-pub use event_wait::Task;
+pub use event_wait::{Limit, Task};
 pub use listener::{
-    EventListener, Hold, Limit, Listener, NeverInserted, QueueListener, StackListener, StackSlot,
+    EventListener, Hold, Listener, NeverInserted, QueueListener, StackListener, StackSlot,
     WaitError, WaitReason,
 };
 pub use recorded::{

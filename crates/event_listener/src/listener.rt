@@ -14,7 +14,7 @@ mod stack_slot;
 mod wait_error;
 
 use crate::event::Event;
-pub use event_wait::Limit;
+use event_wait::Limit;
 use futures::task::{Context, Poll, Waker};
 pub use hold::Hold;
 pub(crate) use polled::poll_of;

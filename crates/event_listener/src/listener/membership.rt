@@ -5,7 +5,7 @@ ghost use Rattle.event_queue.specs.declared.reply.RegisterResult.TheVariants as 
 ghost use Rattle.event_queue.specs.Exchange.{RegistersWith};
 ghost use Rattle.event_queue.specs.Remove.{Removes, woken_by_removal};
 ghost use Rattle.event_wait.specs.Attempted.{Attempts, OnDone, OnRefused, OnUndone};
-ghost use Rattle.event_listener.specs.Waiting.{AttemptsInQueue, EndsWait, IsKept, LeavesQueue, Registers, Stays};
+ghost use Rattle.event_listener.specs.Waiting.{AttemptsInQueue, EndsWait, IsKept, LeavesQueue, Stays, StoresIfWaiting};
 
 use super::NeverInserted;
 use event_queue::{Key, List, RegisterResult, State, TaskExchange, WakeSink};
@@ -77,7 +77,7 @@ impl Membership {
         ensures unchanged { self.old.is_finished ≡ true → queue.new ≡ queue.old }
         ensures stays { result ≡ register.Registered → Stays self.old self.new }
         ensures leaves { result ≢ register.Registered → self.new.is_finished ≡ true }
-        ensures exchanged { Registers (X.exchanged exchange.now) on.old result on.new }
+        ensures exchanged { StoresIfWaiting (X.exchanged exchange.now) on.old result on.new }
     {
         if self.is_finished() {
             return RegisterResult::NeverInserted;

@@ -4,10 +4,10 @@ ghost use Rattle.std.specs.Prelude.{◌≡◌, ◌+◌, ◌<◌, ◌^◌, true, 
 use super::hold::Hold;
 use super::membership::Membership;
 use super::polled::poll_of;
-use super::{Limit, Listener, NeverInserted, WaitError};
+use super::{Listener, NeverInserted, WaitError};
 use crate::event::{Event, Shared};
 use event_queue::{Key, State};
-use event_wait::{Parks, Refused, Task, step, take_lock};
+use event_wait::{Limit, Parks, Refused, Task, step, take_lock};
 use futures::Future;
 use futures::task::{Context, Poll, Waker};
 use std::alloc::Global;
