@@ -7,3 +7,4 @@ pub mod Slot
 pub mod Shares
 pub mod Rounds
 pub mod Once
+pub mod Watched

@@ -5,6 +5,7 @@ mod barrier;
 mod error;
 mod grantor;
 mod lock;
+mod monitor;
 mod mutex;
 mod once_cell;
 mod rw_lock;
@@ -17,6 +18,7 @@ pub use error::{LockError, SetError, SetReason};
 pub use event_wait::{Attempt, Attempted, Limit, Lock, Request, Task, Waking};
 pub use grantor::Grantor;
 pub use lock::{Borrowed, Grants, Guard, Hold, Obtaining, Shared};
+pub use monitor::{Condition, Monitor, Until, Waiter, Watch, Watched};
 pub use mutex::{Locking, LockingArc, Mutex, MutexGuard, MutexGuardArc, Slot};
 pub use once_cell::{Asking, Claim, Claiming, IsSet, Once, OnceCell, Seeing, Turn, Vacant};
 pub use rw_lock::{

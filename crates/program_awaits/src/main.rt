@@ -5,8 +5,10 @@
 #![tactic(auto)]
 
 mod awaits;
+mod balance;
 
 use awaits::{deposit, first_of, make_name, meet, read_after_write, take_two};
+use balance::{Balance, deposit_later, withdraw, withdraw_as_task, withdraw_within};
 use event_channel::unbounded;
 use event_locks::{Barrier, Mutex, OnceCell, RwLock, Semaphore};
 use std::alloc::AllocGlobal;
@@ -37,6 +39,26 @@ where
     Ok(())
 }
 
+// A balance that is waited for. What it lacks comes from another thread.
+fn run_withdrawals<R>(rt: R) -> anyhow::Result<()>
+where
+    R: Threads + Wait + Clock + RandomSource + AllocGlobal + Print + Copy + Send + Sync + 'static,
+{
+    let alloc = rt.alloc();
+    let balance = Arc::new(alloc, Balance::new(alloc, 10))?;
+    println!(rt; "{}", withdraw(&rt, alloc, &balance, 4)?.left)?;
+    let late = withdraw_within(&rt, alloc, &balance, 7, Duration::from_millis(20))?;
+    println!(rt; "{}", late.is_some())?;
+
+    let other = deposit_later(rt, &balance, 10)?;
+    println!(rt; "{}", withdraw(&rt, alloc, &balance, 15)?.left)?;
+    println!(rt; "{}", other.join(&rt))?;
+    let other = deposit_later(rt, &balance, 10)?;
+    println!(rt; "{}", withdraw_as_task(&rt, alloc, &balance, 8)?.left)?;
+    println!(rt; "{}", other.join(&rt))?;
+    Ok(())
+}
+
 fn run<R>(rt: R) -> anyhow::Result<()>
 where
     R: Threads + Wait + Clock + RandomSource + AllocGlobal + Print + Copy + Send + Sync + 'static,
@@ -57,7 +79,7 @@ where
     println!(rt; "{}", read_after_write(&rt, alloc, &RwLock::new(alloc, 1))?)?;
     println!(rt; "{}", meet(&rt, alloc, &Barrier::new(alloc, 2))?)?;
     println!(rt; "{}", make_name(&rt, alloc, &OnceCell::new(alloc))?)?;
-    Ok(())
+    run_withdrawals(rt)
 }
 
 fn main(rt: HostRuntime) -> ExitCode {

@@ -1,5 +1,5 @@
 //! What the page of `event_locks` shows.
-use event_locks::{LockError, Mutex};
+use event_locks::{Condition, LockError, Monitor, Mutex};
 use std::alloc::Global;
 use std::sync::Wait;
 use std::time::{Clock, Duration};
@@ -29,6 +29,42 @@ pub fn deposit_within<R: Wait + Clock>(
     };
     *balance = balance.saturating_add(amount);
     Ok(true)
+}
+
+/// Takes an amount off a balance, once there is as much. It gives what is left.
+#[derive(Clone, Copy)]
+pub struct Withdrawal {
+    amount: u64,
+}
+
+impl Condition<u64> for Withdrawal {
+    type Output = u64;
+
+    ghost use Rattle.std.specs.Prelude.{◌≡◌, ◌+◌, ◌<◌};
+
+    ghost fails = { λ withdrawal balance. balance < withdrawal.amount };
+
+    ghost gives = { λ withdrawal balance left rest. (left ≡ rest) × (rest + withdrawal.amount ≡ balance) };
+
+    fn attempt(&self, balance: &mut u64) -> Option<u64> {
+        let left = balance.checked_sub(self.amount)?;
+        *balance = left;
+        Some(left)
+    }
+}
+
+#[test]
+fn a_withdrawal_waits_until_there_is_as_much(rt: HostRuntime) {
+    let alloc = rt.alloc();
+    let balance = Monitor::new(alloc, 5u64);
+    let limit = Duration::from_millis(1);
+    let late = balance
+        .until(&rt, alloc, Withdrawal { amount: 7 })
+        .wait_timeout(limit);
+    assert_eq!(rt; late, Ok(None));
+    balance.change(&rt, |balance| *balance = balance.saturating_add(4));
+    let left = balance.until(&rt, alloc, Withdrawal { amount: 7 }).wait();
+    assert_eq!(rt; left, Ok(2));
 }
 
 #[test]

@@ -7,6 +7,7 @@
 //! | `arrivals` | a thread that waits by a request of the test's own: it parks, and who has no time stays out of the queue |
 //! | `stress` | threads and tasks at these locks, which give up at times |
 //! | `behaviours` | what each lock does when it is called in the order that its users know from other crates |
+//! | `monitor` | a value that threads and tasks wait for |
 //! | `accounts` | what the page of the crate shows |
 //!
 //! `support` has what they share.
@@ -18,6 +19,8 @@ mod accounts;
 mod arrivals;
 #[cfg(test)]
 mod behaviours;
+#[cfg(test)]
+mod monitor;
 #[cfg(test)]
 mod stress;
 #[cfg(test)]
