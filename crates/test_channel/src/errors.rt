@@ -1,6 +1,6 @@
 //! What errors and handles say.
 use crate::support::{Runtime, check, sides};
-use event_channel::{SendError, SendTimeoutError, TryRecvError, TrySendError};
+use event_channel::{SendError, SendReason, TryRecvError};
 use event_locks::LockError;
 use std::alloc::AllocError;
 use std::fmt::{Debug, Display};
@@ -22,29 +22,22 @@ fn reads<E: Display + Debug + Drop, R: Runtime>(rt: &R, error: E, text: &str, sh
 #[test]
 fn sends_say_why_they_fail(rt: HostRuntime) {
     let (full, closed) = ("the channel is full", "the channel is closed");
+    let late = "the channel was full for too long";
     let (memory, wait) = ("no memory for a message", "no memory for a wait");
-    for (error, text, shown) in [
-        (TrySendError::Full(1), full, "Full(..)"),
-        (TrySendError::Closed(1), closed, "Closed(..)"),
-        (TrySendError::Memory(1), memory, "Memory(..)"),
+    let refused = SendReason::WaitFailed(REFUSED);
+    for (reason, text, shown) in [
+        (SendReason::Full, full, "Full"),
+        (SendReason::Closed, closed, "Closed"),
+        (SendReason::TimedOut, late, "TimedOut"),
+        (SendReason::Memory, memory, "Memory"),
+        (refused, wait, "WaitFailed(Memory(AllocError))"),
     ] {
+        let error = SendError { message: 1, reason };
         let is = (error.is_full(), error.is_closed());
         check(&rt, text, is, (text == full, text == closed));
-        reads(&rt, error, text, shown);
+        reads(&rt, error.clone().expect(&rt, "a clone"), text, shown);
+        check(&rt, "the message", error.into_inner(), 1);
     }
-    // One with a limit says the same, and may be out of time.
-    for (error, text, shown) in [
-        (SendError::Closed(1), closed, "Closed(..)"),
-        (SendError::Memory(1), memory, "Memory(..)"),
-        (SendError::WaitFailed(1, REFUSED), wait, "WaitFailed(..)"),
-    ] {
-        let same = error.clone().expect(&rt, "a clone");
-        reads(&rt, SendTimeoutError::from(same), text, shown);
-        reads(&rt, error, text, shown);
-    }
-    let late = SendTimeoutError::TimedOut(1);
-    let text = "the channel was full for too long";
-    reads(&rt, late, text, "TimedOut(..)");
 }
 
 #[test]

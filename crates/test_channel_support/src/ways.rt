@@ -2,8 +2,7 @@
 use crate::channels::ChannelRuntime;
 use crate::waiting::Waiting;
 use event_channel::{
-    Receiver, RecvError, RecvTimeoutError, SendError, SendTimeoutError, Sender, TryRecvError,
-    TrySendError,
+    Receiver, RecvError, RecvTimeoutError, SendError, SendReason, Sender, TryRecvError,
 };
 use event_locks::LockError;
 use futures::StreamExt;
@@ -69,11 +68,11 @@ impl Way {
         limit: Duration,
     ) -> Answer {
         match self {
-            Way::AtOnce => of_try_send(sender.try_send(message)),
+            Way::AtOnce => of_send(sender.try_send(message)),
             Way::Blocking | Way::Iterated => of_send(sender.send_blocking(message)),
-            Way::Timed => of_timed_send(sender.send_timeout(message, limit)),
+            Way::Timed => of_send(sender.send_timeout(message, limit)),
             Way::Due => match moment(rt, limit) {
-                Some(moment) => of_timed_send(sender.send_deadline(message, moment)),
+                Some(moment) => of_send(sender.send_deadline(message, moment)),
                 None => Answer::Failed,
             },
             Way::Awaited | Way::Streamed => match block_on(rt, sender.send(message)) {
@@ -139,15 +138,6 @@ fn once<R: ChannelRuntime>(waiting: Waiting<'_, R>, message: Option<usize>) -> A
     }
 }
 
-fn of_try_send(answer: Result<(), TrySendError<usize>>) -> Answer {
-    match answer {
-        Ok(()) => Answer::Sent,
-        Err(TrySendError::Full(message)) => Answer::Late(Some(message)),
-        Err(TrySendError::Closed(message)) => Answer::Closed(Some(message)),
-        Err(TrySendError::Memory(_)) => Answer::Failed,
-    }
-}
-
 pub(crate) fn of_send(answer: Result<(), SendError<usize>>) -> Answer {
     of_force(answer.map(|()| None))
 }
@@ -157,17 +147,11 @@ pub fn of_force(answer: Result<Option<usize>, SendError<usize>>) -> Answer {
     match answer {
         Ok(None) => Answer::Sent,
         Ok(Some(message)) => Answer::Out(message),
-        Err(SendError::Closed(message)) => Answer::Closed(Some(message)),
-        Err(_) => Answer::Failed,
-    }
-}
-
-fn of_timed_send(answer: Result<(), SendTimeoutError<usize>>) -> Answer {
-    match answer {
-        Ok(()) => Answer::Sent,
-        Err(SendTimeoutError::TimedOut(message)) => Answer::Late(Some(message)),
-        Err(SendTimeoutError::Closed(message)) => Answer::Closed(Some(message)),
-        Err(_) => Answer::Failed,
+        Err(SendError { message, reason }) => match reason {
+            SendReason::Full | SendReason::TimedOut => Answer::Late(Some(message)),
+            SendReason::Closed => Answer::Closed(Some(message)),
+            SendReason::Memory | SendReason::WaitFailed(_) => Answer::Failed,
+        },
     }
 }
 

@@ -3,8 +3,8 @@ use crate::support::{
     Answer, Runtime, Starved, all_memory, check, count_refused, leave, new_id, new_task,
 };
 use event_channel::{
-    ChannelError, Receiver, RecvError, RecvTimeoutError, SendError, SendTimeoutError, Sender,
-    TryRecvError, TrySendError, bounded, unbounded,
+    ChannelError, Receiver, RecvError, RecvTimeoutError, SendError, SendReason, Sender,
+    TryRecvError, bounded, unbounded,
 };
 use event_listener::{Event, ListenError, NeverInserted, WaitReason};
 use event_locks::LockError;
@@ -147,11 +147,15 @@ fn each_request_of_a_new_channel_is_refused(rt: HostRuntime) {
     check(rt, "whether its room is, too", limited > unlimited, true);
 }
 
+fn unsent(message: usize, reason: SendReason) -> SendError<usize> {
+    SendError { message, reason }
+}
+
 // Without memory each send that would block is refused what its thread parks on, and hands the message back.
 fn sends_are_refused<R: Runtime>(rt: &R, sender: &Sender<usize, R>) {
-    let refusal = SendError::WaitFailed(7, NO_MEMORY);
+    let refusal = unsent(7, SendReason::WaitFailed(NO_MEMORY));
     refused(rt, sender.send_blocking(7), refusal);
-    let refusal = SendTimeoutError::WaitFailed(8, NO_MEMORY);
+    let refusal = unsent(8, SendReason::WaitFailed(NO_MEMORY));
     refused(rt, sender.send_timeout(8, MAX), refusal);
 }
 
@@ -172,13 +176,13 @@ impl<R: Runtime> Starved for FirstWait<'_, R> {
         let sent = sender.send_timeout(7, Duration::from_millis(500));
         budget.give_back();
         are_left(rt, &receiver, &[0]);
-        let is_late = sent == Err(SendTimeoutError::TimedOut(7));
-        let is_placeless = sent == Err(SendTimeoutError::WaitFailed(7, LISTENING));
+        let is_late = sent == Err(unsent(7, SendReason::TimedOut));
+        let is_placeless = sent == Err(unsent(7, SendReason::WaitFailed(LISTENING)));
         if is_placeless {
             self.needs_place.set(true);
         }
         if !is_late && !is_placeless {
-            let refusal = SendTimeoutError::WaitFailed(7, NO_MEMORY);
+            let refusal = unsent(7, SendReason::WaitFailed(NO_MEMORY));
             refused(rt, sent, refusal);
         }
         is_late
@@ -203,13 +207,13 @@ fn a_send_that_cannot_wait_hands_back(rt: HostRuntime) {
     let hog = all_memory(rt);
     sends_are_refused(rt, &sender);
     let polled = task.poll(&mut sender.send(9));
-    let refusal = SendError::WaitFailed(9, LISTENING);
+    let refusal = unsent(9, SendReason::WaitFailed(LISTENING));
     check(rt, "a poll", polled, Poll::Ready(Err(refusal)));
     drop(hog);
 
     // It makes a place in the queue, for which it has time.
     let timed_out = sender.send_timeout(5, Duration::from_millis(500));
-    refused(rt, timed_out, SendTimeoutError::TimedOut(5));
+    refused(rt, timed_out, unsent(5, SendReason::TimedOut));
     let mut sending = sender.send(9);
     let hog = all_memory(rt);
     sends_are_refused(rt, &sender);
@@ -305,12 +309,16 @@ fn a_send_that_finds_no_memory_hands_back(rt: HostRuntime) {
     let mut receiving = receiver.recv();
     check(rt, "a poll", task.poll(&mut receiving), Poll::Pending);
     let hog = all_memory(rt);
-    refused(rt, sender.try_send(6), TrySendError::Memory(6));
-    refused(rt, sender.force_send(5), SendError::Memory(5));
-    refused(rt, sender.send_blocking(7), SendError::Memory(7));
-    refused(rt, sender.send_timeout(8, MAX), SendTimeoutError::Memory(8));
+    refused(rt, sender.try_send(6), unsent(6, SendReason::Memory));
+    refused(rt, sender.force_send(5), unsent(5, SendReason::Memory));
+    refused(rt, sender.send_blocking(7), unsent(7, SendReason::Memory));
+    refused(
+        rt,
+        sender.send_timeout(8, MAX),
+        unsent(8, SendReason::Memory),
+    );
     let polled = other.poll(&mut sender.send(9));
-    let refusal = Poll::Ready(Err(SendError::Memory(9)));
+    let refusal = Poll::Ready(Err(unsent(9, SendReason::Memory)));
     check(rt, "a poll", polled, refusal);
     drop(hog);
     check(rt, "whether it was woken", task.is_woken(), false);
@@ -323,7 +331,7 @@ fn a_send_that_finds_no_memory_hands_back(rt: HostRuntime) {
     for _ in 1..1000 {
         sent = sent.saturating_add(usize::from(sender.try_send(sent).is_ok()));
     }
-    refused(rt, sender.try_send(sent), TrySendError::Memory(sent));
+    refused(rt, sender.try_send(sent), unsent(sent, SendReason::Memory));
     drop(hog);
     check(rt, "messages", sender.len(), sent);
     for message in 0..sent {
@@ -341,7 +349,7 @@ fn calls_that_need_no_memory(rt: HostRuntime) {
     let hog = all_memory(rt);
     sends(rt, &sender, &[1]);
     check(rt, "a send", sender.send_blocking(2), Ok(()));
-    refused(rt, sender.try_send(9), TrySendError::Full(9));
+    refused(rt, sender.try_send(9), unsent(9, SendReason::Full));
     check(rt, "a send by force", sender.force_send(3), Ok(Some(1)));
     check(rt, "one more", sender.force_send(1), Ok(Some(2)));
     check(rt, "a receive", receiver.recv_blocking(), Ok(3));
@@ -354,6 +362,10 @@ fn calls_that_need_no_memory(rt: HostRuntime) {
     let cloned = sender.clone().is_ok() && receiver.clone().is_ok();
     check(rt, "clones", cloned, true);
     check(rt, "whether it was open", sender.close(), true);
-    refused(rt, sender.send_timeout(8, MAX), SendTimeoutError::Closed(8));
+    refused(
+        rt,
+        sender.send_timeout(8, MAX),
+        unsent(8, SendReason::Closed),
+    );
     drop(hog);
 }
