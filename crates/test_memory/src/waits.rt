@@ -1,7 +1,7 @@
 //! Waits for each lock of `event_locks` that are refused memory, and calls there that need none.
 use crate::support::{Runtime, Starved, all_memory, check, count_refused, leave, new_task};
 use event_listener::ListenError;
-use event_locks::{Barrier, Grants, LockError, Obtaining, Request};
+use event_locks::{Attempt, Barrier, Grants, LockError, Obtaining};
 use futures::task::Poll;
 use std::cell::Cell;
 use std::io;
@@ -115,7 +115,7 @@ fn each_request_of_a_wait_for_a_lock_is_refused(rt: HostRuntime) {
 fn is_late_without_memory<R, S, Q, H>(rt: &R, waits: Obtaining<S, Q, H>)
 where
     R: Runtime,
-    Q: Request<S> + Drop,
+    Q: Attempt<S, Refusal = LockError> + Drop,
     H: Grants<S, Q::Output, Output: Drop> + Drop,
 {
     let now = Instant::now(rt).expect(rt, "the time");
