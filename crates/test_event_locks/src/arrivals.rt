@@ -1,7 +1,6 @@
 //! Threads that wait by a request of the tests' own, which counts how often it is asked to wait. It stands at a barrier, for
 //! one who comes through the queue may end a round there, and then wakes the others.
 ghost use Rattle.std.specs.Prelude.{⊤};
-ghost use Rattle.event_wait.specs.Attempted.{LeavesBy};
 
 use crate::support::{check, is_over_soon, is_so_soon};
 use event_locks::{
@@ -34,7 +33,7 @@ impl Request<Rounds<Task>> for Arrival<'_> {
 
     ghost succeeds = { λ _ _ _. ⊤ };
 
-    ghost leaves = { LeavesBy (λ _ _ _. ⊤) };
+    ghost leaves = { λ _ _ _. ⊤ };
 
     fn attempt_or_wait<C, X: TaskExchange<Task, C>, K: WakeSink<Task>>(
         &mut self,
