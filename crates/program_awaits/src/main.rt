@@ -1,7 +1,7 @@
 //! Awaits each lock of `event_locks`: one alone, two joined, and whichever is first of a lock and a message. Whatever is a
 //! future is awaited so: by `block_on`, `join` and `select`, since there is no `async` and no `.await`. The program prints
 //! what came of each call. An error is printed to standard error, with status 1. No clause says what it prints, or that a
-//! wait returns.
+//! wait returns. Of a balance that is waited for (`balance`) one says that just the amount is taken off.
 #![tactic(auto)]
 
 mod awaits;
