@@ -8,7 +8,7 @@ ghost use Rattle.event_channel.specs.Steps.{KeepsAllButSenders, KeepsAllButRecei
 ghost use Rattle.event_channel.specs.Waits.{Empties, Receives, Sends, woken_by_receiving, woken_by_sending};
 
 use super::Messages;
-use crate::error::{SendError, SendReason, TryRecvError};
+use crate::error::{SendReason, TryRecvError};
 use event_locks::waiters::{leave_then_tell, wait_in_line};
 use event_queue::{Key, ListenError, TaskExchange, WakeSink};
 use event_wait::Attempted;
@@ -26,9 +26,9 @@ fn put_back<T>(slot: &mut Option<T>, value: T)
 
 impl<T, W: Drop> Messages<T, W> {
     /// [`push`](Messages::push) of the message in a slot; where the channel is full its sender waits, with the task that the
-    /// exchange makes. A message that is not sent stays in its slot, and one that finds none there is absent. It tries each
-    /// time, notified or not; one that was notified in vain goes to the end of the queue. One that does not wait is in the
-    /// queue no more, and another is notified in its place if one is due. A newcomer that waits may allocate.
+    /// exchange makes. A message that is not sent stays in its slot; one whose slot is empty is absent. It tries each time,
+    /// notified or not; one that was notified in vain goes to the end of the queue. One that does not wait is in the queue
+    /// no more, and another is notified in its place if one is due. A newcomer that waits may allocate.
     pub fn push_or_wait<C, X: TaskExchange<W, C>, S: WakeSink<W>>(
         &mut self,
         message: &mut Option<T>,
@@ -53,13 +53,9 @@ impl<T, W: Drop> Messages<T, W> {
                 self.cancel_sender(key, sink);
                 Attempted::Done(Ok(()))
             }
-            Err(
-                SendError {
-                    message: unsent,
-                    reason,
-                },
-            ) => {
-                put_back(message, unsent);
+            Err(error) => {
+                let reason = error.reason;
+                put_back(message, error.into_inner());
                 match reason {
                     SendReason::Full => match wait_in_line(&mut self.senders, key, exchange, on) {
                         Ok(key) => Attempted::Waits(key),
