@@ -9,8 +9,7 @@ mod task;
 mod wait;
 
 pub use self::limit::Limit;
-use self::task::LineSource;
-pub use self::task::{Parks, Task, Waking};
+pub use self::task::{LineSource, Parks, Task, Waking};
 pub use self::wait::Refused;
 use crate::request::{Attempt, Attempted, Request};
 use crate::{step, take_lock};
@@ -31,7 +30,7 @@ impl<S> Model for Lock<S> {
 
     ghost Value = { ℕ };
 
-    ghost view = { λ lock. lock.source.source.id };
+    ghost view = { λ lock. lock.source };
 }
 
 impl<S> Lock<S> {
@@ -48,6 +47,15 @@ impl<S> Lock<S> {
     #[inline(always)]
     pub fn mutex(&self) -> &Mutex<S> {
         &self.state
+    }
+
+    /// Where a task registers that polls one which waits: for a caller that makes the step of a poll itself, where
+    /// [`poll_in`](Lock::poll_in) would move what it gets more often.
+    #[inline(always)]
+    pub fn line_source(&self) -> &LineSource
+        ensures { result.now ≡ self.now }
+    {
+        &self.source
     }
 
     /// The state, once nobody else has it. It may wait for the lock.

@@ -3,6 +3,7 @@ ghost use Rattle.std.specs.Prelude.{◌≡◌, ◌≢◌, ◌+◌, ◌<◌, ◌^
 ghost use Rattle.std.specs.List.{FoldsTo};
 ghost use Rattle.event_queue.specs.declared.reply.RegisterResult.TheVariants as register;
 ghost use Rattle.event_queue.specs.Exchange.{RegistersWith};
+ghost use Rattle.event_queue.specs.Register.{Registers};
 ghost use Rattle.event_queue.specs.Remove.{Removes, woken_by_removal};
 ghost use Rattle.event_wait.specs.Attempted.{Attempts, OnDone, OnRefused, OnUndone};
 ghost use Rattle.event_listener.specs.Waiting.{AttemptsInQueue, EndsWait, IsKept, LeavesQueue, Stays, StoresIfWaiting};
@@ -15,7 +16,7 @@ use std::marker::Model;
 
 /// A listener's key in the queue of its event, and whether the listener has left the queue by a call of its own.
 ///
-/// The key is private to this file. So only the two calls below take the listener out of the queue, and each of them
+/// The key is private to this file. So only the calls below take the listener out of the queue, and each of them
 /// notes that it did: a listener that is not finished after a call was not taken out by that call.
 ///
 /// The note is in the key itself: a finished listener has the greatest `u64` for its serial, which no queue gives. A
@@ -83,6 +84,26 @@ impl Membership {
             return RegisterResult::NeverInserted;
         }
         let found = queue.register_with_uncounted(self.key, exchange, on);
+        if !matches!(found, RegisterResult::Registered) {
+            self.finish();
+        }
+        found
+    }
+
+    /// Takes the tag if the listener was notified, which takes it out of the queue; else stores this task, in the place of
+    /// any that is stored.
+    #[inline(always)]
+    pub(super) fn store<T>(&mut self, queue: &mut List<T, Task>, task: Task) -> RegisterResult<T>
+        ensures step { self.old.is_finished ≡ false → Registers queue.old self.old.key task result queue.new }
+        ensures finished { self.old.is_finished ≡ true → result ≡ register.NeverInserted }
+        ensures unchanged { self.old.is_finished ≡ true → queue.new ≡ queue.old }
+        ensures stays { result ≡ register.Registered → Stays self.old self.new }
+        ensures leaves { result ≢ register.Registered → self.new.is_finished ≡ true }
+    {
+        if self.is_finished() {
+            return RegisterResult::NeverInserted;
+        }
+        let found = queue.register_uncounted(self.key, task);
         if !matches!(found, RegisterResult::Registered) {
             self.finish();
         }

@@ -6,6 +6,7 @@ ghost use Rattle.event_wait.specs.Task.{Repolls};
 use event_queue::{TaskExchange, WakeSink};
 use futures::task::{Context, Poll, Source, Waker};
 use std::alloc::Global;
+use std::marker::Model;
 use std::sync::Arc;
 use std::thread::Parker;
 
@@ -33,12 +34,13 @@ impl Task {
         Task(TaskKind::Parked(parker))
     }
 
+    #[inline(always)]
     fn wake(self) {
         let Task(kind) = self;
         match kind {
             TaskKind::Polled(waker) => waker.wake(),
             TaskKind::Nobody => {}
-            TaskKind::Parked(parker) => parker.unpark(),
+            TaskKind::Parked(parker) => unpark(parker),
         }
     }
 
@@ -61,6 +63,13 @@ impl Task {
             None => TaskKind::Nobody,
         })
     }
+}
+
+// It is a function of its own, so that waking a task is a few instructions: a thread that parks costs far more.
+#[cold]
+#[inline(never)]
+fn unpark(parker: Arc<Parker, Global>) {
+    parker.unpark();
 }
 
 /// Wakes the tasks that it is handed. The last one is held back, so that it does not meet the lock under which it was
@@ -92,6 +101,7 @@ impl Waking {
 impl WakeSink<Task> for Waking {
     ghost woke = { λ _ _ _. Unit {0} };
 
+    #[inline(always)]
     fn wake(&mut self, task: Task) {
         if let Some(earlier) = self.held_back.replace(task) {
             earlier.wake();
@@ -118,10 +128,21 @@ impl TaskExchange<Task, Option<Task>> for Parks {
     }
 }
 
-/// What a task that polls registers at.
+/// Where a task registers that polls one which waits under a [`Lock`](crate::Lock). It exchanges the stored task for that of
+/// the poll: a waker of the task that polls stays where it is, and another one wakes its task.
+///
+/// A contract sees it as the number of its source.
 #[derive(Drop)]
-pub(crate) struct LineSource {
+pub struct LineSource {
     source: Source,
+}
+
+impl Model for LineSource {
+    ghost use Rattle.std.specs.Prelude.{ℕ};
+
+    ghost Value = { ℕ };
+
+    ghost view = { λ line. line.source.id };
 }
 
 impl LineSource {
@@ -133,10 +154,10 @@ impl LineSource {
 }
 
 impl<'cx> TaskExchange<Task, Context<'cx>> for LineSource {
-    ghost exchanged = { λ line before _ task after. Repolls line.source.id before task after };
+    ghost exchanged = { λ line before _ task after. Repolls line before task after };
 
     fn exchange(&self, cx: &mut Context<'cx>, stored: Option<Task>) -> Task
-        ensures { Repolls self.now.source.id cx.old result cx.new }
+        ensures { Repolls self.now cx.old result cx.new }
     {
         let mut waker = match stored {
             Some(task) => task.into_waker(),
