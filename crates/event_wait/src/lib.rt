@@ -14,5 +14,5 @@ mod lock;
 mod request;
 
 pub use back_off::{pause, wait_for_lock};
-pub use lock::{LineSource, Limit, Lock, Parks, Refused, Task, Waking};
+pub use lock::{Limit, LineSource, Lock, Parks, Refused, Task, Waking};
 pub use request::{Attempt, Attempted, Request};

@@ -7,7 +7,7 @@ use super::polled::poll_of;
 use super::{Listener, NeverInserted, WaitError};
 use crate::event::{Event, Shared};
 use event_queue::{Key, State};
-use event_wait::{Limit, Refused, Task, step, take_lock};
+use event_wait::{Limit, Refused, Task, Waking, take_lock};
 use futures::Future;
 use futures::task::{Context, Poll, Waker};
 use std::alloc::Global;
@@ -95,8 +95,12 @@ impl<T, H: Hold<T>, R: Wait + Clock + Clone> QueueListener<T, H, R> {
         if membership.is_finished() {
             return false;
         }
-        let former =
-            step!(held.queue(), &runtime, queue, waking => membership.remove(&mut *queue, propagate, &mut waking));
+        // A step, as of `step!`. It wakes somebody only if a notification is propagated.
+        let mut waking = Waking::new();
+        let mut queue = take_lock!(held.queue(), &runtime);
+        let former = membership.remove(&mut *queue, propagate, &mut waking);
+        drop(queue);
+        waking.finish_seldom();
         match former {
             Some(State::Notified { additional: _, tag } | State::Lost { additional: _, tag }) => {
                 drop(tag);

@@ -7,6 +7,7 @@ use event_queue::{TaskExchange, WakeSink};
 use futures::task::{Context, Poll, Source, Waker};
 use std::alloc::Global;
 use std::marker::Model;
+use std::mem;
 use std::sync::Arc;
 use std::thread::Parker;
 
@@ -34,16 +35,6 @@ impl Task {
         Task(TaskKind::Parked(parker))
     }
 
-    #[inline(always)]
-    fn wake(self) {
-        let Task(kind) = self;
-        match kind {
-            TaskKind::Polled(waker) => waker.wake(),
-            TaskKind::Nobody => {}
-            TaskKind::Parked(parker) => unpark(parker),
-        }
-    }
-
     // Its waker, if it is one.
     fn into_waker(self) -> Option<Waker> {
         let Task(kind) = self;
@@ -65,11 +56,28 @@ impl Task {
     }
 }
 
-// It is a function of its own, so that waking a task is a few instructions: a thread that parks costs far more.
+// Wakes it. A waker wakes its task as it is dropped here, in place: `Waker::wake` would be a call. It is no function, since a
+// caller tests after each call, inlined or not, whether it is to end.
+macro_rules! wake {
+    ($kind:expr) => {
+        match $kind {
+            TaskKind::Polled(_waker) => {}
+            TaskKind::Nobody => {}
+            TaskKind::Parked(parker) => unpark(parker),
+        }
+    };
+}
+
 #[cold]
 #[inline(never)]
 fn unpark(parker: Arc<Parker, Global>) {
     parker.unpark();
+}
+
+#[cold]
+#[inline(never)]
+fn wake_apart(kind: TaskKind) {
+    wake!(kind)
 }
 
 /// Wakes the tasks that it is handed. The last one is held back, so that it does not meet the lock under which it was
@@ -78,22 +86,33 @@ fn unpark(parker: Arc<Parker, Global>) {
 /// It is no `Drop`, so whoever makes one has to finish it. Its relation says nothing, since no contract can name what
 /// sleeps. Tests show that it wakes.
 pub struct Waking {
-    held_back: Option<Task>,
+    // It is nobody at first.
+    held_back: TaskKind,
 }
 
 impl Waking {
     /// It has woken nobody.
     #[inline(always)]
     pub fn new() -> Self {
-        Waking { held_back: None }
+        Waking {
+            held_back: TaskKind::Nobody,
+        }
     }
 
     /// Wakes the task that is held back. It is called with no lock held.
     #[inline(always)]
     pub fn finish(self) {
         let Waking { held_back } = self;
-        if let Some(task) = held_back {
-            task.wake();
+        wake!(held_back)
+    }
+
+    /// [`finish`](Waking::finish) after a step that seldom wakes anybody: where nobody is held back it is a few instructions.
+    #[inline(always)]
+    pub fn finish_seldom(self) {
+        let Waking { held_back } = self;
+        match held_back {
+            TaskKind::Nobody => {}
+            last => wake_apart(last),
         }
     }
 }
@@ -103,9 +122,8 @@ impl WakeSink<Task> for Waking {
 
     #[inline(always)]
     fn wake(&mut self, task: Task) {
-        if let Some(earlier) = self.held_back.replace(task) {
-            earlier.wake();
-        }
+        let Task(kind) = task;
+        wake!(mem::replace(&mut self.held_back, kind))
     }
 }
 
