@@ -1,5 +1,6 @@
 -- What came of an attempt by one that waits if it has to.
 use Rattle.std.specs.Prelude.{◌≡◌, Option, Some, None}
+use Rattle.event_queue.specs.declared.key.Key.{Key}
 use Rattle.event_wait.specs.declared.request.Attempted.{Attempted}
 use Rattle.event_wait.specs.declared.request.Attempted.TheVariants.{Done, Waits, Absent, Refused}
 
@@ -11,6 +12,13 @@ module _ {W C : Type 0} (exchanged : C → Option W → W → C → Type 0) wher
     pub made : exchanged before handed_out task after
 
 module _ {G E : Type 0} where
+  -- the key of one that waits
+  abbrev pub key_of : Attempted G E → Option Key
+  key_of (Done grant) = None
+  key_of (Waits key) = Some key
+  key_of Absent = None
+  key_of (Refused error) = None
+
   -- what holds of what it got
   abbrev pub OnDone : Attempted G E → (G → Type 0) → Type 0
   OnDone (Done grant) P = P grant

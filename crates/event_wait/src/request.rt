@@ -1,6 +1,6 @@
 //! What one that waits does with the state under a lock.
 ghost use Rattle.std.specs.Prelude.{◌≡◌, Option, None, IfSome, IfOk, OnErr};
-ghost use Rattle.event_wait.specs.Attempted.{Attempts, OnDone, OnRefused, OnUndone};
+ghost use Rattle.event_wait.specs.Attempted.{Attempts, OnDone, OnRefused, OnUndone, key_of};
 
 use crate::lock::Task;
 use event_queue::{Key, TaskExchange, WakeSink};
@@ -19,7 +19,9 @@ pub enum Attempted<G, E> {
 
 impl<G, E> Attempted<G, E> {
     /// The key of one that waits.
-    pub fn key(&self) -> Option<Key> {
+    pub fn key(&self) -> Option<Key>
+        ensures { result ≡ key_of self.now }
+    {
         match self {
             Attempted::Waits(key) => Some(*key),
             Attempted::Done(_) => None,

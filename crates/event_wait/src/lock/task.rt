@@ -1,7 +1,7 @@
 //! What is woken: threads that park, and tasks that poll.
-ghost use Rattle.std.specs.Prelude.{◌≡◌, ⊤, IfSome};
+ghost use Rattle.std.specs.Prelude.{◌≡◌, IfSome};
 ghost use Rattle.event_wait.specs.declared.lock.task.TaskKind.TheVariants.{Polled};
-ghost use Rattle.event_wait.specs.Task.{Repolls};
+ghost use Rattle.event_wait.specs.Task.{Repolls, StoresGiven};
 
 use event_queue::{TaskExchange, WakeSink};
 use futures::task::{Context, Poll, Source, Waker};
@@ -131,10 +131,10 @@ impl WakeSink<Task> for Waking {
 pub struct Parks {}
 
 impl TaskExchange<Task, Option<Task>> for Parks {
-    ghost exchanged = { λ _ _ _ _ _. ⊤ };
+    ghost exchanged = { λ _ before stored task after. StoresGiven before stored task after };
 
     fn exchange(&self, on: &mut Option<Task>, stored: Option<Task>) -> Task
-        ensures { ⊤ }
+        ensures { StoresGiven on.old stored result on.new }
     {
         match on.take() {
             Some(task) => task,
