@@ -1,5 +1,5 @@
 //! The place in a queue of one that wants something of a state.
-ghost use Rattle.std.specs.Prelude.{◌≡◌, ⊤};
+ghost use Rattle.std.specs.Prelude.{◌≡◌, ⊤, IsSome};
 ghost use Rattle.event_wait.specs.Attempted.{Attempts, LeavesBy};
 
 use crate::error::LockError;
@@ -25,7 +25,8 @@ pub trait HandsOut<G>: Grantor<G> {
         on: &mut C,
         sink: &mut K,
     ) -> Attempted<G, LockError>
-        ensures { Attempts (X.exchanged exchange.now) on.old result on.new };
+        ensures exchanged { Attempts (X.exchanged exchange.now) on.old result on.new }
+        ensures absent { result ≡ Attempted.Absent → IsSome key };
 
     /// Takes this one out of the queue, with what it can have.
     fn leave<K: WakeSink<Task>>(&mut self, key: Key, sink: &mut K) -> Option<G>;
