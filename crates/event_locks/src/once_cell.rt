@@ -1,5 +1,7 @@
 //! A cell that is set once.
-ghost use Rattle.std.specs.Prelude.{◌≡◌, IfErr, IfSome};
+ghost use Rattle.std.specs.Prelude.{◌≡◌, ◌⊎◌, Err, IfErr, IfSome};
+ghost use Rattle.std.specs.Fn.{FnOnceReturns};
+ghost use Rattle.event_locks.specs.Refused.{IsMadeOfOne};
 
 mod once;
 
@@ -103,6 +105,7 @@ impl<T> OnceCell<T> {
         E: From<LockError>,
         F: FnOnce() -> Result<T, E> + Drop,
         requires { F.IsAlwaysCallable make }
+        ensures failed { IfErr result (λ error. FnOnceReturns F.FnOnce make tt (Err error) ⊎ IsMadeOfOne E.from_gives error) }
     {
         if let Some(value) = self.get() {
             return Ok(value);
