@@ -1,4 +1,5 @@
 //! A mutex.
+ghost use Rattle.std.specs.Prelude.{◌≡◌};
 ghost use Rattle.std.specs.Arc.{arc_value};
 
 mod slot;
@@ -115,6 +116,8 @@ impl<T: Drop, R: Wait + Clock> Grants<Slot<T, Task>, T> for Shared<Mutex<T>, R> 
 impl<T: Drop, H: Hold<Slot<T, Task>>> Deref for Guard<Slot<T, Task>, H, T> {
     type Target = T;
 
+    ghost deref_gives = { λ guard value. value ≡ guard };
+
     #[inline(always)]
     fn deref(&self) -> &T {
         &self.grant
@@ -122,6 +125,8 @@ impl<T: Drop, H: Hold<Slot<T, Task>>> Deref for Guard<Slot<T, Task>, H, T> {
 }
 
 impl<T: Drop, H: Hold<Slot<T, Task>>> DerefMut for Guard<Slot<T, Task>, H, T> {
+    ghost deref_mut_gives = { λ guard value. value ≡ guard };
+
     #[inline(always)]
     fn deref_mut(&mut self) -> &mut T {
         &mut self.grant
