@@ -1,5 +1,7 @@
 -- What a contract sees of the state under a read-write lock's lock.
 use Rattle.std.specs.Prelude.{◌≡◌, ℕ, ◌+◌, ◌<◌, ◌≤◌, ◌^◌, Err, length}
+use Rattle.std.specs.Borrow.{Bor}
+use Rattle.std.specs.Fn.{Once, FnOnceReturnsAt}
 use Rattle.event_queue.specs.Insert.{Inserts}
 use Rattle.event_queue.specs.Queue.{Queue}
 use Rattle.event_locks.specs.declared.error.LockError.{LockError}
@@ -58,3 +60,8 @@ module _ {W : Type 0} where
     pub writer_waits : 0 < length s.write_line.waiting → 0 < reading s + writing s
     -- all that read, wait to read, or write can be counted as readers
     pub fits : reading s + length s.read_line.waiting + writing s < 2 ^ 64
+
+-- the call returned this at some value
+pub record Reads {V A F : Type 0} (calls : Once F (Bor V × Unit {0}) A) (read : F) (answer : A) : Type 0 where
+  pub value : V
+  pub made : FnOnceReturnsAt calls read value answer

@@ -1,6 +1,9 @@
 //! A read-write lock.
 ghost use Rattle.std.specs.Prelude.{◌≡◌};
 ghost use Rattle.std.specs.Arc.{arc_value};
+ghost use Rattle.std.specs.Fn.{FnOnceReturnsAt, FnOnceReturnsAtMut};
+ghost use Rattle.event_locks.specs.Shares.{Reads};
+ghost use Rattle.event_locks.specs.Watched.{Changes};
 
 mod shares;
 
@@ -12,6 +15,7 @@ use crate::waiters::found;
 use event_queue::{Key, TaskExchange, WakeSink};
 use event_wait::{Attempted, Lock, Task, step};
 use std::alloc::{AllocError, Global};
+use std::marker::Model;
 use std::ops::{Deref, DerefMut};
 use std::sync::{self, Arc, Wait};
 use std::time::Clock;
@@ -30,7 +34,7 @@ pub struct RwLock<T> {
     value: sync::RwLock<T>,
 }
 
-/// The value of a read-write lock, to be read. Dropping the guard ends the reading.
+/// The value of a read-write lock, to be read. Dropping the guard ends the reading. A contract sees the value.
 #[must_use = "a guard that is dropped at once ends the reading"]
 #[derive(Drop)]
 pub struct RwLockReadGuard<'a, T, R: Wait + Clock> {
@@ -41,7 +45,7 @@ pub struct RwLockReadGuard<'a, T, R: Wait + Clock> {
     right: Right<'a, R, ReadShare>,
 }
 
-/// The value of a read-write lock, to be written. Dropping the guard ends the writing.
+/// The value of a read-write lock, to be written. Dropping the guard ends the writing. A contract sees the value.
 #[must_use = "a guard that is dropped at once ends the writing"]
 #[derive(Drop)]
 pub struct RwLockWriteGuard<'a, T, R: Wait + Clock> {
@@ -50,6 +54,22 @@ pub struct RwLockWriteGuard<'a, T, R: Wait + Clock> {
     lock: &'a RwLock<T>,
     rt: &'a R,
     right: Right<'a, R, WriteShare>,
+}
+
+impl<'a, T, R: Wait + Clock> Model for RwLockReadGuard<'a, T, R> {
+    ghost use Rattle.std.specs.Sync.RwLock.{read_guard_value};
+
+    ghost Value = { T };
+
+    ghost view = { λ guard. read_guard_value guard.value };
+}
+
+impl<'a, T, R: Wait + Clock> Model for RwLockWriteGuard<'a, T, R> {
+    ghost use Rattle.std.specs.Sync.RwLock.{write_guard_value};
+
+    ghost Value = { T };
+
+    ghost view = { λ guard. write_guard_value guard.value };
 }
 
 impl<T> RwLock<T> {
@@ -207,6 +227,8 @@ impl<'a, T, R: Wait + Clock> RwLockWriteGuard<'a, T, R> {
 impl<T, R: Wait + Clock> Deref for RwLockReadGuard<'_, T, R> {
     type Target = T;
 
+    ghost deref_gives = { λ guard value. value ≡ guard };
+
     fn deref(&self) -> &T {
         &self.value
     }
@@ -215,12 +237,16 @@ impl<T, R: Wait + Clock> Deref for RwLockReadGuard<'_, T, R> {
 impl<T, R: Wait + Clock> Deref for RwLockWriteGuard<'_, T, R> {
     type Target = T;
 
+    ghost deref_gives = { λ guard value. value ≡ guard };
+
     fn deref(&self) -> &T {
         &self.value
     }
 }
 
 impl<T, R: Wait + Clock> DerefMut for RwLockWriteGuard<'_, T, R> {
+    ghost deref_mut_gives = { λ guard value. value ≡ guard };
+
     fn deref_mut(&mut self) -> &mut T {
         &mut self.value
     }
@@ -326,11 +352,12 @@ impl<T, R: Wait + Clock> Guard<Shares<Task>, EnteringArc<T, R>, ReadShare> {
     /// Lends the value, and returns what `read` returns. It waits for nobody: who may read has been settled before.
     pub fn with<O, F: FnOnce(&T) -> O>(&self, read: F) -> O
         requires { F.IsAlwaysCallable read }
+        ensures { Reads F.FnOnce read result }
     {
         let lock = &self.hold.lock.value;
         match lock.try_read() {
-            Some(value) => read(&value),
-            None => read(&lock.read(&self.hold.rt)),
+            Some(value) => lend(&*value, read),
+            None => lend(&*lock.read(&self.hold.rt), read),
         }
     }
 }
@@ -339,13 +366,31 @@ impl<T, R: Wait + Clock> Guard<Shares<Task>, EnteringArc<T, R>, WriteShare> {
     /// Lends the value, and returns what `write` returns. It waits for nobody: who may write has been settled before.
     pub fn with<O, F: FnOnce(&mut T) -> O>(&mut self, write: F) -> O
         requires { F.IsAlwaysCallable write }
+        ensures { Changes F.FnOnce write result }
     {
         let lock = &self.hold.lock.value;
         match lock.try_write() {
-            Some(mut value) => write(&mut value),
-            None => write(&mut lock.write(&self.hold.rt)),
+            Some(mut value) => lend_mut(&mut *value, write),
+            None => lend_mut(&mut *lock.write(&self.hold.rt), write),
         }
     }
+}
+
+// Lends a value to a call.
+#[inline(always)]
+fn lend<T, O, F: FnOnce(&T) -> O>(value: &T, read: F) -> O
+    requires { F.IsAlwaysCallable read }
+    ensures { FnOnceReturnsAt F.FnOnce read value.now result }
+{
+    read(value)
+}
+
+#[inline(always)]
+fn lend_mut<T, O, F: FnOnce(&mut T) -> O>(value: &mut T, write: F) -> O
+    requires { F.IsAlwaysCallable write }
+    ensures { FnOnceReturnsAtMut F.FnOnce write value.old result value.new }
+{
+    write(value)
 }
 
 impl HandsOut<ReadShare> for Shares<Task> {
