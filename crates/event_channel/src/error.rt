@@ -1,5 +1,5 @@
 //! Why a message was not sent, or none received.
-ghost use Rattle.std.specs.Prelude.{◌≡◌};
+ghost use Rattle.std.specs.Prelude.{◌≡◌, ◌↔◌, IsTrue};
 
 use event_locks::LockError;
 use std::error::Error;
@@ -87,24 +87,32 @@ impl<T> SendError<T> {
     }
 
     /// Whether the channel was full.
-    pub fn is_full(&self) -> bool {
+    pub fn is_full(&self) -> bool
+        ensures { IsTrue result ↔ (self.now.reason ≡ SendReason.Full) }
+    {
         self.reason == SendReason::Full
     }
 
     /// Whether the channel was closed.
-    pub fn is_closed(&self) -> bool {
+    pub fn is_closed(&self) -> bool
+        ensures { IsTrue result ↔ (self.now.reason ≡ SendReason.Closed) }
+    {
         self.reason == SendReason::Closed
     }
 }
 
 impl TryRecvError {
     /// Whether the channel was empty, and open.
-    pub fn is_empty(&self) -> bool {
+    pub fn is_empty(&self) -> bool
+        ensures { IsTrue result ↔ (self.now ≡ TryRecvError.Empty) }
+    {
         matches!(self, TryRecvError::Empty)
     }
 
     /// Whether the channel was closed, and empty.
-    pub fn is_closed(&self) -> bool {
+    pub fn is_closed(&self) -> bool
+        ensures { IsTrue result ↔ (self.now ≡ TryRecvError.Closed) }
+    {
         matches!(self, TryRecvError::Closed)
     }
 }

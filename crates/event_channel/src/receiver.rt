@@ -94,7 +94,9 @@ impl<T: Drop, R: Wait + Clock + Clone> Receiver<T, R> {
 
     /// Receives a message once there is one: to be awaited. Nothing is received before it is polled, and no message is lost
     /// if it is dropped.
-    pub fn recv(&self) -> Recv<'_, T, R> {
+    pub fn recv(&self) -> Recv<'_, T, R>
+        ensures { result ≡ self.now.channel }
+    {
         Recv::new(&self.link.channel, &self.link.rt)
     }
 

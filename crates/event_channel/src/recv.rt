@@ -33,7 +33,9 @@ impl<'a, T: Drop, R: Wait + Clock + Clone> Model for Recv<'a, T, R> {
 }
 
 impl<'a, T: Drop, R: Wait + Clock + Clone> Recv<'a, T, R> {
-    pub(crate) fn new(channel: &'a Channel<T>, rt: &'a R) -> Self {
+    pub(crate) fn new(channel: &'a Channel<T>, rt: &'a R) -> Self
+        ensures { result ≡ channel.now.lock }
+    {
         Recv {
             channel,
             rt,

@@ -34,7 +34,8 @@ impl<'a, T: Drop, R: Wait + Clock + Clone> Model for Send<'a, T, R> {
 
 impl<'a, T: Drop, R: Wait + Clock + Clone> Send<'a, T, R> {
     pub(crate) fn new(channel: &'a Channel<T>, rt: &'a R, message: T) -> Self
-        ensures { Carries message result }
+        ensures carries { Carries message result }
+        ensures channel { result.channel ≡ channel.now.lock }
     {
         Send {
             channel,

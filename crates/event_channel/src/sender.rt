@@ -127,7 +127,8 @@ impl<T: Drop, R: Wait + Clock + Clone> Sender<T, R> {
     ///
     /// An error hands the message back. If it is dropped before it is done, the message is dropped and not sent.
     pub fn send(&self, message: T) -> Send<'_, T, R>
-        ensures { Carries message result }
+        ensures carries { Carries message result }
+        ensures channel { result.channel ≡ self.now.channel }
     {
         Send::new(&self.link.channel, &self.link.rt, message)
     }
