@@ -134,6 +134,7 @@ impl<T: Drop, R: Wait + Clock + Clone> Receiver<T, R> {
     pub fn recv_many(&self, into: &mut Vec<T>, limit: usize) -> Result<usize, RecvError>
         ensures most { IfOk result (λ count. count ≤ limit) }
         ensures one { IfOk result (λ count. 0 < limit → 0 < count) }
+        ensures none { limit ≡ 0 → result ≡ Ok 0 }
         ensures appended { IfOk result (λ count. Appends count into.old.items into.new.items) }
         ensures kept { OnErr result (into.new.items ≡ into.old.items) }
     {
