@@ -125,10 +125,18 @@ impl<T: Drop, H: Hold<Slot<T, Task>>> Deref for Guard<Slot<T, Task>, H, T> {
 }
 
 impl<T: Drop, H: Hold<Slot<T, Task>>> DerefMut for Guard<Slot<T, Task>, H, T> {
+    ghost use Rattle.std.specs.Borrow.{Lends, sem};
+    ghost use Rattle.event_wait.specs.contracts.lock.task.Task.{the_row as task_row};
+    ghost use Rattle.event_locks.specs.contracts.lock.guard.Guard.{the_row};
+    ghost use Rattle.event_locks.specs.contracts.mutex.slot.Slot.{the_row as slot_row};
+
     ghost deref_mut_gives = { λ guard value. value ≡ guard };
 
     #[inline(always)]
-    fn deref_mut(&mut self) -> &mut T {
+    fn deref_mut(&mut self) -> &mut T
+        ensures* writes_back { sem 𝓛 (Lends (the_row (slot_row T.row task_row) H.row T.row H.Runtime.row H.Hold) T.row self.entry result (λ w. w)) }
+        ensures shows { result.now ≡ self.old }
+    {
         &mut self.grant
     }
 }
