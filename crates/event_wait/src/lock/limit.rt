@@ -31,7 +31,7 @@ impl Limit {
     }
 
     /// How long until then: zero if it has passed, and `None` if it never comes.
-    pub(super) fn left<R: Clock>(self, clock: &R) -> Option<Duration>
+    pub fn left<R: Clock>(self, clock: &R) -> Option<Duration>
         ensures never { self ≡ Never → result ≡ None }
     {
         match self {
@@ -45,7 +45,7 @@ impl Limit {
     }
 
     /// Whether it has passed. Where it never comes the clock is not read.
-    pub(super) fn has_passed<R: Clock>(self, clock: &R) -> bool
+    pub fn has_passed<R: Clock>(self, clock: &R) -> bool
         ensures never { self ≡ Never → result ≡ false }
     {
         match self.left(clock) {

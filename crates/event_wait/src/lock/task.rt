@@ -31,7 +31,8 @@ impl Task {
         Task(TaskKind::Polled(waker))
     }
 
-    pub(crate) fn parked(parker: Arc<Parker, Global>) -> Task {
+    /// The thread that parks on this parker. The call neither allocates nor waits.
+    pub fn parked(parker: Arc<Parker, Global>) -> Task {
         Task(TaskKind::Parked(parker))
     }
 
@@ -164,7 +165,8 @@ impl Model for LineSource {
 }
 
 impl LineSource {
-    pub(crate) fn new() -> Self {
+    /// Where nobody has registered yet. The call neither allocates nor waits.
+    pub fn new() -> Self {
         LineSource {
             source: Source::new(),
         }
