@@ -1,0 +1,4 @@
+use Rattle.event_history.proofs.lock.Lock.leave_named.Given as goal
+
+abbrev pub ghosts-give_back : goal.ghosts-give_back
+ghosts-give_back g a = record { made = g.N.Named.named a.evidence.now }

@@ -1,0 +1,44 @@
+-- What each call on a queue does to its two lists.
+use Rattle.std.specs.Prelude.{◌≡◌, ◌<◌, ℕ, Bool, List, [], length, Result, Ok, Err, IsSomeAnd}
+use Rattle.std.specs.Map.{lookup}
+use Rattle.event_queue.specs.declared.key.Key.{Key}
+use Rattle.event_queue.specs.declared.reply.RegisterResult.{RegisterResult}
+use Rattle.event_queue.specs.declared.reply.RegisterResult.TheVariants.{Notified, Registered, NeverInserted}
+use Rattle.event_queue.specs.declared.reply.NotifyError.{NotifyError}
+use Rattle.event_queue.specs.Key.{is_key}
+use Rattle.event_queue.specs.Queue.{Queue, IsQueue, IsAbsent, listeners_of, how_many, after_telling, told_leaves}
+use Rattle.event_queue.specs.Insert.{Inserts}
+use Rattle.event_queue.specs.Register.{Registers}
+use Rattle.event_queue.specs.Remove.{Removes}
+use Rattle.event_history.specs.declared.queue_call.QueueCall.{QueueCall}
+use Rattle.event_history.specs.declared.queue_call.QueueCall.TheVariants.{Insert, Register, Remove, Notify, Counts}
+
+module _ {T W : Type 0} where
+  -- nobody is notified and nobody waits
+  abbrev pub is_empty : Queue T W → Type 0
+  is_empty q = (q.told ≡ []) × (q.waiting ≡ [])
+
+  -- the first that wait are notified, each with one of as many tags as are counted
+  abbrev pub TellsSome : Bool → Queue T W → ℕ → Queue T W → Type 0
+  TellsSome additional old told new = (tags : List T) × (length tags ≡ told) × (new ≡ after_telling additional tags old)
+
+  -- a notification tells as many as it wants, or less where a tag was refused
+  abbrev pub NotifiesSome : ℕ → Bool → Queue T W → Result ℕ NotifyError → Queue T W → Type 0
+  NotifiesSome count additional old (Ok told) new = (told ≡ how_many count additional old) × TellsSome additional old told new
+  NotifiesSome count additional old (Err error) new = (error.told < how_many count additional old) × TellsSome additional old error.told new
+
+  -- a registration, with some task where one is stored
+  abbrev pub RegistersSome : Queue T W → Key → RegisterResult T → Queue T W → Type 0
+  RegistersSome old key (Notified tag) new = IsSomeAnd (lookup (is_key key) old.told) (λ notice. notice.tag ≡ tag) × (new ≡ told_leaves key old)
+  RegistersSome old key Registered new = (task : W) × Registers old key task Registered new
+  RegistersSome old key NeverInserted new = IsAbsent key old × (new ≡ old)
+
+  abbrev pub Does : Queue T W → QueueCall T W → Queue T W → Type 0
+  Does old (Insert reply) new = Inserts old reply new
+  Does old (Register key reply) new = RegistersSome old key reply new
+  Does old (Remove key propagate reply) new = Removes old key propagate reply new
+  Does old (Notify count additional reply) new = NotifiesSome count additional old reply new
+  Does old (Counts told total) new = (told ≡ length old.told) × (total ≡ listeners_of old) × (new ≡ old)
+
+  abbrev pub calls : Queue T W → QueueCall T W → Queue T W → Type 0
+  calls old call new = Does old call new × IsQueue new

@@ -1,0 +1,86 @@
+-- What holds between any two steps, and what each kind of step tells.
+use Rattle.std.specs.Prelude.{◌≡◌, ◌≢◌, ℕ, ◌≤◌, true, false, List, [], ◌∷◌, length, slice_index}
+use mathlib.Core.Option.{none, some}
+use mathlib.Core.Option as home
+use lib.ListN.{get_elem?}
+use Rattle.atomic_table.specs.Table.{State, Me, Step, rest}
+use Rattle.event_history.specs.declared.history.Entry.{Entry}
+use Rattle.event_history.specs.declared.history.Met.{Met}
+use Rattle.event_history.specs.declared.history.View.{View}
+use Rattle.event_history.specs.History.{calls_by, StartsWith, IsNumber, AllDiffer, Stood, LeadsTo, Leads, Looks, newcomer}
+
+-- only the owner has a state out, and it is this one
+abbrev pub IsOut : {S : Type 0} → ℕ → S → ℕ → List S → Type 0
+IsOut owner q by [] = Unit {0}
+IsOut owner q by (o ∷ os) = (by ≡ owner) × (o ≡ q)
+
+module _ {S C : Type 0} where
+  -- a hand that another one took in
+  abbrev pub spent_view : View S C
+  spent_view = record { by = []; seen = []; mine = []; out = []; met = []; spent = true }
+
+  module _ (views : List (View S C)) (log : List (Entry C)) where
+    -- the seat of that number is spent, and this is what was known of it
+    pub record Knows (number : ℕ) (m : Met C) : Type 0 where
+      pub view : View S C
+      pub at : get_elem? views number ≡ some view
+      pub spent : view.spent ≡ true
+      pub stood : Stood log number m
+
+    abbrev pub KnowsEach : List ℕ → List (Met C) → Type 0
+    KnowsEach [] [] = Unit {0}
+    KnowsEach [] (m ∷ ms) = ⊥
+    KnowsEach (n ∷ ns) [] = ⊥
+    KnowsEach (n ∷ ns) (m ∷ ms) = Knows n m × KnowsEach ns ms
+
+    -- the history begins with what a hand has seen, and its own calls are all that the history has of it
+    pub record Fits (by : ℕ) (v : View S C) : Type 0 where
+      pub number : IsNumber by v.by
+      pub begins : StartsWith log v.seen
+      pub own : v.spent ≡ false → calls_by by log ≡ v.mine
+      pub others : List ℕ
+      pub met : KnowsEach others v.met
+      pub differ : AllDiffer others
+
+module _ {S C : Type 0} (starts : S → Type 0) (goes : S → C → S → Type 0) where
+  -- the state at home, or the one that a hand has taken out, is where the history leads
+  abbrev pub Stands : ℕ → List (home.Option S) → List (View S C) → List (Entry C) → Type 0
+  Stands w [] views log = ⊥
+  Stands w (none ∷ hs) views log = (w ≢ 0) × (owner : ℕ) × (q : S) × LeadsTo goes starts log q × ((by : ℕ) (v : View S C) → get_elem? views by ≡ some v → IsOut owner q by v.out)
+  Stands w (some q ∷ hs) views log = (w ≡ 0) × LeadsTo goes starts log q × ((by : ℕ) (v : View S C) → get_elem? views by ≡ some v → v.out ≡ [])
+
+  pub record Kept (s : State S (View S C)) : Type 0 where
+    pub log : List (Entry C)
+    pub wide : length s.words ≡ 1
+    pub fits : (by : ℕ) (v : View S C) → get_elem? s.views by ≡ some v → Fits s.views log by v
+    pub others : (by : ℕ) → length s.views ≤ by → calls_by by log ≡ []
+    pub stands : Stands (slice_index s.words 0) s.homes s.views log
+
+-- a seat's view, and what it has taken out
+abbrev pub Sat : Type 0 → Type 0 → Type 0
+Sat S C = Me S (View S C)
+
+module _ {S C : Type 0} where
+  -- a new seat has seen some history
+  abbrev pub entered : Step S → Sat S C → ℕ → Sat S C → Type 0
+  entered st m r n = (seen : List (Entry C)) × (n.0 ≡ newcomer seen) × (n.1 ≡ [])
+
+  -- the seat has the state alone
+  abbrev pub Holds : View S C → Sat S C → Type 0
+  Holds v n = (q : S) × (n ≡ (record v { out = q ∷ [] }, (0, q) ∷ []))
+
+  -- where the word was 0, it has it now
+  abbrev pub taken : Step S → Sat S C → ℕ → Sat S C → Type 0
+  taken st m r n = (r ≡ 0 → Holds m.0 n) × (r ≢ 0 → n ≡ m)
+
+  module _ (starts : S → Type 0) (goes : S → C → S → Type 0) where
+    -- the state that was out is at home, changed by the call
+    abbrev pub Returns : Sat S C → C → View S C → Type 0
+    Returns m call w = (q : S) × (r : S) × (m.0.out ≡ q ∷ []) × (m.1 ≡ (0, r) ∷ []) × Leads goes starts m.0 call q r w
+
+    -- by a call of which this was said
+    abbrev pub extended : (C → Type 0) → Step S → Sat S C → ℕ → Sat S C → Type 0
+    extended made st m r n = (n.1 ≡ rest m.1) × (c : C) × made c × Returns m c n.0
+
+    abbrev pub looked : Step S → Sat S C → ℕ → Sat S C → Type 0
+    looked st m r n = (n.1 ≡ m.1) × Looks goes starts m.0 n.0

@@ -1,0 +1,64 @@
+//! A caller's right to call.
+ghost use Rattle.std.specs.Prelude.{◌≡◌, ◌∷◌, [], false, All};
+
+use crate::history::View;
+use crate::rest::Rest;
+use atomic_table::{Badge, Seat};
+use std::mem;
+
+/// A caller's right to call, of no bytes, on a state of type `S` by calls of type `C`. It belongs to one
+/// [`Traced`](crate::Traced) state, whose `table_id` it has.
+///
+/// `seat.me.0` is what it knows. Between two calls it has no state out.
+#[derive(Drop)]
+pub struct Hand<S, C> {
+    pub seat: Seat<S, View<S, C>>,
+    ghost idle: { (seat.me.1 ≡ []) × (seat.me.0.out ≡ []) × (seat.me.0.spent ≡ false) },
+}
+
+impl<S, C> Hand<S, C> {
+    /// The hand at rest.
+    #[inline(always)]
+    pub fn rest(self) -> Resting<S, C>
+        ensures { (result.rest.badge.table_id ≡ self.seat.table_id) × (result.rest.badge.views ≡ self.seat.me.0 ∷ []) }
+    {
+        let Hand { seat } = self;
+        Resting {
+            rest: Rest::of(seat.into_badge()),
+        }
+    }
+}
+
+/// A hand while it makes no call, or the place of one that was taken out, of no bytes. Unlike a hand it may be shared by
+/// threads, so a listener keeps its hand so.
+///
+/// `rest.badge.views` is what the hand knows, a list of one, or of none while it is out.
+#[derive(Drop)]
+pub struct Resting<S, C> {
+    pub rest: Rest<View<S, C>>,
+    ghost idle: { All (λ v. (v.out ≡ []) × (v.spent ≡ false)) rest.badge.views },
+}
+
+impl<S, C> Resting<S, C> {
+    /// Takes the hand out, for a call.
+    #[inline(always)]
+    pub fn take(&mut self) -> Hand<S, C>
+        requires { (v : View S C) × (self.old.rest.badge.views ≡ v ∷ []) }
+        ensures hand { (result.seat.table_id ≡ self.old.rest.badge.table_id) × (self.old.rest.badge.views ≡ result.seat.me.0 ∷ []) }
+        ensures left { self.new.rest.badge.views ≡ [] }
+    {
+        let rest = mem::replace(&mut self.rest, Rest::of(Badge::blank()));
+        Hand {
+            seat: rest.into_badge().into_seat(),
+        }
+    }
+
+    /// Puts a hand in, after a call. It drops one that is there.
+    #[inline(always)]
+    pub fn put(&mut self, hand: Hand<S, C>)
+        ensures { (self.new.rest.badge.table_id ≡ hand.seat.table_id) × (self.new.rest.badge.views ≡ hand.seat.me.0 ∷ []) }
+    {
+        let Hand { seat } = hand;
+        self.rest = Rest::of(seat.into_badge());
+    }
+}

@@ -1,0 +1,58 @@
+//! What a history is made of. No value of these types is made when a program runs.
+use std::collections::LinkedList;
+use std::marker::Brand;
+
+/// What calls do to a state.
+pub trait Steps {
+    /// A call, with what was asked and what was replied.
+    type Call;
+
+    // What holds of the state before all calls.
+    ghost starts: { Self → Type 0 };
+
+    // From a state a call leads to a state.
+    ghost goes: { Self → Self.Call → Self → Type 0 };
+}
+
+/// What is said of the call that was made while the state was out. Whoever gives the state back picks it.
+pub trait Made<C> {
+    ghost made: { C → Type 0 };
+}
+
+impl<C> Made<C> for Brand {
+    ghost made = { λ _. ⊥ };
+}
+
+/// What is said of the call that a step is, by its answer. Whoever makes the step picks it, and may speak of all that the
+/// step is given.
+pub trait Named<A, C> {
+    ghost named: { A → C → Type 0 };
+}
+
+impl<A, C> Named<A, C> for Brand {
+    ghost named = { λ _ _. ⊥ };
+}
+
+/// A call of the history, and the number of the hand that made it.
+pub struct Entry<C> {
+    pub by: u64,
+    pub call: C,
+}
+
+/// What is known of a hand that another one took in: its number if it made a call, what it had seen, and its calls.
+pub struct Met<C> {
+    pub by: LinkedList<u64>,
+    pub seen: LinkedList<Entry<C>>,
+    pub mine: LinkedList<C>,
+}
+
+/// What a hand knows: its number once it made a call, the history that it has seen, its own calls in it, the state that
+/// it took out, the hands that it took in, and whether another one took it in.
+pub struct View<S, C> {
+    pub by: LinkedList<u64>,
+    pub seen: LinkedList<Entry<C>>,
+    pub mine: LinkedList<C>,
+    pub out: LinkedList<S>,
+    pub met: LinkedList<Met<C>>,
+    pub spent: bool,
+}

@@ -1,0 +1,48 @@
+//! A state behind a lock, and one history of all calls on it, which is ghost: compiled code has no trace of it.
+//!
+//! A [`Traced`] state is taken by one compare-exchange and given back by one swap. In proofs a list of all calls stands
+//! behind the lock, each with its reply and the [`Hand`] that made it. It runs, call by call, from the state at the start
+//! to the state as it is, by the relation of [`Steps`]. A hand is a caller's right to call, of no bytes. It knows a history
+//! that the one behind the lock begins with, and its own calls in it.
+//!
+//! So the clause of a call says: *there is one history; it runs from the start; it begins with all that this hand had
+//! seen; it ends with this call and its reply; and the calls of this hand in it are just those that it made, each once, in
+//! order.* Two hands speak of the same history: [`Traced::tell`] makes a hand that has seen as much as another one, and
+//! [`Traced::absorb`] has one hand learn what another one saw and did.
+//!
+//! A [`Lock`] is a traced state with queues of those that wait for something of it: a [`Request`] waits by
+//! [`Lock::wait`] (a thread) or [`Lock::poll_in`] (a task), and an [`Attempt`] tries first ([`Lock::obtain`]). Each of their
+//! attempts is a call of the history. A call of one's own is a [`Step`], made by [`perform!`] or [`Lock::call`]; [`steps`]
+//! has those of a queue, and what follows of the history of a queue stands in laws, as [`tag_was_told`]. A [`Resting`] hand
+//! is one that makes no call, which threads may share.
+//!
+//! It is not said that a call comes to an end, or in which order calls stand of hands that never heard of each other.
+#![tactic(auto)]
+
+mod hand;
+mod history;
+mod laws;
+mod lock;
+mod queue_call;
+mod request;
+mod rest;
+mod rule;
+mod step;
+pub mod steps;
+#[cfg(test)]
+mod tests;
+mod traced;
+
+pub use hand::{Hand, Resting};
+pub use history::{Entry, Made, Met, Named, Steps, View};
+pub use laws::{
+    first_told_first, never_absent, passes_on, stays, tag_was_told, told_hands_call_later,
+    told_or_as_many_before,
+};
+pub use lock::Lock;
+pub use queue_call::QueueCall;
+pub use request::{Attempt, Request};
+pub use rest::Rest;
+pub use rule::Rule;
+pub use step::Step;
+pub use traced::{Traced, wait_to_take};

@@ -1,0 +1,305 @@
+//! A state under a lock, with the queues of those that wait for something of it.
+ghost use Rattle.std.specs.Prelude.{◌≡◌, ◌↔◌, Option, Result, [], IfOk, IfErr, OnErr};
+ghost use Rattle.event_wait.specs.declared.request.Attempted.{Attempted};
+ghost use Rattle.event_wait.specs.Attempted.{Attempts, OnDone, OnRefused, OnUndone, OnWaits};
+ghost use Rattle.event_history.specs.Waiting.{Polls};
+ghost use Rattle.futures.specs.Poll.{IfReady, OnPending};
+ghost use Rattle.futures.specs.Task.{Covers, Keeps};
+ghost use Rattle.event_history.specs.History.{Extends, ExtendsThat, Looks, Makes, both_views, newcomer};
+
+mod obtain;
+mod wait;
+
+use crate::hand::Hand;
+use crate::history::{Named, Steps};
+use crate::request::Request;
+use crate::step::Step;
+use crate::take_out;
+use crate::traced::Traced;
+use event_queue::TaskExchange;
+use event_wait::{Attempted, LineSource, Parks, Task, Waking};
+use futures::task::{Context, Poll};
+use std::alloc::{AllocError, Global};
+use std::marker::{Brand, Model};
+use std::sync::Wait;
+
+/// A state under a lock, with one history of all calls on it, and the queues of those that wait for something of it.
+///
+/// A contract sees the number of the source at which tasks that wait are registered, and the table that the state is in.
+#[derive(Drop)]
+pub struct Lock<S: Steps> {
+    traced: Traced<S>,
+    source: LineSource,
+}
+
+impl<S: Steps> Model for Lock<S> {
+    ghost use Rattle.event_history.specs.Lock.{LockId};
+
+    ghost Value = { LockId };
+
+    ghost view = { λ lock. record { source = lock.source; table = lock.traced.table.shared.table_id } };
+}
+
+impl<S: Steps> Lock<S> {
+    /// A lock round this state, and a first hand. The call allocates, and returns an error if that fails, which drops the
+    /// state.
+    pub fn new(alloc: Global, state: S) -> Result<(Self, Hand<S, S::Call>), AllocError>
+    where
+        S: Drop,
+        requires { S.starts state }
+        ensures { IfOk result (λ made. (made.1.seat.table_id ≡ made.0.table) × (made.1.seat.me.0 ≡ newcomer [])) }
+    {
+        let (traced, hand) = Traced::new(alloc, state)?;
+        let source = LineSource::new();
+        Ok((Lock { traced, source }, hand))
+    }
+
+    /// A hand that made no call yet, and has seen the history so far. It is one load.
+    #[inline(always)]
+    pub fn hand(&self) -> Hand<S, S::Call>
+        ensures { (result.seat.table_id ≡ self.now.table) × (result.seat.me.0 ≡ newcomer result.seat.me.0.seen) }
+    {
+        self.traced.hand()
+    }
+
+    /// Where a task registers that polls one which waits.
+    #[inline(always)]
+    pub fn line_source(&self) -> &LineSource
+        ensures { result.now ≡ self.now.source }
+    {
+        &self.source
+    }
+
+    /// Makes one call at once, or none if another hand has the state.
+    pub fn try_perform<B, K: Step<S, B>>(
+        &self,
+        hand: &mut Hand<S, S::Call>,
+        step: K,
+        beside: &mut B,
+    ) -> Result<K::Reply, K>
+        requires hand { hand.old.seat.table_id ≡ self.now.table }
+        requires may { K.may step }
+        ensures hand { hand.new.seat.table_id ≡ hand.old.seat.table_id }
+        ensures call { IfOk result (λ reply. ExtendsThat S.goes S.starts (λ before after. K.does step before beside.old reply after beside.new) hand.old.seat.me.0 (K.call step reply) hand.new.seat.me.0) }
+        ensures kept { IfErr result (λ back. (back ≡ step) × (beside.new ≡ beside.old) × (hand.new.seat.me.0 ≡ hand.old.seat.me.0)) }
+    {
+        let seat = &mut hand.seat;
+        if !self.traced.try_take(seat) {
+            return Err(step);
+        }
+        Ok(self.traced.make(seat, step, beside))
+    }
+
+    /// The state alone, for [`perform!`](crate::perform).
+    #[doc(hidden)]
+    #[inline(always)]
+    pub fn traced(&self) -> &Traced<S>
+        ensures { result.now.table.shared.table_id ≡ self.now.table }
+    {
+        &self.traced
+    }
+
+    /// A new hand, which has seen as much as this one. It is one load.
+    pub fn tell(&self, hand: &mut Hand<S, S::Call>) -> Hand<S, S::Call>
+        requires { hand.old.seat.table_id ≡ self.now.table }
+        ensures hand { (hand.new.seat.table_id ≡ hand.old.seat.table_id) × (hand.new.seat.me.0 ≡ hand.old.seat.me.0) }
+        ensures told { (result.seat.table_id ≡ hand.old.seat.table_id) × (result.seat.me.0 ≡ newcomer hand.old.seat.me.0.seen) }
+    {
+        self.traced.tell(hand)
+    }
+
+    /// Has a hand learn what another one saw and did. From here on it speaks of one history that has the calls of both. It
+    /// is two loads.
+    pub fn absorb(&self, hand: &mut Hand<S, S::Call>, other: Hand<S, S::Call>)
+        requires here { hand.old.seat.table_id ≡ self.now.table }
+        requires there { other.seat.table_id ≡ self.now.table }
+        ensures hand { hand.new.seat.table_id ≡ hand.old.seat.table_id }
+        ensures looks { Looks S.goes S.starts (both_views hand.old.seat.me.0 other.seat.me.0) hand.new.seat.me.0 }
+    {
+        self.traced.absorb(hand, other);
+    }
+
+    /// Makes one call, as a call of this hand, with what stands beside the state. It may wait for the lock, and allocates what
+    /// the step allocates.
+    #[inline(always)]
+    pub fn perform<B, K: Step<S, B>, R: Wait>(
+        &self,
+        rt: &R,
+        hand: &mut Hand<S, S::Call>,
+        step: K,
+        beside: &mut B,
+    ) -> K::Reply
+        requires hand { hand.old.seat.table_id ≡ self.now.table }
+        requires may { K.may step }
+        ensures hand { hand.new.seat.table_id ≡ hand.old.seat.table_id }
+        ensures call { ExtendsThat S.goes S.starts (λ before after. K.does step before beside.old result after beside.new) hand.old.seat.me.0 (K.call step result) hand.new.seat.me.0 }
+    {
+        self.traced.perform(rt, hand, step, beside)
+    }
+
+    /// Makes one call that may wake others, as a call of this hand: the last of them once the lock is given back. It may wait
+    /// for the lock, and allocates what the step allocates.
+    #[inline(always)]
+    pub fn call<K: Step<S, Waking>, R: Wait>(
+        &self,
+        rt: &R,
+        hand: &mut Hand<S, S::Call>,
+        step: K,
+    ) -> K::Reply
+        requires hand { hand.old.seat.table_id ≡ self.now.table }
+        requires may { K.may step }
+        ensures hand { hand.new.seat.table_id ≡ hand.old.seat.table_id }
+        ensures call { Extends S.goes S.starts hand.old.seat.me.0 (K.call step result) hand.new.seat.me.0 }
+    {
+        let mut waking = Waking::new();
+        let reply = self.traced.perform(rt, hand, step, &mut waking);
+        waking.finish();
+        reply
+    }
+
+    // A thread attempts, and stores its task if it waits on.
+    #[inline(always)]
+    fn attempt_or_park<Q: Request<S>, R: Wait>(
+        &self,
+        rt: &R,
+        hand: &mut Hand<S, S::Call>,
+        request: &mut Q,
+        task: &mut Option<Task>,
+    ) -> Attempted<Q::Output, Q::Refusal>
+        requires { hand.old.seat.table_id ≡ self.now.table }
+        ensures hand { hand.new.seat.table_id ≡ hand.old.seat.table_id }
+        ensures call { Makes S.goes S.starts hand.old.seat.me.0 (Q.attempting request.old result) hand.new.seat.me.0 }
+        ensures succeeded { OnDone result (λ output. Q.succeeds request.old output request.new) }
+        ensures waited { OnUndone result (Q.waits request.old request.new) }
+        ensures kept { OnRefused result (request.new ≡ request.old) }
+    {
+        self.attempt_named::<Brand, _, _, _, _>(rt, hand, request, &Parks {}, task)
+    }
+
+    // A task attempts, and is registered if it waits on.
+    #[inline(always)]
+    fn attempt_in<Q: Request<S>, R: Wait>(
+        &self,
+        rt: &R,
+        hand: &mut Hand<S, S::Call>,
+        request: &mut Q,
+        cx: &mut Context<'_>,
+    ) -> Attempted<Q::Output, Q::Refusal>
+        requires { hand.old.seat.table_id ≡ self.now.table }
+        ensures hand { hand.new.seat.table_id ≡ hand.old.seat.table_id }
+        ensures call { Makes S.goes S.starts hand.old.seat.me.0 (Q.attempting request.old result) hand.new.seat.me.0 }
+        ensures succeeded { OnDone result (λ output. Q.succeeds request.old output request.new) }
+        ensures waited { OnUndone result (Q.waits request.old request.new) }
+        ensures refused { OnRefused result (request.new ≡ request.old) }
+        ensures registered { OnWaits result (Covers cx.new (λ s. s ≡ self.now.source)) }
+        ensures kept { Keeps cx.old cx.new }
+    {
+        self.attempt_named::<Brand, _, _, _, _>(rt, hand, request, &self.source, cx)
+    }
+
+    fn attempt_named<
+        N: Named<Attempted<Q::Output, Q::Refusal>, S::Call>,
+        Q: Request<S>,
+        C,
+        X: TaskExchange<Task, C>,
+        R: Wait,
+    >(
+        &self,
+        rt: &R,
+        hand: &mut Hand<S, S::Call>,
+        request: &mut Q,
+        exchange: &X,
+        on: &mut C,
+    ) -> Attempted<Q::Output, Q::Refusal>
+        requires hand { hand.old.seat.table_id ≡ self.now.table }
+        requires named { (answer : Attempted Q.Output Q.Refusal) (call : S.Call) → N.named answer call ↔ Q.attempting request.old answer call }
+        ensures hand { hand.new.seat.table_id ≡ hand.old.seat.table_id }
+        ensures call { Makes S.goes S.starts hand.old.seat.me.0 (Q.attempting request.old result) hand.new.seat.me.0 }
+        ensures succeeded { OnDone result (λ output. Q.succeeds request.old output request.new) }
+        ensures waited { OnUndone result (Q.waits request.old request.new) }
+        ensures kept { OnRefused result (request.new ≡ request.old) }
+        ensures exchanged { Attempts (X.exchanged exchange.now) on.old result on.new }
+    {
+        let mut waking = Waking::new();
+        let traced = &self.traced;
+        let seat = &mut hand.seat;
+        take_out!(traced, rt, seat);
+        let state = seat.slot_mut(&traced.table.shared, 0);
+        let answer = request.attempt_or_wait(state, exchange, on, &mut waking);
+        traced.give_back::<Brand, _>(seat, &answer);
+        waking.finish();
+        answer
+    }
+
+    /// Attempts what is requested, and registers the task that polls if it waits on. An error says that it can't wait, and
+    /// is where it was. It may wait for the lock.
+    #[inline(always)]
+    pub fn poll_in<Q: Request<S>, R: Wait>(
+        &self,
+        rt: &R,
+        hand: &mut Hand<S, S::Call>,
+        request: &mut Q,
+        cx: &mut Context<'_>,
+    ) -> Poll<Result<Q::Output, Q::Refusal>>
+        requires { hand.old.seat.table_id ≡ self.now.table }
+        ensures hand { hand.new.seat.table_id ≡ hand.old.seat.table_id }
+        ensures call { Makes S.goes S.starts hand.old.seat.me.0 (Polls Q.attempting request.old result) hand.new.seat.me.0 }
+        ensures succeeded { IfReady result (λ answer. IfOk answer (λ output. Q.succeeds request.old output request.new)) }
+        ensures refused { IfReady result (λ answer. OnErr answer (request.new ≡ request.old)) }
+        ensures pending { OnPending result (Q.waits request.old request.new) }
+        ensures registered { OnPending result (Covers cx.new (λ s. s ≡ self.now.source)) }
+        ensures kept { Keeps cx.old cx.new }
+    {
+        match self.attempt_in(rt, hand, request, cx) {
+            Attempted::Done(output) => Poll::Ready(Ok(output)),
+            Attempted::Waits(_) => Poll::Pending,
+            Attempted::Absent => cx.yield_now(),
+            Attempted::Refused(error) => Poll::Ready(Err(error)),
+        }
+    }
+
+    // Leaves the queue at the limit, with what can still be had.
+    #[inline(always)]
+    fn leave<Q: Request<S>, R: Wait>(
+        &self,
+        rt: &R,
+        hand: &mut Hand<S, S::Call>,
+        request: &mut Q,
+    ) -> Result<Option<Q::Output>, Q::Refusal>
+        requires { hand.old.seat.table_id ≡ self.now.table }
+        ensures hand { hand.new.seat.table_id ≡ hand.old.seat.table_id }
+        ensures call { Makes S.goes S.starts hand.old.seat.me.0 (Q.leaving request.old result) hand.new.seat.me.0 }
+        ensures left { IfOk result (λ answer. Q.leaves request.old answer request.new) }
+        ensures kept { OnErr result (request.new ≡ request.old) }
+    {
+        self.leave_named::<Brand, _, _>(rt, hand, request)
+    }
+
+    fn leave_named<
+        N: Named<Result<Option<Q::Output>, Q::Refusal>, S::Call>,
+        Q: Request<S>,
+        R: Wait,
+    >(
+        &self,
+        rt: &R,
+        hand: &mut Hand<S, S::Call>,
+        request: &mut Q,
+    ) -> Result<Option<Q::Output>, Q::Refusal>
+        requires hand { hand.old.seat.table_id ≡ self.now.table }
+        requires named { (answer : Result (Option Q.Output) Q.Refusal) (call : S.Call) → N.named answer call ↔ Q.leaving request.old answer call }
+        ensures hand { hand.new.seat.table_id ≡ hand.old.seat.table_id }
+        ensures call { Makes S.goes S.starts hand.old.seat.me.0 (Q.leaving request.old result) hand.new.seat.me.0 }
+        ensures left { IfOk result (λ answer. Q.leaves request.old answer request.new) }
+        ensures kept { OnErr result (request.new ≡ request.old) }
+    {
+        let mut waking = Waking::new();
+        let traced = &self.traced;
+        let seat = &mut hand.seat;
+        take_out!(traced, rt, seat);
+        let state = seat.slot_mut(&traced.table.shared, 0);
+        let answer = request.leave(state, &mut waking);
+        traced.give_back::<Brand, _>(seat, &answer);
+        waking.finish();
+        answer
+    }
+}

@@ -1,0 +1,70 @@
+//! What holds between any two steps of any threads, and what each kind of step tells.
+ghost use Rattle.std.specs.Prelude.{[]};
+ghost use Rattle.event_history.specs.History.{both_views, newcomer};
+ghost use Rattle.event_history.specs.Rule.{Kept, entered, extended, looked, spent_view, taken};
+
+use crate::history::{Made, Steps, View};
+use atomic_table::{Join, Play, Split, TableRule};
+use std::marker::PhantomData;
+
+/// The rule of a table whose slot is the state, and whose word is its lock: there is a history that leads from the start to
+/// the state, and each hand knows a beginning of it and all its own calls in it.
+pub struct Rule<S> {
+    of: PhantomData<S>,
+}
+
+impl<S: Steps> TableRule<S, View<S, S::Call>, ()> for Rule<S> {
+    ghost holds = { λ _. Kept S.starts S.goes };
+
+    ghost first = { λ _. newcomer [] };
+}
+
+// A new hand looks at the history.
+pub(crate) struct Enter;
+
+impl<S, C> Play<S, View<S, C>> for Enter {
+    ghost then = { entered };
+}
+
+// A hand takes the state out, if it is at home.
+pub(crate) struct Take;
+
+impl<S, C> Play<S, View<S, C>> for Take {
+    ghost then = { taken };
+}
+
+// A hand gives the state back, after the call that `K` picks.
+pub(crate) struct GiveBack<S, K> {
+    of: PhantomData<(S, K)>,
+}
+
+impl<S: Steps, K: Made<S::Call>> Play<S, View<S, S::Call>> for GiveBack<S, K> {
+    ghost then = { extended S.starts S.goes K.made };
+}
+
+// A hand looks at the history.
+pub(crate) struct Look<S> {
+    of: PhantomData<S>,
+}
+
+impl<S: Steps> Play<S, View<S, S::Call>> for Look<S> {
+    ghost then = { looked S.starts S.goes };
+}
+
+// A new hand has seen what another one has seen.
+pub(crate) struct Tell;
+
+impl<S, C> Split<View<S, C>> for Tell {
+    ghost left = { λ v. v };
+
+    ghost right = { λ v. newcomer v.seen };
+}
+
+// A hand learns what another one saw and did, which is no more.
+pub(crate) struct Absorb;
+
+impl<S, C> Join<View<S, C>> for Absorb {
+    ghost both = { both_views };
+
+    ghost spent = { spent_view };
+}

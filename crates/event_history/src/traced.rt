@@ -1,0 +1,171 @@
+//! A state under a lock of one word.
+ghost use Rattle.std.specs.Prelude.{◌≡◌, ◌∷◌, [], false, IfOk, MatchBool};
+ghost use Rattle.event_history.specs.History.{Looks, both_views, newcomer};
+ghost use Rattle.event_history.specs.Rule.{Holds, Returns};
+
+use crate::hand::Hand;
+use crate::history::{Made, Steps, View};
+use crate::rule::{Absorb, Enter, GiveBack, Look, Rule, Take, Tell};
+use atomic_table::{Refused, Seat, Table};
+use std::alloc::{AllocError, Global};
+use std::hint;
+use std::sync::Wait;
+
+// The word while the state is at home, while a thread has it, and while one has it and others may sleep.
+const FREE: u64 = 0;
+
+const TAKEN: u64 = 1;
+
+const AWAITED: u64 = 2;
+
+// How many pauses a thread makes before each look. Whoever looks takes the word from the thread that has the state, so it
+// looks seldom.
+const PAUSES: [u32; 6] = [64, 128, 256, 256, 256, 256];
+
+/// A state that threads share, under a lock, with one history of all calls on it.
+///
+/// A contract knows it by the `table_id` of its table.
+pub struct Traced<S: Steps> {
+    #[doc(hidden)]
+    pub table: Table<S, View<S, S::Call>, (), Rule<S>, Global>,
+    ghost sized: { (table.shared.table_id.words ≡ 1) × (table.shared.table_id.slots ≡ 1) },
+}
+
+impl<S: Steps> Traced<S> {
+    /// A state under a lock, with no calls, and a first hand. The call allocates the state's place and the lock's word, and
+    /// returns an error if that fails, which drops the state.
+    pub fn new(alloc: Global, state: S) -> Result<(Self, Hand<S, S::Call>), AllocError>
+    where
+        S: Drop,
+        requires { S.starts state }
+        ensures { IfOk result (λ t. (t.1.seat.table_id ≡ t.0.table.shared.table_id) × (t.1.seat.me.0 ≡ newcomer [])) }
+    {
+        let mut slots = Vec::new(alloc);
+        if let Err(_) = slots.push(state) {
+            return Err(AllocError);
+        }
+        match Table::new(alloc, &[FREE], slots, &()) {
+            Ok((table, seat)) => Ok((Traced { table }, Hand { seat })),
+            Err(Refused { slots: _ }) => Err(AllocError),
+        }
+    }
+
+    /// A hand that made no call yet, and has seen the history so far. It is one load.
+    #[inline(always)]
+    pub fn hand(&self) -> Hand<S, S::Call>
+        ensures { (result.seat.table_id ≡ self.now.table.shared.table_id) × (result.seat.me.0 ≡ newcomer result.seat.me.0.seen) }
+    {
+        Hand {
+            seat: self.table.shared.load_new_seat::<Enter>(0).1,
+        }
+    }
+
+    /// Takes the state out, if no other hand has it.
+    #[doc(hidden)]
+    #[inline(always)]
+    pub fn try_take(&self, seat: &mut Seat<S, View<S, S::Call>>) -> bool
+        requires { (seat.old.table_id ≡ self.now.table.shared.table_id) × (seat.old.me.1 ≡ []) × (seat.old.me.0.out ≡ []) × (seat.old.me.0.spent ≡ false) }
+        ensures seat { (seat.new.table_id ≡ seat.old.table_id) × (seat.new.id ≡ seat.old.id) }
+        ensures takes { MatchBool result (Holds seat.old.me.0 seat.new.me) (seat.new.me ≡ seat.old.me) }
+    {
+        self.table
+            .shared
+            .compare_exchange::<Take>(seat, 0, FREE, TAKEN)
+            == FREE
+    }
+
+    /// Gives the state back, after the call that `K` picks of the evidence.
+    #[doc(hidden)]
+    #[inline(always)]
+    pub fn give_back<K: Made<S::Call>, E>(&self, seat: &mut Seat<S, View<S, S::Call>>, evidence: &E)
+        requires seat { seat.old.table_id ≡ self.now.table.shared.table_id }
+        requires step { (c : S.Call) × (q : S) × (r : S) × K.made c × (seat.old.me.0.out ≡ q ∷ []) × (seat.old.me.1 ≡ (0, r) ∷ []) × S.goes q c r × (seat.old.me.0.spent ≡ false) }
+        ensures seat { (seat.new.table_id ≡ seat.old.table_id) × (seat.new.id ≡ seat.old.id) × (seat.new.me.1 ≡ []) }
+        ensures extends { (c : S.Call) × K.made c × Returns S.starts S.goes seat.old.me c seat.new.me.0 }
+    {
+        if self.table.shared.swap::<GiveBack<S, K>>(seat, 0, FREE) == AWAITED {
+            self.wake_one();
+        }
+    }
+
+    #[cold]
+    #[inline(never)]
+    fn wake_one(&self) {
+        self.table.shared.wake_one(0);
+    }
+
+    /// A new hand, which has seen as much as this one. It is one load.
+    pub fn tell(&self, hand: &mut Hand<S, S::Call>) -> Hand<S, S::Call>
+        requires { hand.old.seat.table_id ≡ self.now.table.shared.table_id }
+        ensures hand { (hand.new.seat.table_id ≡ hand.old.seat.table_id) × (hand.new.seat.me.0 ≡ hand.old.seat.me.0) }
+        ensures told { (result.seat.table_id ≡ hand.old.seat.table_id) × (result.seat.me.0 ≡ newcomer hand.old.seat.me.0.seen) }
+    {
+        Hand {
+            seat: self.table.shared.split_seat::<Tell>(&mut hand.seat),
+        }
+    }
+
+    /// Has a hand learn what another one saw and did. From here on it speaks of one history that has the calls of both. It
+    /// is two loads.
+    pub fn absorb(&self, hand: &mut Hand<S, S::Call>, other: Hand<S, S::Call>)
+        requires here { hand.old.seat.table_id ≡ self.now.table.shared.table_id }
+        requires there { other.seat.table_id ≡ self.now.table.shared.table_id }
+        ensures hand { hand.new.seat.table_id ≡ hand.old.seat.table_id }
+        ensures looks { Looks S.goes S.starts (both_views hand.old.seat.me.0 other.seat.me.0) hand.new.seat.me.0 }
+    {
+        let Hand { seat: other } = other;
+        let seat = &mut hand.seat;
+        self.table.shared.join_seat::<Absorb>(seat, other);
+        self.table.shared.load::<Look<S>>(seat, 0);
+    }
+}
+
+// Has the processor pause so often, each time for some tens of nanoseconds. It lets no other thread run, which would cost a
+// time slice where all processors are busy.
+fn pause(times: u32) {
+    for _ in 0..times {
+        hint::spin_loop();
+    }
+}
+
+/// Takes the state out that another hand had a moment ago.
+///
+/// The thread pauses and looks, ever more seldom, and at last sleeps until the state is given back. A sleep, with the wake
+/// that ends it, costs far more than a step under such a lock. The call does not allocate.
+///
+/// It is a function of its own, so that [`take_out!`](crate::take_out) is a few instructions where the state is at home.
+#[cold]
+#[inline(never)]
+pub fn wait_to_take<S: Steps, R: Wait>(
+    traced: &Traced<S>,
+    rt: &R,
+    seat: &mut Seat<S, View<S, S::Call>>,
+)
+    requires { (seat.old.table_id ≡ traced.now.table.shared.table_id) × (seat.old.me.1 ≡ []) × (seat.old.me.0.out ≡ []) × (seat.old.me.0.spent ≡ false) }
+    ensures { (seat.new.table_id ≡ seat.old.table_id) × (seat.new.id ≡ seat.old.id) × Holds seat.old.me.0 seat.new.me }
+{
+    let shared = &traced.table.shared;
+    for pauses in PAUSES {
+        pause(pauses);
+        if shared.peek(0) == FREE && traced.try_take(seat) {
+            return;
+        }
+    }
+    for _ in rt.forever() {
+        if shared.swap::<Take>(seat, 0, AWAITED) == FREE {
+            return;
+        }
+        shared.park(rt, 0, AWAITED as u32);
+    }
+    unreachable!()
+}
+
+impl<S: Steps + Drop> Drop for Traced<S> {
+    // It is a function of its own, so that a share that is not the last is given up in a few instructions.
+    #[cold]
+    #[inline(never)]
+    fn drop(self) {
+        let Traced { table } = self;
+        drop(table);
+    }
+}
