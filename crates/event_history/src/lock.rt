@@ -227,7 +227,7 @@ impl<S: Steps> Lock<S> {
         let state = seat.slot_mut(&traced.table.shared, 0);
         let answer = request.attempt_or_wait(state, exchange, on, &mut waking);
         traced.give_back::<Brand, _>(seat, &answer);
-        waking.finish();
+        waking.finish_seldom();
         answer
     }
 
@@ -299,7 +299,7 @@ impl<S: Steps> Lock<S> {
         let state = seat.slot_mut(&traced.table.shared, 0);
         let answer = request.leave(state, &mut waking);
         traced.give_back::<Brand, _>(seat, &answer);
-        waking.finish();
+        waking.finish_seldom();
         answer
     }
 }

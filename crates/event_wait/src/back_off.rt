@@ -18,7 +18,7 @@ macro_rules! take_lock {
 }
 
 /// Makes one step under a [`Lock`](crate::Lock): an expression over its state and over what it wakes. Whom it wakes last is
-/// woken once the lock is given back.
+/// woken once the lock is given back. Most steps wake nobody, which is the short way.
 #[macro_export]
 macro_rules! step {
     ($lock:expr, $rt:expr, $state:ident, $waking:ident => $step:expr) => {{
@@ -26,7 +26,7 @@ macro_rules! step {
         let mut $state = $crate::take_lock!($lock, $rt);
         let answer = $step;
         drop($state);
-        $waking.finish();
+        $waking.finish_seldom();
         answer
     }};
 }

@@ -58,7 +58,7 @@ impl<S: Steps> Lock<S> {
         let state = seat.slot_mut(&traced.table.shared, 0);
         let answer = request.attempt(state, &mut waking);
         traced.give_back::<Brand, _>(seat, &answer);
-        waking.finish();
+        waking.finish_seldom();
         answer
     }
 
@@ -99,7 +99,7 @@ impl<S: Steps> Lock<S> {
         let state = seat.slot_mut(&traced.table.shared, 0);
         request.give_up(state, &mut waking);
         traced.give_back::<Brand, _>(seat, &());
-        waking.finish();
+        waking.finish_seldom();
     }
 }
 
