@@ -10,14 +10,15 @@ use Rattle.atomic_table.specs.Table.{State, Step, step, Act, keeps, takes, gives
 use Rattle.atomic_table.proofs.Lists.{exchanged, at_set, set_again, set_else, set_here}
 use Rattle.event_history.specs.declared.history.Entry.{Entry}
 use Rattle.event_history.specs.declared.history.View.{View}
-use Rattle.event_history.specs.History.{entry, calls_by, StartsWith, newcomer, met_of, both_views, Runs, LeadsTo}
+use Rattle.event_history.specs.History.{entry, calls_by, StartsWith, AreAmong, EachRests, newcomer, met_of, both_views, Runs, LeadsTo}
 use Rattle.event_history.specs.Rule.{IsOut, spent_view, Knows, Fits, Stands, Kept, Sat, entered, taken, extended, looked}
+use Rattle.event_history.proofs.RestsOnLemmas.{rests_none, rests_more}
 use Rattle.event_history.proofs.Views.{at_below, all_set, all_more, calls_own, calls_other, Goes_on, each_on, each_stood, fits_on, alive_is_none, set_on, call_on, newcomer_fits, fits_set, fits_more}
 
 nothing_spent : true ≡ false → ⊥
 nothing_spent e = true≢false e
 
-module _ {S C : Type 0} (starts : S → Type 0) (goes : S → C → S → Type 0) where
+module _ {S C : Type 0} (starts : S → Type 0) (goes : S → C → S → Type 0) (rests : C → List C) where
   abbrev V : Type 0
   V = View S C
 
@@ -28,7 +29,7 @@ module _ {S C : Type 0} (starts : S → Type 0) (goes : S → C → S → Type 0
   M = Sat S C
 
   abbrev Law : St → Type 0
-  Law = Kept starts goes
+  Law = Kept starts goes rests
 
   abbrev There : ℕ → List (home.Option S) → List V → List (Entry C) → Type 0
   There = Stands starts goes
@@ -41,19 +42,20 @@ module _ {S C : Type 0} (starts : S → Type 0) (goes : S → C → S → Type 0
   leads_snoc log m e t r g = (r.0, r.1, runs_snoc r.0 log m e t r.2 g)
 
   -- the word becomes n, and the rest of the rule is known
-  placed : (s : St) (k : Law s) (n : ℕ) (hs : List (home.Option S)) (vs : List V) (log : List (Entry C)) → There n hs vs log → ((by : ℕ) (v : V) → get_elem? vs by ≡ some v → Fits vs log by v) → ((by : ℕ) → length vs ≤ by → calls_by by log ≡ [])
+  placed : (s : St) (k : Law s) (n : ℕ) (hs : List (home.Option S)) (vs : List V) (log : List (Entry C)) → There n hs vs log → ((by : ℕ) (v : V) → get_elem? vs by ≡ some v → Fits vs log by v) → ((by : ℕ) → length vs ≤ by → calls_by by log ≡ []) → EachRests rests log
       → Law (record { words = set s.words 0 n; homes = hs; views = vs })
-  placed s k n hs vs log there fits others = record {
+  placed s k n hs vs log there fits others rested = record {
     log = log;
     wide = length-set s.words 0 n ∙ k.wide;
     fits = fits;
     others = others;
     stands = subst (λ (x : ℕ). There x hs vs log) (sym (get_or-set_same s.words 0 n 0 (omega (arith, k.wide)))) there;
+    rested = rested;
   }
 
   -- the word becomes n, and a seat keeps its view
   unmoved_to : (s : St) (k : Law s) (n : ℕ) → There n s.homes s.views k.log → (id : ℕ) (m : M) → get_elem? s.views id ≡ some m.0 → Law (stepped s 0 n id m.1 m.0 keeps)
-  unmoved_to s k n there id m me = subst (λ (vs : List V). Law (record { words = set s.words 0 n; homes = s.homes; views = vs })) (sym (set_again s.views id m.0 me)) (placed s k n s.homes s.views k.log there k.fits k.others)
+  unmoved_to s k n there id m me = subst (λ (vs : List V). Law (record { words = set s.words 0 n; homes = s.homes; views = vs })) (sym (set_again s.views id m.0 me)) (placed s k n s.homes s.views k.log there k.fits k.others k.rested)
 
   abbrev Goes : St → ℕ → M → (ℕ → M → Type 0) → ℕ → Type 0
   Goes s id m then k = (w : V) × (a : Act S) × Valid s.homes m.1 a × Law (stepped s 0 k id m.1 w a) × then (get_or s.words 0 0) (w, carried_after m.1 a)
@@ -77,6 +79,7 @@ module _ {S C : Type 0} (starts : S → Type 0) (goes : S → C → S → Type 0
     fits = fits_more s.views k.log seen begins (k.others (length s.views) (le_refl (length s.views))) k.fits;
     others = λ by le. k.others by (omega (arith, length-append s.views (newcomer seen ∷ []), le));
     stands = stands_more (get_or s.words 0 0) s.homes s.views (newcomer seen) k.log refl k.stands;
+    rested = k.rested;
   }
 
   -- a new seat has seen the history so far
@@ -102,7 +105,8 @@ module _ {S C : Type 0} (starts : S → Type 0) (goes : S → C → S → Type 0
         (subst (λ (l : List (home.Option S)). There new (set l 0 none) (set s.views id (takes_out m q)) k.log) is
         (locks, id, q, h.1, all_set (λ by v. IsOut id q by v.out) s.views id (takes_out m q) (refl, refl) (λ by v _ at. subst (λ (o : List S). IsOut id q by o) (sym (h.2 by v at)) tt)))
         (fits_set s.views k.log id m.0 (takes_out m q) me alive k.fits (λ f. record { number = f.number; begins = f.begins; own = f.own; others = f.others; met = f.met; differ = f.differ }))
-        (λ by le. k.others by (omega (arith, length-set s.views id (takes_out m q), le))),
+        (λ by le. k.others by (omega (arith, length-set s.views id (takes_out m q), le)))
+        k.rested,
     (
       (λ _. (q, λ i. (takes_out m q, (0, q) ∷ empty i))),
       λ miss. absurd (miss hit),
@@ -157,14 +161,15 @@ module _ {S C : Type 0} (starts : S → Type 0) (goes : S → C → S → Type 0
       subst (λ (y : S). LeadsTo goes starts log y) (sym own.1) h.3
 
   -- a seat gives the state back after a call
-  pub puts : (n id : ℕ) (m : M) (made : C → Type 0) (q r : S) (call : C) → made call → m.0.out ≡ q ∷ [] → m.1 ≡ (0, r) ∷ [] → goes q call r → m.0.spent ≡ false → Allows Law n id m 0 (λ _. 0) (extended starts goes made (step n 0 0 0 none) m)
-  puts n id m made q r call is has holds g alive s k wide me word =
+  pub puts : (n id : ℕ) (m : M) (made : C → Type 0) (q r : S) (call : C) → made call → m.0.out ≡ q ∷ [] → m.1 ≡ (0, r) ∷ [] → goes q call r → m.0.spent ≡ false → AreAmong (rests call) m.0.mine → Allows Law n id m 0 (λ _. 0) (extended starts goes rests made (step n 0 0 0 none) m)
+  puts n id m made q r call is has holds g alive among s k wide me word =
       let e : Entry C = entry id call in
       let log' : List (Entry C) = k.log ++ e ∷ [] in
       let w : V = brings k.log id m call in
       let vs' : List V = set s.views id w in
       let fit = k.fits id m.0 me in
       let own : calls_by id log' ≡ m.0.mine ++ call ∷ [] = calls_own id k.log e refl ∙ ap (λ (l : List C). l ++ call ∷ []) (fit.own alive) in
+      let rested : EachRests rests log' = rests_more rests k.log e k.rested (subst (λ (l : List C). AreAmong (rests call) l) (sym (fit.own alive)) among) in
       let there : There 0 (put_back s.homes m.1) vs' log' =
       subst (λ (c : List (ℕ × S)). There 0 (put_back s.homes c) vs' log') (sym holds) (returned s k id m q r call has g me (get_or s.words 0 0) s.homes k.stands) in
       let on : Goes_on s.views vs' k.log log' = call_on s.views k.log id m.0 w e me alive refl in (
@@ -174,7 +179,8 @@ module _ {S C : Type 0} (starts : S → Type 0) (goes : S → C → S → Type 0
         placed s k 0 (put_back s.homes m.1) vs' log' there
             (all_set (λ by v. Fits vs' log' by v) s.views id w (record { number = refl; begins = ([], sym (append-nil log')); own = λ _. own; others = fit.others; met = each_on s.views vs' k.log log' on fit.others m.0.met fit.met; differ = fit.differ })
             (λ by v ne at. fits_on s.views vs' k.log log' on by v (λ _. calls_other by k.log e (λ is. ne (sym is))) (k.fits by v at)))
-            (λ by le. calls_other by k.log e (λ is. let below = at_below s.views id m.0 me in let at : id ≡ by = is in omega (arith, below, at, le, length-set s.views id w)) ∙ k.others by (omega (arith, le, length-set s.views id w))),
+            (λ by le. calls_other by k.log e (λ is. let below = at_below s.views id m.0 me in let at : id ≡ by = is in omega (arith, below, at, le, length-set s.views id w)) ∙ k.others by (omega (arith, le, length-set s.views id w)))
+            rested,
         (
           refl,
           call,
@@ -194,6 +200,7 @@ module _ {S C : Type 0} (starts : S → Type 0) (goes : S → C → S → Type 0
               idle = (refl, refl, refl);
               runs = subst (λ (l : List (Entry C)). LeadsTo goes starts l q) fit.begins.1 (outside id m q has (get_or s.words 0 0) s.homes s.views k.log me k.stands);
               step = g;
+              rested = rested;
             },
           ),
         ),
@@ -205,7 +212,7 @@ module _ {S C : Type 0} (starts : S → Type 0) (goes : S → C → S → Type 0
   leads x (some q ∷ hs) vs log h = (q, h.1)
 
   -- a seat sees the history so far
-  pub looks : (n id : ℕ) (m : M) → m.0.spent ≡ false → Allows Law n id m 0 (λ y. y) (looked starts goes (step n 0 0 0 none) m)
+  pub looks : (n id : ℕ) (m : M) → m.0.spent ≡ false → Allows Law n id m 0 (λ y. y) (looked starts goes rests (step n 0 0 0 none) m)
   looks n id m alive s k wide me word =
       let w : V = record m.0 { by = id ∷ []; seen = k.log } in
       let fit = k.fits id m.0 me in
@@ -215,7 +222,8 @@ module _ {S C : Type 0} (starts : S → Type 0) (goes : S → C → S → Type 0
         tt,
         placed s k (get_or s.words 0 0) s.homes (set s.views id w) k.log (stands_set (get_or s.words 0 0) s.homes s.views id m.0 w k.log me refl k.stands)
             (fits_set s.views k.log id m.0 w me alive k.fits (λ f. record { number = refl; begins = ([], sym (append-nil k.log)); own = f.own; others = f.others; met = f.met; differ = f.differ }))
-            (λ by le. k.others by (omega (arith, length-set s.views id w, le))),
+            (λ by le. k.others by (omega (arith, length-set s.views id w, le)))
+            k.rested,
         (
           refl,
           record {
@@ -227,6 +235,7 @@ module _ {S C : Type 0} (starts : S → Type 0) (goes : S → C → S → Type 0
             idle = (refl, refl, refl);
             led = end.0;
             runs = end.1;
+            rested = k.rested;
             others = fit.others;
             met = each_stood s.views k.log fit.others m.0.met fit.met;
             differ = (alive_is_none s.views k.log id m.0 me alive fit.others m.0.met fit.met, fit.differ);
@@ -265,6 +274,7 @@ module _ {S C : Type 0} (starts : S → Type 0) (goes : S → C → S → Type 0
             (at_set s.views id by w x at));
         others = λ by le. k.others by (omega (arith, length-set s.views id w, length-set vs1 other spent_view, le));
         stands = stands_set (get_or s.words 0 0) s.homes vs1 other u spent_view k.log there (sym out) (stands_set (get_or s.words 0 0) s.homes s.views id v w k.log me refl k.stands);
+        rested = k.rested;
       }
 
   pub opens : (q : S) → starts q → Law (opening (0 ∷ []) (q ∷ []) (newcomer []))
@@ -274,4 +284,5 @@ module _ {S C : Type 0} (starts : S → Type 0) (goes : S → C → S → Type 0
     fits = all_more (λ by v. Fits (newcomer [] ∷ []) [] by v) [] (newcomer []) (newcomer_fits (newcomer [] ∷ []) [] [] 0 ([], refl) refl) (λ j b at. absurd (some-ne-none b (sym at)));
     others = λ by _. refl;
     stands = (refl, (q, is, refl), all_more (λ _ v. v.out ≡ []) [] (newcomer []) refl (λ j b at. absurd (some-ne-none b (sym at))));
+    rested = rests_none rests;
   }

@@ -36,7 +36,7 @@ module _ {X : Type 0} where
   has_either true x o p f h = refl
   has_either false x o p f h = f h
 
-  has_left : (key : Key) (es fs : List (Key × X)) → Has key es → Has key (es ++ fs)
+  pub has_left : (key : Key) (es fs : List (Key × X)) → Has key es → Has key (es ++ fs)
   has_left key [] fs h = absurd (true≢false (sym h))
   has_left key (e ∷ es) fs h = has_either (is_key key e.0) e.1 _ _ (has_left key es fs) h
 
@@ -45,7 +45,7 @@ module _ {X : Type 0} where
   has_right key (e ∷ es) fs h = has_cons (is_key key e.0) e.1 (lookup (is_key key) (es ++ fs)) (has_right key es fs h)
 
   -- another one is taken out
-  has_other : (key other : Key) (es : List (Key × X)) → is_key key other ≡ false → Has key es → Has key (remove_entry (is_key other) es)
+  pub has_other : (key other : Key) (es : List (Key × X)) → is_key key other ≡ false → Has key es → Has key (remove_entry (is_key other) es)
   has_other key other [] ne h = h
   has_other key other (e ∷ es) ne h = by_key (has_other key other es ne) (is_key other e.0) refl where
     skip : (b : Bool) → b ≡ false → IsSome (cond b (Some e.1) (lookup (is_key key) es)) → Has key es
@@ -56,7 +56,7 @@ module _ {X : Type 0} where
     by_key ih true is = skip (is_key key e.0) (ap (is_key key) (same_key other e.0 is) ∙ ne) h
     by_key ih false is = has_either (is_key key e.0) e.1 _ _ ih h
 
-  has_length : (key : Key) (es : List (Key × X)) → Has key es → 0 < length es
+  pub has_length : (key : Key) (es : List (Key × X)) → Has key es → 0 < length es
   has_length key [] h = absurd (true≢false (sym h))
   has_length key (e ∷ es) h = omega arith
 

@@ -1,8 +1,12 @@
 mod Keeps
+mod LawsOneOrder
 mod LawsOrder
+pub mod LawsOwn
 mod LawsPassing
 mod LawsStays
 mod LawsTold
+mod LawsUntil
 mod Rests
+pub mod RestsOnLemmas
 mod Views
 mod WaitLemmas

@@ -32,7 +32,7 @@ module _ {A : Type 0} where
       (λ (t : (j ≡ length l) × (a ≡ b)). subst (λ (x : ℕ × A). K x.0 x.1) (λ k. (sym t.0 k, t.1 k)) here) (at_end l a b j at)
 
 module _ {C : Type 0} where
-  cond-append : (b : Bool) (x : C) (l m : List C) → cond b (x ∷ (l ++ m)) (l ++ m) ≡ cond b (x ∷ l) l ++ m
+  pub cond-append : (b : Bool) (x : C) (l m : List C) → cond b (x ∷ (l ++ m)) (l ++ m) ≡ cond b (x ∷ l) l ++ m
   cond-append true x l m = refl
   cond-append false x l m = refl
 

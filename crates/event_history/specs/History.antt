@@ -1,5 +1,5 @@
 -- One history of all calls on a state, and what a hand knows of it.
-use Rattle.std.specs.Prelude.{◌≡◌, ◌≢◌, ℕ, false, cond, eqb, List, [], ◌∷◌, ◌++◌}
+use Rattle.std.specs.Prelude.{◌≡◌, ◌≢◌, ◌⊎◌, ℕ, false, cond, eqb, List, [], ◌∷◌, ◌++◌}
 use Rattle.event_history.specs.declared.history.Entry.{Entry}
 use Rattle.event_history.specs.declared.history.Met.{Met}
 use Rattle.event_history.specs.declared.history.View.{View}
@@ -15,6 +15,25 @@ module _ {C : Type 0} where
 
   abbrev pub StartsWith : List (Entry C) → List (Entry C) → Type 0
   StartsWith log front = (later : List (Entry C)) × (log ≡ front ++ later)
+
+  -- the call is one of these
+  abbrev pub IsAmong : C → List C → Type 0
+  IsAmong call [] = ⊥
+  IsAmong call (other ∷ others) = (call ≡ other) ⊎ IsAmong call others
+
+  -- each of the first calls is one of the others
+  abbrev pub AreAmong : List C → List C → Type 0
+  AreAmong [] others = Unit {0}
+  AreAmong (call ∷ calls) others = IsAmong call others × AreAmong calls others
+
+  module _ (rests : C → List C) where
+    -- what each call of the history rests on are earlier calls of the same hand
+    abbrev pub EachRests : List (Entry C) → Type 0
+    EachRests log = (earlier later : List (Entry C)) (e : Entry C) → log ≡ earlier ++ e ∷ later → AreAmong (rests e.call) (calls_by e.by earlier)
+
+    -- a call rests on none but these calls, and what comes after it on none but these and the call itself
+    abbrev pub RestsOn : List C → C → List C → Type 0
+    RestsOn before call after = AreAmong (rests call) before × AreAmong after (before ++ call ∷ [])
 
 -- a hand that made no call may not know its number
 abbrev pub IsNumber : ℕ → List ℕ → Type 0
@@ -67,41 +86,45 @@ module _ {S C : Type 0} (goes : S → C → S → Type 0) where
     abbrev pub LeadsTo : List (Entry C) → S → Type 0
     LeadsTo log t = (s : S) × starts s × Runs s log t
 
-    -- The history after a call begins with all that the caller had seen, and ends with the call, which is one more of the
-    -- caller's. The history before the call leads to a state from which the call leads to the one after it.
-    pub record Leads (v : View S C) (call : C) (before after : S) (w : View S C) : Type 0 where
-      pub between : List (Entry C)
-      pub number : ℕ
-      pub hand : (w.by ≡ number ∷ []) × IsNumber number v.by
-      pub seen : w.seen ≡ (v.seen ++ between) ++ entry number call ∷ []
-      pub mine : w.mine ≡ v.mine ++ call ∷ []
-      pub each_once : calls_by number w.seen ≡ w.mine
-      pub idle : (w.out ≡ []) × (w.spent ≡ false) × (w.met ≡ v.met)
-      pub runs : LeadsTo (v.seen ++ between) before
-      pub step : goes before call after
+    module _ (rests : C → List C) where
+      -- The history after a call begins with all that the caller had seen, and ends with the call, which is one more of the
+      -- caller's. The history before the call leads to a state from which the call leads to the one after it. Each call of
+      -- the history comes after those of its hand that it rests on.
+      pub record Leads (v : View S C) (call : C) (before after : S) (w : View S C) : Type 0 where
+        pub between : List (Entry C)
+        pub number : ℕ
+        pub hand : (w.by ≡ number ∷ []) × IsNumber number v.by
+        pub seen : w.seen ≡ (v.seen ++ between) ++ entry number call ∷ []
+        pub mine : w.mine ≡ v.mine ++ call ∷ []
+        pub each_once : calls_by number w.seen ≡ w.mine
+        pub idle : (w.out ≡ []) × (w.spent ≡ false) × (w.met ≡ v.met)
+        pub runs : LeadsTo (v.seen ++ between) before
+        pub step : goes before call after
+        pub rested : EachRests rests w.seen
 
-    abbrev pub Extends : View S C → C → View S C → Type 0
-    Extends v call w = (before : S) × (after : S) × Leads v call before after w
+      abbrev pub Extends : View S C → C → View S C → Type 0
+      Extends v call w = (before : S) × (after : S) × Leads v call before after w
 
-    -- the same, by a call of which this is said
-    abbrev pub Makes : View S C → (C → Type 0) → View S C → Type 0
-    Makes v is w = (call : C) × is call × Extends v call w
+      -- the same, by a call of which this is said
+      abbrev pub Makes : View S C → (C → Type 0) → View S C → Type 0
+      Makes v is w = (call : C) × is call × Extends v call w
 
-    -- the same, and of the state before and after the call this holds
-    abbrev pub ExtendsThat : (S → S → Type 0) → View S C → C → View S C → Type 0
-    ExtendsThat P v call w = (before : S) × (after : S) × Leads v call before after w × P before after
+      -- the same, and of the state before and after the call this holds
+      abbrev pub ExtendsThat : (S → S → Type 0) → View S C → C → View S C → Type 0
+      ExtendsThat P v call w = (before : S) × (after : S) × Leads v call before after w × P before after
 
-    -- The hand has seen one history of all hands: it leads to some state, begins with all that the hand had seen, and has
-    -- just those calls of the hand that it made; and so of each hand that it took in. All these are different hands.
-    pub record Looks (v w : View S C) : Type 0 where
-      pub number : ℕ
-      pub hand : (w.by ≡ number ∷ []) × IsNumber number v.by
-      pub seen : StartsWith w.seen v.seen
-      pub mine : w.mine ≡ v.mine
-      pub each_once : calls_by number w.seen ≡ w.mine
-      pub idle : (w.out ≡ v.out) × (w.spent ≡ v.spent) × (w.met ≡ v.met)
-      pub led : S
-      pub runs : LeadsTo w.seen led
-      pub others : List ℕ
-      pub met : EachStood w.seen others w.met
-      pub differ : AllDiffer (number ∷ others)
+      -- The hand has seen one history of all hands: it leads to some state, begins with all that the hand had seen, and has
+      -- just those calls of the hand that it made; and so of each hand that it took in. All these are different hands.
+      pub record Looks (v w : View S C) : Type 0 where
+        pub number : ℕ
+        pub hand : (w.by ≡ number ∷ []) × IsNumber number v.by
+        pub seen : StartsWith w.seen v.seen
+        pub mine : w.mine ≡ v.mine
+        pub each_once : calls_by number w.seen ≡ w.mine
+        pub idle : (w.out ≡ v.out) × (w.spent ≡ v.spent) × (w.met ≡ v.met)
+        pub led : S
+        pub runs : LeadsTo w.seen led
+        pub rested : EachRests rests w.seen
+        pub others : List ℕ
+        pub met : EachStood w.seen others w.met
+        pub differ : AllDiffer (number ∷ others)

@@ -1,10 +1,11 @@
 -- What the laws say of a listener in a history of a queue.
-use Rattle.std.specs.Prelude.{◌≡◌, ◌⊎◌, ℕ, true, false, List, [], ◌∷◌, ◌++◌, length, Option, Some, IsSome, Ok}
+use Rattle.std.specs.Prelude.{◌≡◌, ◌⊎◌, ℕ, Bool, true, false, List, [], ◌∷◌, ◌++◌, length, Option, Some, IsSome, Ok}
 use Rattle.std.specs.Map.{keys_of, lookup}
 use Rattle.event_queue.specs.declared.key.Key.{Key}
 use Rattle.event_queue.specs.declared.notice.Notice.{Notice}
 use Rattle.event_queue.specs.declared.reply.RegisterResult.TheVariants.{Notified}
-use Rattle.event_queue.specs.declared.reply.State.TheVariants.{Passed}
+use Rattle.event_queue.specs.declared.reply.State.{State}
+use Rattle.event_queue.specs.declared.reply.State.TheVariants.{Notified as WasNotified, Passed, Lost}
 use Rattle.event_queue.specs.Key.{is_key}
 use Rattle.event_queue.specs.Queue.{Queue}
 use Rattle.event_history.specs.declared.history.Entry.{Entry}
@@ -45,6 +46,25 @@ module _ {T W : Type 0} where
     pub later : QueueLog T W
     pub inserted : log ≡ earlier ++ entry by (Insert (Ok key)) ∷ later
     pub stays : EachStays key later
+
+  -- none of these calls takes that listener out
+  abbrev pub AllStay : Key → List (QueueCall T W) → Type 0
+  AllStay key [] = Unit {0}
+  AllStay key (call ∷ calls) = Stays key call × AllStay key calls
+
+  -- of a hand's calls: the listener joined by one, and no later one took it out
+  pub record OwnsListener (key : Key) (mine : List (QueueCall T W)) : Type 0 where
+    pub earlier : List (QueueCall T W)
+    pub later : List (QueueCall T W)
+    pub joined : mine ≡ earlier ++ Insert (Ok key) ∷ later
+    pub stays : AllStay key later
+
+  -- what a removal answers that found the listener notified: its notification, or what became of it where that is propagated
+  abbrev pub FindsTold : Bool → Option (State T W) → Type 0
+  FindsTold propagate (Some (WasNotified additional tag)) = propagate ≡ false
+  FindsTold propagate (Some (Passed to)) = propagate ≡ true
+  FindsTold propagate (Some (Lost additional tag)) = propagate ≡ true
+  FindsTold propagate _ = ⊥
 
   -- the first `count` that waited are notified, and the others wait on
   pub record TellsFirst (count : ℕ) (old new : Queue T W) : Type 0 where

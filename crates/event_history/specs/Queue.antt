@@ -1,5 +1,5 @@
 -- What each call on a queue does to its two lists.
-use Rattle.std.specs.Prelude.{◌≡◌, ◌<◌, ℕ, Bool, List, [], length, Result, Ok, Err, IsSomeAnd}
+use Rattle.std.specs.Prelude.{◌≡◌, ◌<◌, ℕ, Bool, List, [], ◌∷◌, length, Result, Ok, Err, IsSomeAnd}
 use Rattle.std.specs.Map.{lookup}
 use Rattle.event_queue.specs.declared.key.Key.{Key}
 use Rattle.event_queue.specs.declared.reply.RegisterResult.{RegisterResult}
@@ -42,3 +42,9 @@ module _ {T W : Type 0} where
 
   abbrev pub calls : Queue T W → QueueCall T W → Queue T W → Type 0
   calls old call new = Does old call new × IsQueue new
+
+  -- only the hand that a listener joined by takes its tag, stores its task or takes it out
+  abbrev pub rests_on : QueueCall T W → List (QueueCall T W)
+  rests_on (Register key reply) = Insert (Ok key) ∷ []
+  rests_on (Remove key propagate reply) = Insert (Ok key) ∷ []
+  rests_on _ = []

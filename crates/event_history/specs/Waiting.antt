@@ -1,5 +1,5 @@
 -- How a wait goes: rounds, each one call in the history, and an end.
-use Rattle.std.specs.Prelude.{◌≡◌, ◌⊎◌, Option, Some, None, Result, Ok, Err}
+use Rattle.std.specs.Prelude.{◌≡◌, ◌⊎◌, List, Option, Some, None, Result, Ok, Err}
 use Rattle.event_wait.specs.declared.request.Attempted.{Attempted}
 use Rattle.event_wait.specs.declared.request.Attempted.TheVariants as attempted
 use Rattle.event_wait.specs.declared.lock.wait.Refused.{Refused}
@@ -23,38 +23,38 @@ Polls attempting before (Ready (Ok output)) call = attempting before (attempted.
 Polls attempting before (Ready (Err error)) call = attempting before (attempted.Refused error) call
 Polls {G = G} {E = E} attempting before Pending call = (answer : Attempted G E) × IsUndone answer × attempting before answer call
 
--- it gave up its place, if it had one
-abbrev pub GivesUp : {S C Q : Type 0} → (S → C → S → Type 0) → (S → Type 0) → (Q → C → Type 0) → Q × View S C → Q × View S C → Type 0
-GivesUp goes starts giving_up before after = (after ≡ before) ⊎ ((after.0 ≡ before.0) × Makes goes starts before.1 (giving_up before.0) after.1)
+-- one that has no place in a queue does nothing, and one that has gives it up by one call
+abbrev pub GivesUp : {S C Q : Type 0} → (S → C → S → Type 0) → (S → Type 0) → (C → List C) → (Q → Type 0) → (Q → C → Type 0) → Q × View S C → Q × View S C → Type 0
+GivesUp goes starts rests has_place giving_up before after = (¬ has_place before.0 → after ≡ before) × (has_place before.0 → (after.0 ≡ before.0) × Makes goes starts rests before.1 (giving_up before.0) after.1)
 
 -- of a request and of what its hand knows
-module _ {S C Q G E : Type 0} (goes : S → C → S → Type 0) (starts : S → Type 0) (attempting : Q → Attempted G E → C → Type 0) (leaving : Q → Result (Option G) E → C → Type 0) where
+module _ {S C Q G E : Type 0} (goes : S → C → S → Type 0) (starts : S → Type 0) (rests : C → List C) (attempting : Q → Attempted G E → C → Type 0) (leaving : Q → Result (Option G) E → C → Type 0) where
   abbrev pub Goes : Type 0
   Goes = Q × View S C
 
   -- an attempt got nothing, and is the hand's next call
   abbrev pub Round : (Q → Q → Type 0) → Goes → Goes → Type 0
-  Round waits before after = waits before.0 after.0 × (answer : Attempted G E) × IsUndone answer × Makes goes starts before.1 (attempting before.0 answer) after.1
+  Round waits before after = waits before.0 after.0 × (answer : Attempted G E) × IsUndone answer × Makes goes starts rests before.1 (attempting before.0 answer) after.1
 
   -- an attempt got this
   abbrev pub Gets : (Q → G → Q → Type 0) → Goes → G → Goes → Type 0
-  Gets succeeds before output after = succeeds before.0 output after.0 × Makes goes starts before.1 (attempting before.0 (attempted.Done output)) after.1
+  Gets succeeds before output after = succeeds before.0 output after.0 × Makes goes starts rests before.1 (attempting before.0 (attempted.Done output)) after.1
 
   -- it left, with this
   abbrev pub Leaves : (Q → Option G → Q → Type 0) → Goes → Option G → Goes → Type 0
-  Leaves leaves before answer after = leaves before.0 answer after.0 × Makes goes starts before.1 (leaving before.0 (Ok answer)) after.1
+  Leaves leaves before answer after = leaves before.0 answer after.0 × Makes goes starts rests before.1 (leaving before.0 (Ok answer)) after.1
 
   -- an attempt, or leaving, was refused, and it is where it was
   abbrev pub IsRefused : Goes → E → Goes → Type 0
-  IsRefused before error after = (after.0 ≡ before.0) × (Makes goes starts before.1 (attempting before.0 (attempted.Refused error)) after.1 ⊎ Makes goes starts before.1 (leaving before.0 (Err error)) after.1)
+  IsRefused before error after = (after.0 ≡ before.0) × (Makes goes starts rests before.1 (attempting before.0 (attempted.Refused error)) after.1 ⊎ Makes goes starts rests before.1 (leaving before.0 (Err error)) after.1)
 
   -- a round, or an attempt of one that would not wait, which got nothing and left it as it was
   abbrev pub Tries : (Q → Q → Type 0) → (Q → Option G → C → Type 0) → Goes → Goes → Type 0
-  Tries waits trying before after = Round waits before after ⊎ ((after.0 ≡ before.0) × Makes goes starts before.1 (trying before.0 None) after.1)
+  Tries waits trying before after = Round waits before after ⊎ ((after.0 ≡ before.0) × Makes goes starts rests before.1 (trying before.0 None) after.1)
 
   -- an attempt got this, one that would have waited or one that would not
   abbrev pub Obtains : (Q → G → Q → Type 0) → (Q → Option G → C → Type 0) → Goes → G → Goes → Type 0
-  Obtains succeeds trying before output after = Gets succeeds before output after ⊎ (succeeds before.0 output after.0 × Makes goes starts before.1 (trying before.0 (Some output)) after.1)
+  Obtains succeeds trying before output after = Gets succeeds before output after ⊎ (succeeds before.0 output after.0 × Makes goes starts rests before.1 (trying before.0 (Some output)) after.1)
 
   -- memory was refused, or an attempt was
   abbrev pub Fails : Goes → Refused E → Goes → Type 0
@@ -88,6 +88,6 @@ module _ {S C Q G E : Type 0} (goes : S → C → S → Type 0) (starts : S → 
       EndsTrying trying before (Err error) after = (between : Goes) × SomeRounds (Tries waits trying) before between × Fails between error after
 
       -- how obtaining ends: refused, it gives up its place
-      abbrev pub EndsObtaining : (Q → Option G → C → Type 0) → (Q → C → Type 0) → Goes → Result (Option G) (Refused E) → Goes → Type 0
-      EndsObtaining trying giving_up before (Ok answer) after = EndsTrying trying before (Ok answer) after
-      EndsObtaining trying giving_up before (Err error) after = (refused : Goes) × EndsTrying trying before (Err error) refused × GivesUp goes starts giving_up refused after
+      abbrev pub EndsObtaining : (Q → Option G → C → Type 0) → (Q → Type 0) → (Q → C → Type 0) → Goes → Result (Option G) (Refused E) → Goes → Type 0
+      EndsObtaining trying has_place giving_up before (Ok answer) after = EndsTrying trying before (Ok answer) after
+      EndsObtaining trying has_place giving_up before (Err error) after = (refused : Goes) × EndsTrying trying before (Err error) refused × GivesUp goes starts rests has_place giving_up refused after

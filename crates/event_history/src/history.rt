@@ -1,4 +1,6 @@
 //! What a history is made of. No value of these types is made when a program runs.
+ghost use Rattle.std.specs.Prelude.{List, []};
+
 use std::collections::LinkedList;
 use std::marker::Brand;
 
@@ -12,6 +14,9 @@ pub trait Steps {
 
     // From a state a call leads to a state.
     ghost goes: { Self → Self.Call → Self → Type 0 };
+
+    // The calls of the same hand that a call comes after. By default none.
+    ghost rests: { Self.Call → List Self.Call } = { λ _. [] };
 }
 
 /// What is said of the call that was made while the state was out. Whoever gives the state back picks it.

@@ -10,6 +10,10 @@
 //! order.* Two hands speak of the same history: [`Traced::tell`] makes a hand that has seen as much as another one, and
 //! [`Traced::absorb`] has one hand learn what another one saw and did.
 //!
+//! A call may rest on earlier calls of the same hand, which [`Steps`] says: the hand that makes it made those before. So in a
+//! queue a listener is registered and removed by the hand that inserted it, and stays there until that hand takes it out
+//! ([`own_listener_stays`]).
+//!
 //! A [`Lock`] is a traced state with queues of those that wait for something of it: a [`Request`] waits by
 //! [`Lock::wait`] (a thread) or [`Lock::poll_in`] (a task), and an [`Attempt`] tries first ([`Lock::obtain`]). Each of their
 //! attempts is a call of the history. A call of one's own is a [`Step`], made by [`perform!`] or [`Lock::call`]; [`steps`]
@@ -36,8 +40,9 @@ mod traced;
 pub use hand::{Hand, Resting};
 pub use history::{Entry, Made, Met, Named, Steps, View};
 pub use laws::{
-    first_told_first, never_absent, passes_on, stays, tag_was_told, told_hands_call_later,
-    told_or_as_many_before,
+    first_told_first, never_absent, one_history_one_order, own_listener_stays, owns_on, passes_on,
+    stays, tag_was_told, tells_all, told_by_another, told_hands_call_later, told_is_found,
+    told_or_as_many_before, told_until_own_call,
 };
 pub use lock::Lock;
 pub use queue_call::QueueCall;

@@ -5,7 +5,7 @@ ghost use Rattle.event_wait.specs.Attempted.{Attempts, OnDone, OnRefused, OnUndo
 ghost use Rattle.event_history.specs.Waiting.{Polls};
 ghost use Rattle.futures.specs.Poll.{IfReady, OnPending};
 ghost use Rattle.futures.specs.Task.{Covers, Keeps};
-ghost use Rattle.event_history.specs.History.{Extends, ExtendsThat, Looks, Makes, both_views, newcomer};
+ghost use Rattle.event_history.specs.History.{AreAmong, Extends, ExtendsThat, Looks, Makes, both_views, newcomer};
 
 mod obtain;
 mod wait;
@@ -79,8 +79,9 @@ impl<S: Steps> Lock<S> {
     ) -> Result<K::Reply, K>
         requires hand { hand.old.seat.table_id ≡ self.now.table }
         requires may { K.may step }
+        requires rests { (reply : K.Reply) → AreAmong (S.rests (K.call step reply)) hand.old.seat.me.0.mine }
         ensures hand { hand.new.seat.table_id ≡ hand.old.seat.table_id }
-        ensures call { IfOk result (λ reply. ExtendsThat S.goes S.starts (λ before after. K.does step before beside.old reply after beside.new) hand.old.seat.me.0 (K.call step reply) hand.new.seat.me.0) }
+        ensures call { IfOk result (λ reply. ExtendsThat S.goes S.starts S.rests (λ before after. K.does step before beside.old reply after beside.new) hand.old.seat.me.0 (K.call step reply) hand.new.seat.me.0) }
         ensures kept { IfErr result (λ back. (back ≡ step) × (beside.new ≡ beside.old) × (hand.new.seat.me.0 ≡ hand.old.seat.me.0)) }
     {
         let seat = &mut hand.seat;
@@ -114,13 +115,13 @@ impl<S: Steps> Lock<S> {
         requires here { hand.old.seat.table_id ≡ self.now.table }
         requires there { other.seat.table_id ≡ self.now.table }
         ensures hand { hand.new.seat.table_id ≡ hand.old.seat.table_id }
-        ensures looks { Looks S.goes S.starts (both_views hand.old.seat.me.0 other.seat.me.0) hand.new.seat.me.0 }
+        ensures looks { Looks S.goes S.starts S.rests (both_views hand.old.seat.me.0 other.seat.me.0) hand.new.seat.me.0 }
     {
         self.traced.absorb(hand, other);
     }
 
-    /// Makes one call, as a call of this hand, with what stands beside the state. It may wait for the lock, and allocates what
-    /// the step allocates.
+    /// Makes one call, as a call of this hand, which made what the call rests on, with what stands beside the state. It may wait
+    /// for the lock, and allocates what the step allocates.
     #[inline(always)]
     pub fn perform<B, K: Step<S, B>, R: Wait>(
         &self,
@@ -131,8 +132,9 @@ impl<S: Steps> Lock<S> {
     ) -> K::Reply
         requires hand { hand.old.seat.table_id ≡ self.now.table }
         requires may { K.may step }
+        requires rests { (reply : K.Reply) → AreAmong (S.rests (K.call step reply)) hand.old.seat.me.0.mine }
         ensures hand { hand.new.seat.table_id ≡ hand.old.seat.table_id }
-        ensures call { ExtendsThat S.goes S.starts (λ before after. K.does step before beside.old result after beside.new) hand.old.seat.me.0 (K.call step result) hand.new.seat.me.0 }
+        ensures call { ExtendsThat S.goes S.starts S.rests (λ before after. K.does step before beside.old result after beside.new) hand.old.seat.me.0 (K.call step result) hand.new.seat.me.0 }
     {
         self.traced.perform(rt, hand, step, beside)
     }
@@ -148,8 +150,9 @@ impl<S: Steps> Lock<S> {
     ) -> K::Reply
         requires hand { hand.old.seat.table_id ≡ self.now.table }
         requires may { K.may step }
+        requires rests { (reply : K.Reply) → AreAmong (S.rests (K.call step reply)) hand.old.seat.me.0.mine }
         ensures hand { hand.new.seat.table_id ≡ hand.old.seat.table_id }
-        ensures call { Extends S.goes S.starts hand.old.seat.me.0 (K.call step result) hand.new.seat.me.0 }
+        ensures call { Extends S.goes S.starts S.rests hand.old.seat.me.0 (K.call step result) hand.new.seat.me.0 }
     {
         let mut waking = Waking::new();
         let reply = self.traced.perform(rt, hand, step, &mut waking);
@@ -166,9 +169,11 @@ impl<S: Steps> Lock<S> {
         request: &mut Q,
         task: &mut Option<Task>,
     ) -> Attempted<Q::Output, Q::Refusal>
-        requires { hand.old.seat.table_id ≡ self.now.table }
+        requires hand { hand.old.seat.table_id ≡ self.now.table }
+        requires rests { AreAmong (Q.rests request.old) hand.old.seat.me.0.mine }
         ensures hand { hand.new.seat.table_id ≡ hand.old.seat.table_id }
-        ensures call { Makes S.goes S.starts hand.old.seat.me.0 (Q.attempting request.old result) hand.new.seat.me.0 }
+        ensures rests { AreAmong (Q.rests request.new) hand.new.seat.me.0.mine }
+        ensures call { Makes S.goes S.starts S.rests hand.old.seat.me.0 (Q.attempting request.old result) hand.new.seat.me.0 }
         ensures succeeded { OnDone result (λ output. Q.succeeds request.old output request.new) }
         ensures waited { OnUndone result (Q.waits request.old request.new) }
         ensures kept { OnRefused result (request.new ≡ request.old) }
@@ -185,9 +190,11 @@ impl<S: Steps> Lock<S> {
         request: &mut Q,
         cx: &mut Context<'_>,
     ) -> Attempted<Q::Output, Q::Refusal>
-        requires { hand.old.seat.table_id ≡ self.now.table }
+        requires hand { hand.old.seat.table_id ≡ self.now.table }
+        requires rests { AreAmong (Q.rests request.old) hand.old.seat.me.0.mine }
         ensures hand { hand.new.seat.table_id ≡ hand.old.seat.table_id }
-        ensures call { Makes S.goes S.starts hand.old.seat.me.0 (Q.attempting request.old result) hand.new.seat.me.0 }
+        ensures rests { AreAmong (Q.rests request.new) hand.new.seat.me.0.mine }
+        ensures call { Makes S.goes S.starts S.rests hand.old.seat.me.0 (Q.attempting request.old result) hand.new.seat.me.0 }
         ensures succeeded { OnDone result (λ output. Q.succeeds request.old output request.new) }
         ensures waited { OnUndone result (Q.waits request.old request.new) }
         ensures refused { OnRefused result (request.new ≡ request.old) }
@@ -212,9 +219,11 @@ impl<S: Steps> Lock<S> {
         on: &mut C,
     ) -> Attempted<Q::Output, Q::Refusal>
         requires hand { hand.old.seat.table_id ≡ self.now.table }
+        requires rests { AreAmong (Q.rests request.old) hand.old.seat.me.0.mine }
         requires named { (answer : Attempted Q.Output Q.Refusal) (call : S.Call) → N.named answer call ↔ Q.attempting request.old answer call }
         ensures hand { hand.new.seat.table_id ≡ hand.old.seat.table_id }
-        ensures call { Makes S.goes S.starts hand.old.seat.me.0 (Q.attempting request.old result) hand.new.seat.me.0 }
+        ensures rests { AreAmong (Q.rests request.new) hand.new.seat.me.0.mine }
+        ensures call { Makes S.goes S.starts S.rests hand.old.seat.me.0 (Q.attempting request.old result) hand.new.seat.me.0 }
         ensures succeeded { OnDone result (λ output. Q.succeeds request.old output request.new) }
         ensures waited { OnUndone result (Q.waits request.old request.new) }
         ensures kept { OnRefused result (request.new ≡ request.old) }
@@ -226,7 +235,7 @@ impl<S: Steps> Lock<S> {
         take_out!(traced, rt, seat);
         let state = seat.slot_mut(&traced.table.shared, 0);
         let answer = request.attempt_or_wait(state, exchange, on, &mut waking);
-        traced.give_back::<Brand, _>(seat, &answer);
+        traced.give_back::<Brand, _, _>(seat, &answer, &*request);
         waking.finish_seldom();
         answer
     }
@@ -241,9 +250,11 @@ impl<S: Steps> Lock<S> {
         request: &mut Q,
         cx: &mut Context<'_>,
     ) -> Poll<Result<Q::Output, Q::Refusal>>
-        requires { hand.old.seat.table_id ≡ self.now.table }
+        requires hand { hand.old.seat.table_id ≡ self.now.table }
+        requires rests { AreAmong (Q.rests request.old) hand.old.seat.me.0.mine }
         ensures hand { hand.new.seat.table_id ≡ hand.old.seat.table_id }
-        ensures call { Makes S.goes S.starts hand.old.seat.me.0 (Polls Q.attempting request.old result) hand.new.seat.me.0 }
+        ensures rests { AreAmong (Q.rests request.new) hand.new.seat.me.0.mine }
+        ensures call { Makes S.goes S.starts S.rests hand.old.seat.me.0 (Polls Q.attempting request.old result) hand.new.seat.me.0 }
         ensures succeeded { IfReady result (λ answer. IfOk answer (λ output. Q.succeeds request.old output request.new)) }
         ensures refused { IfReady result (λ answer. OnErr answer (request.new ≡ request.old)) }
         ensures pending { OnPending result (Q.waits request.old request.new) }
@@ -266,9 +277,11 @@ impl<S: Steps> Lock<S> {
         hand: &mut Hand<S, S::Call>,
         request: &mut Q,
     ) -> Result<Option<Q::Output>, Q::Refusal>
-        requires { hand.old.seat.table_id ≡ self.now.table }
+        requires hand { hand.old.seat.table_id ≡ self.now.table }
+        requires rests { AreAmong (Q.rests request.old) hand.old.seat.me.0.mine }
         ensures hand { hand.new.seat.table_id ≡ hand.old.seat.table_id }
-        ensures call { Makes S.goes S.starts hand.old.seat.me.0 (Q.leaving request.old result) hand.new.seat.me.0 }
+        ensures rests { AreAmong (Q.rests request.new) hand.new.seat.me.0.mine }
+        ensures call { Makes S.goes S.starts S.rests hand.old.seat.me.0 (Q.leaving request.old result) hand.new.seat.me.0 }
         ensures left { IfOk result (λ answer. Q.leaves request.old answer request.new) }
         ensures kept { OnErr result (request.new ≡ request.old) }
     {
@@ -286,9 +299,11 @@ impl<S: Steps> Lock<S> {
         request: &mut Q,
     ) -> Result<Option<Q::Output>, Q::Refusal>
         requires hand { hand.old.seat.table_id ≡ self.now.table }
+        requires rests { AreAmong (Q.rests request.old) hand.old.seat.me.0.mine }
         requires named { (answer : Result (Option Q.Output) Q.Refusal) (call : S.Call) → N.named answer call ↔ Q.leaving request.old answer call }
         ensures hand { hand.new.seat.table_id ≡ hand.old.seat.table_id }
-        ensures call { Makes S.goes S.starts hand.old.seat.me.0 (Q.leaving request.old result) hand.new.seat.me.0 }
+        ensures rests { AreAmong (Q.rests request.new) hand.new.seat.me.0.mine }
+        ensures call { Makes S.goes S.starts S.rests hand.old.seat.me.0 (Q.leaving request.old result) hand.new.seat.me.0 }
         ensures left { IfOk result (λ answer. Q.leaves request.old answer request.new) }
         ensures kept { OnErr result (request.new ≡ request.old) }
     {
@@ -298,7 +313,7 @@ impl<S: Steps> Lock<S> {
         take_out!(traced, rt, seat);
         let state = seat.slot_mut(&traced.table.shared, 0);
         let answer = request.leave(state, &mut waking);
-        traced.give_back::<Brand, _>(seat, &answer);
+        traced.give_back::<Brand, _, _>(seat, &answer, &*request);
         waking.finish_seldom();
         answer
     }

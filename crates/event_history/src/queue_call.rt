@@ -1,5 +1,5 @@
 //! The calls on a queue of listeners.
-ghost use Rattle.event_history.specs.Queue.{calls, is_empty};
+ghost use Rattle.event_history.specs.Queue.{calls, is_empty, rests_on};
 
 use crate::history::Steps;
 use event_queue::{Key, List, ListenError, NotifyError, RegisterResult, State};
@@ -18,11 +18,14 @@ pub enum QueueCall<T, W> {
     Counts(usize, usize),
 }
 
-/// A queue starts empty, and each call is one step of its two lists.
+/// A queue starts empty, and each call is one step of its two lists. A listener takes its tag, stores its task and leaves by
+/// the hand that it joined by.
 impl<T, W> Steps for List<T, W> {
     type Call = QueueCall<T, W>;
 
     ghost starts = { is_empty };
 
     ghost goes = { calls };
+
+    ghost rests = { rests_on };
 }

@@ -1,7 +1,8 @@
 //! What one that waits does with the state under a lock.
-ghost use Rattle.std.specs.Prelude.{◌≡◌, Option, Result, None, IfSome, IfOk, OnErr};
+ghost use Rattle.std.specs.Prelude.{◌≡◌, ◌↔◌, List, [], Option, Result, None, IfSome, IfOk, IsTrue, OnErr};
 ghost use Rattle.event_wait.specs.declared.request.Attempted.{Attempted};
 ghost use Rattle.event_wait.specs.Attempted.{Attempts, OnDone, OnRefused, OnUndone};
+ghost use Rattle.event_history.specs.History.{RestsOn};
 
 use crate::history::Steps;
 use event_queue::{TaskExchange, WakeSink};
@@ -10,7 +11,8 @@ use event_wait::{Attempted, Task};
 /// What one waits for in the state under a lock, and its place in the queue of those that wait there.
 ///
 /// A contract knows an implementation by its ghost relations: what an attempt does that succeeds, what one does after which
-/// it waits on, what leaving at the limit does, and which calls of the history both are, by their answers.
+/// it waits on, what leaving at the limit does, which calls of the history both are, by their answers, and which earlier calls
+/// of its own hand they come after.
 pub trait Request<S: Steps> {
     /// What it gets.
     type Output;
@@ -27,6 +29,9 @@ pub trait Request<S: Steps> {
     // What leaving at the limit does.
     ghost leaves: { Self → Option Self.Output → Self → Type 0 };
 
+    // The calls of its own hand that its calls come after, which an attempt's own call may join. By default none.
+    ghost rests: { Self → List S.Call } = { λ _. [] };
+
     // What is said of the call that an attempt is, by its answer.
     ghost attempting: { Self → Attempted Self.Output Self.Refusal → S.Call → Type 0 };
 
@@ -41,7 +46,7 @@ pub trait Request<S: Steps> {
         on: &mut C,
         sink: &mut K,
     ) -> Attempted<Self::Output, Self::Refusal>
-        ensures goes { (call : S.Call) × attempting self.old result call × S.goes state.old call state.new }
+        ensures goes { (call : S.Call) × attempting self.old result call × RestsOn S.rests (rests self.old) call (rests self.new) × S.goes state.old call state.new }
         ensures succeeded { OnDone result (λ output. succeeds self.old output self.new) }
         ensures waited { OnUndone result (waits self.old self.new) }
         ensures kept { OnRefused result (self.new ≡ self.old) }
@@ -53,7 +58,7 @@ pub trait Request<S: Steps> {
         state: &mut S,
         sink: &mut K,
     ) -> Result<Option<Self::Output>, Self::Refusal>
-        ensures goes { (call : S.Call) × leaving self.old result call × S.goes state.old call state.new }
+        ensures goes { (call : S.Call) × leaving self.old result call × RestsOn S.rests (rests self.old) call (rests self.new) × S.goes state.old call state.new }
         ensures left { IfOk result (λ answer. leaves self.old answer self.new) }
         ensures kept { OnErr result (self.new ≡ self.old) };
 }
@@ -64,6 +69,9 @@ pub trait Attempt<S: Steps>: Request<S> {
     /// for a moment, that spares both threads a sleep; where a wait is long, none does.
     const TRIES: u32 = 8;
 
+    // Whether it has a place in a queue.
+    ghost has_place: { Self → Type 0 };
+
     // What is said of the call that a mere attempt is, by its answer.
     ghost trying: { Self → Option Self.Output → S.Call → Type 0 };
 
@@ -71,16 +79,17 @@ pub trait Attempt<S: Steps>: Request<S> {
     ghost giving_up: { Self → S.Call → Type 0 };
 
     /// Whether it has a place in a queue.
-    fn is_waiting(&self) -> bool;
+    fn is_waiting(&self) -> bool
+        ensures { IsTrue result ↔ has_place self.now };
 
     /// Attempts it once. It does not look whether it waits in a queue, and does not leave one.
     fn attempt<K: WakeSink<Task>>(&mut self, state: &mut S, sink: &mut K) -> Option<Self::Output>
-        ensures goes { (call : S.Call) × trying self.old result call × S.goes state.old call state.new }
+        ensures goes { (call : S.Call) × trying self.old result call × RestsOn S.rests (Self.rests self.old) call (Self.rests self.new) × S.goes state.old call state.new }
         ensures succeeded { IfSome result (λ output. Self.succeeds self.old output self.new) }
         ensures kept { result ≡ None → self.new ≡ self.old };
 
     /// Leaves the queue, if it is there, and gives on what it was notified of.
     fn give_up<K: WakeSink<Task>>(&mut self, state: &mut S, sink: &mut K)
-        ensures goes { (call : S.Call) × giving_up self.old call × S.goes state.old call state.new }
+        ensures goes { (call : S.Call) × giving_up self.old call × RestsOn S.rests (Self.rests self.old) call (Self.rests self.new) × S.goes state.old call state.new }
         ensures kept { self.new ≡ self.old };
 }

@@ -8,13 +8,14 @@ use atomic_table::{Join, Play, Split, TableRule};
 use std::marker::PhantomData;
 
 /// The rule of a table whose slot is the state, and whose word is its lock: there is a history that leads from the start to
-/// the state, and each hand knows a beginning of it and all its own calls in it.
+/// the state, each hand knows a beginning of it and all its own calls in it, and each call comes after those of its hand that
+/// it rests on.
 pub struct Rule<S> {
     of: PhantomData<S>,
 }
 
 impl<S: Steps> TableRule<S, View<S, S::Call>, ()> for Rule<S> {
-    ghost holds = { λ _. Kept S.starts S.goes };
+    ghost holds = { λ _. Kept S.starts S.goes S.rests };
 
     ghost first = { λ _. newcomer [] };
 }
@@ -39,7 +40,7 @@ pub(crate) struct GiveBack<S, K> {
 }
 
 impl<S: Steps, K: Made<S::Call>> Play<S, View<S, S::Call>> for GiveBack<S, K> {
-    ghost then = { extended S.starts S.goes K.made };
+    ghost then = { extended S.starts S.goes S.rests K.made };
 }
 
 // A hand looks at the history.
@@ -48,7 +49,7 @@ pub(crate) struct Look<S> {
 }
 
 impl<S: Steps> Play<S, View<S, S::Call>> for Look<S> {
-    ghost then = { looked S.starts S.goes };
+    ghost then = { looked S.starts S.goes S.rests };
 }
 
 // A new hand has seen what another one has seen.

@@ -1,6 +1,6 @@
 //! A call on a traced state.
 ghost use Rattle.std.specs.Prelude.{◌≡◌, ◌↔◌, ◌∷◌, [], false};
-ghost use Rattle.event_history.specs.History.{ExtendsThat};
+ghost use Rattle.event_history.specs.History.{AreAmong, ExtendsThat};
 
 use crate::hand::Hand;
 use crate::history::{Named, Steps, View};
@@ -54,7 +54,8 @@ macro_rules! perform {
 }
 
 impl<S: Steps> Traced<S> {
-    /// Makes one call, as a call of this hand. It may wait for the lock, and allocates what the step allocates.
+    /// Makes one call, as a call of this hand, which made what the call rests on. It may wait for the lock, and allocates what the
+    /// step allocates.
     #[inline(always)]
     pub fn perform<B, K: Step<S, B>, R: Wait>(
         &self,
@@ -65,8 +66,9 @@ impl<S: Steps> Traced<S> {
     ) -> K::Reply
         requires hand { hand.old.seat.table_id ≡ self.now.table.shared.table_id }
         requires may { K.may step }
+        requires rests { (reply : K.Reply) → AreAmong (S.rests (K.call step reply)) hand.old.seat.me.0.mine }
         ensures hand { hand.new.seat.table_id ≡ hand.old.seat.table_id }
-        ensures call { ExtendsThat S.goes S.starts (λ before after. K.does step before beside.old result after beside.new) hand.old.seat.me.0 (K.call step result) hand.new.seat.me.0 }
+        ensures call { ExtendsThat S.goes S.starts S.rests (λ before after. K.does step before beside.old result after beside.new) hand.old.seat.me.0 (K.call step result) hand.new.seat.me.0 }
     {
         let seat = &mut hand.seat;
         take_out!(self, rt, seat);
@@ -85,8 +87,9 @@ impl<S: Steps> Traced<S> {
         requires seat { seat.old.table_id ≡ self.now.table.shared.table_id }
         requires out { (q : S) × (seat.old.me.0.out ≡ q ∷ []) × (seat.old.me.1 ≡ (0, q) ∷ []) × (seat.old.me.0.spent ≡ false) }
         requires may { K.may step }
+        requires rests { (reply : K.Reply) → AreAmong (S.rests (K.call step reply)) seat.old.me.0.mine }
         ensures seat { (seat.new.table_id ≡ seat.old.table_id) × (seat.new.id ≡ seat.old.id) × (seat.new.me.1 ≡ []) }
-        ensures call { ExtendsThat S.goes S.starts (λ before after. K.does step before beside.old result after beside.new) seat.old.me.0 (K.call step result) seat.new.me.0 }
+        ensures call { ExtendsThat S.goes S.starts S.rests (λ before after. K.does step before beside.old result after beside.new) seat.old.me.0 (K.call step result) seat.new.me.0 }
     {
         self.make_named::<Brand, _, _>(seat, step, beside)
     }
@@ -101,12 +104,13 @@ impl<S: Steps> Traced<S> {
         requires seat { seat.old.table_id ≡ self.now.table.shared.table_id }
         requires out { (q : S) × (seat.old.me.0.out ≡ q ∷ []) × (seat.old.me.1 ≡ (0, q) ∷ []) × (seat.old.me.0.spent ≡ false) }
         requires may { K.may step }
+        requires rests { (reply : K.Reply) → AreAmong (S.rests (K.call step reply)) seat.old.me.0.mine }
         requires named { (reply : K.Reply) (call : S.Call) → N.named reply call ↔ (call ≡ K.call step reply) }
         ensures seat { (seat.new.table_id ≡ seat.old.table_id) × (seat.new.id ≡ seat.old.id) × (seat.new.me.1 ≡ []) }
-        ensures call { ExtendsThat S.goes S.starts (λ before after. K.does step before beside.old result after beside.new) seat.old.me.0 (K.call step result) seat.new.me.0 }
+        ensures call { ExtendsThat S.goes S.starts S.rests (λ before after. K.does step before beside.old result after beside.new) seat.old.me.0 (K.call step result) seat.new.me.0 }
     {
         let reply = step.make(seat.slot_mut(&self.table.shared, 0), beside);
-        self.give_back::<Brand, _>(seat, &reply);
+        self.give_back::<Brand, _, _>(seat, &reply, &());
         reply
     }
 }

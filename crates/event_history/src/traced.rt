@@ -1,6 +1,6 @@
 //! A state under a lock of one word.
 ghost use Rattle.std.specs.Prelude.{◌≡◌, ◌∷◌, [], false, IfOk, MatchBool};
-ghost use Rattle.event_history.specs.History.{Looks, both_views, newcomer};
+ghost use Rattle.event_history.specs.History.{AreAmong, Looks, both_views, newcomer};
 ghost use Rattle.event_history.specs.Rule.{Holds, Returns};
 
 use crate::hand::Hand;
@@ -74,14 +74,19 @@ impl<S: Steps> Traced<S> {
             == FREE
     }
 
-    /// Gives the state back, after the call that `K` picks of the evidence.
+    /// Gives the state back, after the call that `K` picks of its answer and of who made it.
     #[doc(hidden)]
     #[inline(always)]
-    pub fn give_back<K: Made<S::Call>, E>(&self, seat: &mut Seat<S, View<S, S::Call>>, evidence: &E)
+    pub fn give_back<K: Made<S::Call>, A, M>(
+        &self,
+        seat: &mut Seat<S, View<S, S::Call>>,
+        answer: &A,
+        maker: &M,
+    )
         requires seat { seat.old.table_id ≡ self.now.table.shared.table_id }
-        requires step { (c : S.Call) × (q : S) × (r : S) × K.made c × (seat.old.me.0.out ≡ q ∷ []) × (seat.old.me.1 ≡ (0, r) ∷ []) × S.goes q c r × (seat.old.me.0.spent ≡ false) }
+        requires step { (c : S.Call) × (q : S) × (r : S) × K.made c × (seat.old.me.0.out ≡ q ∷ []) × (seat.old.me.1 ≡ (0, r) ∷ []) × S.goes q c r × (seat.old.me.0.spent ≡ false) × AreAmong (S.rests c) seat.old.me.0.mine }
         ensures seat { (seat.new.table_id ≡ seat.old.table_id) × (seat.new.id ≡ seat.old.id) × (seat.new.me.1 ≡ []) }
-        ensures extends { (c : S.Call) × K.made c × Returns S.starts S.goes seat.old.me c seat.new.me.0 }
+        ensures extends { (c : S.Call) × K.made c × Returns S.starts S.goes S.rests seat.old.me c seat.new.me.0 }
     {
         if self.table.shared.swap::<GiveBack<S, K>>(seat, 0, FREE) == AWAITED {
             self.wake_one();
@@ -111,7 +116,7 @@ impl<S: Steps> Traced<S> {
         requires here { hand.old.seat.table_id ≡ self.now.table.shared.table_id }
         requires there { other.seat.table_id ≡ self.now.table.shared.table_id }
         ensures hand { hand.new.seat.table_id ≡ hand.old.seat.table_id }
-        ensures looks { Looks S.goes S.starts (both_views hand.old.seat.me.0 other.seat.me.0) hand.new.seat.me.0 }
+        ensures looks { Looks S.goes S.starts S.rests (both_views hand.old.seat.me.0 other.seat.me.0) hand.new.seat.me.0 }
     {
         let Hand { seat: other } = other;
         let seat = &mut hand.seat;

@@ -2,7 +2,7 @@
 ghost use Rattle.std.specs.Prelude.{◌≡◌, ◌≢◌, ◌↔◌, Option, None, Some, Ok, IfSome, IfOk, IfErr, IsSome};
 ghost use Rattle.event_wait.specs.Rounds.{SomeRounds};
 ghost use Rattle.event_wait.specs.declared.lock.limit.Limit.TheVariants.{Never};
-ghost use Rattle.event_history.specs.History.{Makes};
+ghost use Rattle.event_history.specs.History.{AreAmong, Makes};
 ghost use Rattle.event_history.specs.Waiting.{EndsObtaining, EndsTrying, Gets, GivesUp, HasObtained, IsRefused, Round, Tries};
 
 use super::Lock;
@@ -28,9 +28,11 @@ impl<S: Steps> Lock<S> {
         hand: &mut Hand<S, S::Call>,
         request: &mut Q,
     ) -> Option<Q::Output>
-        requires { hand.old.seat.table_id ≡ self.now.table }
+        requires hand { hand.old.seat.table_id ≡ self.now.table }
+        requires rests { AreAmong (Q.rests request.old) hand.old.seat.me.0.mine }
         ensures hand { hand.new.seat.table_id ≡ hand.old.seat.table_id }
-        ensures call { Makes S.goes S.starts hand.old.seat.me.0 (Q.trying request.old result) hand.new.seat.me.0 }
+        ensures rests { AreAmong (Q.rests request.new) hand.new.seat.me.0.mine }
+        ensures call { Makes S.goes S.starts S.rests hand.old.seat.me.0 (Q.trying request.old result) hand.new.seat.me.0 }
         ensures succeeded { IfSome result (λ output. Q.succeeds request.old output request.new) }
         ensures kept { result ≡ None → request.new ≡ request.old }
     {
@@ -45,9 +47,11 @@ impl<S: Steps> Lock<S> {
         request: &mut Q,
     ) -> Option<Q::Output>
         requires hand { hand.old.seat.table_id ≡ self.now.table }
+        requires rests { AreAmong (Q.rests request.old) hand.old.seat.me.0.mine }
         requires named { (answer : Option Q.Output) (call : S.Call) → N.named answer call ↔ Q.trying request.old answer call }
         ensures hand { hand.new.seat.table_id ≡ hand.old.seat.table_id }
-        ensures call { Makes S.goes S.starts hand.old.seat.me.0 (Q.trying request.old result) hand.new.seat.me.0 }
+        ensures rests { AreAmong (Q.rests request.new) hand.new.seat.me.0.mine }
+        ensures call { Makes S.goes S.starts S.rests hand.old.seat.me.0 (Q.trying request.old result) hand.new.seat.me.0 }
         ensures succeeded { IfSome result (λ output. Q.succeeds request.old output request.new) }
         ensures kept { result ≡ None → request.new ≡ request.old }
     {
@@ -57,7 +61,7 @@ impl<S: Steps> Lock<S> {
         take_out!(traced, rt, seat);
         let state = seat.slot_mut(&traced.table.shared, 0);
         let answer = request.attempt(state, &mut waking);
-        traced.give_back::<Brand, _>(seat, &answer);
+        traced.give_back::<Brand, _, _>(seat, &answer, &*request);
         waking.finish_seldom();
         answer
     }
@@ -70,9 +74,11 @@ impl<S: Steps> Lock<S> {
         hand: &mut Hand<S, S::Call>,
         request: &mut Q,
     )
-        requires { hand.old.seat.table_id ≡ self.now.table }
+        requires hand { hand.old.seat.table_id ≡ self.now.table }
+        requires rests { AreAmong (Q.rests request.old) hand.old.seat.me.0.mine }
         ensures hand { hand.new.seat.table_id ≡ hand.old.seat.table_id }
-        ensures gave_up { GivesUp S.goes S.starts Q.giving_up (request.old, hand.old.seat.me.0) (request.new, hand.new.seat.me.0) }
+        ensures rests { AreAmong (Q.rests request.new) hand.new.seat.me.0.mine }
+        ensures gave_up { GivesUp S.goes S.starts S.rests Q.has_place Q.giving_up (request.old, hand.old.seat.me.0) (request.new, hand.new.seat.me.0) }
     {
         if request.is_waiting() {
             self.give_up_named::<Brand, _, _>(rt, hand, request);
@@ -87,9 +93,11 @@ impl<S: Steps> Lock<S> {
         request: &mut Q,
     )
         requires hand { hand.old.seat.table_id ≡ self.now.table }
+        requires rests { AreAmong (Q.rests request.old) hand.old.seat.me.0.mine }
         requires named { (answer : Unit {0}) (call : S.Call) → N.named answer call ↔ Q.giving_up request.old call }
         ensures hand { hand.new.seat.table_id ≡ hand.old.seat.table_id }
-        ensures call { Makes S.goes S.starts hand.old.seat.me.0 (Q.giving_up request.old) hand.new.seat.me.0 }
+        ensures rests { AreAmong (Q.rests request.new) hand.new.seat.me.0.mine }
+        ensures call { Makes S.goes S.starts S.rests hand.old.seat.me.0 (Q.giving_up request.old) hand.new.seat.me.0 }
         ensures kept { request.new ≡ request.old }
     {
         let mut waking = Waking::new();
@@ -98,7 +106,7 @@ impl<S: Steps> Lock<S> {
         take_out!(traced, rt, seat);
         let state = seat.slot_mut(&traced.table.shared, 0);
         request.give_up(state, &mut waking);
-        traced.give_back::<Brand, _>(seat, &());
+        traced.give_back::<Brand, _, _>(seat, &(), &*request);
         waking.finish_seldom();
     }
 }
@@ -118,10 +126,12 @@ impl<S: Steps> Lock<S> {
         request: &mut Q,
         limit: Limit,
     ) -> Result<Option<Q::Output>, Refused<Q::Refusal>>
-        requires { hand.old.seat.table_id ≡ self.now.table }
+        requires hand { hand.old.seat.table_id ≡ self.now.table }
+        requires rests { AreAmong (Q.rests request.old) hand.old.seat.me.0.mine }
         ensures hand { hand.new.seat.table_id ≡ hand.old.seat.table_id }
+        ensures rests { AreAmong (Q.rests request.new) hand.new.seat.me.0.mine }
         ensures never { limit ≡ Never → IfOk result IsSome }
-        ensures obtains { EndsObtaining S.goes S.starts Q.attempting Q.leaving Q.waits Q.succeeds Q.leaves (limit ≢ Never) Q.trying Q.giving_up (request.old, hand.old.seat.me.0) result (request.new, hand.new.seat.me.0) }
+        ensures obtains { EndsObtaining S.goes S.starts S.rests Q.attempting Q.leaving Q.waits Q.succeeds Q.leaves (limit ≢ Never) Q.trying Q.has_place Q.giving_up (request.old, hand.old.seat.me.0) result (request.new, hand.new.seat.me.0) }
     {
         if let Some(output) = try_first(self, rt, hand, request) {
             return Ok(Some(output));
@@ -138,10 +148,12 @@ fn try_first<S: Steps, Q: Attempt<S>, R: Wait>(
     hand: &mut Hand<S, S::Call>,
     request: &mut Q,
 ) -> Option<Q::Output>
-    requires { hand.old.seat.table_id ≡ lock.now.table }
+    requires hand { hand.old.seat.table_id ≡ lock.now.table }
+    requires rests { AreAmong (Q.rests request.old) hand.old.seat.me.0.mine }
     ensures hand { hand.new.seat.table_id ≡ hand.old.seat.table_id }
-    ensures obtained { IfSome result (λ output. HasObtained S.goes S.starts Q.attempting Q.leaving Q.waits Q.succeeds Q.leaves Q.trying (request.old, hand.old.seat.me.0) output (request.new, hand.new.seat.me.0)) }
-    ensures tried { result ≡ None → SomeRounds (Tries S.goes S.starts Q.attempting Q.leaving Q.waits Q.trying) (request.old, hand.old.seat.me.0) (request.new, hand.new.seat.me.0) }
+    ensures rests { AreAmong (Q.rests request.new) hand.new.seat.me.0.mine }
+    ensures obtained { IfSome result (λ output. HasObtained S.goes S.starts S.rests Q.attempting Q.leaving Q.waits Q.succeeds Q.leaves Q.trying (request.old, hand.old.seat.me.0) output (request.new, hand.new.seat.me.0)) }
+    ensures tried { result ≡ None → SomeRounds (Tries S.goes S.starts S.rests Q.attempting Q.leaving Q.waits Q.trying) (request.old, hand.old.seat.me.0) (request.new, hand.new.seat.me.0) }
 {
     if request.is_waiting() {
         return None;
@@ -159,10 +171,12 @@ fn try_then_wait<S: Steps, Q: Attempt<S>, R: Wait + Clock>(
     request: &mut Q,
     limit: Limit,
 ) -> Result<Option<Q::Output>, Refused<Q::Refusal>>
-    requires { hand.old.seat.table_id ≡ lock.now.table }
+    requires hand { hand.old.seat.table_id ≡ lock.now.table }
+    requires rests { AreAmong (Q.rests request.old) hand.old.seat.me.0.mine }
     ensures hand { hand.new.seat.table_id ≡ hand.old.seat.table_id }
+    ensures rests { AreAmong (Q.rests request.new) hand.new.seat.me.0.mine }
     ensures never { limit ≡ Never → IfOk result IsSome }
-    ensures obtains { EndsObtaining S.goes S.starts Q.attempting Q.leaving Q.waits Q.succeeds Q.leaves (limit ≢ Never) Q.trying Q.giving_up (request.old, hand.old.seat.me.0) result (request.new, hand.new.seat.me.0) }
+    ensures obtains { EndsObtaining S.goes S.starts S.rests Q.attempting Q.leaving Q.waits Q.succeeds Q.leaves (limit ≢ Never) Q.trying Q.has_place Q.giving_up (request.old, hand.old.seat.me.0) result (request.new, hand.new.seat.me.0) }
 {
     match try_or_wait(lock, rt, alloc, hand, request, limit) {
         Ok(answer) => Ok(answer),
@@ -183,10 +197,12 @@ fn try_or_wait<S: Steps, Q: Attempt<S>, R: Wait + Clock>(
     request: &mut Q,
     limit: Limit,
 ) -> Result<Option<Q::Output>, Refused<Q::Refusal>>
-    requires { hand.old.seat.table_id ≡ lock.now.table }
+    requires hand { hand.old.seat.table_id ≡ lock.now.table }
+    requires rests { AreAmong (Q.rests request.old) hand.old.seat.me.0.mine }
     ensures hand { hand.new.seat.table_id ≡ hand.old.seat.table_id }
+    ensures rests { AreAmong (Q.rests request.new) hand.new.seat.me.0.mine }
     ensures never { limit ≡ Never → IfOk result IsSome }
-    ensures trying { EndsTrying S.goes S.starts Q.attempting Q.leaving Q.waits Q.succeeds Q.leaves (limit ≢ Never) Q.trying (request.old, hand.old.seat.me.0) result (request.new, hand.new.seat.me.0) }
+    ensures trying { EndsTrying S.goes S.starts S.rests Q.attempting Q.leaving Q.waits Q.succeeds Q.leaves (limit ≢ Never) Q.trying (request.old, hand.old.seat.me.0) result (request.new, hand.new.seat.me.0) }
 {
     if limit.has_passed(rt) {
         return match lock.leave(rt, hand, request) {
@@ -211,10 +227,12 @@ fn try_a_while<S: Steps, Q: Attempt<S>, R: Wait>(
     hand: &mut Hand<S, S::Call>,
     request: &mut Q,
 ) -> Option<Q::Output>
-    requires { hand.old.seat.table_id ≡ lock.now.table }
+    requires hand { hand.old.seat.table_id ≡ lock.now.table }
+    requires rests { AreAmong (Q.rests request.old) hand.old.seat.me.0.mine }
     ensures hand { hand.new.seat.table_id ≡ hand.old.seat.table_id }
-    ensures obtained { IfSome result (λ output. HasObtained S.goes S.starts Q.attempting Q.leaving Q.waits Q.succeeds Q.leaves Q.trying (request.old, hand.old.seat.me.0) output (request.new, hand.new.seat.me.0)) }
-    ensures tried { result ≡ None → SomeRounds (Tries S.goes S.starts Q.attempting Q.leaving Q.waits Q.trying) (request.old, hand.old.seat.me.0) (request.new, hand.new.seat.me.0) }
+    ensures rests { AreAmong (Q.rests request.new) hand.new.seat.me.0.mine }
+    ensures obtained { IfSome result (λ output. HasObtained S.goes S.starts S.rests Q.attempting Q.leaving Q.waits Q.succeeds Q.leaves Q.trying (request.old, hand.old.seat.me.0) output (request.new, hand.new.seat.me.0)) }
+    ensures tried { result ≡ None → SomeRounds (Tries S.goes S.starts S.rests Q.attempting Q.leaving Q.waits Q.trying) (request.old, hand.old.seat.me.0) (request.new, hand.new.seat.me.0) }
 {
     for _ in 0..Q::TRIES {
         if request.is_waiting() {
@@ -235,11 +253,13 @@ fn take_if_notified<S: Steps, Q: Attempt<S>, R: Wait>(
     hand: &mut Hand<S, S::Call>,
     request: &mut Q,
 ) -> Result<Option<Q::Output>, Q::Refusal>
-    requires { hand.old.seat.table_id ≡ lock.now.table }
+    requires hand { hand.old.seat.table_id ≡ lock.now.table }
+    requires rests { AreAmong (Q.rests request.old) hand.old.seat.me.0.mine }
     ensures hand { hand.new.seat.table_id ≡ hand.old.seat.table_id }
-    ensures succeeded { IfOk result (λ answer. IfSome answer (λ output. Gets S.goes S.starts Q.attempting Q.leaving Q.succeeds (request.old, hand.old.seat.me.0) output (request.new, hand.new.seat.me.0))) }
-    ensures waited { result ≡ Ok None → SomeRounds (Round S.goes S.starts Q.attempting Q.leaving Q.waits) (request.old, hand.old.seat.me.0) (request.new, hand.new.seat.me.0) }
-    ensures refused { IfErr result (λ error. IsRefused S.goes S.starts Q.attempting Q.leaving (request.old, hand.old.seat.me.0) error (request.new, hand.new.seat.me.0)) }
+    ensures rests { AreAmong (Q.rests request.new) hand.new.seat.me.0.mine }
+    ensures succeeded { IfOk result (λ answer. IfSome answer (λ output. Gets S.goes S.starts S.rests Q.attempting Q.leaving Q.succeeds (request.old, hand.old.seat.me.0) output (request.new, hand.new.seat.me.0))) }
+    ensures waited { result ≡ Ok None → SomeRounds (Round S.goes S.starts S.rests Q.attempting Q.leaving Q.waits) (request.old, hand.old.seat.me.0) (request.new, hand.new.seat.me.0) }
+    ensures refused { IfErr result (λ error. IsRefused S.goes S.starts S.rests Q.attempting Q.leaving (request.old, hand.old.seat.me.0) error (request.new, hand.new.seat.me.0)) }
 {
     if !request.is_waiting() {
         return Ok(None);

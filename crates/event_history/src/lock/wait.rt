@@ -1,5 +1,6 @@
 //! The wait of a thread.
 ghost use Rattle.std.specs.Prelude.{◌≡◌, ◌≢◌, IfOk, IsSome};
+ghost use Rattle.event_history.specs.History.{AreAmong};
 ghost use Rattle.event_history.specs.Waiting.{EndsWait};
 ghost use Rattle.event_wait.specs.declared.lock.limit.Limit.TheVariants.{Never};
 
@@ -28,10 +29,12 @@ impl<S: Steps> Lock<S> {
         request: &mut Q,
         limit: Limit,
     ) -> Result<Option<Q::Output>, Refused<Q::Refusal>>
-        requires { hand.old.seat.table_id ≡ self.now.table }
+        requires hand { hand.old.seat.table_id ≡ self.now.table }
+        requires rests { AreAmong (Q.rests request.old) hand.old.seat.me.0.mine }
         ensures hand { hand.new.seat.table_id ≡ hand.old.seat.table_id }
+        ensures rests { AreAmong (Q.rests request.new) hand.new.seat.me.0.mine }
         ensures never { limit ≡ Never → IfOk result IsSome }
-        ensures waits { EndsWait S.goes S.starts Q.attempting Q.leaving Q.waits Q.succeeds Q.leaves (limit ≢ Never) (request.old, hand.old.seat.me.0) result (request.new, hand.new.seat.me.0) }
+        ensures waits { EndsWait S.goes S.starts S.rests Q.attempting Q.leaving Q.waits Q.succeeds Q.leaves (limit ≢ Never) (request.old, hand.old.seat.me.0) result (request.new, hand.new.seat.me.0) }
     {
         let Ok(parker) = Arc::new(alloc, Parker::new()) else {
             return Err(Refused::Memory);
