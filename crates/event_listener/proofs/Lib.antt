@@ -1,3 +1,5 @@
+pub mod EventLemmas
+pub mod HandLemmas
 pub mod IdentityLemmas
 pub mod WaitLemmas
 pub mod recording

@@ -1,5 +1,12 @@
--- What a notification of an event answers.
+-- What a notification of an event answers, and how a listener begins.
 use Rattle.std.specs.Prelude.{◌≡◌, ℕ, ◌<◌, ◌≤◌, List, length, Result, Ok, Err, alloc_error}
+use Rattle.event_wait.specs.declared.lock.task.Task.{Task}
+use Rattle.event_history.specs.declared.history.Entry.{Entry}
+use Rattle.event_history.specs.declared.queue_call.QueueCall.{QueueCall}
+use Rattle.event_history.specs.declared.queue_call.QueueCall.TheVariants.{Insert}
+use Rattle.event_history.specs.History.{newcomer}
+use Rattle.event_listener.specs.Listening.{Listening}
+use Rattle.event_listener.specs.Waiting.{Calls}
 use Rattle.std.specs.declared.alloc.AllocError.{AllocError}
 use Rattle.event_queue.specs.declared.reply.NotifyError.{NotifyError}
 use Rattle.event_queue.specs.Notify.{GivesTags}
@@ -23,3 +30,12 @@ module _ {T N : Type 0} (gives : N → Result T AllocError → N → Type 0) whe
   abbrev pub TellsSome : ℕ → N → Result ℕ NotifyError → Type 0
   TellsSome count source (Ok told) = (told ≤ count) × ((source' : N) × GaveTags source told source')
   TellsSome count source (Err error) = (error.told < count) × GaveThenRefused source error.told
+
+module _ {T : Type 0} where
+  -- a new listener's hand had seen this, and its first call is that it listened
+  abbrev pub Listens : List (Entry (QueueCall T Task)) → Listening T → Type 0
+  Listens seen listener = Calls (newcomer seen) (Insert (Ok listener.standing.key)) listener.knows
+
+  -- the same, and what it had seen is some history
+  abbrev pub ListensFirst : Listening T → Type 0
+  ListensFirst listener = (seen : List (Entry (QueueCall T Task))) × Listens seen listener

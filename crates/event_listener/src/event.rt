@@ -1,24 +1,31 @@
 //! Events.
 ghost use Rattle.std.specs.Prelude.{◌≡◌, ◌≤◌, false, IfOk};
 ghost use Rattle.event_queue.specs.Notify.{NeverRefuses};
-ghost use Rattle.event_listener.specs.Event.{TellsSome};
+ghost use Rattle.event_listener.specs.Event.{ListensFirst, TellsSome};
 
 mod debug;
+mod hand;
 mod identity;
 
 use crate::listener::EventListener;
+use event_history::steps::{Counts, Insert, Notify};
+use event_history::{Hand, Lock, QueueCall, perform};
 use event_queue::{IntoNotification, List, ListenError, NotifyError};
-use event_wait::{Lock, Task, step, take_lock};
+use event_wait::{Task, Waking};
+pub use hand::EventHand;
 pub use identity::{EventId, EventIds, IdsUsedUp, given_numbers_are_distinct};
 use std::alloc::{AllocError, Global};
 use std::marker::Model;
 use std::sync::{Arc, OnceLock, Wait};
 use std::time::Clock;
 
-/// The queue of one event, under a lock that no other event has.
+/// The queue of one event, under a lock that no other event has, with one history of all calls on it.
 ///
-/// A contract sees it as the number of the source at which a task registers that polls a listener.
+/// A contract sees the source at which a task registers that polls a listener, and the table that the queue is in.
 pub type Shared<T> = Lock<List<T, Task>>;
+
+/// A right to call the queue of one event.
+pub(crate) type QueueHand<T> = Hand<List<T, Task>, QueueCall<T, Task>>;
 
 /// What others listen to, and are notified of.
 ///
@@ -68,8 +75,8 @@ impl<T> Event<T> {
         T: Drop,
         ensures { IfOk result (λ event. event ≡ id) }
     {
-        let queue = Arc::new(alloc, Shared::of(List::starting_at(alloc, first_serial)))?;
-        let shared = OnceLock::from(queue);
+        let (queue, _hand) = Shared::new(alloc, List::starting_at(alloc, first_serial))?;
+        let shared = OnceLock::from(Arc::new(alloc, queue)?);
         Ok(Event { id, shared })
     }
 
@@ -86,8 +93,9 @@ impl<T> Event<T> {
     where
         T: Drop,
         R: Wait + Clock + Clone,
-        ensures event { IfOk result (λ listener. listener.event_number ≡ self.now) }
-        ensures unfinished { IfOk result (λ listener. listener.is_finished ≡ false) }
+        ensures event { IfOk result (λ listener. listener.standing.event_number ≡ self.now) }
+        ensures unfinished { IfOk result (λ listener. listener.standing.is_finished ≡ false) }
+        ensures listens { IfOk result ListensFirst }
     {
         let shared = match self.shared.get() {
             Some(shared) => Arc::try_clone(shared),
@@ -99,9 +107,10 @@ impl<T> Event<T> {
         let Ok(runtime) = rt.clone() else {
             return Err(ListenError::Memory);
         };
-        let key = take_lock!(shared, rt).insert_uncounted()?;
+        let mut hand = shared.hand();
+        let key = perform!(shared, rt, hand, Insert, &mut ())?;
         let number = self.id.number();
-        Ok(EventListener::new(shared, key, number, runtime, alloc))
+        Ok(EventListener::new(shared, key, hand, number, runtime, alloc))
     }
 
     // Makes the queue, and a share of it. It is a function of its own, so that a share of a queue that is there is a few
@@ -137,7 +146,8 @@ impl<T> Event<T> {
     where
         T: Drop,
     {
-        let made = Arc::new(alloc, Shared::of(List::new(alloc)))?;
+        let (queue, _hand) = Shared::new(alloc, List::new(alloc))?;
+        let made = Arc::new(alloc, queue)?;
         let token = match self.shared.try_insert(rt, made) {
             Ok(token) => token,
             Err((token, _second)) => token,
@@ -175,33 +185,39 @@ impl<T> Event<T> {
         requires can_tag { N.Notify.can_tag (N.meaning n) }
         ensures { TellsSome N.Notify.tag_gives (N.Notify.count (N.meaning n)) (N.meaning n) result }
     {
-        let mut notification = n.into_notification();
-        match self.shared.get() {
-            Some(shared) => {
-                step!(shared, rt, queue, waking => queue.notify_uncounted(&mut notification, &mut waking))
-            }
-            None => Ok(0),
-        }
+        let notification = n.into_notification();
+        let Some(shared) = self.shared.get() else {
+            return Ok(0);
+        };
+        let mut hand = shared.hand();
+        let mut waking = Waking::new();
+        let (_, told) = perform!(shared, rt, hand, Notify { notification }, &mut waking);
+        waking.finish();
+        told
     }
 
     /// Whether some listener is notified.
     ///
     /// The call does not allocate. It may wait for the lock of the event.
     pub fn is_notified<R: Wait>(&self, rt: &R) -> bool {
-        match self.shared.get() {
-            Some(shared) => take_lock!(shared, rt).is_notified(),
-            None => false,
-        }
+        let Some(shared) = self.shared.get() else {
+            return false;
+        };
+        let mut hand = shared.hand();
+        let (told, _) = perform!(shared, rt, hand, Counts, &mut ());
+        told > 0
     }
 
     /// How many listeners there are, notified or waiting.
     ///
     /// The call does not allocate. It may wait for the lock of the event.
     pub fn total_listeners<R: Wait>(&self, rt: &R) -> usize {
-        match self.shared.get() {
-            Some(shared) => take_lock!(shared, rt).total_listeners(),
-            None => 0,
-        }
+        let Some(shared) = self.shared.get() else {
+            return 0;
+        };
+        let mut hand = shared.hand();
+        let (_, total) = perform!(shared, rt, hand, Counts, &mut ());
+        total
     }
 }
 

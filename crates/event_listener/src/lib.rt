@@ -177,8 +177,8 @@
 //! /// A wait that fails for memory is retried once, with the listener that it returns and against the same deadline.
 //! /// If the second wait fails too, the caller gets the listener.
 //! pub fn tag_by<T, L: Listener<T>>(listener: L, deadline: Instant) -> Result<Option<T>, WaitError<L>>
-//!     ensures finished { L.is_finished listener ≡ true → IsErr result }
-//!     ensures memory { IfErr result (HandsBack listener) }
+//!     ensures finished { (L.standing listener).is_finished ≡ true → IsErr result }
+//!     ensures memory { IfErr result (HandsBack L.standing listener) }
 //! {
 //!     match listener.wait_deadline(deadline) {
 //!         Err(WaitError::Memory(listener)) => listener.wait_deadline(deadline),
@@ -196,20 +196,24 @@
 //!
 //! # What the contracts say
 //!
-//! A contract sees an event as the number of its identity, and a listener as the number of its event, its key in the
-//! queue, and whether it has given its tag.
+//! A contract sees an event as the number of its identity, and a listener as its standing (the number of its event, its
+//! key in the queue, whether it has given its tag), the table of the queue, and what its hand knows.
+//!
+//! Behind the lock of an event there is one history of all calls on its queue, which is ghost. It runs, call by call, as
+//! the two lists of a queue do. Each listener has a hand of its own, and each of its calls is the hand's next one there.
 //!
 //! - [`EventIds::next`] and [`given_numbers_are_distinct`]: events of one source differ.
-//! - [`Event::listen`]: which event a listener listens to.
+//! - [`Event::listen`]: which event a listener listens to, and that it joined by one call of its hand.
 //! - [`Event::notify`]: it returns no greater number than was asked for.
-//! - [`Listener`]: when a listener is finished, that a finished one fails, and that a wait which fails for memory
+//! - [`Listener`]: when a listener is finished, that only a finished one fails, and that a wait which fails for memory
 //!   returns the same listener.
+//! - [`QueueListener`]: which calls its polls and waits, a discard and a drop are, with their replies.
+//! - [`EventHand`]: calls of a caller's own hand, and what hands and listeners learn of each other.
 //! - [`RecordedEvent::close`]: a record is a history of its queue, and has the notes of each hand.
 //! - [`RecordedState::apply`]: one step of a queue, and one entry more.
 //!
-//! No clause says which listeners are in a queue or which are notified, since other threads may change that at any
-//! time. A call that takes the lock, as every wait does, promises its clauses if it returns. No clause says that it
-//! returns, or that a thread which is notified wakes.
+//! A call that takes the lock, as every wait does, promises its clauses if it returns. No clause says that it returns, or
+//! that a thread which is notified wakes.
 #![tactic(auto)]
 
 mod event;
@@ -218,7 +222,7 @@ mod recorded;
 
 #[doc(hidden)]
 pub use event::Shared;
-pub use event::{Event, EventId, EventIds, IdsUsedUp, given_numbers_are_distinct};
+pub use event::{Event, EventHand, EventId, EventIds, IdsUsedUp, given_numbers_are_distinct};
 pub use event_queue::{
     Additional, Call, IntoNotification, IntoTagged, Key, List, ListenError, Notification, Notify,
     NotifyError, RegisterResult, Relaxed, Reply, State, Steps, Tag, TagWith, TaskExchange,

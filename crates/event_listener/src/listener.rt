@@ -1,13 +1,16 @@
 //! Listeners.
-ghost use Rattle.std.specs.Prelude.{◌≡◌, ◌↔◌, ℕ, Bool, true, false, IsTrue, IsErr, IsSome, IfOk, IfErr, OnErr};
+ghost use Rattle.std.specs.Prelude.{◌≡◌, ◌↔◌, true, false, IsTrue, IsErr, IsSome, IfOk, IfErr, OnErr};
 ghost use Rattle.futures.specs.Poll.{IfReady, OnPending};
 ghost use Rattle.futures.specs.Task.{Covers, Keeps};
+ghost use Rattle.event_listener.specs.Listening.{Standing};
+ghost use Rattle.event_listener.specs.Polling.{IsPolled};
 ghost use Rattle.event_listener.specs.Waiting.{HandsBack};
 ghost use Rattle.event_wait.specs.declared.lock.limit.Limit.TheVariants.{Never};
 
 mod hold;
 mod macros;
 mod membership;
+mod place;
 mod polled;
 mod queue_listener;
 mod stack_slot;
@@ -34,10 +37,13 @@ pub struct NeverInserted;
 /// Dropping a listener removes it from the queue. If it was notified, that propagates its notification: the event is
 /// notified of one, of the same kind and with the same tag. So a default notification is lost while another listener
 /// stays notified, and an additional one only if none waits. The drop does not allocate, and may wait for the lock of
-/// the event. A finished listener takes no lock when it is polled, discarded or dropped.
+/// the event. A finished listener takes no lock.
 ///
-/// The trait is open. Generic callers know an implementation by its ghost members: `event_number`, the number of the
-/// event that it listens to, and `is_finished`, whether it has given its tag.
+/// The trait is open. Generic callers know an implementation by its `standing`: the number of the event that it listens to,
+/// its key in the queue there, whether it has given its tag, and where its polls register.
+///
+/// Of an [`EventListener`] and a [`StackListener`] more is said. Each has a hand of its own, and each of its calls is one
+/// of the one history of all calls on the queue of its event: at each call stands which, with its reply.
 ///
 /// # Waiting
 ///
@@ -58,13 +64,9 @@ pub struct NeverInserted;
 ///
 /// If step 2 or a new share fails, the wait returns [`WaitError::Memory`] with the same listener. It is where it
 /// was: no wait removes a listener, or takes its tag, before it returns that error. A task that the wait stored in the
-/// queue stays there. Else a wait on a finished listener returns [`WaitError::NeverInserted`].
+/// queue stays there. A wait on a finished listener returns [`WaitError::NeverInserted`], before all this but step 1.
 pub trait Listener<T>: Sized {
-    ghost event_number: { Self → ℕ };
-
-    ghost is_finished: { Self → Bool };
-
-    ghost source: { Self → ℕ };
+    ghost standing: { Self → Standing };
 
     /// Takes the tag if the listener was notified, which finishes it; else stores the waker, in place of any earlier
     /// one.
@@ -75,15 +77,7 @@ pub trait Listener<T>: Sized {
     /// The waker always takes the place of the one before. A waker wakes when it is dropped, so the task of the one
     /// before is woken, even if that is the task that polls. The same happens to a waker that is not stored.
     fn poll(&mut self, waker: Waker) -> Result<Poll<T>, NeverInserted>
-        ensures finished { is_finished self.old ≡ true → IsErr result }
-        ensures event { event_number self.new ≡ event_number self.old }
-
-        // A poll that gives the tag finishes the listener, one that is pending does not, and one that finds it gone
-        // leaves it finished.
-        ensures ready { IfOk result (λ polled. IfReady polled (λ _. is_finished self.new ≡ true)) }
-        ensures pending { IfOk result (λ polled. OnPending polled (is_finished self.new ≡ false)) }
-        ensures same { IfOk result (λ polled. OnPending polled (self.new ≡ self.old)) }
-        ensures err { OnErr result (is_finished self.new ≡ true) };
+        ensures polled { IsPolled (standing self.old) result (standing self.new) };
 
     /// As [`poll`](Listener::poll), with the waker of the task that polls. If the listener has stored one of that task
     /// already, it stays, and no task is woken.
@@ -91,15 +85,10 @@ pub trait Listener<T>: Sized {
     /// If it stored another task's waker, that task is woken. If no waker can be made, the task asks for another
     /// poll.
     fn poll_in(&mut self, cx: &mut Context<'_>) -> Result<Poll<T>, NeverInserted>
-        ensures finished { is_finished self.old ≡ true → IsErr result }
-        ensures event { event_number self.new ≡ event_number self.old }
-        ensures ready { IfOk result (λ polled. IfReady polled (λ _. is_finished self.new ≡ true)) }
-        ensures pending { IfOk result (λ polled. OnPending polled (is_finished self.new ≡ false)) }
-        ensures same { IfOk result (λ polled. OnPending polled (self.new ≡ self.old)) }
-        ensures err { OnErr result (is_finished self.new ≡ true) }
+        ensures polled { IsPolled (standing self.old) result (standing self.new) }
 
         // A poll that is pending has registered at the listener's source.
-        ensures registered { IfOk result (λ polled. OnPending polled (Covers cx.new (λ s. s ≡ source self.new))) }
+        ensures registered { IfOk result (λ polled. OnPending polled (Covers cx.new (λ s. s ≡ (standing self.new).source))) }
         ensures kept { Keeps cx.old cx.new };
 
     /// Waits until the listener is notified or the limit has passed, and returns the tag or `None`. The listener has left
@@ -108,8 +97,8 @@ pub trait Listener<T>: Sized {
     ///
     /// See [Waiting](Listener#waiting) for what it allocates, what it waits for, and what its errors leave.
     fn wait_until(self, limit: Limit) -> Result<Option<T>, WaitError<Self>>
-        ensures finished { is_finished self ≡ true → IsErr result }
-        ensures memory { IfErr result (HandsBack self) }
+        ensures finished { (standing self).is_finished ≡ true → IsErr result }
+        ensures memory { IfErr result (HandsBack standing self) }
 
         // A wait without a limit ends with the tag or an error.
         ensures unlimited { limit ≡ Never → IfOk result (λ tag. IsSome tag) };
@@ -117,8 +106,8 @@ pub trait Listener<T>: Sized {
     /// Waits until the listener is notified, and returns the tag: [`wait_until`](Listener::wait_until) with
     /// [`Limit::Never`].
     fn wait(self) -> Result<T, WaitError<Self>>
-        ensures finished { is_finished self ≡ true → IsErr result }
-        ensures memory { IfErr result (HandsBack self) }
+        ensures finished { (standing self).is_finished ≡ true → IsErr result }
+        ensures memory { IfErr result (HandsBack standing self) }
     {
         match self.wait_until(Limit::Never)? {
             Some(tag) => Ok(tag),
@@ -129,14 +118,14 @@ pub trait Listener<T>: Sized {
     /// Waits until the listener is notified or the timeout has passed, and returns the tag or `None`:
     /// [`wait_until`](Listener::wait_until) with [`Limit::after`], by the clock of the listener.
     fn wait_timeout(self, timeout: Duration) -> Result<Option<T>, WaitError<Self>>
-        ensures finished { is_finished self ≡ true → IsErr result }
-        ensures memory { IfErr result (HandsBack self) };
+        ensures finished { (standing self).is_finished ≡ true → IsErr result }
+        ensures memory { IfErr result (HandsBack standing self) };
 
     /// Waits until the listener is notified or that moment of its own clock has come, and returns the tag or `None`:
     /// [`wait_until`](Listener::wait_until) with [`Limit::At`].
     fn wait_deadline(self, deadline: Instant) -> Result<Option<T>, WaitError<Self>>
-        ensures finished { is_finished self ≡ true → IsErr result }
-        ensures memory { IfErr result (HandsBack self) }
+        ensures finished { (standing self).is_finished ≡ true → IsErr result }
+        ensures memory { IfErr result (HandsBack standing self) }
     {
         self.wait_until(Limit::At(deadline))
     }
@@ -146,17 +135,17 @@ pub trait Listener<T>: Sized {
     ///
     /// The call does not allocate. It may wait for the lock of the event.
     fn discard(self) -> bool
-        ensures finished { is_finished self ≡ true → result ≡ false };
+        ensures finished { (standing self).is_finished ≡ true → result ≡ false };
 
     /// Whether the listener listens to this event: whether their numbers are the same.
     ///
     /// Events of two sources may have one number. The call neither allocates nor waits.
     fn listens_to(&self, event: &Event<T>) -> bool
-        ensures { IsTrue result ↔ (event_number self.now ≡ event.now) };
+        ensures { IsTrue result ↔ ((standing self.now).event_number ≡ event.now) };
 
     /// Whether both listen to one event: whether the numbers of their events are the same.
     ///
     /// Events of two sources may have one number. The call neither allocates nor waits.
     fn same_event(&self, other: &Self) -> bool
-        ensures { IsTrue result ↔ (event_number self.now ≡ event_number other.now) };
+        ensures { IsTrue result ↔ ((standing self.now).event_number ≡ (standing other.now).event_number) };
 }

@@ -1,5 +1,6 @@
 //! What an event shows of itself.
 use super::Event;
+use event_history::steps::Counts;
 use std::fmt;
 
 /// How many listeners are notified and how many there are, or why that is not known: there is no queue yet, or the lock
@@ -12,15 +13,12 @@ impl<T> fmt::Debug for Event<T> {
                 .field(&format_args!("<uninitialized>"))
                 .finish();
         };
-        let Some(queue) = shared.mutex().try_lock() else {
+        let Ok((told, total)) = shared.try_perform(&mut shared.hand(), Counts, &mut ()) else {
             return f
                 .debug_tuple("Event")
                 .field(&format_args!("<locked>"))
                 .finish();
         };
-        let (told, total) = (queue.listeners_notified(), queue.total_listeners());
-        // The writer may call the event too.
-        drop(queue);
         f.debug_struct("Event")
             .field("listeners_notified", &told)
             .field("listeners_total", &total)

@@ -1,26 +1,28 @@
 //! How a listener holds the queue of its event.
-ghost use Rattle.std.specs.Prelude.{◌≡◌, ℕ};
+ghost use Rattle.std.specs.Prelude.{◌≡◌};
 ghost use Rattle.std.specs.Arc.{arc_value};
+ghost use Rattle.event_history.specs.Lock.{LockId};
 
 use crate::event::Shared;
 use std::sync::Arc;
 
 /// How a listener holds the queue of its event: by a share of it, or by a borrow.
 ///
-/// A contract sees the queue as the number of the source at which a task registers that polls a listener there.
+/// A contract sees the lock of the queue as the source at which a task registers that polls a listener there, and the table
+/// that the queue is in.
 pub trait Hold<T> {
-    ghost source: { Self → ℕ };
+    ghost lock: { Self → LockId };
 
     /// What a listener that holds its queue so is called.
     const LISTENER: &'static str;
 
     /// The queue.
     fn queue(&self) -> &Shared<T>
-        ensures { result.now ≡ source self.now };
+        ensures { result.now ≡ lock self.now };
 }
 
 impl<T> Hold<T> for Arc<Shared<T>> {
-    ghost source = { λ shared. arc_value shared };
+    ghost lock = { λ shared. arc_value shared };
 
     const LISTENER: &'static str = "EventListener";
 
@@ -31,7 +33,7 @@ impl<T> Hold<T> for Arc<Shared<T>> {
 }
 
 impl<T> Hold<T> for &Shared<T> {
-    ghost source = { λ shared. shared.now };
+    ghost lock = { λ shared. shared.now };
 
     const LISTENER: &'static str = "StackListener";
 

@@ -1,20 +1,34 @@
 //! The listener that shares the queue of its event, and the one that borrows it.
-ghost use Rattle.std.specs.Prelude.{◌≡◌, ◌+◌, ◌<◌, ◌^◌, true, false, IsErr};
+ghost use Rattle.std.specs.Prelude.{◌≡◌, ◌≢◌, ◌+◌, ◌<◌, ◌^◌, ⊤, true, false, Bool, Err, IfErr, IfOk, IsErr, IsSome};
+ghost use Rattle.futures.specs.Poll.{OnPending};
+ghost use Rattle.futures.specs.Task.{Covers, Keeps};
+ghost use Rattle.event_listener.specs.Listening.{Known};
+ghost use Rattle.event_listener.specs.Polling.{IsPolled};
+ghost use Rattle.event_queue.specs.declared.reply.RegisterResult.TheVariants as register;
+ghost use Rattle.event_listener.specs.Waiting.{Finds, HandsBack, IfBack, PollsBy, RemovesBy, WaitsBy, answered, reason_of};
+ghost use Rattle.event_wait.specs.declared.lock.limit.Limit.TheVariants.{Never};
+ghost use Rattle.event_history.specs.History.{Looks, both_views, newcomer};
+ghost use Rattle.event_history.specs.Queue.{calls, is_empty, rests_on};
+ghost use Rattle.event_history.specs.Laws.{OwnsListener};
+ghost use Rattle.event_listener.specs.declared.listener.wait_error.WaitReason.TheVariants as because;
 
 use super::hold::Hold;
 use super::membership::Membership;
+use super::place::answer_of;
 use super::polled::poll_of;
-use super::{Listener, NeverInserted, WaitError};
-use crate::event::{Event, Shared};
-use event_queue::{Key, State};
-use event_wait::{Limit, Refused, Task, Waking, take_lock};
+use super::{Listener, NeverInserted, WaitError, WaitReason};
+use crate::event::{Event, EventHand, QueueHand, Shared};
+use event_history::steps::{Register, RegisterWith, Remove};
+use event_history::{QueueCall, Resting, perform};
+use event_queue::{Key, List, State};
+use event_wait::{Limit, Task, Waking};
 use futures::Future;
 use futures::task::{Context, Poll, Waker};
 use std::alloc::Global;
 use std::fmt;
 use std::marker::{Model, PhantomData};
 use std::sync::{Arc, Wait};
-use std::time::{Clock, Duration};
+use std::time::{Clock, Duration, Instant};
 
 /// A listener that shares the queue of its event, and so can outlive the event.
 ///
@@ -36,6 +50,7 @@ pub type StackListener<'ev, T, R> = QueueListener<T, &'ev Shared<T>, R>;
 pub struct QueueListener<T, H: Hold<T>, R: Wait + Clock + Clone> {
     held: H,
     membership: Membership,
+    hand: Resting<List<T, Task>, QueueCall<T, Task>>,
     event_number: u64,
     runtime: R,
     alloc: Global,
@@ -44,34 +59,146 @@ pub struct QueueListener<T, H: Hold<T>, R: Wait + Clock + Clone> {
 }
 
 impl<T, H: Hold<T>, R: Wait + Clock + Clone> Model for QueueListener<T, H, R> {
-    ghost use Rattle.event_listener.specs.Listening.{Listening};
+    ghost use Rattle.std.specs.Prelude.{◌≡◌, ◌∷◌, [], false};
+    ghost use Rattle.event_history.specs.Laws.{OwnsListener};
+    ghost use Rattle.event_listener.specs.Listening.{Known, Listening, known_of};
 
-    ghost Value = { Listening };
+    ghost Value = { Listening T };
 
     ghost view = { λ listener. record {
-      event_number = listener.event_number;
-      key = listener.membership.key;
-      is_finished = listener.membership.is_finished;
-      source = H.source listener.held;
+      standing = record {
+        event_number = listener.event_number;
+        key = listener.membership.key;
+        is_finished = listener.membership.is_finished;
+        source = (H.lock listener.held).source;
+      };
+      table = (H.lock listener.held).table;
+      knows = known_of listener.hand.rest.badge.views;
     } };
+
+    ghost invariant = { λ listener. (listener.hand.rest.badge.table_id ≡ (H.lock listener.held).table) × ((knows : Known T) × (listener.hand.rest.badge.views ≡ knows ∷ []) × (listener.membership.is_finished ≡ false → OwnsListener listener.membership.key knows.mine)) };
 }
 
 impl<T, H: Hold<T>, R: Wait + Clock + Clone> QueueListener<T, H, R> {
-    /// The listener that has just been inserted by this key into the queue of the event with this number.
+    /// The listener that this hand has just inserted by this key into the queue of the event with this number.
     #[inline(always)]
-    pub(crate) fn new(held: H, key: Key, event_number: u64, runtime: R, alloc: Global) -> Self
+    pub(crate) fn new(
+        held: H,
+        key: Key,
+        hand: QueueHand<T>,
+        event_number: u64,
+        runtime: R,
+        alloc: Global,
+    ) -> Self
         requires given { key.serial + 1 < 2 ^ 64 }
-        ensures event { result.event_number ≡ event_number }
-        ensures unfinished { result.is_finished ≡ false }
+        requires hand { hand.seat.table_id ≡ (H.lock held).table }
+        requires owns { OwnsListener key hand.seat.me.0.mine }
+        ensures event { result.standing.event_number ≡ event_number }
+        ensures key { result.standing.key ≡ key }
+        ensures unfinished { result.standing.is_finished ≡ false }
+        ensures table { result.table ≡ (H.lock held).table }
+        ensures knows { result.knows ≡ hand.seat.me.0 }
     {
         QueueListener {
             held,
             membership: Membership::new(key),
+            hand: hand.rest(),
             event_number,
             runtime,
             alloc,
             tag: PhantomData,
         }
+    }
+
+    /// Has the listener's hand know from here on what this hand saw and did: there is one history that has the calls of both.
+    ///
+    /// The call neither allocates nor waits.
+    pub fn absorb(&mut self, other: EventHand<T>)
+    where
+        T: Drop,
+        requires table { other.table ≡ self.old.table }
+        ensures looks { Looks calls is_empty rests_on (both_views self.old.knows other.knows) self.new.knows }
+        ensures same { (self.new.standing ≡ self.old.standing) × (self.new.table ≡ self.old.table) }
+    {
+        let mut hand = self.hand.take();
+        self.held.queue().absorb(&mut hand, other.into_hand());
+        self.hand.put(hand);
+    }
+
+    // Waits in the queue, until the limit at most. With an answer it has left.
+    #[inline(always)]
+    pub(crate) fn wait_in_queue(&mut self, limit: Limit) -> Result<Option<T>, WaitReason>
+    where
+        T: Drop,
+        ensures finished { self.old.standing.is_finished ≡ true → result ≡ Err because.NeverInserted }
+        ensures memory { result ≡ Err because.Memory → self.new.standing ≡ self.old.standing }
+        ensures left { result ≢ Err because.Memory → self.new.standing.is_finished ≡ true }
+        ensures unlimited { limit ≡ Never → IfOk result IsSome }
+        ensures waits { self.old.standing.is_finished ≡ false → WaitsBy self.old.standing.key (limit ≢ Never) self.old.knows result self.new.knows }
+        ensures table { self.new.table ≡ self.old.table }
+    {
+        if self.membership.is_finished() {
+            return Err(WaitReason::NeverInserted);
+        }
+        let mut hand = self.hand.take();
+        let waited = self.held.queue().wait(
+            &self.runtime,
+            self.alloc,
+            &mut hand,
+            &mut self.membership.place(),
+            limit,
+        );
+        self.hand.put(hand);
+        let answer = answer_of(waited);
+        if !matches!(answer, Err(WaitReason::Memory)) {
+            self.membership.finish();
+        }
+        answer
+    }
+
+    // A refused wait returns the listener, unless it is in no queue.
+    #[inline(always)]
+    pub(crate) fn refused(self, reason: WaitReason) -> WaitError<Self>
+    where
+        T: Drop,
+        H: Drop,
+        ensures reason { reason_of result ≡ reason }
+        ensures back { IfBack result (λ back. back ≡ self) }
+    {
+        match reason {
+            WaitReason::NeverInserted => WaitError::NeverInserted,
+            WaitReason::Memory => WaitError::Memory(self),
+        }
+    }
+
+    // A hand that knows what the listener's hand knows.
+    pub(crate) fn tell(&mut self) -> QueueHand<T>
+        ensures told { (result.seat.table_id ≡ self.old.table) × (result.seat.me.0 ≡ newcomer self.old.knows.seen) }
+        ensures same { self.new ≡ self.old }
+    {
+        let mut hand = self.hand.take();
+        let told = self.held.queue().tell(&mut hand);
+        self.hand.put(hand);
+        told
+    }
+
+    // The hand of a listener that has left the queue.
+    pub(crate) fn into_hand(self) -> QueueHand<T>
+    where
+        H: Drop,
+        ensures { (result.seat.table_id ≡ self.table) × (result.seat.me.0 ≡ self.knows) }
+    {
+        let QueueListener {
+            held: _,
+            membership: _,
+            hand,
+            event_number: _,
+            runtime: _,
+            alloc: _,
+            tag: _,
+        } = self;
+        let mut hand = hand;
+        hand.take()
     }
 
     // Takes the listener out of the queue, if it is there, and returns whether it was notified. With `propagate` its
@@ -81,11 +208,13 @@ impl<T, H: Hold<T>, R: Wait + Clock + Clone> QueueListener<T, H, R> {
     where
         T: Drop,
         H: Drop,
-        ensures finished { self.is_finished ≡ true → result ≡ false }
+        ensures finished { self.standing.is_finished ≡ true → result ≡ false }
+        ensures removed { self.standing.is_finished ≡ false → RemovesBy propagate self result }
     {
         let QueueListener {
             held,
-            mut membership,
+            membership,
+            hand,
             event_number: _,
             runtime,
             alloc: _,
@@ -95,11 +224,15 @@ impl<T, H: Hold<T>, R: Wait + Clock + Clone> QueueListener<T, H, R> {
         if membership.is_finished() {
             return false;
         }
-        // A step, as of `step!`. It wakes somebody only if a notification is propagated.
+        let step = Remove {
+            key: membership.key(),
+            propagate,
+        };
+        let mut hand = hand;
+        let mut hand = hand.take();
+        // It wakes somebody only if a notification is propagated.
         let mut waking = Waking::new();
-        let mut queue = take_lock!(held.queue(), &runtime);
-        let former = membership.remove(&mut *queue, propagate, &mut waking);
-        drop(queue);
+        let former = perform!(held.queue(), &runtime, hand, step, &mut waking);
         waking.finish_seldom();
         match former {
             Some(State::Notified { additional: _, tag } | State::Lost { additional: _, tag }) => {
@@ -117,65 +250,99 @@ impl<T, H: Hold<T>, R: Wait + Clock + Clone> QueueListener<T, H, R> {
 }
 
 impl<T: Drop, H: Hold<T> + Drop, R: Wait + Clock + Clone> Listener<T> for QueueListener<T, H, R> {
-    ghost event_number = { λ listener. listener.event_number };
-
-    ghost is_finished = { λ listener. listener.is_finished };
-
-    ghost source = { λ listener. listener.source };
+    ghost standing = { λ listener. listener.standing };
 
     #[inline(always)]
-    fn poll(&mut self, waker: Waker) -> Result<Poll<T>, NeverInserted> {
+    fn poll(&mut self, waker: Waker) -> Result<Poll<T>, NeverInserted>
+        ensures polled { IsPolled self.old.standing result self.new.standing }
+        ensures unchanged { self.old.standing.is_finished ≡ true → self.new ≡ self.old }
+        ensures call { self.old.standing.is_finished ≡ false → PollsBy self.old result self.new }
+        ensures table { self.new.table ≡ self.old.table }
+    {
         if self.membership.is_finished() {
             return Err(NeverInserted);
         }
-        let task = Task::from_waker(waker);
-        let lock = self.held.queue();
-        let mut queue = take_lock!(lock, &self.runtime);
-        let found = self.membership.store(&mut *queue, task);
-        drop(queue);
+        let step = Register {
+            key: self.membership.key(),
+            task: Task::from_waker(waker),
+        };
+        let mut hand = self.hand.take();
+        let found = perform!(self.held.queue(), &self.runtime, hand, step, &mut ());
+        self.hand.put(hand);
+        self.membership.note(&found);
         poll_of(found, NeverInserted)
     }
 
     // It makes the step itself: by `Lock::poll_in`, each poll would be some twenty instructions longer.
-    fn poll_in(&mut self, cx: &mut Context<'_>) -> Result<Poll<T>, NeverInserted> {
+    fn poll_in(&mut self, cx: &mut Context<'_>) -> Result<Poll<T>, NeverInserted>
+        ensures polled { IsPolled self.old.standing result self.new.standing }
+        ensures unchanged { self.old.standing.is_finished ≡ true → self.new ≡ self.old }
+        ensures call { self.old.standing.is_finished ≡ false → PollsBy self.old result self.new }
+        ensures table { self.new.table ≡ self.old.table }
+        ensures registered { IfOk result (λ polled. OnPending polled (Covers cx.new (λ s. s ≡ self.new.standing.source))) }
+        ensures kept { Keeps cx.old cx.new }
+    {
         if self.membership.is_finished() {
             return Err(NeverInserted);
         }
         let lock = self.held.queue();
-        let mut queue = take_lock!(lock, &self.runtime);
-        let found = self
-            .membership
-            .register(&mut *queue, lock.line_source(), cx);
-        drop(queue);
+        let step = RegisterWith {
+            key: self.membership.key(),
+            exchange: lock.line_source(),
+        };
+        let mut hand = self.hand.take();
+        let found = perform!(lock, &self.runtime, hand, step, cx);
+        self.hand.put(hand);
+        self.membership.note(&found);
         poll_of(found, NeverInserted)
     }
 
-    fn wait_until(self, limit: Limit) -> Result<Option<T>, WaitError<Self>> {
+    fn wait_until(self, limit: Limit) -> Result<Option<T>, WaitError<Self>>
+        ensures finished { self.standing.is_finished ≡ true → IsErr result }
+        ensures memory { IfErr result (HandsBack (λ listener. listener.standing) self) }
+        ensures unlimited { limit ≡ Never → IfOk result IsSome }
+        ensures waits { self.standing.is_finished ≡ false → (after : Known T) × WaitsBy self.standing.key (limit ≢ Never) self.knows (answered result) after × IfErr result (λ error. IfBack error (λ back. back.knows ≡ after)) }
+        ensures table { IfErr result (λ error. IfBack error (λ back. back.table ≡ self.table)) }
+    {
         let mut listener = self;
-        let waiting = &mut listener;
-        let waited = waiting.held.queue().wait(
-            &waiting.runtime,
-            waiting.alloc,
-            &mut waiting.membership,
-            limit,
-        );
-        let answer = match waited {
-            Ok(answer) => answer,
-            Err(Refused::Memory) => return Err(WaitError::Memory(listener)),
-            Err(Refused::Request(never)) => match never {},
-        };
-        match answer.transpose() {
+        match listener.wait_in_queue(limit) {
             Ok(tag) => Ok(tag),
-            Err(NeverInserted) => Err(WaitError::NeverInserted),
+            Err(reason) => Err(listener.refused(reason)),
         }
     }
 
-    fn wait_timeout(self, timeout: Duration) -> Result<Option<T>, WaitError<Self>> {
+    fn wait(self) -> Result<T, WaitError<Self>>
+        ensures finished { self.standing.is_finished ≡ true → IsErr result }
+        ensures memory { IfErr result (HandsBack (λ listener. listener.standing) self) }
+        ensures told { self.standing.is_finished ≡ false → IfOk result (λ tag. (after : Known T) × Finds self.standing.key self.knows (register.Notified tag) after) }
+    {
+        match self.wait_until(Limit::Never)? {
+            Some(tag) => Ok(tag),
+            None => unreachable!(),
+        }
+    }
+
+    fn wait_timeout(self, timeout: Duration) -> Result<Option<T>, WaitError<Self>>
+        ensures finished { self.standing.is_finished ≡ true → IsErr result }
+        ensures memory { IfErr result (HandsBack (λ listener. listener.standing) self) }
+        ensures waits { self.standing.is_finished ≡ false → (after : Known T) × WaitsBy self.standing.key ⊤ self.knows (answered result) after }
+    {
         let limit = Limit::after(&self.runtime, timeout);
         self.wait_until(limit)
     }
 
-    fn discard(self) -> bool {
+    fn wait_deadline(self, deadline: Instant) -> Result<Option<T>, WaitError<Self>>
+        ensures finished { self.standing.is_finished ≡ true → IsErr result }
+        ensures memory { IfErr result (HandsBack (λ listener. listener.standing) self) }
+        ensures waits { self.standing.is_finished ≡ false → (after : Known T) × WaitsBy self.standing.key ⊤ self.knows (answered result) after }
+    {
+        self.wait_until(Limit::At(deadline))
+    }
+
+    fn discard(self) -> bool
+        ensures finished { self.standing.is_finished ≡ true → result ≡ false }
+        ensures removed { self.standing.is_finished ≡ false → RemovesBy false self result }
+    {
         self.remove(false)
     }
 
@@ -192,9 +359,9 @@ impl<T: Drop, H: Hold<T> + Drop, R: Wait + Clock + Clone> Listener<T> for QueueL
 impl<T: Drop, H: Hold<T> + Drop, R: Wait + Clock + Clone> Future for QueueListener<T, H, R> {
     type Output = Result<T, NeverInserted>;
 
-    ghost needs = { λ listener s. s ≡ listener.source };
+    ghost needs = { λ listener s. s ≡ listener.standing.source };
 
-    ghost gives = { λ listener output. listener.is_finished ≡ true → IsErr output };
+    ghost gives = { λ listener output. listener.standing.is_finished ≡ true → IsErr output };
 
     fn poll(&mut self, cx: &mut Context<'_>) -> Poll<Result<T, NeverInserted>> {
         match self.poll_in(cx) {
@@ -207,7 +374,9 @@ impl<T: Drop, H: Hold<T> + Drop, R: Wait + Clock + Clone> Future for QueueListen
 
 impl<T: Drop, H: Hold<T> + Drop, R: Wait + Clock + Clone> Drop for QueueListener<T, H, R> {
     #[inline(always)]
-    fn drop(self) {
+    fn drop(self)
+        ensures removed { self.standing.is_finished ≡ false → (told : Bool) × RemovesBy true self told }
+    {
         let _ = self.remove(true);
     }
 }

@@ -1,10 +1,12 @@
 //! Where a listener is made that borrows its event.
 ghost use Rattle.std.specs.Prelude.{◌≡◌, false, IfOk};
+ghost use Rattle.event_listener.specs.Event.{ListensFirst};
 
 use super::StackListener;
 use crate::event::{Event, Shared};
+use event_history::perform;
+use event_history::steps::Insert;
 use event_queue::ListenError;
-use event_wait::take_lock;
 use std::alloc::Global;
 use std::fmt;
 use std::marker::Model;
@@ -68,14 +70,23 @@ impl<'ev, T> StackSlot<'ev, T> {
     where
         T: Drop,
         R: Wait + Clock + Clone,
-        ensures event { IfOk result (λ listener. listener.event_number ≡ self.entry) }
-        ensures unfinished { IfOk result (λ listener. listener.is_finished ≡ false) }
+        ensures event { IfOk result (λ listener. listener.standing.event_number ≡ self.entry) }
+        ensures unfinished { IfOk result (λ listener. listener.standing.is_finished ≡ false) }
+        ensures listens { IfOk result ListensFirst }
     {
         let Ok(runtime) = rt.clone() else {
             return Err(ListenError::Memory);
         };
-        let key = take_lock!(self.shared, rt).insert_uncounted()?;
-        Ok(StackListener::new(self.shared, key, self.event_number, runtime, self.alloc))
+        let mut hand = self.shared.hand();
+        let key = perform!(self.shared, rt, hand, Insert, &mut ())?;
+        Ok(StackListener::new(
+            self.shared,
+            key,
+            hand,
+            self.event_number,
+            runtime,
+            self.alloc,
+        ))
     }
 }
 

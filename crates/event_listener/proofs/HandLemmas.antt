@@ -1,0 +1,45 @@
+-- What the hand of a listener knows and may do.
+use Rattle.std.proofs.Common.{◌≡◌, ◌≢◌, ◌∙◌, sym, ap, subst, refl, Bool, true, false, [], ◌∷◌, true≢false}
+use Rattle.event_queue.specs.declared.key.Key.{Key}
+use Rattle.event_queue.specs.declared.reply.RegisterResult.{RegisterResult}
+use Rattle.event_queue.specs.declared.reply.RegisterResult.TheVariants as register
+use Rattle.event_queue.specs.Queue.{Queue}
+use Rattle.event_wait.specs.declared.lock.task.Task.{Task}
+use Rattle.event_history.specs.declared.queue_call.QueueCall.TheVariants as call
+use Rattle.event_history.specs.History.{Leads}
+use Rattle.event_history.specs.Laws.{OwnsListener}
+use Rattle.event_history.specs.Queue.{calls, is_empty, rests_on}
+use Rattle.event_history.proofs.LawsOwn.{own_registered, own_stored}
+use Rattle.event_listener.specs.Listening.{Known, Member, Standing, known_of}
+use Rattle.event_listener.specs.Polling.{IsPolled, poll_of}
+
+module _ {T : Type 0} where
+  -- the hand that was kept is the one that was taken out
+  pub owns_taken : (key : Key) (knows taken : Known T) → knows ∷ [] ≡ taken ∷ [] → OwnsListener key knows.mine → OwnsListener key taken.mine
+  owns_taken key knows taken same owns = subst (λ (v : Known T). OwnsListener key v.mine) (ap known_of same) owns
+
+  abbrev stored : RegisterResult T → Bool
+  stored register.Registered = true
+  stored _ = false
+
+  -- after a poll it owns its listener if that is in the queue still
+  pub after_poll : {key : Key} {found : RegisterResult T} {v w : Known T} {old new : Queue T Task} → Leads calls is_empty rests_on v (call.Register key found) old new w
+      → OwnsListener key v.mine → (member after : Member) → member.key ≡ key
+      → (found ≡ register.Registered → after ≡ member) → (found ≢ register.Registered → after.is_finished ≡ true)
+      → after.is_finished ≡ false → OwnsListener after.key w.mine
+  after_poll {key = key} {found = register.Registered} {v = v} {w = w} {old = old} {new = new} leads owns member after its stays leaves is =
+      subst (λ (k : Key). OwnsListener k w.mine) (sym (ap (λ (m : Member). m.key) (stays refl) ∙ its)) (own_stored key v w register.Registered old new leads refl owns)
+  after_poll {found = register.Notified tag} leads owns member after its stays leaves is = absurd (true≢false (sym (leaves (λ h. true≢false (sym (ap stored h)))) ∙ is))
+  after_poll {found = register.NeverInserted} leads owns member after its stays leaves is = absurd (true≢false (sym (leaves (λ h. true≢false (sym (ap stored h)))) ∙ is))
+
+  -- what a poll leaves of a listener that is in the queue
+  pub polled_as : {E : Type 0} {key : Key} {found : RegisterResult T} {v w : Known T} {old new : Queue T Task} → Leads calls is_empty rests_on v (call.Register key found) old new w
+      → OwnsListener key v.mine → (gone : E) (before after : Standing) → before.is_finished ≡ false → after.event_number ≡ before.event_number
+      → (found ≡ register.Registered → after ≡ before) → (found ≢ register.Registered → after.is_finished ≡ true)
+      → IsPolled before (poll_of found gone) after
+  polled_as {found = register.Registered} leads owns gone before after unfinished event stays leaves =
+      record { event = event; finished = λ is. absurd (true≢false (sym is ∙ unfinished)); ready = tt; pending = ap (λ (s : Standing). s.is_finished) (stays refl) ∙ unfinished; same = stays refl; gone = tt }
+  polled_as {found = register.Notified tag} leads owns gone before after unfinished event stays leaves =
+      record { event = event; finished = λ is. absurd (true≢false (sym is ∙ unfinished)); ready = leaves (λ h. true≢false (sym (ap stored h))); pending = tt; same = tt; gone = tt }
+  polled_as {key = key} {found = register.NeverInserted} {v = v} {w = w} {old = old} {new = new} leads owns gone before after unfinished event stays leaves =
+      absurd (own_registered key v w register.NeverInserted old new leads owns refl)
