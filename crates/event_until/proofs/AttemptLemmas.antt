@@ -1,8 +1,10 @@
 -- Attempts after other attempts.
-use Rattle.std.proofs.Common.{refl, ℕ, zero, suc, Option, Some, None, IfSome, IfNone, Result, Ok, Err, IfOk, OnErr}
+use Rattle.std.proofs.Common.{◌≡◌, refl, ℕ, zero, suc, Option, Some, None, IfSome, IfNone, Result, Ok, Err, IfOk, OnErr}
 use Rattle.futures.specs.declared.task.Poll.{Poll}
 use Rattle.futures.specs.declared.task.Poll.TheVariants.{Ready, Pending}
 use Rattle.futures.specs.Poll.{OnPending}
+use Rattle.event_listener.specs.Listening.{Listening}
+use Rattle.event_until.specs.Trying.{standing_of}
 use Rattle.event_until.specs.Attempts.{FailsTimes, SomeFail, FailsAtLeast, SucceedsAfter, Succeeded, SucceedsOrFails}
 
 module _ {S : Type 0} (fails : S → S → Type 0) where
@@ -71,3 +73,8 @@ module _ {S : Type 0} (fails : S → S → Type 0) where
     OnPending-gives E (Ready output) before between failed = tt
     OnPending-gives E Pending before between failed =
         λ output given. (given.0, SucceedsOrFails-append before between output given.0 failed given.1)
+
+-- nothing that was left has no standing
+pub none_left : {T : Type 0} (left : Option (Listening T)) → standing_of left ≡ None → left ≡ None
+none_left None none = refl
+none_left (Some listener) none = absurd (let e = none in cc)

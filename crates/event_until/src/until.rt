@@ -29,7 +29,7 @@ pub(crate) use turn::Turn;
 /// the event. `Until` holds no lock while it attempts.
 ///
 /// It may be used again after an output or an error, by any of its calls. A contract sees it as the state of its attempts,
-/// the number of its event, and the listener that a pending poll left.
+/// the number of its event, and the standing of the listener that a pending poll left.
 #[must_use = "nothing is attempted before it is waited or polled"]
 #[derive(Drop)]
 pub struct Until<'a, A, R: Wait + Clock + Clone> {
@@ -43,17 +43,17 @@ pub struct Until<'a, A, R: Wait + Clock + Clone> {
 
 impl<'a, A, R: Wait + Clock + Clone> Model for Until<'a, A, R> {
     ghost use Rattle.std.specs.Prelude.{◌≡◌, IfSome};
-    ghost use Rattle.event_until.specs.Trying.{Trying};
+    ghost use Rattle.event_until.specs.Trying.{Trying, standing_of};
 
     ghost Value = { Trying A };
 
     ghost view = { λ until. record {
       attempt = until.attempt;
       event_number = until.event.now;
-      listener = until.listener;
+      listener = standing_of until.listener;
     } };
 
-    ghost invariant = { λ until. IfSome until.listener (λ listener. listener.event_number ≡ until.event.now) };
+    ghost invariant = { λ until. IfSome until.listener (λ listener. listener.standing.event_number ≡ until.event.now) };
 }
 
 impl<'a, A: Attempt, R: Wait + Clock + Clone> Until<'a, A, R> {
