@@ -1,8 +1,13 @@
+pub mod Asking
+pub mod Calls
 pub mod Errors
 pub mod Handle
+pub mod Hands
 pub mod Iter
 pub mod Many
 pub mod Messages
 pub mod Order
+pub mod Requests
+pub mod Sent
 pub mod Steps
 pub mod Waits

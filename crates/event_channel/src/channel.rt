@@ -1,12 +1,18 @@
 //! What both sides share.
 ghost use Rattle.std.specs.Prelude.{◌≡◌, IfErr, IfOk};
+ghost use Rattle.event_channel.specs.Calls.{answer_of, calls, is_new, rests_on_none};
 ghost use Rattle.event_channel.specs.Errors.{IsUnsent, IsUnsentAtOnce};
+ghost use Rattle.event_channel.specs.declared.call.ChannelCall.TheVariants as call;
+ghost use Rattle.event_history.specs.History.{Extends};
 
+use crate::call::ChannelHand;
 use crate::error::SendError;
 use crate::messages::Messages;
+use crate::steps::{Close, IsClosed, IsFull, Len, Push, PushForced};
+use event_history::{Lock, perform};
 use event_locks::LockError;
 use event_queue::ListenError;
-use event_wait::{Lock, Refused, Task, step};
+use event_wait::{Refused, Task, Waking};
 use std::alloc::{AllocError, Global};
 use std::marker::Model;
 use std::sync::atomic::{AtomicUsize, Ordering};
@@ -75,14 +81,16 @@ pub(crate) fn wait_error(refused: Refused<ListenError>) -> LockError {
     }
 }
 
-impl<T> Channel<T> {
+impl<T: Drop> Channel<T> {
     /// An open channel without messages, with one handle of each side.
     pub(crate) fn new(alloc: Global, capacity: Option<usize>) -> Result<Self, AllocError>
         ensures { IfOk result (λ channel. channel.capacity ≡ capacity) }
     {
         let messages = Messages::new(alloc, capacity)?;
+        let (lock, hand) = Lock::new(alloc, messages)?;
+        drop(hand);
         Ok(Channel {
-            lock: Lock::of(messages),
+            lock,
             capacity,
             senders: Handles::one(),
             receivers: Handles::one(),
@@ -91,37 +99,66 @@ impl<T> Channel<T> {
 
     /// Puts a message behind all others, if the channel is open and not full.
     #[inline(always)]
-    pub(crate) fn try_send<R: Wait>(&self, rt: &R, message: T) -> Result<(), SendError<T>>
+    pub(crate) fn try_send<R: Wait>(
+        &self,
+        rt: &R,
+        hand: &mut ChannelHand<T>,
+        message: T,
+    ) -> Result<(), SendError<T>>
+        requires { hand.old.seat.table_id ≡ self.now.lock.table }
+        ensures hand { hand.new.seat.table_id ≡ hand.old.seat.table_id }
+        ensures call { Extends calls is_new rests_on_none hand.old.seat.me.0 (call.Send message (answer_of result)) hand.new.seat.me.0 }
         ensures returned { IfErr result (λ error. error.message ≡ message) }
         ensures reason { IfErr result (λ error. IsUnsentAtOnce error.reason) }
     {
-        step!(self.lock, rt, messages, waking => messages.push(message, &mut waking))
+        let mut waking = Waking::new();
+        let answer = perform!(self.lock, rt, hand, Push { message }, &mut waking);
+        waking.finish_seldom();
+        answer
     }
 
     /// Puts a message behind all others, if the channel is open, and takes the first out if it is full.
-    pub(crate) fn force_send<R: Wait>(&self, rt: &R, message: T) -> Result<Option<T>, SendError<T>>
+    pub(crate) fn force_send<R: Wait>(
+        &self,
+        rt: &R,
+        hand: &mut ChannelHand<T>,
+        message: T,
+    ) -> Result<Option<T>, SendError<T>>
+        requires { hand.old.seat.table_id ≡ self.now.lock.table }
+        ensures hand { hand.new.seat.table_id ≡ hand.old.seat.table_id }
+        ensures call { Extends calls is_new rests_on_none hand.old.seat.me.0 (call.ForceSend message (answer_of result)) hand.new.seat.me.0 }
         ensures returned { IfErr result (λ error. error.message ≡ message) }
         ensures reason { IfErr result (λ error. IsUnsent error.reason) }
     {
-        step!(self.lock, rt, messages, waking => messages.push_forced(message, &mut waking))
+        let mut waking = Waking::new();
+        let answer = perform!(self.lock, rt, hand, PushForced { message }, &mut waking);
+        waking.finish_seldom();
+        answer
     }
 
     /// Closes the channel and wakes all that wait, or returns `false` if it is closed already.
-    pub(crate) fn close<R: Wait>(&self, rt: &R) -> bool {
-        step!(self.lock, rt, messages, waking => messages.close(&mut waking))
+    pub(crate) fn close<R: Wait>(&self, rt: &R, hand: &mut ChannelHand<T>) -> bool
+        requires { hand.old.seat.table_id ≡ self.now.lock.table }
+        ensures hand { hand.new.seat.table_id ≡ hand.old.seat.table_id }
+        ensures call { Extends calls is_new rests_on_none hand.old.seat.me.0 (call.Close result) hand.new.seat.me.0 }
+    {
+        self.lock.call(rt, hand, Close)
     }
 
     pub(crate) fn is_closed<R: Wait>(&self, rt: &R) -> bool {
-        self.lock.state(rt).is_closed()
+        let mut hand = self.lock.hand();
+        self.lock.perform(rt, &mut hand, IsClosed, &mut ())
     }
 
     pub(crate) fn is_full<R: Wait>(&self, rt: &R) -> bool {
-        self.lock.state(rt).is_full()
+        let mut hand = self.lock.hand();
+        self.lock.perform(rt, &mut hand, IsFull, &mut ())
     }
 
     /// How many messages wait.
     pub(crate) fn len<R: Wait>(&self, rt: &R) -> usize {
-        self.lock.state(rt).len()
+        let mut hand = self.lock.hand();
+        self.lock.perform(rt, &mut hand, Len, &mut ())
     }
 }
 

@@ -4,9 +4,11 @@
 //! [`Sender`] and a [`Receiver`], which are shared by clones.
 #![tactic(auto)]
 
+mod call;
 mod channel;
 mod error;
 mod iter;
+mod laws;
 mod messages;
 mod receiver;
 mod receiving;
@@ -14,10 +16,13 @@ mod recv;
 mod send;
 mod sender;
 mod sending;
+mod steps;
 
+pub use call::{ChannelCall, ChannelHand};
 pub use channel::ChannelError;
 pub use error::{RecvError, RecvTimeoutError, SendError, SendReason, TryRecvError};
 pub use iter::{Iter, TryIter};
+pub use laws::sent_is_received_in_order;
 pub use messages::{Messages, received_in_order};
 pub use receiver::{Receiver, WeakReceiver};
 pub use recv::Recv;

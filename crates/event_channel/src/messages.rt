@@ -16,6 +16,7 @@ use event_queue::{List, WakeSink};
 use std::alloc::{AllocError, AllocFailed, Global};
 use std::collections::VecDeque;
 use std::marker::Model;
+pub(crate) use waits::{key_after, put_back};
 
 /// The messages, first the one that is received next; how many there may be at most; whether the channel is closed; and the
 /// queues of those that wait.

@@ -1,8 +1,13 @@
 //! The side that receives.
 ghost use Rattle.std.specs.Prelude.{◌≡◌, ◌<◌, ◌≤◌, Ok, Some, IfOk, IfSome, IsSome, OnErr};
+ghost use Rattle.event_channel.specs.Calls.{calls, is_new, rests_on_none};
+ghost use Rattle.event_channel.specs.Hands.{ReceivesBlocking, ReceivesWaiting, Says};
 ghost use Rattle.event_channel.specs.Many.{Appends, Collects};
 ghost use Rattle.event_channel.specs.Waits.{Gets};
+ghost use Rattle.event_channel.specs.declared.call.ChannelCall.TheVariants as call;
+ghost use Rattle.event_history.specs.History.{Extends, Looks, both_views, newcomer};
 
+use crate::call::{ChannelHand, RestingHand};
 use crate::channel::{Link, wait_error};
 use crate::error::{RecvError, RecvTimeoutError, TryRecvError};
 use crate::receiving::{Receiving, ReceivingMany};
@@ -23,25 +28,29 @@ use std::{fmt, mem};
 ///
 /// Each message is received once, and in the order in which they were sent. Each call may wait for the lock of the channel,
 /// as those of a [`Sender`](crate::Sender) do. A receiver is a stream of the messages too, which ends when the channel is
-/// closed and empty. A contract sees the number of the channel and its capacity.
+/// closed and empty. A contract sees the lock of the channel and its capacity.
 pub struct Receiver<T: Drop, R: Wait + Clock + Clone> {
     link: Link<T, R>,
-    // Where it waits as a stream.
+    // Where it waits as a stream, and the hand whose calls it makes then.
     stream: Receiving,
+    hand: RestingHand<T>,
 }
 
 impl<T: Drop, R: Wait + Clock + Clone> Model for Receiver<T, R> {
     ghost use Rattle.event_channel.specs.Handle.{Handle};
+    ghost use Rattle.event_channel.specs.Hands.{IsOneHand};
 
     ghost Value = { Handle };
 
     ghost view = { λ receiver. receiver.link };
+
+    ghost invariant = { λ receiver. IsOneHand receiver.link.channel.table receiver.hand.rest.badge.table_id receiver.hand.rest.badge.views };
 }
 
 // What a wait without a limit received.
 fn received<T>(waited: Result<Option<Option<T>>, Refused<ListenError>>) -> Result<T, RecvError>
     requires { IfOk waited IsSome }
-    ensures { IfOk result (λ message. waited ≡ Ok (Some (Some message))) }
+    ensures { Says waited result }
 {
     match waited {
         Ok(Some(Some(message))) => Ok(message),
@@ -67,9 +76,11 @@ impl<T: Drop, R: Wait + Clock + Clone> Receiver<T, R> {
     pub(crate) fn new(link: Link<T, R>) -> Self
         ensures { result ≡ link }
     {
+        let hand = link.channel.lock.hand().rest();
         Receiver {
             link,
             stream: Receiving::stream(),
+            hand,
         }
     }
 
@@ -77,14 +88,55 @@ impl<T: Drop, R: Wait + Clock + Clone> Receiver<T, R> {
         &self.link.rt
     }
 
+    /// A hand of this channel, which made no call yet, and has seen its history so far. It has no bytes, and the call is one
+    /// load. It does not wait.
+    #[inline(always)]
+    pub fn hand(&self) -> ChannelHand<T>
+        ensures { (result.seat.table_id ≡ self.now.channel.table) × (result.seat.me.0 ≡ newcomer result.seat.me.0.seen) }
+    {
+        self.link.channel.lock.hand()
+    }
+
+    /// A new hand, which has seen as much of the history of this channel as that one. It is one load.
+    pub fn tell(&self, hand: &mut ChannelHand<T>) -> ChannelHand<T>
+        requires { hand.old.seat.table_id ≡ self.now.channel.table }
+        ensures hand { (hand.new.seat.table_id ≡ hand.old.seat.table_id) × (hand.new.seat.me.0 ≡ hand.old.seat.me.0) }
+        ensures told { (result.seat.table_id ≡ hand.old.seat.table_id) × (result.seat.me.0 ≡ newcomer hand.old.seat.me.0.seen) }
+    {
+        self.link.channel.lock.tell(hand)
+    }
+
+    /// Has a hand learn what another one saw and did. From here on it speaks of one history that has the calls of both. It
+    /// is two loads.
+    pub fn absorb(&self, hand: &mut ChannelHand<T>, other: ChannelHand<T>)
+        requires here { hand.old.seat.table_id ≡ self.now.channel.table }
+        requires there { other.seat.table_id ≡ self.now.channel.table }
+        ensures hand { hand.new.seat.table_id ≡ hand.old.seat.table_id }
+        ensures looks { Looks calls is_new rests_on_none (both_views hand.old.seat.me.0 other.seat.me.0) hand.new.seat.me.0 }
+    {
+        self.link.channel.lock.absorb(hand, other);
+    }
+
     /// Receives the first message, if one waits. The call does not allocate.
     #[inline(always)]
     pub fn try_recv(&self) -> Result<T, TryRecvError> {
+        let mut hand = self.hand();
+        self.try_recv_as(&mut hand)
+    }
+
+    /// [`try_recv`](Receiver::try_recv) as a call of this hand: the last of the one history, which begins with all that the
+    /// hand had seen, and has of this hand just its own calls.
+    #[inline(always)]
+    pub fn try_recv_as(&self, hand: &mut ChannelHand<T>) -> Result<T, TryRecvError>
+        requires { hand.old.seat.table_id ≡ self.now.channel.table }
+        ensures hand { hand.new.seat.table_id ≡ hand.old.seat.table_id }
+        ensures call { Extends calls is_new rests_on_none hand.old.seat.me.0 (call.Receive result) hand.new.seat.me.0 }
+    {
         match self
             .link
             .channel
             .lock
-            .attempt(&self.link.rt, &mut Receiving::one())
+            .attempt(&self.link.rt, hand, &mut Receiving::one())
         {
             Some(Some(message)) => Ok(message),
             Some(None) => Err(TryRecvError::Closed),
@@ -105,7 +157,20 @@ impl<T: Drop, R: Wait + Clock + Clone> Receiver<T, R> {
     /// The call allocates where it has to wait: a place in the queue, and what the thread parks on.
     #[inline(always)]
     pub fn recv_blocking(&self) -> Result<T, RecvError> {
-        received(self.wait(Limit::Never))
+        let mut hand = self.hand();
+        self.recv_blocking_as(&mut hand)
+    }
+
+    /// [`recv_blocking`](Receiver::recv_blocking) as calls of this hand: attempts that found the channel empty, and then one
+    /// that received the message or the end. The last of them is the last of the one history, which begins with all that the
+    /// hand had seen, and has of this hand just its own calls.
+    #[inline(always)]
+    pub fn recv_blocking_as(&self, hand: &mut ChannelHand<T>) -> Result<T, RecvError>
+        requires { hand.old.seat.table_id ≡ self.now.channel.table }
+        ensures hand { hand.new.seat.table_id ≡ hand.old.seat.table_id }
+        ensures calls { ReceivesBlocking hand.old.seat.me.0 result hand.new.seat.me.0 }
+    {
+        received(self.wait(hand, Limit::Never))
     }
 
     /// Receives a message once there is one, and blocks the calling thread until then, or until so much time has passed.
@@ -113,7 +178,8 @@ impl<T: Drop, R: Wait + Clock + Clone> Receiver<T, R> {
     ///
     /// The call allocates where it has to wait.
     pub fn recv_timeout(&self, timeout: Duration) -> Result<T, RecvTimeoutError> {
-        received_in_time(self.wait(Limit::after(&self.link.rt, timeout)))
+        let mut hand = self.hand();
+        received_in_time(self.wait(&mut hand, Limit::after(&self.link.rt, timeout)))
     }
 
     /// Receives a message once there is one, and blocks the calling thread until then, or until this moment. With one that
@@ -121,7 +187,8 @@ impl<T: Drop, R: Wait + Clock + Clone> Receiver<T, R> {
     ///
     /// The call allocates where it has to wait.
     pub fn recv_deadline(&self, deadline: Instant) -> Result<T, RecvTimeoutError> {
-        received_in_time(self.wait(Limit::At(deadline)))
+        let mut hand = self.hand();
+        received_in_time(self.wait(&mut hand, Limit::At(deadline)))
     }
 
     /// Receives messages once there is one, `limit` at most, puts them behind what `into` has, and returns how many they
@@ -164,30 +231,48 @@ impl<T: Drop, R: Wait + Clock + Clone> Receiver<T, R> {
         many: &mut ReceivingMany<T>,
     ) -> Result<Option<Option<usize>>, Refused<ListenError>>
         ensures never { IfOk result IsSome }
-        ensures gets { Gets Collects many.old result many.new }
+        ensures gets { Gets Collects many.old.asked result many.new.asked }
     {
-        self.link
-            .channel
-            .lock
-            .obtain(&self.link.rt, self.link.alloc, many, Limit::Never)
+        let mut hand = self.link.channel.lock.hand();
+        self.link.channel.lock.obtain(
+            &self.link.rt,
+            self.link.alloc,
+            &mut hand,
+            many,
+            Limit::Never,
+        )
     }
 
     #[inline(always)]
-    fn wait(&self, limit: Limit) -> Result<Option<Option<T>>, Refused<ListenError>>
+    fn wait(
+        &self,
+        hand: &mut ChannelHand<T>,
+        limit: Limit,
+    ) -> Result<Option<Option<T>>, Refused<ListenError>>
+        requires { hand.old.seat.table_id ≡ self.now.channel.table }
+        ensures hand { hand.new.seat.table_id ≡ hand.old.seat.table_id }
         ensures never { limit ≡ Limit.Never → IfOk result IsSome }
+        ensures calls { limit ≡ Limit.Never → ReceivesWaiting hand.old.seat.me.0 result hand.new.seat.me.0 }
     {
         let mut receiving = Receiving::one();
-        self.link
-            .channel
-            .lock
-            .obtain(&self.link.rt, self.link.alloc, &mut receiving, limit)
+        self.link.channel.lock.obtain(&self.link.rt, self.link.alloc, hand, &mut receiving, limit)
     }
 
     /// Closes the channel, and wakes all that wait, under its lock but for the last. Returns `false` if it is closed already.
     ///
     /// No message is sent any more. Those that wait can still be received.
     pub fn close(&self) -> bool {
-        self.link.channel.close(&self.link.rt)
+        let mut hand = self.hand();
+        self.close_as(&mut hand)
+    }
+
+    /// [`close`](Receiver::close) as a call of this hand.
+    pub fn close_as(&self, hand: &mut ChannelHand<T>) -> bool
+        requires { hand.old.seat.table_id ≡ self.now.channel.table }
+        ensures hand { hand.new.seat.table_id ≡ hand.old.seat.table_id }
+        ensures call { Extends calls is_new rests_on_none hand.old.seat.me.0 (call.Close result) hand.new.seat.me.0 }
+    {
+        self.link.channel.close(&self.link.rt, hand)
     }
 
     /// Whether the channel is closed.
@@ -250,11 +335,13 @@ impl<T: Drop, R: Wait + Clock + Clone> Clone for Receiver<T, R> {
 /// The last receiver closes the channel.
 impl<T: Drop, R: Wait + Clock + Clone> Drop for Receiver<T, R> {
     fn drop(self) {
-        let Receiver { link, stream } = self;
+        let Receiver { link, stream, hand } = self;
         let mut stream = stream;
-        link.channel.lock.give_up(&link.rt, &mut stream);
+        let mut resting = hand;
+        let mut hand = resting.take();
+        link.channel.lock.give_up(&link.rt, &mut hand, &mut stream);
         if link.channel.receivers.remove() {
-            link.channel.close(&link.rt);
+            link.channel.close(&link.rt, &mut hand);
         }
     }
 }
@@ -268,15 +355,17 @@ impl<T: Drop, R: Wait + Clock + Clone> Stream for Receiver<T, R> {
 
     ghost use Rattle.std.specs.Prelude.{◌≡◌};
 
-    ghost needs = { λ receiver s. s ≡ receiver.channel };
+    ghost needs = { λ receiver s. s ≡ receiver.channel.source };
 
     fn poll_next(&mut self, cx: &mut Context<'_>) -> Poll<Option<Result<T, LockError>>> {
-        match self
+        let mut hand = self.hand.take();
+        let polled = self
             .link
             .channel
             .lock
-            .poll_in(&self.link.rt, &mut self.stream, cx)
-        {
+            .poll_in(&self.link.rt, &mut hand, &mut self.stream, cx);
+        self.hand.put(hand);
+        match polled {
             Poll::Ready(Ok(Some(message))) => Poll::Ready(Some(Ok(message))),
             Poll::Ready(Ok(None)) => Poll::Ready(None),
             Poll::Ready(Err(error)) => Poll::Ready(Some(Err(LockError::Listen(error)))),

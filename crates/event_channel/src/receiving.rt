@@ -1,13 +1,19 @@
 //! Receives that wait for a message.
-ghost use Rattle.std.specs.Prelude.{◌≡◌, vec_len};
+ghost use Rattle.std.specs.Prelude.{◌≡◌, true, false};
+ghost use Rattle.event_channel.specs.Calls.{LeavesReceivers, calls};
+ghost use Rattle.event_channel.specs.Requests.{ReceivesOrWaits};
+ghost use Rattle.event_channel.specs.declared.call.ChannelCall.{ChannelCall};
+ghost use Rattle.event_wait.specs.Attempted.{Attempts};
 
 use crate::error::TryRecvError;
-use crate::messages::Messages;
+use crate::messages::{Messages, key_after};
+use event_history::{Attempt, Request};
 use event_queue::{Key, ListenError, TaskExchange, WakeSink};
-use event_wait::{Attempt, Attempted, Request, Task};
+use event_wait::{Attempted, Task};
 use std::marker::Model;
 
-/// The place of one that receives a message, or all as a stream, in its queue.
+/// The place of one that receives a message, or all as a stream, in its queue. A contract sees whether it is a stream, and
+/// that place.
 #[derive(Drop)]
 pub(crate) struct Receiving {
     is_stream: bool,
@@ -15,25 +21,65 @@ pub(crate) struct Receiving {
 }
 
 impl Model for Receiving {
-    ghost Value = { Unit {0} };
+    ghost use Rattle.std.specs.Prelude.{Bool};
+    ghost use Rattle.event_channel.specs.Asking.{Asking};
 
-    ghost view = { λ _. tt };
+    ghost Value = { Asking Bool };
+
+    ghost view = { λ receiving. record { asked = receiving.is_stream; key = receiving.key } };
 }
 
 impl Receiving {
-    pub(crate) fn one() -> Self {
+    pub(crate) fn one() -> Self
+        ensures { result.asked ≡ false }
+    {
         Receiving {
             is_stream: false,
             key: None,
         }
     }
 
-    pub(crate) fn stream() -> Self {
+    pub(crate) fn stream() -> Self
+        ensures { result.asked ≡ true }
+    {
         Receiving {
             is_stream: true,
             key: None,
         }
     }
+}
+
+// Receives, or waits in its queue.
+fn receive_or_wait<T, W: Drop, C, X: TaskExchange<W, C>, K: WakeSink<W>>(
+    is_stream: bool,
+    key: Option<Key>,
+    state: &mut Messages<T, W>,
+    exchange: &X,
+    on: &mut C,
+    sink: &mut K,
+) -> Attempted<Option<T>, ListenError>
+    ensures receives { (call : ChannelCall T) × ReceivesOrWaits is_stream result call × calls state.old call state.new }
+    ensures exchanges { Attempts (X.exchanged exchange.now) on.old result on.new }
+{
+    if is_stream {
+        return state.next_or_wait(key, exchange, on, sink);
+    }
+    state.pop_or_wait(key, exchange, on, sink)
+}
+
+// Leaves its queue.
+fn leave<T, W: Drop, K: WakeSink<W>>(
+    is_stream: bool,
+    key: Option<Key>,
+    state: &mut Messages<T, W>,
+    sink: &mut K,
+)
+    ensures { LeavesReceivers is_stream key state.old state.new }
+{
+    if is_stream {
+        return state.cancel_stream(key, sink);
+    }
+    state.cancel_receiver(key, sink);
 }
 
 impl<T> Request<Messages<T, Task>> for Receiving {
@@ -42,11 +88,18 @@ impl<T> Request<Messages<T, Task>> for Receiving {
 
     type Refusal = ListenError;
 
-    ghost use Rattle.event_wait.specs.Attempted.{LeavesBy};
+    ghost use Rattle.event_channel.specs.Asking.{AsksOn};
+    ghost use Rattle.event_channel.specs.Requests.{NotRefused, ReceivesOrLeaves, ReceivesOrWaits};
 
-    ghost succeeds = { λ _ _ _. Unit {0} };
+    ghost succeeds = { λ before _ after. AsksOn before after };
 
-    ghost leaves = { LeavesBy (λ _ _ _. Unit {0}) };
+    ghost waits = { AsksOn };
+
+    ghost leaves = { λ before _ after. AsksOn before after };
+
+    ghost attempting = { λ receiving. ReceivesOrWaits receiving.asked };
+
+    ghost leaving = { λ receiving. NotRefused ReceivesOrLeaves receiving.asked };
 
     fn attempt_or_wait<C, X: TaskExchange<Task, C>, K: WakeSink<Task>>(
         &mut self,
@@ -55,13 +108,8 @@ impl<T> Request<Messages<T, Task>> for Receiving {
         on: &mut C,
         sink: &mut K,
     ) -> Attempted<Option<T>, ListenError> {
-        let key = self.key.take();
-        let attempted = if self.is_stream {
-            state.next_or_wait(key, exchange, on, sink)
-        } else {
-            state.pop_or_wait(key, exchange, on, sink)
-        };
-        self.key = attempted.key();
+        let attempted = receive_or_wait(self.is_stream, self.key, state, exchange, on, sink);
+        self.key = key_after(self.key, &attempted);
         attempted
     }
 
@@ -71,12 +119,21 @@ impl<T> Request<Messages<T, Task>> for Receiving {
         sink: &mut K,
     ) -> Result<Option<Option<T>>, ListenError> {
         let received = self.attempt(state, sink);
-        self.give_up(state, sink);
+        leave(self.is_stream, self.key.take(), state, sink);
         Ok(received)
     }
 }
 
 impl<T> Attempt<Messages<T, Task>> for Receiving {
+    ghost use Rattle.event_channel.specs.Asking.{HasPlace};
+    ghost use Rattle.event_channel.specs.Requests.{GivesUpReceiving, TriesToReceive};
+
+    ghost has_place = { HasPlace };
+
+    ghost trying = { λ receiving. TriesToReceive receiving.asked };
+
+    ghost giving_up = { λ receiving. GivesUpReceiving receiving.asked };
+
     fn is_waiting(&self) -> bool {
         self.key.is_some()
     }
@@ -95,50 +152,46 @@ impl<T> Attempt<Messages<T, Task>> for Receiving {
     }
 
     fn give_up<K: WakeSink<Task>>(&mut self, state: &mut Messages<T, Task>, sink: &mut K) {
-        let key = self.key.take();
-        if self.is_stream {
-            state.cancel_stream(key, sink);
-        } else {
-            state.cancel_receiver(key, sink);
-        }
+        leave(self.is_stream, self.key, state, sink);
     }
 }
 
-/// The place of one that receives many messages at once, and where they go. A contract sees where, and how many beside the
-/// first it takes at most.
+/// The place of one that receives many messages at once, and where they go. A contract sees where, how many beside the first
+/// it takes at most, and that place.
 #[derive(Drop)]
 pub(crate) struct ReceivingMany<T> {
-    one: Receiving,
+    key: Option<Key>,
     into: Vec<T>,
     more: usize,
 }
 
 impl<T> Model for ReceivingMany<T> {
+    ghost use Rattle.event_channel.specs.Asking.{Asking};
     ghost use Rattle.event_channel.specs.Many.{Many};
 
-    ghost Value = { Many T };
+    ghost Value = { Asking (Many T) };
 
-    ghost view = { λ many. record { into = many.into.items; more = many.more } };
+    ghost view = { λ many. record { asked = record { into = many.into.items; more = many.more }; key = many.key } };
 }
 
 impl<T> ReceivingMany<T> {
     /// Of a vector that has room for one message at least.
     pub(crate) fn new(into: Vec<T>, more: usize) -> Self
-        ensures into { result.into ≡ into.items }
-        ensures more { result.more ≡ more }
+        ensures into { result.asked.into ≡ into.items }
+        ensures more { result.asked.more ≡ more }
     {
         ReceivingMany {
-            one: Receiving::one(),
+            key: None,
             into,
             more,
         }
     }
 
     pub(crate) fn into_messages(self) -> Vec<T>
-        ensures { result.items ≡ self.into }
+        ensures { result.items ≡ self.asked.into }
     {
         let ReceivingMany {
-            one: _,
+            key: _,
             into,
             more: _,
         } = self;
@@ -153,11 +206,19 @@ impl<T> Request<Messages<T, Task>> for ReceivingMany<T> {
     type Refusal = ListenError;
 
     ghost use Rattle.event_wait.specs.Attempted.{LeavesBy};
+    ghost use Rattle.event_channel.specs.Asking.{AsksOn};
     ghost use Rattle.event_channel.specs.Many.{Collects};
+    ghost use Rattle.event_channel.specs.Requests.{NotRefused, ReceivesManyOrLeaves, ReceivesManyOrWaits};
 
-    ghost succeeds = { Collects };
+    ghost succeeds = { λ before output after. Collects before.asked output after.asked };
 
-    ghost leaves = { LeavesBy Collects };
+    ghost waits = { AsksOn };
+
+    ghost leaves = { λ before answer after. LeavesBy Collects before.asked answer after.asked };
+
+    ghost attempting = { λ many. ReceivesManyOrWaits many.asked };
+
+    ghost leaving = { λ many. NotRefused ReceivesManyOrLeaves many.asked };
 
     // It leaves the queue once it has all that it takes, so nobody is notified of that. Room was reserved before: without any
     // it is refused.
@@ -168,22 +229,34 @@ impl<T> Request<Messages<T, Task>> for ReceivingMany<T> {
         on: &mut C,
         sink: &mut K,
     ) -> Attempted<Option<usize>, ListenError> {
+        let key = self.key;
         if let Some(output) = self.attempt(state, sink) {
-            self.give_up(state, sink);
+            state.cancel_receiver(key, sink);
+            self.key = None;
             return Attempted::Done(output);
         }
         if self.into.len() == self.into.capacity() {
-            self.give_up(state, sink);
+            state.cancel_receiver(key, sink);
             return Attempted::Refused(ListenError::Memory);
         }
-        match self.one.attempt_or_wait(state, exchange, on, sink) {
+        match receive_or_wait(false, key, state, exchange, on, sink) {
             Attempted::Done(Some(message)) => {
+                self.key = None;
                 self.into.push_reserved(message);
                 Attempted::Done(Some(1))
             }
-            Attempted::Done(None) => Attempted::Done(None),
-            Attempted::Waits(key) => Attempted::Waits(key),
-            Attempted::Absent => Attempted::Absent,
+            Attempted::Done(None) => {
+                self.key = None;
+                Attempted::Done(None)
+            }
+            Attempted::Waits(key) => {
+                self.key = Some(key);
+                Attempted::Waits(key)
+            }
+            Attempted::Absent => {
+                self.key = None;
+                Attempted::Absent
+            }
             Attempted::Refused(error) => Attempted::Refused(error),
         }
     }
@@ -194,14 +267,23 @@ impl<T> Request<Messages<T, Task>> for ReceivingMany<T> {
         sink: &mut K,
     ) -> Result<Option<Option<usize>>, ListenError> {
         let received = self.attempt(state, sink);
-        self.give_up(state, sink);
+        state.cancel_receiver(self.key.take(), sink);
         Ok(received)
     }
 }
 
 impl<T> Attempt<Messages<T, Task>> for ReceivingMany<T> {
+    ghost use Rattle.event_channel.specs.Asking.{HasPlace};
+    ghost use Rattle.event_channel.specs.Requests.{GivesUpReceivingMany, TriesToReceiveMany};
+
+    ghost has_place = { HasPlace };
+
+    ghost trying = { λ many. TriesToReceiveMany many.asked };
+
+    ghost giving_up = { λ many. GivesUpReceivingMany many.asked };
+
     fn is_waiting(&self) -> bool {
-        self.one.key.is_some()
+        self.key.is_some()
     }
 
     fn attempt<K: WakeSink<Task>>(
@@ -212,16 +294,17 @@ impl<T> Attempt<Messages<T, Task>> for ReceivingMany<T> {
         if self.into.len() == self.into.capacity() {
             return None;
         }
-        match self.one.attempt(state, sink)? {
-            Some(message) => {
+        match Messages::pop(state, sink) {
+            Ok(message) => {
                 self.into.push_reserved(message);
                 Some(Some(1 + state.pop_into(&mut self.into, self.more, sink)))
             }
-            None => Some(None),
+            Err(TryRecvError::Empty) => None,
+            Err(TryRecvError::Closed) => Some(None),
         }
     }
 
     fn give_up<K: WakeSink<Task>>(&mut self, state: &mut Messages<T, Task>, sink: &mut K) {
-        self.one.give_up(state, sink);
+        state.cancel_receiver(self.key, sink);
     }
 }

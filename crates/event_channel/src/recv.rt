@@ -1,6 +1,7 @@
 //! The future of a receive.
 ghost use Rattle.std.specs.Prelude.{◌≡◌};
 
+use crate::call::RestingHand;
 use crate::channel::Channel;
 use crate::error::RecvError;
 use crate::receiving::Receiving;
@@ -22,14 +23,19 @@ pub struct Recv<'a, T: Drop, R: Wait + Clock + Clone> {
     channel: &'a Channel<T>,
     rt: &'a R,
     receiving: Receiving,
+    // All its calls are of one hand.
+    hand: RestingHand<T>,
 }
 
 impl<'a, T: Drop, R: Wait + Clock + Clone> Model for Recv<'a, T, R> {
-    ghost use Rattle.std.specs.Prelude.{ℕ};
+    ghost use Rattle.event_channel.specs.Hands.{IsOneHand};
+    ghost use Rattle.event_history.specs.Lock.{LockId};
 
-    ghost Value = { ℕ };
+    ghost Value = { LockId };
 
     ghost view = { λ recv. recv.channel.now.lock };
+
+    ghost invariant = { λ recv. IsOneHand recv.channel.now.lock.table recv.hand.rest.badge.table_id recv.hand.rest.badge.views };
 }
 
 impl<'a, T: Drop, R: Wait + Clock + Clone> Recv<'a, T, R> {
@@ -40,6 +46,7 @@ impl<'a, T: Drop, R: Wait + Clock + Clone> Recv<'a, T, R> {
             channel,
             rt,
             receiving: Receiving::one(),
+            hand: channel.lock.hand().rest(),
         }
     }
 }
@@ -50,9 +57,12 @@ impl<'a, T: Drop, R: Wait + Clock + Clone> Drop for Recv<'a, T, R> {
             channel,
             rt,
             receiving,
+            hand,
         } = self;
         let mut receiving = receiving;
-        channel.lock.give_up(rt, &mut receiving);
+        let mut resting = hand;
+        let mut hand = resting.take();
+        channel.lock.give_up(rt, &mut hand, &mut receiving);
     }
 }
 
@@ -61,10 +71,16 @@ impl<'a, T: Drop, R: Wait + Clock + Clone> Future for Recv<'a, T, R> {
 
     ghost use Rattle.std.specs.Prelude.{◌≡◌};
 
-    ghost needs = { λ recv s. s ≡ recv };
+    ghost needs = { λ recv s. s ≡ recv.source };
 
     fn poll(&mut self, cx: &mut Context<'_>) -> Poll<Result<T, RecvError>> {
-        match self.channel.lock.poll_in(self.rt, &mut self.receiving, cx) {
+        let mut hand = self.hand.take();
+        let polled = self
+            .channel
+            .lock
+            .poll_in(self.rt, &mut hand, &mut self.receiving, cx);
+        self.hand.put(hand);
+        match polled {
             Poll::Ready(Ok(Some(message))) => Poll::Ready(Ok(message)),
             Poll::Ready(Ok(None)) => Poll::Ready(Err(RecvError::Closed)),
             Poll::Ready(Err(error)) => {

@@ -2,6 +2,7 @@
 ghost use Rattle.std.specs.Prelude.{◌≡◌, Some};
 ghost use Rattle.event_channel.specs.Handle.{Carries};
 
+use crate::call::RestingHand;
 use crate::channel::Channel;
 use crate::error::{SendError, SendReason};
 use crate::sending::Sending;
@@ -22,14 +23,19 @@ pub struct Send<'a, T: Drop, R: Wait + Clock + Clone> {
     channel: &'a Channel<T>,
     rt: &'a R,
     sending: Sending<T>,
+    // All its calls are of one hand.
+    hand: RestingHand<T>,
 }
 
 impl<'a, T: Drop, R: Wait + Clock + Clone> Model for Send<'a, T, R> {
     ghost use Rattle.event_channel.specs.Handle.{Pending};
+    ghost use Rattle.event_channel.specs.Hands.{IsOneHand};
 
     ghost Value = { Pending T };
 
-    ghost view = { λ send. record { message = send.sending; channel = send.channel.now.lock } };
+    ghost view = { λ send. record { message = send.sending.asked; channel = send.channel.now.lock } };
+
+    ghost invariant = { λ send. IsOneHand send.channel.now.lock.table send.hand.rest.badge.table_id send.hand.rest.badge.views };
 }
 
 impl<'a, T: Drop, R: Wait + Clock + Clone> Send<'a, T, R> {
@@ -41,6 +47,7 @@ impl<'a, T: Drop, R: Wait + Clock + Clone> Send<'a, T, R> {
             channel,
             rt,
             sending: Sending::new(message),
+            hand: channel.lock.hand().rest(),
         }
     }
 }
@@ -51,9 +58,12 @@ impl<'a, T: Drop, R: Wait + Clock + Clone> Drop for Send<'a, T, R> {
             channel,
             rt,
             sending,
+            hand,
         } = self;
         let mut sending = sending;
-        channel.lock.give_up(rt, &mut sending);
+        let mut resting = hand;
+        let mut hand = resting.take();
+        channel.lock.give_up(rt, &mut hand, &mut sending);
     }
 }
 
@@ -66,12 +76,18 @@ impl<'a, T: Drop, R: Wait + Clock + Clone> Future for Send<'a, T, R> {
 
     ghost can_poll = { λ send. (message : T) × Carries message send };
 
-    ghost needs = { λ send s. s ≡ send.channel };
+    ghost needs = { λ send s. s ≡ send.channel.source };
 
     ghost gives = { λ send output. IfErr output (λ error. Carries error.message send × IsUnsentByWaiting error.reason) };
 
     fn poll(&mut self, cx: &mut Context<'_>) -> Poll<Result<(), SendError<T>>> {
-        match self.channel.lock.poll_in(self.rt, &mut self.sending, cx) {
+        let mut hand = self.hand.take();
+        let polled = self
+            .channel
+            .lock
+            .poll_in(self.rt, &mut hand, &mut self.sending, cx);
+        self.hand.put(hand);
+        match polled {
             Poll::Ready(Ok(Ok(()))) => Poll::Ready(Ok(())),
             Poll::Ready(Ok(Err(reason))) => Poll::Ready(Err(self.sending.refuse(reason))),
             Poll::Ready(Err(error)) => {

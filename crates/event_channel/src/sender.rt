@@ -1,11 +1,16 @@
 //! The side that sends.
 ghost use Rattle.std.specs.Prelude.{◌≡◌, ◌≢◌, ◌↔◌, Some, None, Err, IfOk, IfErr, IfSome, IsSome};
+ghost use Rattle.event_channel.specs.Calls.{answer_of, calls, is_new, rests_on_none};
 ghost use Rattle.event_channel.specs.Errors.{IsUnsent, IsUnsentAtOnce, IsUnsentByWaiting, IsUnsentInTime};
 ghost use Rattle.event_channel.specs.Handle.{Carries};
+ghost use Rattle.event_channel.specs.Hands.{SendsBlocking, SendsWaiting};
 ghost use Rattle.event_channel.specs.Waits.{Empties, Gets};
+ghost use Rattle.event_channel.specs.declared.call.ChannelCall.TheVariants as call;
 ghost use Rattle.event_channel.specs.declared.channel.ChannelError.TheVariants.{ZeroCapacity};
+ghost use Rattle.event_history.specs.History.{Extends, Looks, both_views, newcomer};
 ghost use Rattle.event_wait.specs.declared.lock.limit.Limit.TheVariants.{Never};
 
+use crate::call::ChannelHand;
 use crate::channel::{Channel, ChannelError, Link, wait_error};
 use crate::error::{SendError, SendReason};
 use crate::receiver::Receiver;
@@ -24,7 +29,7 @@ use std::time::{Clock, Duration, Instant};
 ///
 /// A message that is sent waits behind those sent before. Each call may wait for the lock of the channel. It is held for a
 /// few instructions, and longer where a channel without a limit doubles its room (27 ms at two million messages), many
-/// messages are received at once, or a close wakes all that wait. A contract sees the number of the channel and its capacity.
+/// messages are received at once, or a close wakes all that wait. A contract sees the lock of the channel and its capacity.
 pub struct Sender<T: Drop, R: Wait + Clock + Clone> {
     link: Link<T, R>,
 }
@@ -102,6 +107,35 @@ impl<T: Drop, R: Wait + Clock + Clone> Sender<T, R> {
         Sender { link }
     }
 
+    /// A hand of this channel, which made no call yet, and has seen its history so far. It has no bytes, and the call is one
+    /// load. It does not wait.
+    #[inline(always)]
+    pub fn hand(&self) -> ChannelHand<T>
+        ensures { (result.seat.table_id ≡ self.now.channel.table) × (result.seat.me.0 ≡ newcomer result.seat.me.0.seen) }
+    {
+        self.link.channel.lock.hand()
+    }
+
+    /// A new hand, which has seen as much of the history of this channel as that one. It is one load.
+    pub fn tell(&self, hand: &mut ChannelHand<T>) -> ChannelHand<T>
+        requires { hand.old.seat.table_id ≡ self.now.channel.table }
+        ensures hand { (hand.new.seat.table_id ≡ hand.old.seat.table_id) × (hand.new.seat.me.0 ≡ hand.old.seat.me.0) }
+        ensures told { (result.seat.table_id ≡ hand.old.seat.table_id) × (result.seat.me.0 ≡ newcomer hand.old.seat.me.0.seen) }
+    {
+        self.link.channel.lock.tell(hand)
+    }
+
+    /// Has a hand learn what another one saw and did. From here on it speaks of one history that has the calls of both. It
+    /// is two loads.
+    pub fn absorb(&self, hand: &mut ChannelHand<T>, other: ChannelHand<T>)
+        requires here { hand.old.seat.table_id ≡ self.now.channel.table }
+        requires there { other.seat.table_id ≡ self.now.channel.table }
+        ensures hand { hand.new.seat.table_id ≡ hand.old.seat.table_id }
+        ensures looks { Looks calls is_new rests_on_none (both_views hand.old.seat.me.0 other.seat.me.0) hand.new.seat.me.0 }
+    {
+        self.link.channel.lock.absorb(hand, other);
+    }
+
     /// Sends a message if the channel is open and not full.
     ///
     /// An error hands the message back. The call allocates if the channel has no limit and no room.
@@ -110,7 +144,21 @@ impl<T: Drop, R: Wait + Clock + Clone> Sender<T, R> {
         ensures returned { IfErr result (λ error. error.message ≡ message) }
         ensures reason { IfErr result (λ error. IsUnsentAtOnce error.reason) }
     {
-        self.link.channel.try_send(&self.link.rt, message)
+        let mut hand = self.hand();
+        self.try_send_as(&mut hand, message)
+    }
+
+    /// [`try_send`](Sender::try_send) as a call of this hand: the last of the one history, which begins with all that the hand
+    /// had seen, and has of this hand just its own calls.
+    #[inline(always)]
+    pub fn try_send_as(&self, hand: &mut ChannelHand<T>, message: T) -> Result<(), SendError<T>>
+        requires { hand.old.seat.table_id ≡ self.now.channel.table }
+        ensures hand { hand.new.seat.table_id ≡ hand.old.seat.table_id }
+        ensures call { Extends calls is_new rests_on_none hand.old.seat.me.0 (call.Send message (answer_of result)) hand.new.seat.me.0 }
+        ensures returned { IfErr result (λ error. error.message ≡ message) }
+        ensures reason { IfErr result (λ error. IsUnsentAtOnce error.reason) }
+    {
+        self.link.channel.try_send(&self.link.rt, hand, message)
     }
 
     /// Sends a message if the channel is open. If it is full the first message of all goes out, and is returned.
@@ -120,7 +168,23 @@ impl<T: Drop, R: Wait + Clock + Clone> Sender<T, R> {
         ensures returned { IfErr result (λ error. error.message ≡ message) }
         ensures reason { IfErr result (λ error. IsUnsent error.reason) }
     {
-        self.link.channel.force_send(&self.link.rt, message)
+        let mut hand = self.hand();
+        self.force_send_as(&mut hand, message)
+    }
+
+    /// [`force_send`](Sender::force_send) as a call of this hand, as [`try_send_as`](Sender::try_send_as) is.
+    pub fn force_send_as(
+        &self,
+        hand: &mut ChannelHand<T>,
+        message: T,
+    ) -> Result<Option<T>, SendError<T>>
+        requires { hand.old.seat.table_id ≡ self.now.channel.table }
+        ensures hand { hand.new.seat.table_id ≡ hand.old.seat.table_id }
+        ensures call { Extends calls is_new rests_on_none hand.old.seat.me.0 (call.ForceSend message (answer_of result)) hand.new.seat.me.0 }
+        ensures returned { IfErr result (λ error. error.message ≡ message) }
+        ensures reason { IfErr result (λ error. IsUnsent error.reason) }
+    {
+        self.link.channel.force_send(&self.link.rt, hand, message)
     }
 
     /// Sends a message once there is room: to be awaited. Nothing is sent before it is polled.
@@ -142,7 +206,26 @@ impl<T: Drop, R: Wait + Clock + Clone> Sender<T, R> {
         ensures returned { IfErr result (λ error. error.message ≡ message) }
         ensures reason { IfErr result (λ error. IsUnsentByWaiting error.reason) }
     {
-        self.send_until(message, Limit::Never)
+        let mut hand = self.hand();
+        self.send_blocking_as(&mut hand, message)
+    }
+
+    /// [`send_blocking`](Sender::send_blocking) as calls of this hand: attempts that found the channel full, and then one that
+    /// sent the message or was refused. The last of them is the last of the one history, which begins with all that the hand
+    /// had seen, and has of this hand just its own calls.
+    #[inline(always)]
+    pub fn send_blocking_as(
+        &self,
+        hand: &mut ChannelHand<T>,
+        message: T,
+    ) -> Result<(), SendError<T>>
+        requires { hand.old.seat.table_id ≡ self.now.channel.table }
+        ensures hand { hand.new.seat.table_id ≡ hand.old.seat.table_id }
+        ensures calls { SendsBlocking message hand.old.seat.me.0 result hand.new.seat.me.0 }
+        ensures returned { IfErr result (λ error. error.message ≡ message) }
+        ensures reason { IfErr result (λ error. IsUnsentByWaiting error.reason) }
+    {
+        self.send_until(hand, message, Limit::Never)
     }
 
     /// Sends a message once there is room, and blocks the calling thread until then, or until so much time has passed. With
@@ -153,7 +236,8 @@ impl<T: Drop, R: Wait + Clock + Clone> Sender<T, R> {
         ensures returned { IfErr result (λ error. error.message ≡ message) }
         ensures reason { IfErr result (λ error. IsUnsentInTime error.reason) }
     {
-        self.send_until(message, Limit::after(&self.link.rt, timeout))
+        let mut hand = self.hand();
+        self.send_until(&mut hand, message, Limit::after(&self.link.rt, timeout))
     }
 
     /// Sends a message once there is room, and blocks the calling thread until then, or until this moment. With one that
@@ -164,17 +248,26 @@ impl<T: Drop, R: Wait + Clock + Clone> Sender<T, R> {
         ensures returned { IfErr result (λ error. error.message ≡ message) }
         ensures reason { IfErr result (λ error. IsUnsentInTime error.reason) }
     {
-        self.send_until(message, Limit::At(deadline))
+        let mut hand = self.hand();
+        self.send_until(&mut hand, message, Limit::At(deadline))
     }
 
     #[inline(always)]
-    fn send_until(&self, message: T, limit: Limit) -> Result<(), SendError<T>>
+    fn send_until(
+        &self,
+        hand: &mut ChannelHand<T>,
+        message: T,
+        limit: Limit,
+    ) -> Result<(), SendError<T>>
+        requires { hand.old.seat.table_id ≡ self.now.channel.table }
+        ensures hand { hand.new.seat.table_id ≡ hand.old.seat.table_id }
+        ensures calls { limit ≡ Never → SendsBlocking message hand.old.seat.me.0 result hand.new.seat.me.0 }
         ensures returned { IfErr result (λ error. error.message ≡ message) }
         ensures reason { IfErr result (λ error. IsUnsentInTime error.reason) }
         ensures never { limit ≡ Never → IfErr result (λ error. IsUnsentByWaiting error.reason) }
     {
         let mut sending = Sending::new(message);
-        match self.wait(&mut sending, limit) {
+        match self.wait(hand, &mut sending, limit) {
             Ok(Some(Ok(()))) => Ok(()),
             Ok(Some(Err(reason))) => Err(sending.refuse(reason)),
             Ok(None) => Err(sending.refuse(SendReason::TimedOut)),
@@ -185,23 +278,37 @@ impl<T: Drop, R: Wait + Clock + Clone> Sender<T, R> {
     #[inline(always)]
     fn wait(
         &self,
+        hand: &mut ChannelHand<T>,
         sending: &mut Sending<T>,
         limit: Limit,
     ) -> Result<Option<Result<(), SendReason>>, Refused<ListenError>>
+        requires { hand.old.seat.table_id ≡ self.now.channel.table }
+        ensures hand { hand.new.seat.table_id ≡ hand.old.seat.table_id }
+        ensures calls { (message : T) → sending.old.asked ≡ Some message → limit ≡ Never → SendsWaiting message hand.old.seat.me.0 result hand.new.seat.me.0 }
         ensures never { limit ≡ Never → IfOk result IsSome }
-        ensures gets { Gets Empties sending.old result sending.new }
+        ensures gets { Gets Empties sending.old.asked result sending.new.asked }
     {
         self.link
             .channel
             .lock
-            .obtain(&self.link.rt, self.link.alloc, sending, limit)
+            .obtain(&self.link.rt, self.link.alloc, hand, sending, limit)
     }
 
     /// Closes the channel, and wakes all that wait, under its lock but for the last. Returns `false` if it is closed already.
     ///
     /// No message is sent any more. Those that wait can still be received.
     pub fn close(&self) -> bool {
-        self.link.channel.close(&self.link.rt)
+        let mut hand = self.hand();
+        self.close_as(&mut hand)
+    }
+
+    /// [`close`](Sender::close) as a call of this hand.
+    pub fn close_as(&self, hand: &mut ChannelHand<T>) -> bool
+        requires { hand.old.seat.table_id ≡ self.now.channel.table }
+        ensures hand { hand.new.seat.table_id ≡ hand.old.seat.table_id }
+        ensures call { Extends calls is_new rests_on_none hand.old.seat.me.0 (call.Close result) hand.new.seat.me.0 }
+    {
+        self.link.channel.close(&self.link.rt, hand)
     }
 
     /// Whether the channel is closed.
@@ -266,7 +373,8 @@ impl<T: Drop, R: Wait + Clock + Clone> Drop for Sender<T, R> {
     fn drop(self) {
         let Sender { link } = self;
         if link.channel.senders.remove() {
-            link.channel.close(&link.rt);
+            let mut hand = link.channel.lock.hand();
+            link.channel.close(&link.rt, &mut hand);
         }
     }
 }

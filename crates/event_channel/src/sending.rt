@@ -2,13 +2,14 @@
 ghost use Rattle.std.specs.Prelude.{◌≡◌, Some, IsSome};
 
 use crate::error::{SendError, SendReason};
-use crate::messages::Messages;
+use crate::messages::{Messages, key_after, put_back};
+use event_history::{Attempt, Request};
 use event_queue::{Key, ListenError, TaskExchange, WakeSink};
-use event_wait::{Attempt, Attempted, Request, Task};
+use event_wait::{Attempted, Task};
 use std::marker::Model;
 
 /// A message that is to be sent, and the place of its sender in the queue. A contract sees the message until it is sent or
-/// returned.
+/// returned, and that place.
 #[derive(Drop)]
 pub(crate) struct Sending<T> {
     message: Option<T>,
@@ -17,15 +18,16 @@ pub(crate) struct Sending<T> {
 
 impl<T> Model for Sending<T> {
     ghost use Rattle.std.specs.Prelude.{Option};
+    ghost use Rattle.event_channel.specs.Asking.{Asking};
 
-    ghost Value = { Option T };
+    ghost Value = { Asking (Option T) };
 
-    ghost view = { λ sending. sending.message };
+    ghost view = { λ sending. record { asked = sending.message; key = sending.key } };
 }
 
 impl<T> Sending<T> {
     pub(crate) fn new(message: T) -> Self
-        ensures { result ≡ Some message }
+        ensures { result.asked ≡ Some message }
     {
         Sending {
             message: Some(message),
@@ -35,8 +37,8 @@ impl<T> Sending<T> {
 
     /// The message was not sent, for this reason.
     pub(crate) fn refuse(&mut self, reason: SendReason) -> SendError<T>
-        requires { IsSome self.old }
-        ensures message { self.old ≡ Some result.message }
+        requires { IsSome self.old.asked }
+        ensures message { self.old.asked ≡ Some result.message }
         ensures reason { result.reason ≡ reason }
     {
         match self.message.take() {
@@ -51,12 +53,20 @@ impl<T: Drop> Request<Messages<T, Task>> for Sending<T> {
 
     type Refusal = ListenError;
 
+    ghost use Rattle.event_channel.specs.Asking.{AsksOn};
     ghost use Rattle.event_wait.specs.Attempted.{LeavesBy};
+    ghost use Rattle.event_channel.specs.Requests.{NotRefused, SendsOrLeaves, SendsOrWaits};
     ghost use Rattle.event_channel.specs.Waits.{Empties};
 
-    ghost succeeds = { Empties };
+    ghost succeeds = { λ before sent after. Empties before.asked sent after.asked };
 
-    ghost leaves = { LeavesBy Empties };
+    ghost waits = { AsksOn };
+
+    ghost leaves = { λ before answer after. LeavesBy Empties before.asked answer after.asked };
+
+    ghost attempting = { λ sending. SendsOrWaits sending.asked };
+
+    ghost leaving = { λ sending. NotRefused SendsOrLeaves sending.asked };
 
     fn attempt_or_wait<C, X: TaskExchange<Task, C>, K: WakeSink<Task>>(
         &mut self,
@@ -65,8 +75,8 @@ impl<T: Drop> Request<Messages<T, Task>> for Sending<T> {
         on: &mut C,
         sink: &mut K,
     ) -> Attempted<Result<(), SendReason>, ListenError> {
-        let attempted = state.push_or_wait(&mut self.message, self.key.take(), exchange, on, sink);
-        self.key = attempted.key();
+        let attempted = state.push_or_wait(&mut self.message, self.key, exchange, on, sink);
+        self.key = key_after(self.key, &attempted);
         attempted
     }
 
@@ -76,12 +86,21 @@ impl<T: Drop> Request<Messages<T, Task>> for Sending<T> {
         sink: &mut K,
     ) -> Result<Option<Result<(), SendReason>>, ListenError> {
         let sent = self.attempt(state, sink);
-        self.give_up(state, sink);
+        state.cancel_sender(self.key.take(), sink);
         Ok(sent)
     }
 }
 
 impl<T: Drop> Attempt<Messages<T, Task>> for Sending<T> {
+    ghost use Rattle.event_channel.specs.Asking.{HasPlace};
+    ghost use Rattle.event_channel.specs.Requests.{GivesUpSending, TriesToSend};
+
+    ghost has_place = { HasPlace };
+
+    ghost trying = { λ sending. TriesToSend sending.asked };
+
+    ghost giving_up = { λ sending. GivesUpSending sending.asked };
+
     fn is_waiting(&self) -> bool {
         self.key.is_some()
     }
@@ -95,17 +114,18 @@ impl<T: Drop> Attempt<Messages<T, Task>> for Sending<T> {
         let message = self.message.take()?;
         match state.push(message, sink) {
             Ok(()) => Some(Ok(())),
-            Err(SendError { message, reason }) => {
-                self.message = Some(message);
-                match reason {
-                    SendReason::Full => None,
-                    reason => Some(Err(reason)),
+            Err(error) => {
+                let reason = error.reason;
+                put_back(&mut self.message, error.into_inner());
+                if reason == SendReason::Full {
+                    return None;
                 }
+                Some(Err(reason))
             }
         }
     }
 
     fn give_up<K: WakeSink<Task>>(&mut self, state: &mut Messages<T, Task>, sink: &mut K) {
-        state.cancel_sender(self.key.take(), sink);
+        state.cancel_sender(self.key, sink);
     }
 }

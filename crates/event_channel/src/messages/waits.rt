@@ -14,13 +14,24 @@ use event_queue::{Key, ListenError, TaskExchange, WakeSink};
 use event_wait::Attempted;
 
 // Puts back what was taken out.
-fn put_back<T>(slot: &mut Option<T>, value: T)
+pub(crate) fn put_back<T>(slot: &mut Option<T>, value: T)
     requires { slot.old ≡ None }
     ensures { slot.new ≡ Some value }
 {
     match slot.replace(value) {
         None => {}
         _ => unreachable!(),
+    }
+}
+
+// The key by which one waits after an attempt that it made by this one. One that can't wait keeps its own, though that is the
+// key of no listener any more: a later attempt takes it for a newcomer then, and giving up by it changes nothing.
+pub(crate) fn key_after<G>(key: Option<Key>, attempted: &Attempted<G, ListenError>) -> Option<Key>
+    ensures { OnRefused attempted.now (result ≡ key) }
+{
+    match attempted {
+        Attempted::Refused(_) => key,
+        _ => attempted.key(),
     }
 }
 
@@ -38,6 +49,7 @@ impl<T, W: Drop> Messages<T, W> {
         sink: &mut S,
     ) -> Attempted<Result<(), SendReason>, ListenError>
         ensures sends { Sends (X.exchanged exchange.now) message.old key self.old on.old result (record self.new { senders = self.old.senders }) self.new.senders on.new }
+        ensures absent { message.old ≡ None → result ≡ Attempted.Absent }
         ensures ends { OnDone result (λ sent. Empties message.old sent message.new) }
         ensures waits { OnUndone result (message.new ≡ message.old) }
         ensures refused { OnRefused result (message.new ≡ message.old) }

@@ -1,0 +1,110 @@
+-- In one history messages are received in the order in which they were sent.
+use Rattle.std.proofs.Common.{◌≡◌, Bool, List, [], ◌∷◌, ◌++◌, refl, sym, ap, subst, ◌∙◌, Option, Some, None, Ok, Err, true, false}
+use Rattle.std.proofs.lemmas.List.{append-nil, append_assoc}
+use Rattle.event_history.specs.History.{Extends, LeadsTo, Runs, entry}
+use Rattle.event_history.specs.declared.history.Entry.{Entry}
+use Rattle.event_history.specs.declared.history.View.{View}
+use Rattle.event_queue.specs.declared.key.Key.{Key}
+use Rattle.event_wait.specs.declared.request.Attempted.TheVariants.{Done, Waits, Absent, Refused}
+use Rattle.event_channel.specs.declared.call.ChannelCall.{ChannelCall}
+use Rattle.event_channel.specs.declared.call.ChannelCall.TheVariants as call
+use Rattle.event_channel.specs.Calls.{LeavesReceivers, calls, is_new, rests_on_none}
+use Rattle.event_channel.specs.Messages.{State}
+use Rattle.event_channel.specs.Sent.{ChannelLog, sent_by, received_by, forced_out_by, out_by, all_of}
+
+module _ {T W : Type 0} where
+  alike : (before after : State T W) → after ≡ before → after.messages ≡ before.messages
+  alike before after same = ap (λ (s : State T W). s.messages) same
+
+  stays : (before after : State T W) → after.messages ≡ before.messages → before.messages ++ [] ≡ after.messages
+  stays before after same = append-nil before.messages ∙ sym same
+
+  left : (is_stream : Bool) (key : Option Key) (before after : State T W) → LeavesReceivers is_stream key before after → after.messages ≡ before.messages
+  left false key before after h = ap (λ (s : State T W). s.messages) h.0
+  left true key before after h = ap (λ (s : State T W). s.messages) h.0
+
+  -- each call sends behind all others, and receives from the front
+  moves : (before after : State T W) (c : ChannelCall T) → calls before c after → before.messages ++ sent_by c ≡ out_by c ++ after.messages
+  moves before after (call.Send message (Ok sent)) h = sym (ap (λ (s : State T W). s.messages) h.rest)
+  moves before after (call.Send message (Err reason)) h = stays before after (alike before after h.1)
+  moves before after (call.ForceSend message (Ok None)) h = sym (ap (λ (s : State T W). s.messages) h.rest)
+  moves before after (call.ForceSend message (Ok (Some first))) h = h.moves
+  moves before after (call.ForceSend message (Err reason)) h = stays before after (alike before after h.1)
+  moves before after (call.SendOrWait message key (Done (Ok sent))) h = sym (ap (λ (s : State T W). s.messages) h.0.rest)
+  moves before after (call.SendOrWait message key (Done (Err reason))) h = stays before after (ap (λ (s : State T W). s.messages) h.1)
+  moves before after (call.SendOrWait message key (Waits waits)) h = stays before after (ap (λ (s : State T W). s.messages) h.2)
+  moves before after (call.SendOrWait message key Absent) h = stays before after (ap (λ (s : State T W). s.messages) h.1)
+  moves before after (call.SendOrWait message key (Refused error)) h = stays before after (ap (λ (s : State T W). s.messages) h.2)
+  moves before after (call.SendOrLeave message key (Ok sent)) h =
+      sym (ap (λ (s : State T W). s.messages) h.2.0 ∙ ap (λ (s : State T W). s.messages) h.1.rest)
+  moves before after (call.SendOrLeave message key (Err reason)) h =
+      stays before after (ap (λ (s : State T W). s.messages) h.2.0 ∙ ap (λ (s : State T W). s.messages) h.1.1)
+  moves before after (call.LeaveSenders key) h = stays before after (ap (λ (s : State T W). s.messages) h.0)
+  moves before after (call.Receive (Ok message)) h = append-nil before.messages ∙ h.first
+  moves before after (call.Receive (Err error)) h = stays before after (alike before after h.1)
+  moves before after (call.ReceiveOrWait false key (Done (Some message))) h = append-nil before.messages ∙ h.0.first
+  moves before after (call.ReceiveOrWait false key (Done None)) h = stays before after (ap (λ (s : State T W). s.messages) h.2)
+  moves before after (call.ReceiveOrWait false key (Waits waits)) h = stays before after (ap (λ (s : State T W). s.messages) h.2)
+  moves before after (call.ReceiveOrWait false key Absent) h = absurd h
+  moves before after (call.ReceiveOrWait false key (Refused error)) h = stays before after (ap (λ (s : State T W). s.messages) h.2)
+  moves before after (call.ReceiveOrWait true key (Done (Some message))) h = append-nil before.messages ∙ h.0.first
+  moves before after (call.ReceiveOrWait true key (Done None)) h = stays before after (ap (λ (s : State T W). s.messages) h.2)
+  moves before after (call.ReceiveOrWait true key (Waits waits)) h = stays before after (ap (λ (s : State T W). s.messages) h.2)
+  moves before after (call.ReceiveOrWait true key Absent) h = absurd h
+  moves before after (call.ReceiveOrWait true key (Refused error)) h = stays before after (ap (λ (s : State T W). s.messages) h.2)
+  moves before after (call.ReceiveOrLeave is_stream key (Ok message)) h =
+      append-nil before.messages ∙ h.1.first ∙ ap (λ ms. message ∷ ms) (sym (left is_stream key h.0 after h.2))
+  moves before after (call.ReceiveOrLeave is_stream key (Err error)) h =
+      stays before after (left is_stream key h.0 after h.2 ∙ ap (λ (s : State T W). s.messages) h.1.1)
+  moves before after (call.ReceiveMany [] key) h = absurd h.1
+  moves before after (call.ReceiveMany (message ∷ messages) key) h =
+      append-nil before.messages ∙ h.1.1.first ∙ ap (λ ms. message ∷ ms) (h.1.2.first ∙ ap (λ ms. messages ++ ms) (sym (left false key h.0 after h.2)))
+  moves before after (call.LeaveReceivers is_stream key) h = stays before after (left is_stream key before after h)
+  moves before after (call.Close true) h = stays before after (ap (λ (s : State T W). s.messages) h.rest)
+  moves before after (call.Close false) h = stays before after (alike before after h.1)
+  moves before after (call.IsClosed answer) h = stays before after (alike before after h.1)
+  moves before after (call.IsFull answer) h = stays before after (alike before after h.1)
+  moves before after (call.Len count) h = stays before after (alike before after h.1)
+
+  pub in_order_between : (log : ChannelLog T) (q r : State T W) → Runs calls q log r → q.messages ++ all_of sent_by log ≡ all_of out_by log ++ r.messages
+  in_order_between [] q r run = append-nil q.messages ∙ ap (λ (s : State T W). s.messages) run
+  in_order_between (e ∷ es) q r run =
+      sym (append_assoc q.messages (sent_by e.call) (all_of sent_by es))
+      ∙ ap (λ xs. xs ++ all_of sent_by es) (moves q run.0 e.call run.1)
+      ∙ append_assoc (out_by e.call) run.0.messages (all_of sent_by es)
+      ∙ ap (λ xs. out_by e.call ++ xs) (in_order_between es run.0 r run.2)
+      ∙ sym (append_assoc (out_by e.call) (all_of out_by es) r.messages)
+
+  pub in_order_from_start : (log : ChannelLog T) (q : State T W) → LeadsTo calls is_new log q → all_of sent_by log ≡ all_of out_by log ++ q.messages
+  in_order_from_start log q leads =
+      ap (λ (s : State T W). s.messages ++ all_of sent_by log) (sym leads.1.1) ∙ in_order_between log leads.0 q leads.2
+
+  -- one call more
+  run_more : (log : ChannelLog T) (e : Entry (ChannelCall T)) (q m r : State T W) → Runs calls q log m → calls m e.call r → Runs calls q (log ++ e ∷ []) r
+  run_more [] e q m r run step = (r, subst (λ (s : State T W). calls s e.call r) (sym run) step, refl)
+  run_more (x ∷ xs) e q m r (n, first, rest) step = (n, first, run_more xs e n m r rest step)
+
+  -- so it is of what a hand has seen after a call
+  pub in_order_as_seen : (v w : View (State T W) (ChannelCall T)) (c : ChannelCall T) → Extends calls is_new rests_on_none v c w
+      → (q : State T W) × LeadsTo calls is_new w.seen q × (all_of sent_by w.seen ≡ all_of out_by w.seen ++ q.messages)
+  in_order_as_seen v w c (before, after, led) =
+      let (s, starts, runs) = led.runs in
+      let more = run_more (v.seen ++ led.between) (entry led.number c) s before after runs led.step in
+      let leads : LeadsTo calls is_new w.seen after = subst (λ (log : ChannelLog T). LeadsTo calls is_new log after) (sym led.seen) (s, starts, more) in
+      (after, leads, in_order_from_start w.seen after leads)
+
+-- both parts of an empty list are empty
+front_empty : {X : Type 0} (xs ys : List X) → xs ++ ys ≡ [] → xs ≡ []
+front_empty [] ys h = refl
+front_empty (x ∷ xs) ys h = absurd (cc)
+
+back_empty : {X : Type 0} (xs ys : List X) → xs ++ ys ≡ [] → ys ≡ []
+back_empty [] ys h = h
+back_empty (x ∷ xs) ys h = absurd (cc)
+
+-- where no forced send found the channel full, what went out was received
+pub all_received : {T : Type 0} (log : ChannelLog T) → all_of forced_out_by log ≡ [] → all_of out_by log ≡ all_of received_by log
+all_received [] none = refl
+all_received (e ∷ es) none =
+    ap (λ xs. (xs ++ received_by e.call) ++ all_of out_by es) (front_empty (forced_out_by e.call) (all_of forced_out_by es) none)
+    ∙ ap (λ xs. received_by e.call ++ xs) (all_received es (back_empty (forced_out_by e.call) (all_of forced_out_by es) none))

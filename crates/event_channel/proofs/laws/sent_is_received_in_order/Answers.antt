@@ -1,0 +1,15 @@
+use Rattle.std.proofs.Common.{ap, ◌++◌, ◌∙◌}
+use Rattle.event_channel.proofs.HistoryLemmas.{all_received, in_order_as_seen, in_order_between, in_order_from_start}
+use Rattle.event_channel.proofs.laws.sent_is_received_in_order.Goals as goal
+
+pub returns-clause-in_order : goal.returns-clause-in_order
+returns-clause-in_order g c = in_order_from_start
+
+pub returns-clause-from_any_state : goal.returns-clause-from_any_state
+returns-clause-from_any_state g c = in_order_between
+
+pub returns-clause-all_received : goal.returns-clause-all_received
+returns-clause-all_received g c log q leads none = in_order_from_start log q leads ∙ ap (λ xs. xs ++ q.messages) (all_received log none)
+
+pub returns-clause-as_seen : goal.returns-clause-as_seen
+returns-clause-as_seen g c = in_order_as_seen

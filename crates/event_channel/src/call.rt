@@ -1,0 +1,62 @@
+//! The calls on the state under a channel's lock.
+ghost use Rattle.event_channel.specs.Calls.{calls, is_new, rests_on_none};
+
+use crate::error::{SendReason, TryRecvError};
+use crate::messages::Messages;
+use event_history::{Hand, Resting, Steps};
+use event_queue::{Key, ListenError};
+use event_wait::{Attempted, Task};
+use std::collections::LinkedList;
+
+/// A caller's right to make calls on one channel, of no bytes. A contract sees the history that it has seen, and its own
+/// calls in it.
+pub type ChannelHand<T> = Hand<Messages<T, Task>, ChannelCall<T>>;
+
+// The hand of one that waits, between its calls.
+pub(crate) type RestingHand<T> = Resting<Messages<T, Task>, ChannelCall<T>>;
+
+/// A call on the state under a channel's lock, with its reply. No value of it is made when a program runs.
+///
+/// A key is that of one that has a place in a queue of those that wait. A truth value says whether a receiver is a stream.
+pub enum ChannelCall<T> {
+    /// A message is sent, if the channel is open and not full.
+    Send(T, Result<(), SendReason>),
+    /// A message is sent, if the channel is open. If it is full the first of all goes out.
+    ForceSend(T, Result<Option<T>, SendReason>),
+    /// A message is sent by one that waits where the channel is full, and else is in the queue no more.
+    SendOrWait(T, Option<Key>, Attempted<Result<(), SendReason>, ListenError>),
+    /// A message is sent, if the channel is open and not full, by one that leaves the queue in any case.
+    SendOrLeave(T, Option<Key>, Result<(), SendReason>),
+    /// A sender leaves the queue.
+    LeaveSenders(Option<Key>),
+    /// The first message is received, if there is one.
+    Receive(Result<T, TryRecvError>),
+    /// The first message is received by one that waits where there is none, and else is in the queue no more. `None` is the
+    /// end: the channel is empty and closed.
+    ReceiveOrWait(bool, Option<Key>, Attempted<Option<T>, ListenError>),
+    /// The first message is received, if there is one, by one that leaves the queue in any case.
+    ReceiveOrLeave(bool, Option<Key>, Result<T, TryRecvError>),
+    /// These messages are received, one at least, by one that leaves the queue.
+    ReceiveMany(LinkedList<T>, Option<Key>),
+    /// A receiver leaves the queue.
+    LeaveReceivers(bool, Option<Key>),
+    /// The channel is closed, if it is open.
+    Close(bool),
+    /// Whether the channel is closed.
+    IsClosed(bool),
+    /// Whether as many messages wait as may.
+    IsFull(bool),
+    /// How many messages wait.
+    Len(usize),
+}
+
+/// A channel starts open, without messages and with nobody that waits.
+impl<T, W> Steps for Messages<T, W> {
+    type Call = ChannelCall<T>;
+
+    ghost starts = { is_new };
+
+    ghost goes = { calls };
+
+    ghost rests = { rests_on_none };
+}

@@ -1,0 +1,111 @@
+//! The calls of handles that do not wait for a message or for room, each as one step.
+ghost use Rattle.std.specs.Prelude.{◌≡◌, ⊤, IfErr};
+ghost use Rattle.event_channel.specs.Calls.{answer_of};
+ghost use Rattle.event_channel.specs.Errors.{IsUnsent, IsUnsentAtOnce};
+ghost use Rattle.event_channel.specs.declared.call.ChannelCall.TheVariants as call;
+
+use crate::error::SendError;
+use crate::messages::Messages;
+use event_history::Step;
+use event_queue::WakeSink;
+
+/// A message is sent.
+pub(crate) struct Push<T> {
+    pub(crate) message: T,
+}
+
+impl<T: Drop, W, K: WakeSink<W>> Step<Messages<T, W>, K> for Push<T> {
+    type Reply = Result<(), SendError<T>>;
+
+    ghost call = { λ step reply. call.Send step.message (answer_of reply) };
+
+    ghost does = { λ step _ _ reply _ _. IfErr reply (λ error. (error.message ≡ step.message) × IsUnsentAtOnce error.reason) };
+
+    #[inline(always)]
+    fn make(self, messages: &mut Messages<T, W>, sink: &mut K) -> Result<(), SendError<T>> {
+        let Push { message } = self;
+        messages.push(message, sink)
+    }
+}
+
+/// A message is sent, in the place of the first if the channel is full.
+pub(crate) struct PushForced<T> {
+    pub(crate) message: T,
+}
+
+impl<T, W, K: WakeSink<W>> Step<Messages<T, W>, K> for PushForced<T> {
+    type Reply = Result<Option<T>, SendError<T>>;
+
+    ghost call = { λ step reply. call.ForceSend step.message (answer_of reply) };
+
+    ghost does = { λ step _ _ reply _ _. IfErr reply (λ error. (error.message ≡ step.message) × IsUnsent error.reason) };
+
+    fn make(self, messages: &mut Messages<T, W>, sink: &mut K) -> Result<Option<T>, SendError<T>> {
+        let PushForced { message } = self;
+        messages.push_forced(message, sink)
+    }
+}
+
+/// The channel is closed.
+#[derive(Drop)]
+pub(crate) struct Close;
+
+impl<T, W, K: WakeSink<W>> Step<Messages<T, W>, K> for Close {
+    type Reply = bool;
+
+    ghost call = { λ _ reply. call.Close reply };
+
+    ghost does = { λ _ _ _ _ _ _. ⊤ };
+
+    fn make(self, messages: &mut Messages<T, W>, sink: &mut K) -> bool {
+        messages.close(sink)
+    }
+}
+
+/// Whether the channel is closed.
+#[derive(Drop)]
+pub(crate) struct IsClosed;
+
+impl<T, W> Step<Messages<T, W>, ()> for IsClosed {
+    type Reply = bool;
+
+    ghost call = { λ _ reply. call.IsClosed reply };
+
+    ghost does = { λ _ _ _ _ _ _. ⊤ };
+
+    fn make(self, messages: &mut Messages<T, W>, _beside: &mut ()) -> bool {
+        messages.is_closed()
+    }
+}
+
+/// Whether the channel is full.
+#[derive(Drop)]
+pub(crate) struct IsFull;
+
+impl<T, W> Step<Messages<T, W>, ()> for IsFull {
+    type Reply = bool;
+
+    ghost call = { λ _ reply. call.IsFull reply };
+
+    ghost does = { λ _ _ _ _ _ _. ⊤ };
+
+    fn make(self, messages: &mut Messages<T, W>, _beside: &mut ()) -> bool {
+        messages.is_full()
+    }
+}
+
+/// How many messages wait.
+#[derive(Drop)]
+pub(crate) struct Len;
+
+impl<T, W> Step<Messages<T, W>, ()> for Len {
+    type Reply = usize;
+
+    ghost call = { λ _ reply. call.Len reply };
+
+    ghost does = { λ _ _ _ _ _ _. ⊤ };
+
+    fn make(self, messages: &mut Messages<T, W>, _beside: &mut ()) -> usize {
+        messages.len()
+    }
+}
