@@ -47,7 +47,7 @@ impl Flag {
     ) -> Result<event_listener::EventListener<(), R>, ListenError>
     where
         R: Wait + Clock + Clone,
-        ensures event { IfOk result (λ listener. listener.event_number ≡ self.now) }
+        ensures event { IfOk result (λ listener. listener.standing.event_number ≡ self.now) }
     {
         self.set.listen(rt, alloc)
     }

@@ -14,6 +14,8 @@
 //!   and polls in a loop, whose pending poll has registered.
 //! - [`recorded_flag`]: a flag over a recorded event, for which each thread waits with a hand of its own, which it
 //!   tells from others; closed with `Ok`, the notes of each hand are entries of its record.
+//! - [`heard`]: a thread that listens, tells another one, which notifies all, and learns from it. That its listener was
+//!   notified is proved, whatever other threads do: [HISTORY.md](../../../docs/HISTORY.md) says why.
 //! - [`race`]: the thread of the first hand sets such a flag, and those of all others wait for it. Its record has
 //!   entries of these hands alone, and of none.
 //! - [`record_table`]: a record as a table of hand, call and reply.
@@ -28,6 +30,7 @@
 
 pub mod desk;
 pub mod flag;
+pub mod heard;
 pub mod meeting;
 pub mod polled;
 pub mod race;

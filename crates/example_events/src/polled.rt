@@ -68,7 +68,7 @@ impl<R: Wait + Clock + Clone> Future for NextOrder<R> {
     type Output = Result<Order, NeverInserted>;
 
     // A pending poll has left the task with both listeners, so either event wakes it.
-    ghost needs = { λ next s. (s ≡ next.stop.source) ⊎ (s ≡ next.work.source) };
+    ghost needs = { λ next s. (s ≡ next.stop.standing.source) ⊎ (s ≡ next.work.standing.source) };
 
     fn poll(&mut self, cx: &mut Context<'_>) -> Poll<Result<Order, NeverInserted>> {
         match self.stop.poll_in(cx) {

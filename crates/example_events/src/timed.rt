@@ -10,8 +10,8 @@ use std::time::{Clock, Duration, Instant};
 /// A wait that fails for memory is retried once, with the listener that it returns and against the same deadline.
 /// If the second wait fails too, the caller gets the listener.
 pub fn tag_by<T, L: Listener<T>>(listener: L, deadline: Instant) -> Result<Option<T>, WaitError<L>>
-    ensures finished { L.is_finished listener ≡ true → IsErr result }
-    ensures memory { IfErr result (HandsBack listener) }
+    ensures finished { (L.standing listener).is_finished ≡ true → IsErr result }
+    ensures memory { IfErr result (HandsBack L.standing listener) }
 {
     match listener.wait_deadline(deadline) {
         Err(WaitError::Memory(listener)) => listener.wait_deadline(deadline),
@@ -29,8 +29,8 @@ pub fn tag_within<R: Clock, T, L: Listener<T>>(
     listener: L,
     limit: Duration,
 ) -> Result<Option<T>, WaitError<L>>
-    ensures finished { L.is_finished listener ≡ true → IsErr result }
-    ensures memory { IfErr result (HandsBack listener) }
+    ensures finished { (L.standing listener).is_finished ≡ true → IsErr result }
+    ensures memory { IfErr result (HandsBack L.standing listener) }
 {
     let Ok(now) = Instant::now(rt) else {
         return listener.wait_timeout(Duration::ZERO);

@@ -1,5 +1,6 @@
 //! Callers of events: who gets which tag, and which tasks are woken.
 mod flags;
+mod heard;
 mod timed;
 
 use crate::support::{Host, check, is_woken, listen, new_id, new_task, tell};

@@ -4,6 +4,7 @@ use event_listener::ListenError::{Memory, SerialsUsedUp};
 use event_listener::{CloseError, NeverInserted, RecordError, WaitError};
 use example_events::desk::SitError;
 use example_events::flag::FlagError;
+use example_events::heard::HeardError;
 use example_events::meeting::MeetingError;
 use example_events::polled::AwaitError;
 use example_events::race::RaceError;
@@ -44,6 +45,9 @@ fn all_errors_have_their_texts(rt: HostRuntime) {
     reads(&rt, CountError::from(AllocError), PROGRAM);
     reads(&rt, MeetingError::from(FlagError::Memory), PARKER);
     reads(&rt, MeetingError::from(AllocError), PROGRAM);
+    reads(&rt, HeardError::from(Memory), LISTENER);
+    let refused = HeardError::from(AllocError);
+    reads(&rt, refused, "no memory for a hand");
     reads(&rt, SitError::from(Memory), LISTENER);
     reads(&rt, SitError::from(NeverInserted), ABSENT);
     reads(&rt, FlagError::from(SerialsUsedUp), SERIALS);

@@ -38,11 +38,7 @@ struct Refusing<'a, L: Drop> {
 }
 
 impl<L: Listener<u32> + Drop> Listener<u32> for Refusing<'_, L> {
-    ghost event_number = { λ refusing. L.event_number refusing.listener };
-
-    ghost is_finished = { λ refusing. L.is_finished refusing.listener };
-
-    ghost source = { λ refusing. L.source refusing.listener };
+    ghost standing = { λ refusing. L.standing refusing.listener };
 
     fn poll(&mut self, waker: Waker) -> Result<Poll<u32>, NeverInserted> {
         self.listener.poll(waker)
@@ -62,15 +58,25 @@ impl<L: Listener<u32> + Drop> Listener<u32> for Refusing<'_, L> {
         } else {
             self.deadline.set(None);
         }
-        match self.listener.wait() {
+        let Refusing {
+            listener,
+            refusals,
+            deadline,
+        } = self;
+        match listener.wait() {
             Ok(tag) => Ok(Some(tag)),
-            Err(_) => Err(WaitError::NeverInserted),
+            Err(WaitError::NeverInserted) => Err(WaitError::NeverInserted),
+            Err(WaitError::Memory(listener)) => Err(WaitError::Memory(Refusing {
+                listener,
+                refusals,
+                deadline,
+            })),
         }
     }
 
     // Nobody is to ask for that.
     fn wait_timeout(self, _timeout: Duration) -> Result<Option<u32>, WaitError<Self>> {
-        Err(WaitError::NeverInserted)
+        Err(WaitError::Memory(self))
     }
 
     fn discard(self) -> bool {

@@ -1,0 +1,56 @@
+//! A thread that listens while another one notifies, and hears it.
+ghost use Rattle.std.specs.Prelude.{◌≡◌, true, IfOk};
+ghost use Rattle.example_events.specs.Heard.{NotifiesAll};
+
+use event_history::told_by_another;
+use event_listener::{Event, EventHand, IntoNotification, ListenError, Listener, Task};
+use std::alloc::{AllocError, Global};
+use std::sync::Wait;
+use std::thread::{self, Threads};
+use std::time::Clock;
+use thiserror::Error;
+
+/// Why nobody listened, or no other thread notified.
+#[derive(Clone, Copy, Debug, PartialEq, Eq, Error)]
+pub enum HeardError {
+    #[error("{0}")]
+    Listen(#[from] ListenError),
+    #[error("no memory for a hand")]
+    Memory(#[from] AllocError),
+}
+
+/// Listens, has another thread notify all that listen, and returns whether the listener was notified: it was, whatever
+/// other threads do with the event meanwhile.
+///
+/// Returns an error if memory runs out or the event has given out all serial numbers: then nobody notifies, and no listener
+/// is left. The call allocates. It waits for the other thread, and may wait for the lock of the event.
+pub fn hear_another<R>(rt: &R, alloc: Global, event: &Event) -> Result<bool, HeardError>
+where
+    R: Threads + Sync + Wait + Clock + Clone,
+    ensures { IfOk result (λ heard. heard ≡ true) }
+{
+    let mut hand = event.hand(rt, alloc)?;
+    let mut listener = hand.listen(rt, alloc)?;
+    hand.hear(&mut listener);
+    let other = hand.tell()?;
+    // Whether the other one has notified yet is not known here.
+    let (_, other) = thread::join(
+        rt,
+        || event.is_notified(rt),
+        || -> EventHand
+            ensures { NotifiesAll other result }
+        { notify_all(rt, other) },
+    );
+    listener.absorb(other);
+    told_by_another::<(), Task>();
+    Ok(listener.discard())
+}
+
+// Notifies all that listen, and gives the hand back.
+fn notify_all<R: Wait>(rt: &R, hand: EventHand) -> EventHand
+    ensures { NotifiesAll hand result }
+{
+    let mut hand = hand;
+    let _ = hand.notify(rt, usize::MAX.additional());
+    hand
+}
