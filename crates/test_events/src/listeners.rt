@@ -54,42 +54,6 @@ fn the_drop_of_a_told_listener_passes_on(rt: HostRuntime) {
     run(&rt, &steps);
 }
 
-#[test]
-fn a_told_listener_that_is_discarded_passes_nothing_on(rt: HostRuntime) {
-    let steps = [
-        (Call::Listen(2), Answer::Done, [false, false]),
-        (Call::Hand(0, 1), Answer::Pending, [false, false]),
-        (Call::Tell(1, 7), Answer::Told(1), [false, false]),
-        (Call::Discard(0), Answer::WasTold(true), [false, false]),
-        (Call::Count, Answer::Counts(1, false), [false, false]),
-        (Call::Discard(1), Answer::WasTold(false), [true, false]),
-        (Call::Count, Answer::Counts(0, false), [true, false]),
-    ];
-    run(&rt, &steps);
-}
-
-// Each of the finished listeners had the slot that the told one has then.
-#[test]
-fn a_finished_listener_is_not_in_the_queue(rt: HostRuntime) {
-    let steps = [
-        (Call::Listen(1), Answer::Done, [false, false]),
-        (Call::Tell(1, 7), Answer::Told(1), [false, false]),
-        (Call::Poll(0, 0), Answer::Tag(7), [false, false]),
-        (Call::Listen(1), Answer::Done, [false, false]),
-        (Call::Tell(1, 7), Answer::Told(1), [false, false]),
-        (Call::Hand(0, 1), Answer::Tag(7), [true, false]),
-        (Call::Listen(2), Answer::Done, [true, false]),
-        (Call::Tell(1, 8), Answer::Told(1), [true, false]),
-        (Call::Hand(1, 0), Answer::Gone, [true, true]),
-        (Call::Discard(0), Answer::WasTold(false), [true, true]),
-        (Call::Drop(1), Answer::Done, [true, true]),
-        (Call::Count, Answer::Counts(2, true), [true, true]),
-        (Call::Discard(2), Answer::WasTold(true), [true, true]),
-        (Call::Discard(3), Answer::WasTold(false), [true, true]),
-    ];
-    run(&rt, &steps);
-}
-
 // Two listeners get the last serial numbers, and are told as ever.
 #[test]
 fn nobody_listens_once_the_serials_are_used_up(rt: HostRuntime) {
