@@ -144,10 +144,12 @@ impl<R: Runtime> Case<R> for RefusedWaits {
         // One that comes back passes its notification on where it is dropped.
         drop(told);
         check(rt, "its tag", second.poll(waker), Ok(Poll::Ready(7)));
-        // Memory is refused before it is found to be finished.
-        let finished = waits_in_vain(rt, second);
+        // That it is finished is found without memory.
+        let hog = all_memory(rt);
+        let answer = second.wait();
+        drop(hog);
         let refusal = Err("listener is not in the queue");
-        check(rt, "a wait", answered(finished.wait()), refusal);
+        check(rt, "a wait", answered(answer), refusal);
     }
 }
 
