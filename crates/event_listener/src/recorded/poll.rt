@@ -9,6 +9,7 @@ use super::hand::Hand;
 use super::listener::{RecordedListener, RecordedPollError};
 use super::wait::RecordedPlace;
 use crate::listener::NeverInserted;
+use event_wait::poll_in;
 use futures::task::{Context, Poll};
 use std::sync::Wait;
 use std::time::Clock;
@@ -31,7 +32,7 @@ impl<T: Copy + Eq, R: Wait + Clock + Clone> RecordedListener<'_, T, R> {
         ensures kept { Keeps cx.old cx.new }
     {
         let mut place = RecordedPlace::of(self.key, hand, self.event.alloc());
-        let polled = self.event.state().poll_in(&self.runtime, &mut place, cx);
+        let polled = poll_in(self.event.state(), &self.runtime, &mut place, cx);
         place.give_back(hand);
         match polled {
             Poll::Ready(Ok(Ok(tag))) => Ok(Poll::Ready(tag)),

@@ -13,7 +13,7 @@ use super::state::RecordedState;
 use super::step::PollStep;
 use crate::listener::{NeverInserted, WaitError};
 use event_queue::{Key, RegisterResult, TaskExchange, WakeSink};
-use event_wait::{Attempted, Limit, Refused, Request, Task};
+use event_wait::{Attempted, Limit, Refused, Request, Task, wait};
 use std::alloc::Global;
 use std::mem;
 use std::sync::Wait;
@@ -112,7 +112,7 @@ pub(super) fn wait_until<'ev, T: Copy + Eq, R: Wait + Clock + Clone>(
     let alloc = listener.event.alloc();
     let mut place = RecordedPlace::of(listener.key, hand, alloc);
     let lock = listener.event.state();
-    let waited = lock.wait(&listener.runtime, alloc, &mut place, limit);
+    let waited = wait(lock, &listener.runtime, alloc, &mut place, limit);
     place.give_back(hand);
     let answer = match waited {
         Ok(answer) => answer,

@@ -1,12 +1,16 @@
-//! The wait of a thread.
+//! The wait of a thread, and the poll of a task.
 ghost use Rattle.std.specs.Prelude.{◌≡◌, ◌≢◌, None, Ok, IfOk, IfSome, IsSome, OnErr};
+ghost use Rattle.futures.specs.Poll.{IfReady, OnPending};
+ghost use Rattle.futures.specs.Task.{Covers, Keeps};
 ghost use Rattle.event_wait.specs.Rounds.{Obtains, SomeRounds, Waits};
 ghost use Rattle.event_wait.specs.declared.lock.limit.Limit.TheVariants.{Never};
 
 use super::limit::Limit;
-use super::{Lock, Task};
+use super::task::{Parks, Task};
 use crate::back_off::pause;
-use crate::request::{Attempt, Attempted, Request};
+use crate::request::Attempted;
+use crate::serves::{Serves, Tries};
+use futures::task::{Context, Poll};
 use std::alloc::{AllocError, Global};
 use std::sync::{Arc, Wait};
 use std::thread::Parker;
@@ -23,71 +27,91 @@ pub enum Refused<E> {
     Request(E),
 }
 
-impl<S> Lock<S> {
-    /// Blocks the thread until it has what it requests or the limit has passed, which is `None`. It attempts at least once;
-    /// where the limit has passed it enters no queue and allocates nothing. Else it tries a few times with pauses between, and
-    /// then waits as [`wait`](Lock::wait) does. One that has a place in the queue goes on there.
-    ///
-    /// With an answer, a refusal or `None` it is in no queue. It may wait for the lock.
-    #[inline(always)]
-    pub fn obtain<Q: Attempt<S>, R: Wait + Clock>(
-        &self,
-        rt: &R,
-        alloc: Global,
-        request: &mut Q,
-        limit: Limit,
-    ) -> Result<Option<Q::Output>, Refused<Q::Refusal>>
-        ensures never { limit ≡ Never → IfOk result IsSome }
-        ensures obtains { Obtains Q.waits Q.succeeds Q.leaves (limit ≢ Never) request.old result request.new }
-    {
-        if !request.is_waiting() {
-            if let Some(output) = self.attempt(rt, request) {
-                return Ok(Some(output));
-            }
+/// Blocks the thread until it has what it requests or the limit has passed, which is `None`. It attempts at least once;
+/// where the limit has passed it enters no queue and allocates nothing. Else it tries a few times with pauses between, and
+/// then waits as [`wait`] does. One that has a place in the queue goes on there.
+///
+/// With an answer, a refusal or `None` it is in no queue. It may wait for the lock.
+#[inline(always)]
+pub fn obtain<L: Tries<Q>, Q, R: Wait + Clock>(
+    lock: &L,
+    rt: &R,
+    alloc: Global,
+    request: &mut Q,
+    limit: Limit,
+) -> Result<Option<L::Output>, Refused<L::Refusal>>
+    ensures never { limit ≡ Never → IfOk result IsSome }
+    ensures obtains { Obtains L.waits (L.succeeds lock.now) (L.leaves lock.now) (limit ≢ Never) request.old result request.new }
+{
+    if !lock.is_waiting(request) {
+        if let Some(output) = lock.attempt(rt, request) {
+            return Ok(Some(output));
         }
-        try_then_wait(self, rt, alloc, request, limit)
     }
+    try_then_wait(lock, rt, alloc, request, limit)
+}
 
-    /// Blocks the thread until it has what it requests or the limit has passed, and then leaves the queue with what it can
-    /// still get, if anything.
-    ///
-    /// It makes what the thread parks on, attempts, stores its task if it waits on, looks at the limit, parks, and attempts
-    /// again. If it can't wait, or memory runs out, it is where it was. It may wait for the lock.
-    #[inline(always)]
-    pub fn wait<Q: Request<S>, R: Wait + Clock>(
-        &self,
-        rt: &R,
-        alloc: Global,
-        request: &mut Q,
-        limit: Limit,
-    ) -> Result<Option<Q::Output>, Refused<Q::Refusal>>
-        ensures never { limit ≡ Never → IfOk result IsSome }
-        ensures waits { Waits Q.waits Q.succeeds Q.leaves (limit ≢ Never) request.old result request.new }
-    {
-        let Ok(parker) = Arc::new(alloc, Parker::new()) else {
-            return Err(Refused::Memory);
-        };
-        let mut task = None;
-        for _ in rt.forever() {
-            if task.is_none() {
-                let Ok(new) = task_of(&parker) else {
-                    return Err(Refused::Memory);
-                };
-                task = new;
-            }
-            match self.attempt_or_park(rt, request, &mut task) {
-                Attempted::Done(output) => return Ok(Some(output)),
-                Attempted::Waits(_) => {}
-                Attempted::Absent => continue,
-                Attempted::Refused(error) => return Err(Refused::Request(error)),
-            }
-            match limit.left(rt) {
-                None => parker.park(rt),
-                Some(left) if left.is_zero() => return leave_late(self, rt, request),
-                Some(left) => parker.park_timeout(rt, left),
-            }
+/// Blocks the thread until it has what it requests or the limit has passed, and then leaves the queue with what it can
+/// still get, if anything.
+///
+/// It makes what the thread parks on, attempts, stores its task if it waits on, looks at the limit, parks, and attempts
+/// again. If it can't wait, or memory runs out, it is where it was. It may wait for the lock.
+#[inline(always)]
+pub fn wait<L: Serves<Q>, Q, R: Wait + Clock>(
+    lock: &L,
+    rt: &R,
+    alloc: Global,
+    request: &mut Q,
+    limit: Limit,
+) -> Result<Option<L::Output>, Refused<L::Refusal>>
+    ensures never { limit ≡ Never → IfOk result IsSome }
+    ensures waits { Waits L.waits (L.succeeds lock.now) (L.leaves lock.now) (limit ≢ Never) request.old result request.new }
+{
+    let Ok(parker) = Arc::new(alloc, Parker::new()) else {
+        return Err(Refused::Memory);
+    };
+    let mut task = None;
+    for _ in rt.forever() {
+        if task.is_none() {
+            let Ok(new) = task_of(&parker) else {
+                return Err(Refused::Memory);
+            };
+            task = new;
         }
-        unreachable!()
+        match lock.attempt_or_wait(rt, request, &Parks {}, &mut task) {
+            Attempted::Done(output) => return Ok(Some(output)),
+            Attempted::Waits(_) => {}
+            Attempted::Absent => continue,
+            Attempted::Refused(error) => return Err(Refused::Request(error)),
+        }
+        match limit.left(rt) {
+            None => parker.park(rt),
+            Some(left) if left.is_zero() => return leave_late(lock, rt, request),
+            Some(left) => parker.park_timeout(rt, left),
+        }
+    }
+    unreachable!()
+}
+
+/// Attempts what is requested, and registers the task that polls if it waits on. An error says that it can't wait, and is
+/// where it was. It may wait for the lock.
+pub fn poll_in<L: Serves<Q>, Q, R: Wait>(
+    lock: &L,
+    rt: &R,
+    request: &mut Q,
+    cx: &mut Context<'_>,
+) -> Poll<Result<L::Output, L::Refusal>>
+    ensures succeeded { IfReady result (λ answer. IfOk answer (λ output. L.succeeds lock.now request.old output request.new)) }
+    ensures refused { IfReady result (λ answer. OnErr answer (request.new ≡ request.old)) }
+    ensures pending { OnPending result (L.waits request.old request.new) }
+    ensures registered { OnPending result (Covers cx.new (λ s. s ≡ L.source lock.now)) }
+    ensures kept { Keeps cx.old cx.new }
+{
+    match lock.attempt_or_wait(rt, request, lock.line_source(), cx) {
+        Attempted::Done(output) => Poll::Ready(Ok(output)),
+        Attempted::Waits(_) => Poll::Pending,
+        Attempted::Absent => cx.yield_now(),
+        Attempted::Refused(error) => Poll::Ready(Err(error)),
     }
 }
 
@@ -96,12 +120,12 @@ fn task_of(parker: &Arc<Parker, Global>) -> Result<Option<Task>, AllocError> {
     Ok(Some(Task::parked(Arc::try_clone(parker)?)))
 }
 
-fn leave_late<S, Q: Request<S>, R: Wait>(
-    lock: &Lock<S>,
+fn leave_late<L: Serves<Q>, Q, R: Wait>(
+    lock: &L,
     rt: &R,
     request: &mut Q,
-) -> Result<Option<Q::Output>, Refused<Q::Refusal>>
-    ensures left { IfOk result (λ answer. Q.leaves request.old answer request.new) }
+) -> Result<Option<L::Output>, Refused<L::Refusal>>
+    ensures left { IfOk result (λ answer. L.leaves lock.now request.old answer request.new) }
     ensures kept { OnErr result (request.new ≡ request.old) }
 {
     match lock.leave(rt, request) {
@@ -110,17 +134,21 @@ fn leave_late<S, Q: Request<S>, R: Wait>(
     }
 }
 
-// One that is refused gives up its place.
+/// What [`obtain`] does after a first attempt that gave nothing, or where the request waits in the queue already: for a lock
+/// that makes the first attempt itself. It is a function of its own, so that what is free is taken in a few instructions.
+///
+/// It allocates what the thread parks on, if it has to wait. With an answer, a refusal or `None` it is in no queue. It may
+/// wait for the lock.
 #[inline(never)]
-fn try_then_wait<S, Q: Attempt<S>, R: Wait + Clock>(
-    lock: &Lock<S>,
+pub fn try_then_wait<L: Tries<Q>, Q, R: Wait + Clock>(
+    lock: &L,
     rt: &R,
     alloc: Global,
     request: &mut Q,
     limit: Limit,
-) -> Result<Option<Q::Output>, Refused<Q::Refusal>>
+) -> Result<Option<L::Output>, Refused<L::Refusal>>
     ensures never { limit ≡ Never → IfOk result IsSome }
-    ensures obtains { Obtains Q.waits Q.succeeds Q.leaves (limit ≢ Never) request.old result request.new }
+    ensures obtains { Obtains L.waits (L.succeeds lock.now) (L.leaves lock.now) (limit ≢ Never) request.old result request.new }
 {
     let answer = try_or_wait(lock, rt, alloc, request, limit);
     if answer.is_err() {
@@ -131,15 +159,15 @@ fn try_then_wait<S, Q: Attempt<S>, R: Wait + Clock>(
 
 // Where there is time left, a few tries with pauses between them, and then in the queue.
 #[inline(always)]
-fn try_or_wait<S, Q: Attempt<S>, R: Wait + Clock>(
-    lock: &Lock<S>,
+fn try_or_wait<L: Tries<Q>, Q, R: Wait + Clock>(
+    lock: &L,
     rt: &R,
     alloc: Global,
     request: &mut Q,
     limit: Limit,
-) -> Result<Option<Q::Output>, Refused<Q::Refusal>>
+) -> Result<Option<L::Output>, Refused<L::Refusal>>
     ensures never { limit ≡ Never → IfOk result IsSome }
-    ensures obtains { Obtains Q.waits Q.succeeds Q.leaves (limit ≢ Never) request.old result request.new }
+    ensures obtains { Obtains L.waits (L.succeeds lock.now) (L.leaves lock.now) (limit ≢ Never) request.old result request.new }
 {
     if limit.has_passed(rt) {
         return leave_late(lock, rt, request);
@@ -149,22 +177,18 @@ fn try_or_wait<S, Q: Attempt<S>, R: Wait + Clock>(
     }
     match take_if_notified(lock, rt, request) {
         Ok(Some(output)) => Ok(Some(output)),
-        Ok(None) => lock.wait(rt, alloc, request, limit),
+        Ok(None) => wait(lock, rt, alloc, request, limit),
         Err(error) => Err(Refused::Request(error)),
     }
 }
 
 // Whoever has a place in the queue tries nothing: its place is where it attempts.
-fn try_a_while<S, Q: Attempt<S>, R: Wait>(
-    lock: &Lock<S>,
-    rt: &R,
-    request: &mut Q,
-) -> Option<Q::Output>
-    ensures succeeded { IfSome result (λ output. Q.succeeds request.old output request.new) }
+fn try_a_while<L: Tries<Q>, Q, R: Wait>(lock: &L, rt: &R, request: &mut Q) -> Option<L::Output>
+    ensures succeeded { IfSome result (λ output. L.succeeds lock.now request.old output request.new) }
     ensures kept { result ≡ None → request.new ≡ request.old }
 {
-    for _ in 0..Q::TRIES {
-        if request.is_waiting() {
+    for _ in 0..L::TRIES {
+        if lock.is_waiting(request) {
             return None;
         }
         pause(PAUSES);
@@ -176,19 +200,19 @@ fn try_a_while<S, Q: Attempt<S>, R: Wait>(
 }
 
 // One that polled before may have been notified since: then it need not park. Its task stays.
-fn take_if_notified<S, Q: Attempt<S>, R: Wait>(
-    lock: &Lock<S>,
+fn take_if_notified<L: Tries<Q>, Q, R: Wait>(
+    lock: &L,
     rt: &R,
     request: &mut Q,
-) -> Result<Option<Q::Output>, Q::Refusal>
-    ensures succeeded { IfOk result (λ answer. IfSome answer (λ output. Q.succeeds request.old output request.new)) }
-    ensures waited { result ≡ Ok None → SomeRounds Q.waits request.old request.new }
+) -> Result<Option<L::Output>, L::Refusal>
+    ensures succeeded { IfOk result (λ answer. IfSome answer (λ output. L.succeeds lock.now request.old output request.new)) }
+    ensures waited { result ≡ Ok None → SomeRounds L.waits request.old request.new }
     ensures kept { OnErr result (request.new ≡ request.old) }
 {
-    if !request.is_waiting() {
+    if !lock.is_waiting(request) {
         return Ok(None);
     }
-    match lock.attempt_or_park(rt, request, &mut None) {
+    match lock.attempt_or_wait(rt, request, &Parks {}, &mut None) {
         Attempted::Done(output) => Ok(Some(output)),
         Attempted::Waits(_) => Ok(None),
         Attempted::Absent => Ok(None),

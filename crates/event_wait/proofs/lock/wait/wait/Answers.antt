@@ -1,7 +1,7 @@
 use Rattle.std.proofs.Common.{rules}
 use Rattle.event_wait.specs.Rounds.{OneRoundAtLeast}
 use Rattle.event_wait.proofs.RoundLemmas.{one_more, one_at_least, leaves_late}
-use Rattle.event_wait.proofs.lock.Lock.wait.Goals as goal
+use Rattle.event_wait.proofs.lock.wait.wait.Goals as goal
 
 pub loop-preserved-in-Absent : goal.loop-preserved-in-Absent
 loop-preserved-in-Absent g c =
@@ -15,7 +15,7 @@ pub returns-in-Some-left-clause-waits : goal.returns-in-Some-left-clause-waits
 returns-in-Some-left-clause-waits g c =
     let some = c.loop.invariant.2 in
     let last = c.in-Waits.ensures.waited in
-    leaves_late g.Q.Request.waits g.Q.Request.succeeds g.Q.Request.leaves (OneRoundAtLeast g.Q.Request.waits) _ _ _ _ _ (Prim.search (rules)) (one_at_least _ _ _ _ some last) (one_more _ _ _ _ some last) c.leave_late.ensures.left c.leave_late.ensures.kept
+    leaves_late g.L.Serves.waits (g.L.Serves.succeeds c.args.lock.now) (g.L.Serves.leaves c.args.lock.now) (OneRoundAtLeast g.L.Serves.waits) _ _ _ _ _ (Prim.search (rules)) (one_at_least _ _ _ _ some last) (one_more _ _ _ _ some last) c.leave_late.ensures.left c.leave_late.ensures.kept
 
 pub loop-preserved : goal.loop-preserved
 loop-preserved g c =

@@ -1,8 +1,8 @@
 use Rattle.event_wait.specs.Rounds.{SomeRounds}
-use Rattle.event_wait.proofs.lock.Lock.wait.Given as goal
+use Rattle.event_wait.proofs.lock.wait.wait.Given as goal
 
 -- some rounds have found that it waits on
 abbrev pub invariant-loop : goal.invariant-loop
 invariant-loop g l =
     (goal.iterator-loop g).can_next l.iterator' × (goal.iterator-loop g).is_finite l.iterator'
-    × SomeRounds g.Q.Request.waits l.initial.request l.request
+    × SomeRounds g.L.Serves.waits l.initial.request l.request
