@@ -1,17 +1,18 @@
 -- Each step on the word keeps the rule.
 use Rattle.std.proofs.Common.{◌≡◌, ◌≢◌, ℕ, ◌<◌, ◌≤◌, eqb, true, false, List, [], ◌∷◌, ◌++◌, length, get_or, set, sym, refl, ap, ◌∙◌, subst, ⊎_elim, arith, le_refl, length-set, length-append, true≢false, get_or-set_same, append-nil}
+use Rattle.std.proofs.Math.Seq.{set-append_seam}
 use mathlib.Core.Option.{none, some, some-ne-none}
 use mathlib.Core.Option as home
 use lib.ListN.{get_elem?}
 use prog.Atomic.{either}
 use mathlib.Core.Logic.{dite}
 use native.Mathlib.Decide.{ℕ_discrete}
-use Rattle.atomic_table.specs.Table.{State, Step, step, Act, keeps, takes, gives, Valid, carried_after, put_back, stepped, opening, Allows, Enters, Splits, Joins}
-use Rattle.atomic_table.proofs.Lists.{exchanged, at_set, set_again, set_else, set_here}
+use Rattle.atomic_table.specs.Table.{State, Step, step, Act, keeps, takes, gives, Valid, carried_after, homes_after, put_back, stepped, opening, Allows, Arrives, Enters, Splits, Joins}
+use Rattle.atomic_table.proofs.Lists.{exchanged, at_last, at_set, set_again, set_else, set_here}
 use Rattle.event_history.specs.declared.history.Entry.{Entry}
 use Rattle.event_history.specs.declared.history.View.{View}
 use Rattle.event_history.specs.History.{entry, calls_by, StartsWith, AreAmong, EachRests, newcomer, met_of, both_views, Runs, LeadsTo}
-use Rattle.event_history.specs.Rule.{IsOut, spent_view, Knows, Fits, Stands, Kept, Sat, entered, taken, extended, looked}
+use Rattle.event_history.specs.Rule.{IsOut, spent_view, Knows, Fits, Stands, Kept, Sat, arrived, entered, taken, extended, looked}
 use Rattle.event_history.proofs.RestsOnLemmas.{rests_none, rests_more}
 use Rattle.event_history.proofs.Views.{at_below, all_set, all_more, calls_own, calls_other, Goes_on, each_on, each_stood, fits_on, alive_is_none, set_on, call_on, newcomer_fits, fits_set, fits_more}
 
@@ -129,6 +130,21 @@ module _ {S C : Type 0} (starts : S → Type 0) (goes : S → C → S → Type 0
   swaps n id m new out empty alive s k wide me fits = let st = step n 0 new 0 none in dite (ℕ_discrete (get_or s.words 0 0) 0)
       (λ hit. hits st s k id m new out empty alive me hit s.homes refl (subst (λ (x : ℕ). There x s.homes s.views k.log) hit k.stands))
       (λ miss. (m.0, keeps, tt, unmoved_to s k new (still_out (get_or s.words 0 0) new s.homes s.views k.log miss out k.stands) id m me, ((λ hit. absurd (miss hit)), λ _. refl)))
+
+  -- a new seat takes the state that is at home, or has seen the history so far
+  pub arrives : (n : ℕ) (m : M) (new : ℕ) → new ≢ 0 → Arrives Law n 0 (λ _. new) (arrived (step n 0 new 0 none) m)
+  arrives n m new out s k wide fits =
+      let first : V = newcomer k.log in
+      let at_end = length s.views in
+      let seated : St = record { words = s.words; homes = s.homes; views = s.views ++ first ∷ [] } in
+      let kept : Law seated = welcomes s k k.log ([], sym (append-nil k.log)) in
+      let goes = swaps n at_end (first, []) new out refl refl seated kept wide (at_last s.views first at_end refl) fits in (
+        goes.0,
+        goes.1,
+        goes.2,
+        subst (λ (vs : List V). Law (record { words = set s.words 0 new; homes = homes_after s.homes [] goes.1; views = vs })) (set-append_seam s.views first [] goes.0) goes.3,
+        (k.log, goes.4),
+      )
 
   not_out : (owner : ℕ) (p : S) (by : ℕ) (o : List S) → IsOut owner p by o → by ≢ owner → o ≡ []
   not_out owner p by [] h ne = refl

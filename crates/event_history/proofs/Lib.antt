@@ -1,3 +1,4 @@
+pub mod HandLemmas
 mod Keeps
 mod LawsOneOrder
 mod LawsOrder

@@ -1,5 +1,5 @@
 -- What holds between any two steps, and what each kind of step tells.
-use Rattle.std.specs.Prelude.{◌≡◌, ◌≢◌, ℕ, ◌≤◌, true, false, List, [], ◌∷◌, length, slice_index}
+use Rattle.std.specs.Prelude.{◌≡◌, ◌≢◌, ℕ, ◌≤◌, Bool, true, false, MatchBool, List, [], ◌∷◌, length, slice_index}
 use mathlib.Core.Option.{none, some}
 use mathlib.Core.Option as home
 use lib.ListN.{get_elem?}
@@ -73,6 +73,14 @@ module _ {S C : Type 0} where
   -- where the word was 0, it has it now
   abbrev pub taken : Step S → Sat S C → ℕ → Sat S C → Type 0
   taken st m r n = (r ≡ 0 → Holds m.0 n) × (r ≢ 0 → n ≡ m)
+
+  -- a new seat has seen some history, and where the word was 0, it has the state
+  abbrev pub arrived : Step S → Sat S C → ℕ → Sat S C → Type 0
+  arrived st m r n = (seen : List (Entry C)) × taken st (newcomer seen, []) r n
+
+  -- a new seat has the state alone, or has just seen some history
+  abbrev pub Arrived : Bool → Sat S C → Type 0
+  Arrived takes n = (seen : List (Entry C)) × MatchBool takes (Holds (newcomer seen) n) (n ≡ (newcomer seen, []))
 
   module _ (starts : S → Type 0) (goes : S → C → S → Type 0) (rests : C → List C) where
     -- the state that was out is at home, changed by the call

@@ -17,6 +17,16 @@ pub struct Hand<S, C> {
 }
 
 impl<S, C> Hand<S, C> {
+    /// The hand of a seat that has no state out.
+    #[doc(hidden)]
+    #[inline(always)]
+    pub fn of(seat: Seat<S, View<S, C>>) -> Hand<S, C>
+        requires { (seat.me.1 ≡ []) × (seat.me.0.out ≡ []) × (seat.me.0.spent ≡ false) }
+        ensures { result.seat ≡ seat }
+    {
+        Hand { seat }
+    }
+
     /// The hand at rest.
     #[inline(always)]
     pub fn rest(self) -> Resting<S, C>

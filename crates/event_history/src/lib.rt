@@ -16,9 +16,9 @@
 //!
 //! A [`Lock`] is a traced state with queues of those that wait for something of it: a [`Request`] waits by
 //! [`Lock::wait`] (a thread) or [`Lock::poll_in`] (a task), and an [`Attempt`] tries first ([`Lock::obtain`]). Each of their
-//! attempts is a call of the history. A call of one's own is a [`Step`], made by [`perform!`] or [`Lock::call`]; [`steps`]
-//! has those of a queue, and what follows of the history of a queue stands in laws, as [`tag_was_told`]. A [`Resting`] hand
-//! is one that makes no call, which threads may share.
+//! attempts is a call of the history. A call of one's own is a [`Step`], made by [`perform!`], [`perform_first!`] or
+//! [`Lock::call`]; [`steps`] has those of a queue, and what follows of the history of a queue stands in laws, as
+//! [`tag_was_told`]. A [`Resting`] hand is one that makes no call, which threads may share.
 //!
 //! It is not said that a call comes to an end, or in which order calls stand of hands that never heard of each other.
 #![tactic(auto)]

@@ -14,8 +14,8 @@ use crate::hand::Hand;
 use crate::history::{Named, Steps};
 use crate::request::Request;
 use crate::step::Step;
-use crate::take_out;
 use crate::traced::Traced;
+use crate::{make, take_out};
 use event_queue::TaskExchange;
 use event_wait::{Attempted, LineSource, Parks, Task, Waking};
 use futures::task::{Context, Poll};
@@ -88,7 +88,8 @@ impl<S: Steps> Lock<S> {
         if !self.traced.try_take(seat) {
             return Err(step);
         }
-        Ok(self.traced.make(seat, step, beside))
+        let traced = &self.traced;
+        Ok(make!(traced, seat, step, beside))
     }
 
     /// The state alone, for [`perform!`](crate::perform).

@@ -1,7 +1,7 @@
 //! What holds between any two steps of any threads, and what each kind of step tells.
 ghost use Rattle.std.specs.Prelude.{[]};
 ghost use Rattle.event_history.specs.History.{both_views, newcomer};
-ghost use Rattle.event_history.specs.Rule.{Kept, entered, extended, looked, spent_view, taken};
+ghost use Rattle.event_history.specs.Rule.{Kept, arrived, entered, extended, looked, spent_view, taken};
 
 use crate::history::{Made, Steps, View};
 use atomic_table::{Join, Play, Split, TableRule};
@@ -25,6 +25,13 @@ pub(crate) struct Enter;
 
 impl<S, C> Play<S, View<S, C>> for Enter {
     ghost then = { entered };
+}
+
+// A new hand looks at the history, and takes the state out if it is at home.
+pub(crate) struct Arrive;
+
+impl<S, C> Play<S, View<S, C>> for Arrive {
+    ghost then = { arrived };
 }
 
 // A hand takes the state out, if it is at home.

@@ -1,12 +1,14 @@
 //! A call on a traced state.
-ghost use Rattle.std.specs.Prelude.{◌≡◌, ◌↔◌, ◌∷◌, [], false};
+ghost use Rattle.std.specs.Prelude.{◌≡◌, ◌∷◌, [], false};
 ghost use Rattle.event_history.specs.History.{AreAmong, ExtendsThat};
 
 use crate::hand::Hand;
-use crate::history::{Named, Steps, View};
+use crate::history::{Steps, View};
 use crate::traced::{Traced, wait_to_take};
+use crate::{make, take_out};
 use atomic_table::Seat;
 use std::marker::Brand;
+use std::snapshot::Snapshot;
 use std::sync::Wait;
 
 /// Takes the state out. After each call of a function that may wait its caller tests whether it is to end, inlined or not. So
@@ -41,15 +43,60 @@ pub trait Step<S: Steps, B> {
         ensures does { does self state.old beside.old result state.new beside.new };
 }
 
+/// Makes one call on the state that is out with this seat, gives the state back, and is what the call replied. It is no
+/// function, as `take_out!`: a step that wakes others may wait. What makes the step may stand last, as
+/// `|step, state, beside| ..`; by default it is [`Step::make`](crate::Step::make).
+#[doc(hidden)]
+#[macro_export]
+macro_rules! make {
+    ($traced:expr, $seat:expr, $step:expr, $beside:expr) => {
+        $crate::make!($traced, $seat, $step, $beside, |step, state, beside| {
+            $crate::Step::make(step, state, beside)
+        })
+    };
+    ($traced:expr, $seat:expr, $step:expr, $beside:expr, |$own:ident, $state:ident, $on:ident| $made:expr) => {{
+        let $own = $step;
+        let asked = std::snapshot::Snapshot::of(&$own);
+        let before = std::snapshot::Snapshot::of(&*$beside);
+        let $state = $seat.slot_mut(&$traced.table.shared, 0);
+        let $on = &mut *$beside;
+        let reply = $made;
+        $traced.end($seat, asked, before, &reply, &*$beside);
+        reply
+    }};
+}
+
 /// Makes one call of a [`Lock`](crate::Lock) as a call of this hand, with what stands beside the state, and is what
 /// [`Lock::perform`](crate::Lock::perform) returns. It is no function, as `take_out!`.
+///
+/// [`Step::make`](crate::Step::make) is a function, after which it is tested whether the caller is to end, if the step can wake
+/// others. `|step, state, beside| ..` may stand last, which is done in its place with no such test, and must do the same.
 #[macro_export]
 macro_rules! perform {
-    ($lock:expr, $rt:expr, $hand:expr, $step:expr, $beside:expr) => {{
+    ($lock:expr, $rt:expr, $hand:expr, $step:expr, $beside:expr $(, |$own:ident, $state:ident, $on:ident| $made:expr)?) => {{
         let traced = $lock.traced();
         let seat = &mut $hand.seat;
         $crate::take_out!(traced, $rt, seat);
-        traced.make(seat, $step, $beside)
+        let beside = &mut *$beside;
+        $crate::make!(traced, seat, $step, beside $(, |$own, $state, $on| $made)?)
+    }};
+}
+
+/// Makes one call of a [`Lock`](crate::Lock) as the first call of a new hand, with what stands beside the state, and is that
+/// hand and the reply. It is what [`Lock::hand`](crate::Lock::hand) and then `perform!` are, without the load of the first.
+/// What makes the step may stand last, as there.
+#[macro_export]
+macro_rules! perform_first {
+    ($lock:expr, $rt:expr, $step:expr, $beside:expr $(, |$own:ident, $state:ident, $on:ident| $made:expr)?) => {{
+        let traced = $lock.traced();
+        let (takes, seat) = traced.arrive();
+        let mut seat = seat;
+        if !takes {
+            $crate::wait_to_take(traced, $rt, &mut seat);
+        }
+        let beside = &mut *$beside;
+        let reply = $crate::make!(traced, &mut seat, $step, beside $(, |$own, $state, $on| $made)?);
+        ($crate::Hand::of(seat), reply)
     }};
 }
 
@@ -72,45 +119,26 @@ impl<S: Steps> Traced<S> {
     {
         let seat = &mut hand.seat;
         take_out!(self, rt, seat);
-        self.make(seat, step, beside)
+        make!(self, seat, step, beside)
     }
 
-    /// Makes one call on the state that is out with this seat, and gives it back.
+    /// Ends the call of this step, which was made on the state that is out with this seat: gives the state back.
     #[doc(hidden)]
     #[inline(always)]
-    pub fn make<B, K: Step<S, B>>(
+    pub fn end<B, K: Step<S, B>>(
         &self,
         seat: &mut Seat<S, View<S, S::Call>>,
-        step: K,
-        beside: &mut B,
-    ) -> K::Reply
+        step: Snapshot<K>,
+        before: Snapshot<B>,
+        reply: &K::Reply,
+        after: &B,
+    )
         requires seat { seat.old.table_id ≡ self.now.table.shared.table_id }
-        requires out { (q : S) × (seat.old.me.0.out ≡ q ∷ []) × (seat.old.me.1 ≡ (0, q) ∷ []) × (seat.old.me.0.spent ≡ false) }
-        requires may { K.may step }
-        requires rests { (reply : K.Reply) → AreAmong (S.rests (K.call step reply)) seat.old.me.0.mine }
+        requires made { (q : S) × (r : S) × (seat.old.me.0.out ≡ q ∷ []) × (seat.old.me.1 ≡ (0, r) ∷ []) × (seat.old.me.0.spent ≡ false) × S.goes q (K.call step.value reply.now) r × K.does step.value q before.value reply.now r after.now }
+        requires rests { AreAmong (S.rests (K.call step.value reply.now)) seat.old.me.0.mine }
         ensures seat { (seat.new.table_id ≡ seat.old.table_id) × (seat.new.id ≡ seat.old.id) × (seat.new.me.1 ≡ []) }
-        ensures call { ExtendsThat S.goes S.starts S.rests (λ before after. K.does step before beside.old result after beside.new) seat.old.me.0 (K.call step result) seat.new.me.0 }
+        ensures call { ExtendsThat S.goes S.starts S.rests (λ q r. K.does step.value q before.value reply.now r after.now) seat.old.me.0 (K.call step.value reply.now) seat.new.me.0 }
     {
-        self.make_named::<Brand, _, _>(seat, step, beside)
-    }
-
-    #[inline(always)]
-    fn make_named<N: Named<K::Reply, S::Call>, B, K: Step<S, B>>(
-        &self,
-        seat: &mut Seat<S, View<S, S::Call>>,
-        step: K,
-        beside: &mut B,
-    ) -> K::Reply
-        requires seat { seat.old.table_id ≡ self.now.table.shared.table_id }
-        requires out { (q : S) × (seat.old.me.0.out ≡ q ∷ []) × (seat.old.me.1 ≡ (0, q) ∷ []) × (seat.old.me.0.spent ≡ false) }
-        requires may { K.may step }
-        requires rests { (reply : K.Reply) → AreAmong (S.rests (K.call step reply)) seat.old.me.0.mine }
-        requires named { (reply : K.Reply) (call : S.Call) → N.named reply call ↔ (call ≡ K.call step reply) }
-        ensures seat { (seat.new.table_id ≡ seat.old.table_id) × (seat.new.id ≡ seat.old.id) × (seat.new.me.1 ≡ []) }
-        ensures call { ExtendsThat S.goes S.starts S.rests (λ before after. K.does step before beside.old result after beside.new) seat.old.me.0 (K.call step result) seat.new.me.0 }
-    {
-        let reply = step.make(seat.slot_mut(&self.table.shared, 0), beside);
-        self.give_back::<Brand, _, _>(seat, &reply, &());
-        reply
+        self.give_back::<Brand, _, _>(seat, reply, &step);
     }
 }

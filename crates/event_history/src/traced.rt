@@ -1,11 +1,11 @@
 //! A state under a lock of one word.
 ghost use Rattle.std.specs.Prelude.{◌≡◌, ◌∷◌, [], false, IfOk, MatchBool};
 ghost use Rattle.event_history.specs.History.{AreAmong, Looks, both_views, newcomer};
-ghost use Rattle.event_history.specs.Rule.{Holds, Returns};
+ghost use Rattle.event_history.specs.Rule.{Arrived, Holds, Returns};
 
 use crate::hand::Hand;
 use crate::history::{Made, Steps, View};
-use crate::rule::{Absorb, Enter, GiveBack, Look, Rule, Take, Tell};
+use crate::rule::{Absorb, Arrive, Enter, GiveBack, Look, Rule, Take, Tell};
 use atomic_table::{Refused, Seat, Table};
 use std::alloc::{AllocError, Global};
 use std::hint;
@@ -40,7 +40,7 @@ impl<S: Steps> Traced<S> {
         requires { S.starts state }
         ensures { IfOk result (λ t. (t.1.seat.table_id ≡ t.0.table.shared.table_id) × (t.1.seat.me.0 ≡ newcomer [])) }
     {
-        let mut slots = Vec::new(alloc);
+        let mut slots = Vec::with_capacity(alloc, 1)?;
         if let Err(_) = slots.push(state) {
             return Err(AllocError);
         }
@@ -72,6 +72,32 @@ impl<S: Steps> Traced<S> {
             .shared
             .compare_exchange::<Take>(seat, 0, FREE, TAKEN)
             == FREE
+    }
+
+    /// A seat of a new hand, and whether it has taken the state out, since no other hand had it.
+    ///
+    /// It is one swap. Where others may sleep that swap wrote over their mark, which is put back.
+    #[doc(hidden)]
+    #[inline(always)]
+    pub fn arrive(&self) -> (bool, Seat<S, View<S, S::Call>>)
+        ensures seat { result.1.table_id ≡ self.now.table.shared.table_id }
+        ensures takes { Arrived result.0 result.1.me }
+    {
+        let (found, seat) = self.table.shared.swap_new_seat::<Arrive>(0, TAKEN);
+        let mut seat = seat;
+        let takes = found == FREE || (found == AWAITED && self.take_awaited(&mut seat));
+        (takes, seat)
+    }
+
+    // Takes the state out, if no other hand has it, and leaves the mark that others may sleep.
+    #[cold]
+    #[inline(never)]
+    fn take_awaited(&self, seat: &mut Seat<S, View<S, S::Call>>) -> bool
+        requires { (seat.old.table_id ≡ self.now.table.shared.table_id) × (seat.old.me.1 ≡ []) × (seat.old.me.0.out ≡ []) × (seat.old.me.0.spent ≡ false) }
+        ensures seat { (seat.new.table_id ≡ seat.old.table_id) × (seat.new.id ≡ seat.old.id) }
+        ensures takes { MatchBool result (Holds seat.old.me.0 seat.new.me) (seat.new.me ≡ seat.old.me) }
+    {
+        self.table.shared.swap::<Take>(seat, 0, AWAITED) == FREE
     }
 
     /// Gives the state back, after the call that `K` picks of its answer and of who made it.
@@ -157,7 +183,7 @@ pub fn wait_to_take<S: Steps, R: Wait>(
         }
     }
     for _ in rt.forever() {
-        if shared.swap::<Take>(seat, 0, AWAITED) == FREE {
+        if traced.take_awaited(seat) {
             return;
         }
         shared.park(rt, 0, AWAITED as u32);

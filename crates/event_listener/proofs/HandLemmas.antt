@@ -1,17 +1,20 @@
 -- What the hand of a listener knows and may do.
-use Rattle.std.proofs.Common.{◌≡◌, ◌≢◌, ◌∙◌, sym, ap, subst, refl, Bool, true, false, [], ◌∷◌, true≢false}
+use Rattle.std.proofs.Common.{◌≡◌, ◌≢◌, ◌∙◌, sym, ap, subst, refl, Bool, true, false, Option, Some, None, [], ◌∷◌, true≢false}
 use Rattle.event_queue.specs.declared.key.Key.{Key}
 use Rattle.event_queue.specs.declared.reply.RegisterResult.{RegisterResult}
 use Rattle.event_queue.specs.declared.reply.RegisterResult.TheVariants as register
+use Rattle.event_queue.specs.declared.reply.State.{State}
+use Rattle.event_queue.specs.declared.reply.State.TheVariants as was
 use Rattle.event_queue.specs.Queue.{Queue}
 use Rattle.event_wait.specs.declared.lock.task.Task.{Task}
 use Rattle.event_history.specs.declared.queue_call.QueueCall.TheVariants as call
 use Rattle.event_history.specs.History.{Leads}
-use Rattle.event_history.specs.Laws.{OwnsListener}
+use Rattle.event_history.specs.Laws.{FindsTold, OwnsListener}
 use Rattle.event_history.specs.Queue.{calls, is_empty, rests_on}
 use Rattle.event_history.proofs.LawsOwn.{own_registered, own_stored}
 use Rattle.event_listener.specs.Listening.{Known, Member, Standing, known_of}
 use Rattle.event_listener.specs.Polling.{IsPolled, poll_of}
+use Rattle.event_listener.specs.Waiting.{was_notified}
 
 module _ {T : Type 0} where
   -- the hand that was kept is the one that was taken out
@@ -43,3 +46,12 @@ module _ {T : Type 0} where
       record { event = event; finished = λ is. absurd (true≢false (sym is ∙ unfinished)); ready = leaves (λ h. true≢false (sym (ap stored h))); pending = tt; same = tt; gone = tt }
   polled_as {key = key} {found = register.NeverInserted} {v = v} {w = w} {old = old} {new = new} leads owns gone before after unfinished event stays leaves =
       absurd (own_registered key v w register.NeverInserted old new leads owns refl)
+
+  -- a removal that found the listener notified says so
+  pub found_notified : (former : Option (State T Task)) → FindsTold false former → was_notified former ≡ true
+  found_notified None h = absurd h
+  found_notified (Some (was.Notified additional tag)) h = refl
+  found_notified (Some (was.Passed to)) h = refl
+  found_notified (Some (was.Lost additional tag)) h = refl
+  found_notified (Some was.Created) h = absurd h
+  found_notified (Some (was.Task task)) h = absurd h

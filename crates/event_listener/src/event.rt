@@ -9,7 +9,7 @@ mod identity;
 
 use crate::listener::EventListener;
 use event_history::steps::{Counts, Insert, Notify};
-use event_history::{Hand, Lock, QueueCall, perform};
+use event_history::{Hand, Lock, QueueCall, perform_first};
 use event_queue::{IntoNotification, List, ListenError, NotifyError};
 use event_wait::{Task, Waking};
 pub use hand::EventHand;
@@ -107,8 +107,8 @@ impl<T> Event<T> {
         let Ok(runtime) = rt.clone() else {
             return Err(ListenError::Memory);
         };
-        let mut hand = shared.hand();
-        let key = perform!(shared, rt, hand, Insert, &mut ())?;
+        let (hand, key) = perform_first!(shared, rt, Insert, &mut ());
+        let key = key?;
         let number = self.id.number();
         Ok(EventListener::new(shared, key, hand, number, runtime, alloc))
     }
@@ -189,9 +189,13 @@ impl<T> Event<T> {
         let Some(shared) = self.shared.get() else {
             return Ok(0);
         };
-        let mut hand = shared.hand();
         let mut waking = Waking::new();
-        let (_, told) = perform!(shared, rt, hand, Notify { notification }, &mut waking);
+        let step = Notify { notification };
+        let (_, (_, told)) = perform_first!(shared, rt, step, &mut waking, |step, queue, sink| {
+            let Notify { mut notification } = step;
+            let told = queue.notify_uncounted(&mut notification, sink);
+            (notification, told)
+        });
         waking.finish();
         told
     }
@@ -199,24 +203,24 @@ impl<T> Event<T> {
     /// Whether some listener is notified.
     ///
     /// The call does not allocate. It may wait for the lock of the event.
+    #[inline(always)]
     pub fn is_notified<R: Wait>(&self, rt: &R) -> bool {
         let Some(shared) = self.shared.get() else {
             return false;
         };
-        let mut hand = shared.hand();
-        let (told, _) = perform!(shared, rt, hand, Counts, &mut ());
+        let (_, (told, _)) = perform_first!(shared, rt, Counts, &mut ());
         told > 0
     }
 
     /// How many listeners there are, notified or waiting.
     ///
     /// The call does not allocate. It may wait for the lock of the event.
+    #[inline(always)]
     pub fn total_listeners<R: Wait>(&self, rt: &R) -> usize {
         let Some(shared) = self.shared.get() else {
             return 0;
         };
-        let mut hand = shared.hand();
-        let (_, total) = perform!(shared, rt, hand, Counts, &mut ());
+        let (_, (_, total)) = perform_first!(shared, rt, Counts, &mut ());
         total
     }
 }

@@ -1,38 +1,21 @@
 -- A listener that takes in a hand which knew that it had joined, and then notified all, was notified.
-use Rattle.std.proofs.Common.{◌≡◌, ◌^◌, ◌-◌, ◌∙◌, ℕ, Bool, true, false, cond, eqb, List, [], ◌∷◌, ◌++◌, sym, ap, subst, refl, inl, inr, append_assoc, Option, Some, None, Ok}
+use Rattle.std.proofs.Common.{◌≡◌, ◌^◌, ◌-◌, ◌∙◌, ℕ, Bool, true, false, List, [], ◌∷◌, ◌++◌, sym, ap, subst, refl, inl, append_assoc, Option, Ok}
 use Rattle.event_queue.specs.declared.key.Key.{Key}
 use Rattle.event_queue.specs.declared.reply.State.{State}
-use Rattle.event_queue.specs.declared.reply.State.TheVariants as was
 use Rattle.event_queue.specs.Queue.{Queue}
 use Rattle.event_wait.specs.declared.lock.task.Task.{Task}
 use Rattle.event_history.specs.declared.history.Entry.{Entry}
-use Rattle.event_history.specs.declared.history.Met.{Met}
 use Rattle.event_history.specs.declared.queue_call.QueueCall.{QueueCall}
 use Rattle.event_history.specs.declared.queue_call.QueueCall.TheVariants.{Insert, Notify, Remove}
-use Rattle.event_history.specs.History.{entry, calls_by, newcomer, met_of, both_views, IsAmong, StartsWith, EachStood, Leads, Looks}
+use Rattle.event_history.specs.History.{entry, calls_by, newcomer, met_of, both_views, IsAmong, Leads, Looks}
 use Rattle.event_history.specs.Queue.{calls, is_empty, rests_on}
 use Rattle.event_history.specs.Laws.{QueueLog, OwnsListener, FindsTold}
+use Rattle.event_history.proofs.HandLemmas.{among_more, begins_last}
 use Rattle.event_listener.specs.Event.{Listens}
 use Rattle.event_listener.specs.Listening.{Caller, Known, Listening, Standing}
 use Rattle.event_listener.specs.Waiting.{Calls, RemovesBy, was_notified}
+use Rattle.event_listener.proofs.HandLemmas.{found_notified}
 use Rattle.example_events.specs.Heard.{NotifiesAll}
-
-module _ {C : Type 0} where
-  -- a call of a hand stands in the history as that grows
-  among_more : (n : ℕ) (c : C) (xs ys : List (Entry C)) → IsAmong c (calls_by n xs) → IsAmong c (calls_by n (xs ++ ys))
-  among_more n c [] ys h = absurd h
-  among_more n c (x ∷ xs) ys h = by_hand (eqb x.by n) h (among_more n c xs ys) where
-    by_hand : (b : Bool) → IsAmong c (cond b (x.call ∷ calls_by n xs) (calls_by n xs)) → (IsAmong c (calls_by n xs) → IsAmong c (calls_by n (xs ++ ys))) → IsAmong c (cond b (x.call ∷ calls_by n (xs ++ ys)) (calls_by n (xs ++ ys)))
-    by_hand true (inl here) rest = inl here
-    by_hand true (inr k) rest = inr (rest k)
-    by_hand false k rest = rest k
-
-  -- the history begins with what the hand had seen that was taken in last
-  begins_last : (log : List (Entry C)) (numbers : List ℕ) (met : List (Met C)) (last : Met C) (rest : List (Met C)) → met ≡ last ∷ rest → EachStood log numbers met → StartsWith log last.seen
-  begins_last log numbers met last rest is each = by_number numbers (subst (EachStood log numbers) is each) where
-    by_number : (ns : List ℕ) → EachStood log ns (last ∷ rest) → StartsWith log last.seen
-    by_number [] stood = absurd stood
-    by_number (n ∷ ns) stood = stood.0.begins
 
 -- what the law of that name says of a removal
 abbrev ToldByAnother : Type 0 → Type 0
@@ -42,15 +25,6 @@ ToldByAnother T =
     → IsAmong (Insert (Ok key)) (calls_by number earlier) → FindsTold propagate reply
 
 module _ {T : Type 0} where
-  -- a removal that found the listener notified says so
-  found_notified : (former : Option (State T Task)) → FindsTold false former → was_notified former ≡ true
-  found_notified None h = absurd h
-  found_notified (Some (was.Notified additional tag)) h = refl
-  found_notified (Some (was.Passed to)) h = refl
-  found_notified (Some (was.Lost additional tag)) h = refl
-  found_notified (Some was.Created) h = absurd h
-  found_notified (Some (was.Task task)) h = absurd h
-
   -- the listener joined, a hand heard of it, another one that knew so notified all, and the listener took that one in
   finds_told : ToldByAnother T → (key : Key) (seen : QueueLog T Task) (hand joined heard said knows gone : Known T) (additional : Bool) (told : ℕ) (former : Option (State T Task))
       → Calls (newcomer seen) (Insert (Ok key)) joined → Looks calls is_empty rests_on (both_views hand (newcomer joined.seen)) heard

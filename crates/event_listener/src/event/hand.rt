@@ -92,7 +92,18 @@ impl<T> EventHand<T> {
             notification: n.into_notification(),
         };
         let mut waking = Waking::new();
-        let (_, told) = perform!(self.shared, rt, self.hand, step, &mut waking);
+        let (_, told) = perform!(
+            self.shared,
+            rt,
+            self.hand,
+            step,
+            &mut waking,
+            |step, queue, sink| {
+                let Notify { mut notification } = step;
+                let told = queue.notify_uncounted(&mut notification, sink);
+                (notification, told)
+            }
+        );
         waking.finish();
         told
     }

@@ -232,7 +232,14 @@ impl<T, H: Hold<T>, R: Wait + Clock + Clone> QueueListener<T, H, R> {
         let mut hand = hand.take();
         // It wakes somebody only if a notification is propagated.
         let mut waking = Waking::new();
-        let former = perform!(held.queue(), &runtime, hand, step, &mut waking);
+        let former = perform!(
+            held.queue(),
+            &runtime,
+            hand,
+            step,
+            &mut waking,
+            |step, queue, sink| { queue.remove_uncounted(step.key, step.propagate, sink) }
+        );
         waking.finish_seldom();
         match former {
             Some(State::Notified { additional: _, tag } | State::Lost { additional: _, tag }) => {
@@ -267,7 +274,15 @@ impl<T: Drop, H: Hold<T> + Drop, R: Wait + Clock + Clone> Listener<T> for QueueL
             task: Task::from_waker(waker),
         };
         let mut hand = self.hand.take();
-        let found = perform!(self.held.queue(), &self.runtime, hand, step, &mut ());
+        let lock = self.held.queue();
+        let found = perform!(
+            lock,
+            &self.runtime,
+            hand,
+            step,
+            &mut (),
+            |step, queue, _beside| { queue.register_uncounted(step.key, step.task) }
+        );
         self.hand.put(hand);
         self.membership.note(&found);
         poll_of(found, NeverInserted)
@@ -291,7 +306,9 @@ impl<T: Drop, H: Hold<T> + Drop, R: Wait + Clock + Clone> Listener<T> for QueueL
             exchange: lock.line_source(),
         };
         let mut hand = self.hand.take();
-        let found = perform!(lock, &self.runtime, hand, step, cx);
+        let found = perform!(lock, &self.runtime, hand, step, cx, |step, queue, on| {
+            queue.register_with_uncounted(step.key, step.exchange, on)
+        });
         self.hand.put(hand);
         self.membership.note(&found);
         poll_of(found, NeverInserted)

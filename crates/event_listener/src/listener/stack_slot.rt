@@ -4,7 +4,7 @@ ghost use Rattle.event_listener.specs.Event.{ListensFirst};
 
 use super::StackListener;
 use crate::event::{Event, Shared};
-use event_history::perform;
+use event_history::perform_first;
 use event_history::steps::Insert;
 use event_queue::ListenError;
 use std::alloc::Global;
@@ -77,8 +77,8 @@ impl<'ev, T> StackSlot<'ev, T> {
         let Ok(runtime) = rt.clone() else {
             return Err(ListenError::Memory);
         };
-        let mut hand = self.shared.hand();
-        let key = perform!(self.shared, rt, hand, Insert, &mut ())?;
+        let (hand, key) = perform_first!(self.shared, rt, Insert, &mut ());
+        let key = key?;
         Ok(StackListener::new(
             self.shared,
             key,

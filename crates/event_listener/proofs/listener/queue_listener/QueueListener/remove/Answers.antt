@@ -3,8 +3,8 @@ use Rattle.event_history.proofs.LawsOwn.{own_rests}
 use Rattle.event_listener.proofs.HandLemmas.{owns_taken}
 use Rattle.event_listener.proofs.listener.queue_listener.QueueListener.remove.Goals as goal
 
-pub perform-former-requires-clause-rests : goal.perform-former-requires-clause-rests
-perform-former-requires-clause-rests g c =
+pub perform-end-requires-clause-rests : goal.perform-end-requires-clause-rests
+perform-end-requires-clause-rests g c =
     let here = c.self.invariant in
     let unfinished : c.self.inside.membership.is_finished ≡ false = Prim.search (rules) in
     let owns = owns_taken c.self.inside.membership.key here.1.0 c.take-hand.result.seat.me.0 (sym here.1.1 ∙ c.take-hand.ensures.hand.1) (here.1.2 unfinished) in
@@ -12,13 +12,13 @@ perform-former-requires-clause-rests g c =
     Prim.search (rules)
 
 pub returns-in-Some-Passed-clause-removed : goal.returns-in-Some-Passed-clause-removed
-returns-in-Some-Passed-clause-removed g c unfinished = (c.perform-former.result, c.perform-former.new.seat.me.0, Prim.search (rules), Prim.search (rules))
+returns-in-Some-Passed-clause-removed g c unfinished = (c.remove_uncounted.result, c.perform-end.new.seat.me.0, Prim.search (rules), Prim.search (rules))
 
 pub returns-in-Some-Task-clause-removed : goal.returns-in-Some-Task-clause-removed
-returns-in-Some-Task-clause-removed g c unfinished = (c.perform-former.result, c.perform-former.new.seat.me.0, Prim.search (rules), Prim.search (rules))
+returns-in-Some-Task-clause-removed g c unfinished = (c.remove_uncounted.result, c.perform-end.new.seat.me.0, Prim.search (rules), Prim.search (rules))
 
 pub returns-in-Some-Notified-clause-removed : goal.returns-in-Some-Notified-clause-removed
-returns-in-Some-Notified-clause-removed g c unfinished = (c.perform-former.result, c.perform-former.new.seat.me.0, Prim.search (rules), Prim.search (rules))
+returns-in-Some-Notified-clause-removed g c unfinished = (c.remove_uncounted.result, c.perform-end.new.seat.me.0, Prim.search (rules), Prim.search (rules))
 
 pub returns-clause-removed : goal.returns-clause-removed
-returns-clause-removed g c unfinished = (c.perform-former.result, c.perform-former.new.seat.me.0, Prim.search (rules), Prim.search (rules))
+returns-clause-removed g c unfinished = (c.remove_uncounted.result, c.perform-end.new.seat.me.0, Prim.search (rules), Prim.search (rules))

@@ -3,8 +3,8 @@ use Rattle.event_listener.proofs.HandLemmas.{after_poll, owns_taken, polled_as}
 use Rattle.event_history.proofs.LawsOwn.{own_rests}
 use Rattle.event_listener.proofs.listener.queue_listener.QueueListenerListener.poll.Goals as goal
 
-pub perform-found-requires-clause-rests : goal.perform-found-requires-clause-rests
-perform-found-requires-clause-rests g c =
+pub perform-end-requires-clause-rests : goal.perform-end-requires-clause-rests
+perform-end-requires-clause-rests g c =
     let here = c.self.invariant in
     let unfinished : c.self.inside.membership.is_finished ≡ false = Prim.search (rules) in
     let owns = owns_taken c.self.inside.membership.key here.1.0 c.take-hand.result.seat.me.0 (sym here.1.1 ∙ c.take-hand.ensures.hand.1) (here.1.2 unfinished) in
@@ -16,9 +16,9 @@ invariant_of-self g c =
     let here = c.self.invariant in
     let unfinished : c.self.inside.membership.is_finished ≡ false = Prim.search (rules) in
     let owns = owns_taken c.self.inside.membership.key here.1.0 c.take-hand.result.seat.me.0 (sym here.1.1 ∙ c.take-hand.ensures.hand.1) (here.1.2 unfinished) in
-    let called = c.perform-found.ensures.call in (
+    let called = c.perform-end.ensures.call in (
       Prim.search (rules),
-      (c.perform-found.new.seat.me.0, Prim.search (rules), after_poll called.2 (Prim.search (rules)) c.self.inside.membership c.note.new.self (Prim.search (rules)) c.note.ensures.stays c.note.ensures.leaves),
+      (c.perform-end.new.seat.me.0, Prim.search (rules), after_poll called.2 (Prim.search (rules)) c.self.inside.membership c.note.new.self (Prim.search (rules)) c.note.ensures.stays c.note.ensures.leaves),
     )
 
 pub returns-clause-polled : goal.returns-clause-polled
@@ -26,4 +26,9 @@ returns-clause-polled g c =
     let here = c.self.invariant in
     let unfinished : c.self.inside.membership.is_finished ≡ false = Prim.search (rules) in
     let owns = owns_taken c.self.inside.membership.key here.1.0 c.take-hand.result.seat.me.0 (sym here.1.1 ∙ c.take-hand.ensures.hand.1) (here.1.2 unfinished) in
-    rw c.poll_of.ensures (polled_as c.perform-found.ensures.call.2 (Prim.search (rules)) _ _ _ (Prim.search (rules)) (Prim.search (rules)) (Prim.search (rules)) (Prim.search (rules)))
+    rw c.poll_of.ensures (polled_as c.perform-end.ensures.call.2 (Prim.search (rules)) _ _ _ (Prim.search (rules)) (Prim.search (rules)) (Prim.search (rules)) (Prim.search (rules)))
+
+pub returns-clause-call : goal.returns-clause-call
+returns-clause-call g c unfinished =
+    let called = c.perform-end.ensures.call in
+    (called.0, called.1, Prim.search (rules))
