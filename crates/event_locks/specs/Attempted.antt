@@ -1,5 +1,5 @@
 -- What came of an attempt by one that waits if it has to.
-use Rattle.std.specs.Prelude.{◌≡◌, Option, Result, Ok, Err}
+use Rattle.std.specs.Prelude.{◌≡◌, ℕ, Option, Result, Ok, Err}
 use Rattle.event_queue.specs.declared.key.Key.{Key}
 use Rattle.event_queue.specs.declared.reply.ListenError.{ListenError}
 use Rattle.event_queue.specs.declared.reply.RegisterResult.{RegisterResult}
@@ -23,6 +23,13 @@ module _ {G : Type 0} where
   found_by key (Notified grant) = Done grant
   found_by key Registered = Waits key
   found_by key NeverInserted = Absent
+
+  -- how many got what they want
+  abbrev pub gained : {E : Type 0} → Attempted G E → ℕ
+  gained (Done grant) = 1
+  gained (Waits key) = 0
+  gained Absent = 0
+  gained (Refused error) = 0
 
   -- what holds of why one can't wait
   abbrev pub IfRefused : {E : Type 0} → Attempted G E → (E → Type 0) → Type 0

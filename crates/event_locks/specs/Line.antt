@@ -30,6 +30,7 @@ module _ {T W : Type 0} where
     pub told : length new.told ≡ length old.told + told_anew n old
     pub waiting : new.waiting ≡ drop (told_anew n old) old.waiting
     pub order : order_of new ≡ order_of old
+    pub serial : new.next_serial ≡ old.next_serial
 
   -- the tasks that this wakes
   abbrev pub woken_up_to : ℕ → Queue T W → List W
@@ -54,6 +55,7 @@ module _ {T W : Type 0} where
     pub told : new.told ≡ others_of (Some key) old.told
     pub waiting : new.waiting ≡ others_of (Some key) old.waiting
     pub order : order_of new ≡ without key (order_of old)
+    pub serial : new.next_serial ≡ old.next_serial
 
   -- this one has left the queue, and then the first that wait were notified, until `n` were
   pub record HasLeftAndTold (key : Key) (n : ℕ) (old new : Queue T W) : Type 0 where

@@ -3,7 +3,7 @@
 
 mod barrier;
 mod error;
-mod grantor;
+mod line;
 mod lock;
 mod monitor;
 mod mutex;
@@ -11,21 +11,18 @@ mod once_cell;
 mod rw_lock;
 mod seat;
 mod semaphore;
+pub mod states;
 pub mod waiters;
+mod word;
 
-pub use barrier::{Arriving, Barrier, BarrierWait, BarrierWaitResult, Ended, Rounds};
+pub use barrier::{Barrier, BarrierWait, BarrierWaitResult};
 pub use error::{LockError, SetError, SetReason};
-pub use event_wait::{Attempt, Attempted, Limit, Lock, Request, Task, Waking};
-pub use grantor::Grantor;
-pub use lock::{Borrowed, Grants, Guard, Hold, Obtaining, Shared};
-pub use monitor::{Condition, Monitor, Until, Waiter, Watch, Watched};
-pub use mutex::{Locking, LockingArc, Mutex, MutexGuard, MutexGuardArc, Slot};
-pub use once_cell::{Asking, Claim, Claiming, IsSet, Once, OnceCell, Seeing, Turn, Vacant};
+pub use line::counts::Counts;
+pub use monitor::{Condition, Monitor, Until};
+pub use mutex::{Lock, LockArc, Mutex, MutexGuard, MutexGuardArc};
+pub use once_cell::{Claim, Claiming, OnceCell, Seeing, Vacant};
 pub use rw_lock::{
-    Entering, EnteringArc, Read, ReadArc, ReadShare, RwLock, RwLockReadGuard, RwLockReadGuardArc,
-    RwLockWriteGuard, RwLockWriteGuardArc, Shares, Write, WriteArc, WriteShare,
+    Read, ReadArc, RwLock, RwLockCounts, RwLockReadGuard, RwLockReadGuardArc, RwLockWriteGuard,
+    RwLockWriteGuardArc, Write, WriteArc,
 };
-pub use seat::{HandsOut, Seat};
-pub use semaphore::{
-    Acquire, AcquireArc, Permit, Permits, Semaphore, SemaphoreGuard, SemaphoreGuardArc,
-};
+pub use semaphore::{Acquire, AcquireArc, Semaphore, SemaphoreGuard, SemaphoreGuardArc};

@@ -1,8 +1,6 @@
-//! What stands round a lock: waits for it, guards of what it granted, and how both hold it.
-mod guard;
+//! What stands round a lock: waits for it, and how waits and guards hold it.
 mod hold;
 mod obtaining;
 
-pub use self::guard::Guard;
-pub use self::hold::{Borrowed, Grants, Hold, Shared};
-pub use self::obtaining::Obtaining;
+pub(crate) use self::hold::{Borrowed, Hold, Shared};
+pub(crate) use self::obtaining::Obtaining;

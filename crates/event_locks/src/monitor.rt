@@ -8,7 +8,7 @@ mod watched;
 pub use self::watched::{Condition, Waiter, Watched};
 use crate::error::LockError;
 use event_queue::{Key, TaskExchange, WakeSink};
-use event_wait::{Attempt, Attempted, Limit, Lock, Refused, Request, Task, step};
+use event_wait::{Attempt, Attempted, Limit, Lock, Refused, Request, Task, Tries, poll_in, step};
 use futures::Future;
 use futures::task::{Context, Poll};
 use std::alloc::Global;
@@ -144,7 +144,7 @@ fn obtain<V, C: Condition<V> + Copy, R: Wait + Clock>(
     ensures late { IfOk result (λ answer. answer ≡ None → Fails C.fails watch.old) }
     ensures same { watch.new ≡ watch.old }
 {
-    lock.obtain(rt, alloc, watch, limit)
+    event_wait::obtain(lock, rt, alloc, watch, limit)
 }
 
 impl<V, C: Condition<V> + Copy, R: Wait> Drop for Until<'_, V, C, R> {
@@ -168,7 +168,7 @@ impl<V, C: Condition<V> + Copy, R: Wait + Clock> Future for Until<'_, V, C, R> {
     ghost gives = { λ until answer. IfOk answer (Gives C.gives until.watch) };
 
     fn poll(&mut self, cx: &mut Context<'_>) -> Poll<Result<C::Output, LockError>> {
-        self.lock.poll_in(self.rt, &mut self.watch, cx)
+        poll_in(self.lock, self.rt, &mut self.watch, cx)
     }
 }
 

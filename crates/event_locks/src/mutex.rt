@@ -1,60 +1,91 @@
 //! A mutex.
-ghost use Rattle.std.specs.Prelude.{◌≡◌};
-ghost use Rattle.std.specs.Arc.{arc_value};
+ghost use Rattle.std.specs.Prelude.{◌≡◌, ◌<◌, ◌≤◌, [], IfSome, true};
+ghost use Rattle.atomic_table.specs.Table.{rest};
+ghost use Rattle.event_wait.specs.Attempted.{Attempts, OnDone, OnRefused, OnUndone};
+ghost use Rattle.event_locks.specs.Free.{ServesTheStarving, Stands};
+ghost use Rattle.event_locks.specs.Word.{HasPlace, HasState, HasValue, HasValueToo};
 
-mod slot;
+mod guard;
+mod lock;
 
-pub use self::slot::Slot;
-use crate::lock::{Borrowed, Grants, Guard, Hold, Obtaining, Shared};
-use crate::seat::Seat;
-use event_wait::{Lock, Task};
+pub use self::guard::{MutexGuard, MutexGuardArc};
+pub use self::lock::{Lock, LockArc};
+use crate::error::LockError;
+use crate::line::competing::{Competing, OneValue};
+use crate::line::competitor::{Coming, Competitor};
+use crate::line::counts::Counts;
+use crate::lock::{Borrowed, Obtaining, Shared};
+use crate::word::{Held, Seat, Word};
+use event_queue::TaskExchange;
+use event_wait::{Attempted, LineSource, Serves, Task, Tries};
 use std::alloc::{AllocError, Global};
-use std::ops::{Deref, DerefMut};
+use std::fmt;
+use std::fmt::{Debug, Formatter};
 use std::sync::{Arc, Wait};
 use std::time::Clock;
 
-/// A value that one thread or task at a time can use. Those that wait are notified in order, and compete with newcomers: one
-/// that is notified and finds the value taken goes to the end of the queue, so one of them may never have it.
+/// A value that one thread or task at a time can use. A free one is taken by one atomic step, and given back by another where
+/// nobody waits.
+///
+/// Those that wait are notified in order, and compete with newcomers. One that is notified and finds the value taken goes to
+/// the end of the queue; where that happens to one twice, newcomers are shut out until it has come again, and then finds the
+/// value.
 ///
 /// The value is in the lock while nobody has it, and else in the guard of the one that has it: a large one is better boxed.
 #[derive(Drop)]
 pub struct Mutex<T> {
-    slot: Lock<Slot<T, Task>>,
+    word: Word<Competing<OneValue>, T>,
+    source: LineSource,
 }
 
-/// The value of a mutex. Dropping the guard gives it back.
-pub type MutexGuard<'a, T, R> = Guard<Slot<T, Task>, Borrowed<'a, Slot<T, Task>, R>, T>;
-
-/// The value of a mutex, by a guard that shares the mutex, and so may go to another thread. Dropping it gives the value
-/// back.
-pub type MutexGuardArc<T, R> = Guard<Slot<T, Task>, Shared<Mutex<T>, R>, T>;
-
-/// A wait for the value of a mutex.
-pub type Locking<'a, T, R> = Obtaining<Slot<T, Task>, Seat<T>, Borrowed<'a, Slot<T, Task>, R>>;
-
-/// A wait for the value of a mutex that shares the mutex.
-pub type LockingArc<T, R> = Obtaining<Slot<T, Task>, Seat<T>, Shared<Mutex<T>, R>>;
+/// The right to the value, which a seat at the lock's table has out.
+pub(crate) type Lent<T> = Seat<Competing<OneValue>, T>;
 
 impl<T: Drop> Mutex<T> {
-    /// A mutex round this value, which nobody has. It takes no memory until somebody waits.
-    pub fn new(alloc: Global, value: T) -> Self {
-        Mutex {
-            slot: Lock::of(Slot::new(alloc, value)),
-        }
+    /// A mutex round this value, which nobody has. It allocates two small blocks; an error says that there is no memory, and
+    /// drops the value.
+    pub fn new(alloc: Global, value: T) -> Result<Self, AllocError> {
+        let line = Competing::new(alloc);
+        Ok(Mutex {
+            word: Word::new(alloc, 1, line, value)?,
+            source: LineSource::new(),
+        })
     }
 
-    /// The value, if nobody has it.
+    /// How it stands at some moment of this call: one is free while nobody has the value. It may wait for the queue.
+    pub fn counts<R: Wait>(&self, rt: &R) -> Counts
+        ensures nobody_waits_in_vain { result.notified < result.free → result.waiting ≡ 0 }
+        ensures shuts { (0 < result.starving → result.is_shut ≡ true) × (result.is_shut ≡ true → 0 < result.starving) }
+    {
+        self.word.counts(rt)
+    }
+
+    /// The value, if nobody has it and nobody starves. It takes no memory, and waits for nobody.
     #[must_use = "a guard that is dropped at once gives back what it holds"]
     #[inline(always)]
     pub fn try_lock<'a, R: Wait + Clock>(&'a self, rt: &'a R) -> Option<MutexGuard<'a, T, R>> {
-        let value = self.slot.attempt(rt, &mut Seat::<T>::new())?;
-        Some(Guard::new(self.borrowed(rt), value))
+        let lent = self.word.try_value()?;
+        Some(MutexGuard::new(Borrowed { lock: self, rt }, lent))
+    }
+
+    /// The value by a guard that may go to another thread, if nobody has it and nobody starves. It returns an error if no share
+    /// of the mutex can be made.
+    #[must_use = "a guard that is dropped at once gives back what it holds"]
+    pub fn try_lock_arc<R: Wait + Clock + Drop>(
+        this: &Arc<Self, Global>,
+        rt: R,
+    ) -> Result<Option<MutexGuardArc<T, R>>, AllocError> {
+        let lock = Arc::try_clone(this)?;
+        match lock.word.try_value() {
+            Some(lent) => Ok(Some(MutexGuardArc::new(Shared { lock, rt }, lent))),
+            None => Ok(None),
+        }
     }
 
     /// A wait for the value.
     #[inline(always)]
-    pub fn lock<'a, R: Wait + Clock>(&'a self, rt: &'a R, alloc: Global) -> Locking<'a, T, R> {
-        Obtaining::new(self.borrowed(rt), alloc, Seat::new())
+    pub fn lock<'a, R: Wait + Clock>(&'a self, rt: &'a R, alloc: Global) -> Lock<'a, T, R> {
+        Lock::new(Obtaining::new(Borrowed { lock: self, rt }, alloc, Competitor::new()))
     }
 
     /// A wait for the value by a guard that may go to another thread. It returns an error if no share of the mutex can be
@@ -63,80 +94,132 @@ impl<T: Drop> Mutex<T> {
         this: &Arc<Self, Global>,
         rt: R,
         alloc: Global,
-    ) -> Result<LockingArc<T, R>, AllocError> {
+    ) -> Result<LockArc<T, R>, AllocError> {
         let lock = Arc::try_clone(this)?;
-        Ok(Obtaining::new(Shared { lock, rt }, alloc, Seat::new()))
-    }
-
-    /// The value, without a lock. `None` says that a guard was forgotten, and the value with it.
-    pub fn get_mut(&mut self) -> Option<&mut T> {
-        self.slot.state_mut().get_mut()
+        Ok(LockArc::new(Obtaining::new(Shared { lock, rt }, alloc, Competitor::new())))
     }
 
     /// The value. `None` says that a guard was forgotten, and the value with it.
     pub fn into_inner(self) -> Option<T> {
-        let Mutex { slot } = self;
-        slot.into_state().into_inner()
+        let Mutex { word, source: _ } = self;
+        word.into_value()
     }
 
+    // Puts the value into its place, and gives that back.
     #[inline(always)]
-    fn borrowed<'a, R>(&'a self, rt: &'a R) -> Borrowed<'a, Slot<T, Task>, R> {
-        Borrowed {
-            lock: &self.slot,
-            rt,
+    fn give_back<R: Wait>(&self, rt: &R, lent: Lent<T>, value: T)
+        requires { (lent.table_id ≡ self.now.word.table.shared.table_id) × HasPlace lent.me }
+    {
+        let mut lent = lent;
+        self.word.put_in(&mut lent, value);
+        self.word.give_value(rt, lent);
+    }
+
+    fn attempt_held<C, X: TaskExchange<Task, C>>(
+        &self,
+        held: &mut Held<Competing<OneValue>, T>,
+        request: &mut Competitor,
+        exchange: &X,
+        on: &mut C,
+    ) -> Attempted<(), LockError>
+        requires seat { (held.old.seat.table_id ≡ self.now.word.table.shared.table_id) × (rest held.old.seat.me.1 ≡ []) }
+        requires stands { HasState (λ n q. Stands n q.line) held.old.seat.me }
+        ensures seat { held.new.seat.table_id ≡ held.old.seat.table_id }
+        ensures value { OnDone result (λ _. HasValueToo held.new.seat.me) }
+        ensures serves { HasState (λ n q. ServesTheStarving n q.line) held.new.seat.me }
+        ensures done { OnDone result (λ _. request.new ≡ request.old) }
+        ensures waits { OnUndone result (request.old ≤ request.new) }
+        ensures refused { OnRefused result (request.new ≡ request.old) }
+        ensures exchanged { Attempts (X.exchanged exchange.now) on.old result on.new }
+    {
+        let coming = self.word.come(held, request, exchange, on);
+        if let Coming::Waits(key) = coming {
+            return Attempted::Waits(key);
+        }
+        if self.word.take_value(held, coming.is_notified()) {
+            return Attempted::Done(());
+        }
+        match self.word.lose(held, request, coming, exchange, on) {
+            Ok(key) => Attempted::Waits(key),
+            Err(error) => Attempted::Refused(error),
         }
     }
 }
 
-impl<T: Drop, R: Wait + Clock> Hold<Slot<T, Task>> for Shared<Mutex<T>, R> {
-    ghost source = { λ hold. (arc_value hold.lock).slot };
+impl<T: Drop> Serves<Competitor> for Mutex<T> {
+    type Output = Lent<T>;
 
-    type Runtime = R;
+    type Refusal = LockError;
+
+    ghost succeeds = { λ mutex before lent after. (after ≡ before) × (lent.table_id ≡ mutex.word.table.shared.table_id) × HasValue lent.me };
+
+    ghost waits = { λ before after. before ≤ after };
+
+    ghost leaves = { λ mutex before answer after. (after ≡ before) × IfSome answer (λ lent. (lent.table_id ≡ mutex.word.table.shared.table_id) × HasValue lent.me) };
+
+    ghost source = { λ mutex. mutex.source };
 
     #[inline(always)]
-    fn lock(&self) -> &Lock<Slot<T, Task>> {
-        &self.lock.slot
+    fn line_source(&self) -> &LineSource {
+        &self.source
     }
 
-    #[inline(always)]
-    fn rt(&self) -> &R {
-        &self.rt
+    fn attempt_or_wait<C, X: TaskExchange<Task, C>, R: Wait>(
+        &self,
+        rt: &R,
+        request: &mut Competitor,
+        exchange: &X,
+        on: &mut C,
+    ) -> Attempted<Lent<T>, LockError> {
+        let (_, mut held) = self.word.take(rt);
+        let attempted = self.attempt_held(&mut held, request, exchange, on);
+        let lent = self.word.put_back(rt, held);
+        match attempted {
+            Attempted::Done(()) => Attempted::Done(lent),
+            Attempted::Waits(key) => Attempted::Waits(key),
+            Attempted::Absent => Attempted::Absent,
+            Attempted::Refused(error) => Attempted::Refused(error),
+        }
+    }
+
+    fn leave<R: Wait>(
+        &self,
+        rt: &R,
+        request: &mut Competitor,
+    ) -> Result<Option<Lent<T>>, LockError> {
+        let (_, mut held) = self.word.take(rt);
+        let coming = self.word.leave(&mut held, request);
+        let took = self.word.take_value(&mut held, coming.is_notified());
+        let lent = self.word.put_back(rt, held);
+        Ok(if took { Some(lent) } else { None })
     }
 }
 
-impl<T: Drop, R: Wait + Clock> Grants<Slot<T, Task>, T> for Shared<Mutex<T>, R> {
-    type Output = MutexGuardArc<T, R>;
+impl<T: Drop> Tries<Competitor> for Mutex<T> {
+    #[inline(always)]
+    fn is_waiting(&self, request: &Competitor) -> bool {
+        request.is_waiting()
+    }
 
     #[inline(always)]
-    fn granted(self, value: T) -> MutexGuardArc<T, R> {
-        Guard::new(self, value)
+    fn attempt<R: Wait>(&self, _rt: &R, _request: &mut Competitor) -> Option<Lent<T>> {
+        self.word.try_value()
+    }
+
+    fn give_up<R: Wait>(&self, rt: &R, request: &mut Competitor) {
+        if request.is_waiting() {
+            let (_, mut held) = self.word.take(rt);
+            self.word.leave(&mut held, request);
+            drop(self.word.put_back(rt, held));
+        }
     }
 }
 
-impl<T: Drop, H: Hold<Slot<T, Task>>> Deref for Guard<Slot<T, Task>, H, T> {
-    type Target = T;
-
-    ghost deref_gives = { λ guard value. value ≡ guard };
-
-    #[inline(always)]
-    fn deref(&self) -> &T {
-        &self.grant
-    }
-}
-
-impl<T: Drop, H: Hold<Slot<T, Task>>> DerefMut for Guard<Slot<T, Task>, H, T> {
-    ghost use Rattle.std.specs.Borrow.{Lends, sem};
-    ghost use Rattle.event_wait.specs.contracts.lock.task.Task.{the_row as task_row};
-    ghost use Rattle.event_locks.specs.contracts.lock.guard.Guard.{the_row};
-    ghost use Rattle.event_locks.specs.contracts.mutex.slot.Slot.{the_row as slot_row};
-
-    ghost deref_mut_gives = { λ guard value. value ≡ guard };
-
-    #[inline(always)]
-    fn deref_mut(&mut self) -> &mut T
-        ensures* writes_back { sem 𝓛 (Lends (the_row (slot_row T.row task_row) H.row T.row H.Runtime.row H.Hold) T.row self.entry result (λ w. w)) }
-        ensures shows { result.now ≡ self.old }
-    {
-        &mut self.grant
+impl<T: Drop> Debug for Mutex<T> {
+    /// Shows whether somebody has the value, and not the value.
+    fn fmt<W: fmt::Write>(&self, f: &mut Formatter<W>) -> fmt::Result {
+        f.debug_struct("Mutex")
+            .field("is_locked", &(self.word.free() == 0))
+            .finish()
     }
 }

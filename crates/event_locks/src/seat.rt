@@ -3,13 +3,12 @@ ghost use Rattle.std.specs.Prelude.{◌≡◌, ⊤, IsSome};
 ghost use Rattle.event_wait.specs.Attempted.{Attempts, LeavesBy};
 
 use crate::error::LockError;
-use crate::grantor::Grantor;
 use event_queue::{Key, TaskExchange, WakeSink};
 use event_wait::{Attempt, Attempted, Request, Task};
 use std::marker::{Model, PhantomData};
 
 /// A state that hands something to those that come, or that wait for it in its queue.
-pub trait HandsOut<G>: Grantor<G> {
+pub trait HandsOut<G> {
     /// How often a thread that was not handed it at once pauses and tries again before it waits in the queue.
     const TRIES: u32 = 8;
 
@@ -32,11 +31,7 @@ pub trait HandsOut<G>: Grantor<G> {
     fn leave<K: WakeSink<Task>>(&mut self, key: Key, sink: &mut K) -> Option<G>;
 
     /// Takes this one out of the queue, and hands on what it can have.
-    fn withdraw<K: WakeSink<Task>>(&mut self, key: Key, sink: &mut K) {
-        if let Some(grant) = self.leave(key, sink) {
-            self.give_back(grant, sink);
-        }
-    }
+    fn withdraw<K: WakeSink<Task>>(&mut self, key: Key, sink: &mut K);
 }
 
 /// The place of one that wants a `G` of a state, in its queue, if it has one.

@@ -1,63 +1,92 @@
 //! A semaphore.
-ghost use Rattle.std.specs.Prelude.{◌≡◌};
-ghost use Rattle.std.specs.Arc.{arc_value};
+ghost use Rattle.std.specs.Prelude.{◌≡◌, ◌<◌, ◌≤◌, true};
+ghost use Rattle.event_wait.specs.Attempted.{Attempts, OnDone, OnRefused, OnUndone};
+ghost use Rattle.event_locks.specs.Free.{ServesTheStarving, Stands};
+ghost use Rattle.event_locks.specs.Word.{HasState};
 
-mod permits;
+mod acquire;
+mod guard;
 
-pub use self::permits::{Permit, Permits};
+pub use self::acquire::{Acquire, AcquireArc};
+pub use self::guard::{SemaphoreGuard, SemaphoreGuardArc};
 use crate::error::LockError;
-use crate::lock::{Borrowed, Grants, Guard, Hold, Obtaining, Shared};
-use crate::seat::{HandsOut, Seat};
-use event_queue::{Key, TaskExchange, WakeSink};
-use event_wait::{Attempted, Lock, Task, step};
+use crate::line::competing::{Competing, Permits};
+use crate::line::competitor::{Coming, Competitor};
+use crate::line::counts::Counts;
+use crate::lock::{Borrowed, Obtaining, Shared};
+use crate::word::permits::Permit;
+use crate::word::{Held, Word};
+use event_queue::TaskExchange;
+use event_wait::{Attempted, LineSource, Serves, Task, Tries};
 use std::alloc::{AllocError, Global};
+use std::fmt;
+use std::fmt::{Debug, Formatter};
 use std::sync::{Arc, Wait};
 use std::time::Clock;
 
-/// Permits that threads and tasks share. Those that wait are notified in order, and compete with newcomers: one that is
-/// notified and finds no permit goes to the end of the queue, so one of them may never have one.
+/// Permits that threads and tasks share. A free one is taken by one atomic step, and given back by another where nobody waits.
+///
+/// Those that wait are notified in order, and compete with newcomers. One that is notified and finds no permit goes to the
+/// end of the queue; where that happens to one twice, newcomers are shut out until it has come again, and then finds a permit.
 #[derive(Drop)]
 pub struct Semaphore {
-    permits: Lock<Permits<Task>>,
+    word: Word<Competing<Permits>, ()>,
+    source: LineSource,
 }
 
-/// A permit. Dropping it gives the permit back.
-pub type SemaphoreGuard<'a, R> = Guard<Permits<Task>, Borrowed<'a, Permits<Task>, R>, Permit>;
-
-/// A permit that shares its semaphore, and so may go to another thread. Dropping it gives the permit back.
-pub type SemaphoreGuardArc<R> = Guard<Permits<Task>, Shared<Semaphore, R>, Permit>;
-
-/// A wait for a permit.
-pub type Acquire<'a, R> = Obtaining<Permits<Task>, Seat<Permit>, Borrowed<'a, Permits<Task>, R>>;
-
-/// A wait for a permit that shares its semaphore.
-pub type AcquireArc<R> = Obtaining<Permits<Task>, Seat<Permit>, Shared<Semaphore, R>>;
-
 impl Semaphore {
-    /// A semaphore with `permits` permits, all free. It takes no memory until somebody waits.
-    pub fn new(alloc: Global, permits: usize) -> Self {
-        Semaphore {
-            permits: Lock::of(Permits::new(alloc, permits)),
-        }
+    /// As many permits are free at most.
+    pub const MAX_PERMITS: usize = 0x1fff_ffff_ffff_ffff;
+
+    /// A semaphore with `permits` permits, all free; with [`MAX_PERMITS`](Semaphore::MAX_PERMITS) if that is less. It allocates
+    /// two small blocks, and returns an error if there is no memory.
+    pub fn new(alloc: Global, permits: usize) -> Result<Self, AllocError> {
+        let line = Competing::new(alloc);
+        Ok(Semaphore {
+            word: Word::new(alloc, permits.min(Self::MAX_PERMITS) as u64, line, ())?,
+            source: LineSource::new(),
+        })
     }
 
-    /// How many permits are free. Another thread may take one at once.
-    pub fn available<R: Wait>(&self, rt: &R) -> usize {
-        self.permits.state(rt).free()
+    /// How many permits are free. Another thread may take one at once. It takes no lock.
+    pub fn available(&self) -> usize {
+        self.word.free() as usize
     }
 
-    /// A permit, if one is free.
+    /// How it stands at some moment of this call. It may wait for the queue.
+    pub fn counts<R: Wait>(&self, rt: &R) -> Counts
+        ensures nobody_waits_in_vain { result.notified < result.free → result.waiting ≡ 0 }
+        ensures shuts { (0 < result.starving → result.is_shut ≡ true) × (result.is_shut ≡ true → 0 < result.starving) }
+    {
+        self.word.counts(rt)
+    }
+
+    /// A permit, if one is free and nobody starves. It takes no memory, and waits for nobody.
     #[must_use = "a guard that is dropped at once gives back what it holds"]
     #[inline(always)]
     pub fn try_acquire<'a, R: Wait + Clock>(&'a self, rt: &'a R) -> Option<SemaphoreGuard<'a, R>> {
-        let permit = self.permits.attempt(rt, &mut Seat::<Permit>::new())?;
-        Some(Guard::new(self.borrowed(rt), permit))
+        let permit = self.word.try_permit()?;
+        Some(SemaphoreGuard::new(Borrowed { lock: self, rt }, permit))
+    }
+
+    /// A permit that shares its semaphore, and so may go to another thread, if one is free and nobody starves. It returns an
+    /// error if no share of the semaphore can be made.
+    #[must_use = "a guard that is dropped at once gives back what it holds"]
+    pub fn try_acquire_arc<R: Wait + Clock + Drop>(
+        this: &Arc<Self, Global>,
+        rt: R,
+    ) -> Result<Option<SemaphoreGuardArc<R>>, AllocError> {
+        let lock = Arc::try_clone(this)?;
+        match lock.word.try_permit() {
+            Some(permit) => Ok(Some(SemaphoreGuardArc::new(Shared { lock, rt }, permit))),
+            None => Ok(None),
+        }
     }
 
     /// A wait for a permit.
     #[inline(always)]
     pub fn acquire<'a, R: Wait + Clock>(&'a self, rt: &'a R, alloc: Global) -> Acquire<'a, R> {
-        Obtaining::new(self.borrowed(rt), alloc, Seat::new())
+        Acquire::new(Obtaining::new(Borrowed { lock: self, rt }, alloc, Competitor::new()))
     }
 
     /// A wait for a permit that may go to another thread. It returns an error if no share of the semaphore can be made.
@@ -67,80 +96,119 @@ impl Semaphore {
         alloc: Global,
     ) -> Result<AcquireArc<R>, AllocError> {
         let lock = Arc::try_clone(this)?;
-        Ok(Obtaining::new(Shared { lock, rt }, alloc, Seat::new()))
+        Ok(AcquireArc::new(Obtaining::new(Shared { lock, rt }, alloc, Competitor::new())))
     }
 
-    /// Adds permits, all free at once, and notifies the first that wait of them. As many as a `usize` holds are free at
-    /// most.
+    /// Adds permits, all free at once, and notifies the first that wait of them. As many as
+    /// [`MAX_PERMITS`](Semaphore::MAX_PERMITS) are free at most. It may wait for the queue.
     pub fn add_permits<R: Wait>(&self, rt: &R, n: usize) {
-        step!(self.permits, rt, permits, waking => permits.release(n, &mut waking))
+        self.word.add(rt, n as u64);
     }
 
     #[inline(always)]
-    fn borrowed<'a, R>(&'a self, rt: &'a R) -> Borrowed<'a, Permits<Task>, R> {
-        Borrowed {
-            lock: &self.permits,
-            rt,
+    fn give_back<R: Wait>(&self, rt: &R, permit: Permit) {
+        self.word.give_permit(rt, permit);
+    }
+
+    fn attempt_held<C, X: TaskExchange<Task, C>>(
+        &self,
+        held: &mut Held<Competing<Permits>, ()>,
+        request: &mut Competitor,
+        exchange: &X,
+        on: &mut C,
+    ) -> Attempted<Permit, LockError>
+        requires seat { held.old.seat.table_id ≡ self.now.word.table.shared.table_id }
+        requires stands { HasState (λ n q. Stands n q.line) held.old.seat.me }
+        ensures seat { held.new.seat.table_id ≡ held.old.seat.table_id }
+        ensures serves { HasState (λ n q. ServesTheStarving n q.line) held.new.seat.me }
+        ensures done { OnDone result (λ _. request.new ≡ request.old) }
+        ensures waits { OnUndone result (request.old ≤ request.new) }
+        ensures refused { OnRefused result (request.new ≡ request.old) }
+        ensures exchanged { Attempts (X.exchanged exchange.now) on.old result on.new }
+    {
+        let coming = self.word.come(held, request, exchange, on);
+        if let Coming::Waits(key) = coming {
+            return Attempted::Waits(key);
+        }
+        match self.word.take_permit(held, coming.is_notified()) {
+            Some(permit) => Attempted::Done(permit),
+            None => match self.word.lose(held, request, coming, exchange, on) {
+                Ok(key) => Attempted::Waits(key),
+                Err(error) => Attempted::Refused(error),
+            },
         }
     }
 }
 
-impl<R: Wait + Clock> Hold<Permits<Task>> for Shared<Semaphore, R> {
-    ghost source = { λ hold. (arc_value hold.lock).permits };
+impl Serves<Competitor> for Semaphore {
+    type Output = Permit;
 
-    type Runtime = R;
+    type Refusal = LockError;
 
-    #[inline(always)]
-    fn lock(&self) -> &Lock<Permits<Task>> {
-        &self.lock.permits
-    }
+    ghost succeeds = { λ _ before _ after. after ≡ before };
 
-    #[inline(always)]
-    fn rt(&self) -> &R {
-        &self.rt
-    }
-}
+    ghost waits = { λ before after. before ≤ after };
 
-impl<R: Wait + Clock> Grants<Permits<Task>, Permit> for Shared<Semaphore, R> {
-    type Output = SemaphoreGuardArc<R>;
+    ghost leaves = { λ _ before _ after. after ≡ before };
+
+    ghost source = { λ semaphore. semaphore.source };
 
     #[inline(always)]
-    fn granted(self, permit: Permit) -> SemaphoreGuardArc<R> {
-        Guard::new(self, permit)
-    }
-}
-
-impl<H: Hold<Permits<Task>> + Drop> Guard<Permits<Task>, H, Permit> {
-    /// Keeps the permit from coming back: there is one less from here on.
-    pub fn forget(self) {
-        let (_, permit) = self.into_parts();
-        permit.forget();
-    }
-}
-
-impl HandsOut<Permit> for Permits<Task> {
-    #[inline(always)]
-    fn try_hand<K: WakeSink<Task>>(&mut self, _sink: &mut K) -> Option<Permit> {
-        self.try_take()
+    fn line_source(&self) -> &LineSource {
+        &self.source
     }
 
-    fn hand_or_wait<C, X: TaskExchange<Task, C>, K: WakeSink<Task>>(
-        &mut self,
-        key: Option<Key>,
+    fn attempt_or_wait<C, X: TaskExchange<Task, C>, R: Wait>(
+        &self,
+        rt: &R,
+        request: &mut Competitor,
         exchange: &X,
         on: &mut C,
-        sink: &mut K,
     ) -> Attempted<Permit, LockError> {
-        self.take_or_wait(key, exchange, on, sink)
+        let (_, mut held) = self.word.take(rt);
+        let attempted = self.attempt_held(&mut held, request, exchange, on);
+        drop(self.word.put_back(rt, held));
+        attempted
     }
 
-    fn leave<K: WakeSink<Task>>(&mut self, key: Key, sink: &mut K) -> Option<Permit> {
-        let permit = self.try_take();
-        self.cancel(Some(key), sink);
-        permit
+    fn leave<R: Wait>(
+        &self,
+        rt: &R,
+        request: &mut Competitor,
+    ) -> Result<Option<Permit>, LockError> {
+        let (_, mut held) = self.word.take(rt);
+        let coming = self.word.leave(&mut held, request);
+        let permit = self.word.take_permit(&mut held, coming.is_notified());
+        drop(self.word.put_back(rt, held));
+        Ok(permit)
+    }
+}
+
+impl Tries<Competitor> for Semaphore {
+    #[inline(always)]
+    fn is_waiting(&self, request: &Competitor) -> bool {
+        request.is_waiting()
     }
 
-    fn withdraw<K: WakeSink<Task>>(&mut self, key: Key, sink: &mut K) {
-        self.cancel(Some(key), sink);
+    #[inline(always)]
+    fn attempt<R: Wait>(&self, _rt: &R, _request: &mut Competitor) -> Option<Permit> {
+        self.word.try_permit()
+    }
+
+    fn give_up<R: Wait>(&self, rt: &R, request: &mut Competitor) {
+        if request.is_waiting() {
+            let (_, mut held) = self.word.take(rt);
+            self.word.leave(&mut held, request);
+            drop(self.word.put_back(rt, held));
+        }
+    }
+}
+
+impl Debug for Semaphore {
+    /// Shows how many permits are free.
+    fn fmt<W: fmt::Write>(&self, f: &mut Formatter<W>) -> fmt::Result {
+        f.debug_struct("Semaphore")
+            .field("available", &self.available())
+            .finish()
     }
 }

@@ -7,7 +7,7 @@ ghost use Rattle.std.specs.List.{FoldsTo};
 ghost use Rattle.event_queue.specs.Exchange.{InsertsWith, RegistersWith};
 ghost use Rattle.event_queue.specs.Insert.{Inserts};
 ghost use Rattle.event_queue.specs.Key.{without};
-ghost use Rattle.event_queue.specs.Queue.{order_of};
+ghost use Rattle.event_queue.specs.Queue.{IsQueue, order_of};
 ghost use Rattle.event_locks.specs.Attempted.{found_by, waits_by};
 ghost use Rattle.event_locks.specs.Line.{CannotWait, HandsOut, HasLeft, Leaves, LeavesThenTells, Looked, TellsAll, TellsUpTo, WaitsBy, left_by, or_more, woken_at_once, woken_by_leaving, woken_up_to};
 ghost use Rattle.event_locks.specs.Left.{left_as, told_of, waited_of};
@@ -30,7 +30,8 @@ impl<W: Drop> WakeSink<W> for Nobody {
 // Whether somebody waits who is not notified. Where nobody does, this is all that a notification costs.
 #[inline(always)]
 pub(crate) fn somebody_waits<W>(line: &List<(), W>) -> bool
-    ensures { IsTrue result ↔ (0 < length line.now.waiting) }
+    ensures waits { IsTrue result ↔ (0 < length line.now.waiting) }
+    ensures queue { IsQueue line.now }
 {
     line.total_listeners() > line.listeners_notified()
 }
@@ -38,6 +39,7 @@ pub(crate) fn somebody_waits<W>(line: &List<(), W>) -> bool
 /// Notifies the first that wait until `n` of the queue are notified, if there are as many, and wakes them.
 #[inline(always)]
 pub fn tell<W, S: WakeSink<W>>(line: &mut List<(), W>, n: usize, sink: &mut S)
+    ensures queue { IsQueue line.old }
     ensures step { TellsUpTo n line.old line.new }
     ensures wakes { FoldsTo S.woke sink.old (woken_up_to n line.old) sink.new }
 {

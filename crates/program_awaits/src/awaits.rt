@@ -26,7 +26,7 @@ where
     let both = join(permits.acquire(rt, alloc), permits.acquire(rt, alloc));
     let (first, second) = block_on(rt, both)?;
     let held = (first?, second?);
-    let free = permits.available(rt);
+    let free = permits.available();
     drop(held);
     Ok(free)
 }

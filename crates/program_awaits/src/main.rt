@@ -25,7 +25,7 @@ where
     R: Wait + Clock + Clone + RandomSource + AllocGlobal + Print,
 {
     let alloc = rt.alloc();
-    let balance = Mutex::new(alloc, 10u64);
+    let balance = Mutex::new(alloc, 10u64)?;
     println!(rt; "{}", deposit(rt, alloc, &balance, 5)?)?;
     let (sender, receiver) = unbounded(rt, alloc)?;
     println!(rt; "{:?}", first_of(rt, alloc, &receiver, &balance)?)?;
@@ -67,7 +67,7 @@ where
     run_balance(&rt)?;
 
     // The second permit comes from another thread.
-    let permits = Arc::new(alloc, Semaphore::new(alloc, 1))?;
+    let permits = Arc::new(alloc, Semaphore::new(alloc, 1)?)?;
     let shared = Arc::try_clone(&permits)?;
     let other = thread::spawn(&rt, move || {
         thread::sleep(&rt, Duration::from_millis(20));
@@ -76,7 +76,8 @@ where
     println!(rt; "{}", take_two(&rt, alloc, &permits)?)?;
     other.join(&rt);
 
-    println!(rt; "{}", read_after_write(&rt, alloc, &RwLock::new(alloc, 1))?)?;
+    let value = RwLock::new(alloc, 1)?;
+    println!(rt; "{}", read_after_write(&rt, alloc, &value)?)?;
     println!(rt; "{}", meet(&rt, alloc, &Barrier::new(alloc, 2))?)?;
     println!(rt; "{}", make_name(&rt, alloc, &OnceCell::new(alloc))?)?;
     run_withdrawals(rt)

@@ -9,7 +9,6 @@ ghost use Rattle.event_locks.specs.Line.{HandsOut, Looked, OnGranted, as_told, l
 ghost use Rattle.event_locks.specs.Rounds.{NobodyWaitsInVain};
 
 use crate::error::LockError;
-use crate::grantor::Grantor;
 use crate::waiters::{Left, hand_all, join_line, leave_line, look_for};
 use event_queue::{Key, List, RegisterResult, TaskExchange, WakeSink};
 use event_wait::{Attempted, Task};
@@ -157,8 +156,4 @@ impl<W> Rounds<W> {
     {
         let _ = &self.parties;
     }
-}
-
-impl Grantor<Ended> for Rounds<Task> {
-    fn give_back<K: WakeSink<Task>>(&mut self, _grant: Ended, _sink: &mut K) {}
 }

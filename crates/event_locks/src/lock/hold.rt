@@ -1,65 +1,49 @@
 //! How waits and guards hold their lock.
-ghost use Rattle.std.specs.Prelude.{◌≡◌, ℕ};
+ghost use Rattle.std.specs.Prelude.{◌≡◌};
+ghost use Rattle.std.specs.Arc.{arc_value};
 
-use super::Guard;
-use crate::grantor::Grantor;
-use event_wait::Lock;
 use std::alloc::Global;
 use std::sync::{Arc, Wait};
 use std::time::Clock;
 
 /// How a wait or a guard holds its lock and the runtime: by borrowing both, or by a share of the lock and a runtime of its
 /// own.
-pub trait Hold<S> {
-    ghost source: { Self → ℕ };
+pub(crate) trait Hold<L> {
+    // What a contract sees of the lock.
+    ghost held: { Self → L };
 
     /// The runtime.
     type Runtime: Wait + Clock;
 
     /// The lock that it holds.
-    fn lock(&self) -> &Lock<S>
-        ensures { result.now ≡ source self.now };
+    fn lock(&self) -> &L
+        ensures { result.now ≡ held self.now };
 
     /// The runtime that it holds.
     fn rt(&self) -> &Self::Runtime;
 }
 
-/// A hold that makes what a wait gives of a grant.
-pub trait Grants<S, G>: Hold<S> + Sized {
-    /// What a wait gives.
-    type Output;
-
-    /// What a wait gives of this grant, which goes back once that is dropped.
-    fn granted(self, grant: G) -> Self::Output;
-
-    /// What a wait gives with no grant, and so without the lock, if that is at hand.
-    #[inline(always)]
-    fn at_hand(&self) -> Option<Self::Output> {
-        None
-    }
-}
-
-/// Borrows the lock and the runtime.
+/// Borrows a lock and the runtime.
 #[derive(Drop)]
-pub struct Borrowed<'a, S, R> {
-    pub(crate) lock: &'a Lock<S>,
+pub(crate) struct Borrowed<'a, L, R> {
+    pub(crate) lock: &'a L,
     pub(crate) rt: &'a R,
 }
 
-/// Shares a lock of this type, so that it may go to another thread.
+/// Shares a lock, so that it may go to another thread.
 #[derive(Drop)]
-pub struct Shared<L, R> {
+pub(crate) struct Shared<L, R> {
     pub(crate) lock: Arc<L, Global>,
     pub(crate) rt: R,
 }
 
-impl<'a, S, R: Wait + Clock> Hold<S> for Borrowed<'a, S, R> {
-    ghost source = { λ hold. hold.lock.now };
+impl<'a, L, R: Wait + Clock> Hold<L> for Borrowed<'a, L, R> {
+    ghost held = { λ hold. hold.lock.now };
 
     type Runtime = R;
 
     #[inline(always)]
-    fn lock(&self) -> &Lock<S> {
+    fn lock(&self) -> &L {
         self.lock
     }
 
@@ -69,11 +53,18 @@ impl<'a, S, R: Wait + Clock> Hold<S> for Borrowed<'a, S, R> {
     }
 }
 
-impl<'a, S: Grantor<G>, G, R: Wait + Clock> Grants<S, G> for Borrowed<'a, S, R> {
-    type Output = Guard<S, Borrowed<'a, S, R>, G>;
+impl<L, R: Wait + Clock> Hold<L> for Shared<L, R> {
+    ghost held = { λ hold. arc_value hold.lock };
+
+    type Runtime = R;
 
     #[inline(always)]
-    fn granted(self, grant: G) -> Guard<S, Borrowed<'a, S, R>, G> {
-        Guard::new(self, grant)
+    fn lock(&self) -> &L {
+        &self.lock
+    }
+
+    #[inline(always)]
+    fn rt(&self) -> &R {
+        &self.rt
     }
 }

@@ -11,7 +11,6 @@ ghost use Rattle.event_locks.specs.Line.{HandsOut, Looked, OnGranted, TellsAll, 
 ghost use Rattle.event_locks.specs.Once.{MakersStay, NobodyWaitsInVain, making_at, making_by, turn_at, turns};
 
 use crate::error::LockError;
-use crate::grantor::Grantor;
 use crate::waiters::{Left, hand_all, hand_out, join_line, leave_line, look_for, waiting};
 use event_queue::{Key, List, RegisterResult, TaskExchange, WakeSink};
 use event_wait::{Attempted, Task};
@@ -258,16 +257,13 @@ impl<W> Once<W> {
     }
 }
 
-impl Grantor<Turn> for Once<Task> {
-    fn give_back<K: WakeSink<Task>>(&mut self, grant: Turn, sink: &mut K) {
-        match grant {
+impl Once<Task> {
+    /// Takes a turn back: what was made is set, and a turn that was given up goes to the next.
+    pub(crate) fn give_back<K: WakeSink<Task>>(&mut self, turn: Turn, sink: &mut K) {
+        match turn {
             Turn::Make => self.give_up(sink),
             Turn::Made => self.set(sink),
             Turn::Use => {}
         }
     }
-}
-
-impl Grantor<IsSet> for Once<Task> {
-    fn give_back<K: WakeSink<Task>>(&mut self, _grant: IsSet, _sink: &mut K) {}
 }

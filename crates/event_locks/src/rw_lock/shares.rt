@@ -1,355 +1,411 @@
-//! The state of a read-write lock.
-ghost use Rattle.std.specs.Prelude.{◌≡◌, ◌+◌, ◌-◌, ◌<◌, ◌≤◌, ◌^◌, ◌↔◌, [], None, length, IsTrue, IsFalse, IsOk, IfSome, OnErr};
-ghost use Rattle.event_queue.specs.Exchange.{RegistersWith};
-ghost use Rattle.event_queue.specs.Key.{without};
-ghost use Rattle.event_queue.specs.Queue.{order_of};
-ghost use Rattle.event_wait.specs.Attempted.{OnDone, OnRefused, OnWaits};
-ghost use Rattle.event_locks.specs.Attempted.{CannotJoin, Comes, IfRefused};
-ghost use Rattle.event_locks.specs.Line.{HandsOut, Looked, as_told, left_by};
-ghost use Rattle.event_locks.specs.Shares.{HasNoRoom, IsAWriterThere, NobodyWaitsInVain, NoWriterIsThere, NobodyIsIn, ReadersStay, RefusesReader, WritersStay, reading, writing};
+//! How rights to read and to write are got and given back: the steps on the word.
+ghost use Rattle.std.specs.Prelude.{◌≡◌, ◌+◌, ◌*◌, ◌<◌, ◌≤◌, ◌%◌, None, Some, IfSome, IfErr, IfOk, IsTrue, IsFalse, MatchResult, length};
+ghost use Rattle.atomic_table.specs.Table.{rest};
+ghost use Rattle.event_locks.specs.Count.{writers_of};
+ghost use Rattle.event_wait.specs.declared.lock.task.Task.{Task};
+ghost use Rattle.event_locks.specs.Leaving.{IfGoing, IfTaking};
+ghost use Rattle.event_locks.specs.Queues.{Admits, CountsAsReader, CountsAsWriter, CountsMore, HasNoRoom, IsExclusive, IsQuiet, NoWriterIsThere, Recounts, RecountsAndTakes, given, lock_rules};
+ghost use Rattle.event_locks.specs.Word.{EasesFrom, HasNothing, HasState, number_of};
 
-use crate::error::LockError;
-use crate::grantor::Grantor;
-use crate::waiters::{
-    Left, hand_all, hand_out, join_line, leave_line, look_for, somebody_waits, waiting,
-};
-use event_queue::{Key, List, RegisterResult, TaskExchange, WakeSink};
-use event_wait::{Attempted, Task};
-use std::alloc::Global;
-use std::marker::Model;
+use super::number::{self, Leaving, READER, WRITER};
+use super::queues::Queues;
+use super::rights::{At, Out, ReadShare, Step, WriteShare};
+use crate::word::{ONE, Word, state};
+use event_wait::{Task, Waking};
+use std::sync::Wait;
 
-/// The right to read. It is no `Drop`, and only a step of the state below makes one.
-pub struct ReadShare(());
-
-/// The right to write, as the right to read.
-pub struct WriteShare(());
-
-/// How many readers and writers have the value, and the queues of both.
-///
-/// No reader comes in while a writer waits, and a writer that goes lets all readers in that wait.
-#[derive(Drop)]
-pub struct Shares<W> {
-    readers: usize,
-    writers: usize,
-    read_line: List<(), W>,
-    write_line: List<(), W>,
-}
-
-impl<W> Model for Shares<W> {
-    ghost use Rattle.event_locks.specs.Shares.{State, NobodyWaitsInVain};
-
-    ghost Value = { State W };
-
-    ghost view = { λ s. record { readers = s.readers; writers = s.writers; read_line = s.read_line; write_line = s.write_line } };
-
-    ghost invariant = { λ s. NobodyWaitsInVain (record { readers = s.readers; writers = s.writers; read_line = s.read_line; write_line = s.write_line }) };
-}
-
-impl<W> Shares<W> {
-    /// Nobody has the value.
-    pub fn new(alloc: Global) -> Self
-        ensures reading { reading result ≡ 0 }
-        ensures writing { writing result ≡ 0 }
-    {
-        Shares {
-            readers: 0,
-            writers: 0,
-            read_line: List::new(alloc),
-            write_line: List::new(alloc),
-        }
-    }
-
-    // Whether one reader more can be counted.
-    fn has_room(&self) -> bool
-        ensures room { IsTrue result → reading self.now + length self.now.read_line.waiting + 2 < 2 ^ 64 }
-        ensures none { IsFalse result → HasNoRoom self.now }
-    {
-        match self.readers.checked_add(self.read_line.total_listeners()) {
-            Some(all) => all < usize::MAX - 1,
-            None => false,
-        }
-    }
-
-    // Whether a writer writes or waits.
-    fn is_wanted(&self) -> bool
-        ensures wanted { IsTrue result → 0 < writing self.now + length self.now.write_line.waiting }
-        ensures unwanted { IsFalse result → writing self.now + length self.now.write_line.waiting ≡ 0 }
-    {
-        if self.writers > 0 {
-            return true;
-        }
-        self.write_line.total_listeners() > 0
-    }
-
-    // Whether somebody has the value or was handed it.
-    fn is_used(&self) -> bool
-        ensures used { IsTrue result → 0 < reading self.now + writing self.now }
-        ensures unused { IsFalse result → reading self.now + writing self.now ≡ 0 }
-    {
-        if self.readers > 0 {
-            return true;
-        }
-        if self.writers > 0 {
-            return true;
-        }
-        if self.read_line.is_notified() {
-            return true;
-        }
-        self.write_line.is_notified()
-    }
-
-    /// Counts a reader, or has it wait in its queue, with the task that the exchange makes.
-    pub fn read<C, X: TaskExchange<W, C>>(
-        &mut self,
-        exchange: &X,
-        on: &mut C,
-    ) -> Attempted<ReadShare, LockError>
-        ensures let_in { OnDone result (λ _. (self.new ≡ record self.old { readers = self.old.readers + 1 }) × NoWriterIsThere self.old) }
-        ensures joins { Comes (X.exchanged exchange.now) self.old.read_line on.old result self.new.read_line on.new }
-        ensures waits { OnWaits result ((self.new.readers ≡ self.old.readers) × IsAWriterThere self.old) }
-        ensures others { WritersStay self.old self.new }
-        ensures refused { OnRefused result (self.new ≡ self.old) }
-        ensures reason { IfRefused result (λ error. RefusesReader error self.old self.new) }
-    {
-        if !self.has_room() {
-            return Attempted::Refused(LockError::TooManyReaders);
-        }
-        if self.is_wanted() {
-            return waiting(join_line(&mut self.read_line, exchange, on));
-        }
-        self.readers += 1;
-        Attempted::Done(ReadShare(()))
-    }
-
-    /// Counts the writer, or has it wait in its queue, with the task that the exchange makes.
-    pub fn write<C, X: TaskExchange<W, C>>(
-        &mut self,
-        exchange: &X,
-        on: &mut C,
-    ) -> Attempted<WriteShare, LockError>
-        ensures let_in { OnDone result (λ _. (self.new ≡ record self.old { writers = 1 }) × NobodyIsIn self.old) }
-        ensures joins { Comes (X.exchanged exchange.now) self.old.write_line on.old result self.new.write_line on.new }
-        ensures waits { OnWaits result ((self.new.writers ≡ self.old.writers) × (0 < reading self.old + writing self.old)) }
-        ensures others { ReadersStay self.old self.new }
-        ensures refused { OnRefused result (self.new ≡ self.old) }
-        ensures reason { IfRefused result (λ error. CannotJoin error self.old.write_line self.new.write_line × (0 < reading self.old + writing self.old)) }
-    {
-        if self.is_used() {
-            return waiting(join_line(&mut self.write_line, exchange, on));
-        }
-        self.writers = 1;
-        Attempted::Done(WriteShare(()))
-    }
-
-    /// Counts a reader, if no writer writes or waits.
+impl Word<Queues<Task>, ()> {
+    /// A right to read, if no writer has the value, was let in or waits. It is one load and one compare-exchange where nobody
+    /// waits and no other thread comes between. Where somebody waits it may wait for the queues.
     #[inline(always)]
-    pub fn try_read(&mut self) -> Option<ReadShare>
-        ensures let_in { IfSome result (λ _. (self.new ≡ record self.old { readers = self.old.readers + 1 }) × NoWriterIsThere self.old) }
-        ensures refused { result ≡ None → self.new ≡ self.old }
-        ensures reason { result ≡ None → NoWriterIsThere self.old → HasNoRoom self.old }
-    {
-        if !self.has_room() || self.is_wanted() {
+    pub(super) fn try_reader<R: Wait>(&self, rt: &R) -> Option<ReadShare> {
+        let (seen, mut seat) = self.look();
+        if let Some(new) = number::reader_in(seen) {
+            if let Some(step) = self.make(&mut seat, seen, new) {
+                return Some(ReadShare::counted(step));
+            }
+        }
+        self.try_reader_again(rt)
+    }
+
+    #[cold]
+    #[inline(never)]
+    fn try_reader_again<R: Wait>(&self, rt: &R) -> Option<ReadShare> {
+        let (mut seen, mut seat) = self.look();
+        for _ in rt.forever() {
+            if number::is_written(seen / ONE) {
+                return None;
+            }
+            let Some(new) = number::reader_in(seen) else {
+                return self.try_reader_slowly(rt);
+            };
+            if let Some(step) = self.make(&mut seat, seen, new) {
+                return Some(ReadShare::counted(step));
+            }
+            seen = self.look_again(&mut seat);
+        }
+        unreachable!()
+    }
+
+    // Where somebody may wait, the queues show whether a newcomer may read.
+    fn try_reader_slowly<R: Wait>(&self, rt: &R) -> Option<ReadShare> {
+        let (_, mut held) = self.take(rt);
+        let share = self.count_reader(rt, &mut held);
+        drop(self.put_back(rt, held));
+        share
+    }
+
+    /// A right to write, if nobody has the value, was let in or waits. It is one load and one compare-exchange where nobody does,
+    /// and one load where somebody has the value. Else it may wait for the queues.
+    #[inline(always)]
+    pub(super) fn try_writer<R: Wait>(&self, rt: &R) -> Option<WriteShare> {
+        let (seen, mut seat) = self.look();
+        if let Some(new) = number::writer_in(seen) {
+            if let Some(step) = self.make(&mut seat, seen, new) {
+                return Some(WriteShare::counted(step));
+            }
+        }
+        self.try_writer_again(rt)
+    }
+
+    #[cold]
+    #[inline(never)]
+    fn try_writer_again<R: Wait>(&self, rt: &R) -> Option<WriteShare> {
+        if self.number() > 0 {
             return None;
         }
-        self.readers += 1;
-        Some(ReadShare(()))
+        let (_, mut held) = self.take(rt);
+        let share = self.count_writer(rt, &mut held);
+        drop(self.put_back(rt, held));
+        share
     }
 
-    /// Counts the writer, if nobody has the value.
+    /// One that read goes. The first writer is let in if it was the last.
     #[inline(always)]
-    pub fn try_write(&mut self) -> Option<WriteShare>
-        ensures let_in { IfSome result (λ _. (self.new ≡ record self.old { writers = 1 }) × NobodyIsIn self.old) }
-        ensures refused { result ≡ None → (self.new ≡ self.old) × (0 < reading self.old + writing self.old) }
-    {
-        if self.is_used() {
-            return None;
-        }
-        self.writers = 1;
-        Some(WriteShare(()))
-    }
-
-    /// Whether this reader was let in: then it leaves its queue.
-    pub fn look_read<C, X: TaskExchange<W, C>>(
-        &mut self,
-        key: Key,
-        exchange: &X,
-        on: &mut C,
-    ) -> RegisterResult<ReadShare>
-        ensures looked { Looked (X.exchanged exchange.now) on.old result on.new }
-        ensures step { RegistersWith (X.exchanged exchange.now) self.old.read_line key on.old (as_told result) self.new.read_line on.new }
-        ensures reading { reading self.new ≡ reading self.old }
-        ensures readers { self.new.readers ≡ self.old.readers + left_by result }
-        ensures writers { WritersStay self.old self.new }
-    {
-        match look_for(&mut self.read_line, key, exchange, on) {
-            RegisterResult::Notified(()) => {
-                self.readers += 1;
-                RegisterResult::Notified(ReadShare(()))
+    pub(super) fn end_reading<R: Wait>(&self, rt: &R, share: ReadShare) {
+        share.end();
+        let (seen, mut seat) = self.look();
+        if let Leaving::Going(new) = number::reader_out(seen) {
+            if self.change(&mut seat, seen, new) {
+                return;
             }
-            RegisterResult::Registered => RegisterResult::Registered,
-            RegisterResult::NeverInserted => RegisterResult::NeverInserted,
         }
-    }
-
-    /// Whether this writer was let in: then it leaves its queue.
-    pub fn look_write<C, X: TaskExchange<W, C>>(
-        &mut self,
-        key: Key,
-        exchange: &X,
-        on: &mut C,
-    ) -> RegisterResult<WriteShare>
-        ensures looked { Looked (X.exchanged exchange.now) on.old result on.new }
-        ensures step { RegistersWith (X.exchanged exchange.now) self.old.write_line key on.old (as_told result) self.new.write_line on.new }
-        ensures writing { writing self.new ≡ writing self.old }
-        ensures writers { self.new.writers ≡ self.old.writers + left_by result }
-        ensures readers { ReadersStay self.old self.new }
-    {
-        match look_for(&mut self.write_line, key, exchange, on) {
-            RegisterResult::Notified(()) => {
-                self.writers = 1;
-                RegisterResult::Notified(WriteShare(()))
-            }
-            RegisterResult::Registered => RegisterResult::Registered,
-            RegisterResult::NeverInserted => RegisterResult::NeverInserted,
-        }
-    }
-
-    /// Takes this reader out of its queue, with its right if it was let in.
-    pub fn leave_read(&mut self, key: Key) -> Option<ReadShare>
-    where
-        W: Drop,
-        ensures reading { reading self.new ≡ reading self.old }
-        ensures let_in { IfSome result (λ _. (self.new.readers ≡ self.old.readers + 1)) }
-        ensures not_yet { result ≡ None → self.new.readers ≡ self.old.readers }
-        ensures others { order_of self.new.read_line ≡ without key (order_of self.old.read_line) }
-        ensures writers { WritersStay self.old self.new }
-    {
-        match leave_line(&mut self.read_line, key) {
-            Left::Told => {
-                self.readers += 1;
-                Some(ReadShare(()))
-            }
-            Left::Waited => None,
-            Left::Absent => None,
-        }
-    }
-
-    /// Takes this writer out of its queue, with its right if it was let in. If no other one waits, the readers are let in.
-    pub fn leave_write<S: WakeSink<W>>(&mut self, key: Key, sink: &mut S) -> Option<WriteShare>
-    where
-        W: Drop,
-        ensures writing { writing self.new ≡ writing self.old }
-        ensures let_in { IfSome result (λ _. (self.new.writers ≡ self.old.writers + 1)) }
-        ensures not_yet { result ≡ None → self.new.writers ≡ self.old.writers }
-        ensures others { order_of self.new.write_line ≡ without key (order_of self.old.write_line) }
-        ensures readers { self.new.readers ≡ self.old.readers }
-        ensures kept_out { IsAWriterThere self.new → (self.new.read_line ≡ self.old.read_line) × (sink.new ≡ sink.old) }
-        ensures lets_in { NoWriterIsThere self.new → HandsOut S.woke (length self.old.read_line.waiting) self.old.read_line self.new.read_line sink.old sink.new }
-    {
-        match leave_line(&mut self.write_line, key) {
-            Left::Told => {
-                self.writers = 1;
-                Some(WriteShare(()))
-            }
-            Left::Waited => {
-                if self.writers > 0 || self.write_line.total_listeners() > 0 {
-                    return None;
-                }
-                hand_all(&mut self.read_line, sink);
-                None
-            }
-            Left::Absent => None,
-        }
-    }
-
-    /// A reader goes. The first writer is let in if it was the last.
-    pub fn unread<S: WakeSink<W>>(&mut self, sink: &mut S)
-        ensures readers { self.new.readers ≡ self.old.readers - 1 }
-        ensures last { self.old.readers ≡ 1 → length self.old.read_line.told ≡ 0 → HandsOut S.woke 1 self.old.write_line self.new.write_line sink.old sink.new }
-        ensures others { 1 < reading self.old → (self.new.write_line ≡ self.old.write_line) × (sink.new ≡ sink.old) }
-        ensures queue { self.new.read_line ≡ self.old.read_line }
-        ensures writers { self.new.writers ≡ self.old.writers }
-        ensures unchanged { self.old.readers ≡ 0 → (self.new ≡ self.old) × (sink.new ≡ sink.old) }
-    {
-        if self.readers == 0 {
-            return;
-        }
-        self.readers -= 1;
-        if self.readers == 0 && !self.read_line.is_notified() {
-            hand_out(&mut self.write_line, 1, sink);
-        }
+        self.end_reading_slowly(rt);
     }
 
     /// The writer goes. All readers are let in that wait, or else the first writer.
-    pub fn unwrite<S: WakeSink<W>>(&mut self, sink: &mut S)
-        ensures writers { self.new.writers ≡ 0 }
-        ensures readers_first { 0 < self.old.writers → 0 < length self.old.read_line.waiting → HandsOut S.woke (length self.old.read_line.waiting) self.old.read_line self.new.read_line sink.old sink.new × (self.new.write_line ≡ self.old.write_line) }
-        ensures else_a_writer { 0 < self.old.writers → length self.old.read_line.waiting ≡ 0 → HandsOut S.woke 1 self.old.write_line self.new.write_line sink.old sink.new × (self.new.read_line ≡ self.old.read_line) }
-        ensures readers { self.new.readers ≡ self.old.readers }
-        ensures unchanged { self.old.writers ≡ 0 → (self.new ≡ self.old) × (sink.new ≡ sink.old) }
+    #[inline(always)]
+    pub(super) fn end_writing<R: Wait>(&self, rt: &R, share: WriteShare) {
+        share.end();
+        let (seen, mut seat) = self.look();
+        if let Leaving::Going(new) = number::writer_out(seen) {
+            if self.change(&mut seat, seen, new) {
+                return;
+            }
+        }
+        self.end_writing_slowly(rt);
+    }
+
+    #[cold]
+    #[inline(never)]
+    fn end_reading_slowly<R: Wait>(&self, rt: &R) {
+        let (mut seen, mut seat) = self.look();
+        for _ in rt.forever() {
+            match self.go(rt, seat, seen, number::reader_out(seen)) {
+                Some(again) => seat = again,
+                None => return,
+            }
+            seen = self.look_again(&mut seat);
+        }
+        unreachable!()
+    }
+
+    #[cold]
+    #[inline(never)]
+    fn end_writing_slowly<R: Wait>(&self, rt: &R) {
+        let (mut seen, mut seat) = self.look();
+        for _ in rt.forever() {
+            match self.go(rt, seat, seen, number::writer_out(seen)) {
+                Some(again) => seat = again,
+                None => return,
+            }
+            seen = self.look_again(&mut seat);
+        }
+        unreachable!()
+    }
+
+    // Makes this step, and lets in who is next if it takes the queues out. Returns the seat where the word is another.
+    fn go<R: Wait>(&self, rt: &R, mut seat: At, seen: u64, leaving: Leaving) -> Option<At>
+        requires seat { (seat.table_id ≡ self.now.table.shared.table_id) × HasNothing seat.me }
+        requires going { IfGoing leaving (Recounts seen) }
+        requires taking { IfTaking leaving (λ new. RecountsAndTakes seen new × (number_of new ≡ 0)) }
+        ensures again { IfSome result (λ again. (again.table_id ≡ seat.table_id) × HasNothing again.me) }
     {
-        if self.writers == 0 {
-            return;
+        match leaving {
+            Leaving::Going(new) => {
+                if self.change(&mut seat, seen, new) {
+                    return None;
+                }
+                Some(seat)
+            }
+            Leaving::Taking(new) => match self.try_take(seat, seen, new) {
+                Ok(held) => {
+                    drop(self.put_back(rt, held));
+                    None
+                }
+                Err(again) => Some(again),
+            },
         }
-        self.writers = 0;
-        if somebody_waits(&self.read_line) {
-            hand_all(&mut self.read_line, sink);
-        } else {
-            hand_out(&mut self.write_line, 1, sink);
+    }
+
+    // Looks at the word with the queues out.
+    pub(super) fn look_alone(&self, held: &mut Out) -> u64
+        requires seat { held.old.seat.table_id ≡ self.now.table.shared.table_id }
+        requires alone { HasState IsExclusive held.old.seat.me }
+        ensures seat { (held.new.seat.table_id ≡ held.old.seat.table_id) × (held.new.seat.me.1 ≡ held.old.seat.me.1) }
+        ensures out { result % 2 ≡ 1 }
+        ensures number { held.new.seat.me.0 ≡ Some (number_of result) }
+        ensures alone { HasState (λ n q. (n ≡ number_of result) × IsExclusive n q) held.new.seat.me }
+        ensures eases { EasesFrom (lock_rules {W = Task}) held.old.seat.me.0 (number_of result) }
+    {
+        held.look(self)
+    }
+
+    // Whether a newcomer may read.
+    fn may_read(&self, held: &mut Out, seen: u64) -> bool
+        requires seat { held.old.seat.table_id ≡ self.now.table.shared.table_id }
+        requires alone { HasState (λ n q. (n ≡ number_of seen) × IsExclusive n q) held.old.seat.me }
+        ensures seat { (held.new.seat.table_id ≡ held.old.seat.table_id) × (held.new.seat.me ≡ held.old.seat.me) }
+        ensures yes { IsTrue result → HasState (λ n q. NoWriterIsThere n q × IsExclusive (number_of seen + 2) q) held.new.seat.me }
+        ensures no { IsFalse result → HasState (λ n q. NoWriterIsThere n q → HasNoRoom n q) held.new.seat.me }
+    {
+        state!(held.seat, self).may_read(seen / ONE)
+    }
+
+    // Whether a newcomer may write.
+    fn may_write(&self, held: &mut Out, seen: u64) -> bool
+        requires seat { held.old.seat.table_id ≡ self.now.table.shared.table_id }
+        requires alone { HasState (λ n q. (n ≡ number_of seen) × IsExclusive n q) held.old.seat.me }
+        ensures seat { (held.new.seat.table_id ≡ held.old.seat.table_id) × (held.new.seat.me ≡ held.old.seat.me) }
+        ensures yes { IsTrue result → HasState (λ n q. (n ≡ 0) × IsQuiet q × IsExclusive (number_of seen + 1) q) held.new.seat.me }
+        ensures no { IsFalse result → HasState (λ n q. (n ≡ 0) → IsQuiet q → ⊥) held.new.seat.me }
+    {
+        state!(held.seat, self).may_write(seen / ONE)
+    }
+
+    // Whether the reader that asks may write from here on.
+    fn may_upgrade(&self, held: &mut Out, seen: u64) -> bool
+        requires seat { held.old.seat.table_id ≡ self.now.table.shared.table_id }
+        requires alone { HasState (λ n q. (n ≡ number_of seen) × IsExclusive n q) held.old.seat.me }
+        ensures seat { (held.new.seat.table_id ≡ held.old.seat.table_id) × (held.new.seat.me ≡ held.old.seat.me) }
+        ensures yes { IsTrue result → HasState (λ n q. (n ≡ 2) × (number_of seen ≡ 2) × IsExclusive 1 q) held.new.seat.me }
+        ensures no { IsFalse result → HasState (λ n q. n ≡ 2 → 0 < length q.read_line.told) held.new.seat.me }
+    {
+        state!(held.seat, self).may_upgrade(seen / ONE)
+    }
+
+    /// A right to read for a newcomer, if it may read.
+    pub(super) fn count_reader<R: Wait>(&self, rt: &R, held: &mut Out) -> Option<ReadShare>
+        requires seat { held.old.seat.table_id ≡ self.now.table.shared.table_id }
+        requires alone { HasState IsExclusive held.old.seat.me }
+        ensures seat { (held.new.seat.table_id ≡ held.old.seat.table_id) × (held.new.seat.me.1 ≡ held.old.seat.me.1) }
+        ensures alone { HasState IsExclusive held.new.seat.me }
+        ensures counts { CountsMore (2 * given result) held.old.seat.me.0 held.new.seat.me.0 }
+        ensures refused { result ≡ None → HasState (λ n q. NoWriterIsThere n q → HasNoRoom n q) held.new.seat.me }
+    {
+        for _ in rt.forever() {
+            let seen = self.look_alone(held);
+            if !self.may_read(held, seen) {
+                return None;
+            }
+            if let Some(step) = self.recount(held, seen, seen + READER) {
+                return Some(ReadShare::counted(step));
+            }
         }
+        unreachable!()
+    }
+
+    /// A right to write for a newcomer, if it may write.
+    pub(super) fn count_writer<R: Wait>(&self, rt: &R, held: &mut Out) -> Option<WriteShare>
+        requires seat { held.old.seat.table_id ≡ self.now.table.shared.table_id }
+        requires alone { HasState IsExclusive held.old.seat.me }
+        ensures seat { (held.new.seat.table_id ≡ held.old.seat.table_id) × (held.new.seat.me.1 ≡ held.old.seat.me.1) }
+        ensures alone { HasState IsExclusive held.new.seat.me }
+        ensures counts { CountsMore (given result) held.old.seat.me.0 held.new.seat.me.0 }
+        ensures refused { result ≡ None → HasState (λ n q. (n ≡ 0) → IsQuiet q → ⊥) held.new.seat.me }
+    {
+        for _ in rt.forever() {
+            let seen = self.look_alone(held);
+            if !self.may_write(held, seen) {
+                return None;
+            }
+            if let Some(step) = self.recount(held, seen, seen + WRITER) {
+                return Some(WriteShare::counted(step));
+            }
+        }
+        unreachable!()
+    }
+
+    // Looks at the word with the queues out, of which one was let in, and has left.
+    fn look_letting_in(&self, held: &mut Out, one: u64) -> u64
+        requires seat { held.old.seat.table_id ≡ self.now.table.shared.table_id }
+        requires admits { HasState (Admits (number_of one)) held.old.seat.me }
+        ensures seat { (held.new.seat.table_id ≡ held.old.seat.table_id) × (held.new.seat.me.1 ≡ held.old.seat.me.1) }
+        ensures out { result % 2 ≡ 1 }
+        ensures number { held.new.seat.me.0 ≡ Some (number_of result) }
+        ensures admits { HasState (λ n q. (n ≡ number_of result) × Admits (number_of one) (number_of result) q) held.new.seat.me }
+        ensures eases { EasesFrom (lock_rules {W = Task}) held.old.seat.me.0 (number_of result) }
+    {
+        let _one = one;
+        held.look(self)
+    }
+
+    // Counts one that was let in, and has left its queue.
+    fn count_in<R: Wait>(&self, rt: &R, held: &mut Out, one: u64) -> Step
+        requires seat { held.old.seat.table_id ≡ self.now.table.shared.table_id }
+        requires one { one % 4 ≡ 0 }
+        requires admits { HasState (Admits (number_of one)) held.old.seat.me }
+        ensures seat { (held.new.seat.table_id ≡ held.old.seat.table_id) × (held.new.seat.me.1 ≡ held.old.seat.me.1) }
+        ensures alone { HasState IsExclusive held.new.seat.me }
+        ensures counts { CountsMore (number_of one) held.old.seat.me.0 held.new.seat.me.0 }
+        ensures step { number_of result.to ≡ number_of result.from + number_of one }
+    {
+        for _ in rt.forever() {
+            let seen = self.look_letting_in(held, one);
+            if let Some(step) = self.recount(held, seen, seen + one) {
+                return step;
+            }
+        }
+        unreachable!()
+    }
+
+    /// The right of a reader that was let in, and has left its queue.
+    pub(super) fn let_reader_in<R: Wait>(&self, rt: &R, held: &mut Out) -> ReadShare
+        requires seat { held.old.seat.table_id ≡ self.now.table.shared.table_id }
+        requires admits { HasState (Admits 2) held.old.seat.me }
+        ensures seat { (held.new.seat.table_id ≡ held.old.seat.table_id) × (held.new.seat.me.1 ≡ held.old.seat.me.1) }
+        ensures alone { HasState IsExclusive held.new.seat.me }
+        ensures counts { CountsMore 2 held.old.seat.me.0 held.new.seat.me.0 }
+    {
+        ReadShare::counted(self.count_in(rt, held, READER))
+    }
+
+    /// The right of a writer that was let in, and has left its queue.
+    pub(super) fn let_writer_in<R: Wait>(&self, rt: &R, held: &mut Out) -> WriteShare
+        requires seat { held.old.seat.table_id ≡ self.now.table.shared.table_id }
+        requires admits { HasState (Admits 1) held.old.seat.me }
+        ensures seat { (held.new.seat.table_id ≡ held.old.seat.table_id) × (held.new.seat.me.1 ≡ held.old.seat.me.1) }
+        ensures alone { HasState IsExclusive held.new.seat.me }
+        ensures counts { CountsMore 1 held.old.seat.me.0 held.new.seat.me.0 }
+    {
+        WriteShare::counted(self.count_in(rt, held, WRITER))
+    }
+
+    /// The reader writes from here on, if it is the only one and nobody was let in. Writers that wait do not keep it from that.
+    pub(super) fn try_upgrade<R: Wait>(
+        &self,
+        rt: &R,
+        share: ReadShare,
+    ) -> Result<WriteShare, ReadShare> {
+        let (seen, mut seat) = self.look();
+        if let Some(new) = number::reader_writes(seen) {
+            if let Some(step) = self.make(&mut seat, seen, new) {
+                return Ok(share.upgraded(step));
+            }
+        }
+        let (_, mut held) = self.take(rt);
+        let upgraded = self.upgrade(rt, &mut held, share);
+        drop(self.put_back(rt, held));
+        upgraded
+    }
+
+    // The same with the queues out.
+    fn upgrade<R: Wait>(
+        &self,
+        rt: &R,
+        held: &mut Out,
+        share: ReadShare,
+    ) -> Result<WriteShare, ReadShare>
+        requires seat { held.old.seat.table_id ≡ self.now.table.shared.table_id }
+        requires alone { HasState IsExclusive held.old.seat.me }
+        ensures seat { (held.new.seat.table_id ≡ held.old.seat.table_id) × (held.new.seat.me.1 ≡ held.old.seat.me.1) }
+        ensures alone { HasState IsExclusive held.new.seat.me }
+        ensures counts { MatchResult result (λ _. CountsAsWriter held.old.seat.me.0 held.new.seat.me.0) (λ _. CountsMore 0 held.old.seat.me.0 held.new.seat.me.0) }
+        ensures refused { IfErr result (λ _. HasState (λ n q. n ≡ 2 → 0 < length q.read_line.told) held.new.seat.me) }
+    {
+        for _ in rt.forever() {
+            let seen = self.look_alone(held);
+            if !self.may_upgrade(held, seen) {
+                return Err(share);
+            }
+            if let Some(step) = self.recount(held, seen, seen - READER + WRITER) {
+                return Ok(share.upgraded(step));
+            }
+        }
+        unreachable!()
     }
 
     /// The writer reads from here on, and all readers are let in that wait.
-    pub fn downgrade<S: WakeSink<W>>(&mut self, share: WriteShare, sink: &mut S) -> ReadShare
-        ensures reads { 0 < self.old.writers → (self.new.readers ≡ 1) × (self.new.writers ≡ 0) }
-        ensures step { 0 < self.old.writers → HandsOut S.woke (length self.old.read_line.waiting) self.old.read_line self.new.read_line sink.old sink.new }
-        ensures unchanged { self.old.writers ≡ 0 → (self.new ≡ self.old) × (sink.new ≡ sink.old) }
-        ensures queue { self.new.write_line ≡ self.old.write_line }
-    {
-        let WriteShare(()) = share;
-        if self.writers == 0 {
-            return ReadShare(());
+    pub(super) fn downgrade<R: Wait>(&self, rt: &R, share: WriteShare) -> ReadShare {
+        let (seen, mut seat) = self.look();
+        if let Some(new) = number::writer_reads(seen) {
+            if let Some(step) = self.make(&mut seat, seen, new) {
+                return share.downgraded(Some(step));
+            }
         }
-        self.writers = 0;
-        self.readers = 1;
-        hand_all(&mut self.read_line, sink);
-        ReadShare(())
+        let (_, mut held) = self.take(rt);
+        let mut waking = Waking::new();
+        let step = self.let_readers_in(rt, &mut held, &mut waking);
+        drop(self.put_back(rt, held));
+        waking.finish();
+        share.downgraded(step)
     }
 
-    /// The reader writes from here on, if it is the only one.
-    pub fn try_upgrade(&mut self, share: ReadShare) -> Result<WriteShare, ReadShare>
-        ensures alone { IsOk result → (reading self.old ≡ 1) × (self.new ≡ record self.old { readers = 0; writers = 1 }) }
-        ensures refused { OnErr result ((self.new ≡ self.old) × ((self.old.readers ≡ 1) → 0 < length self.old.read_line.told)) }
+    // The same with the queues out. It makes no step if no writer was counted.
+    fn let_readers_in<R: Wait>(&self, rt: &R, held: &mut Out, waking: &mut Waking) -> Option<Step>
+        requires seat { held.old.seat.table_id ≡ self.now.table.shared.table_id }
+        requires alone { HasState IsExclusive held.old.seat.me }
+        ensures seat { (held.new.seat.table_id ≡ held.old.seat.table_id) × (rest held.new.seat.me.1 ≡ rest held.old.seat.me.1) }
+        ensures alone { HasState IsExclusive held.new.seat.me }
+        ensures counts { CountsAsReader held.old.seat.me.0 held.new.seat.me.0 }
+        ensures lets_in { IfSome result (λ _. HasState (λ n q. (n ≡ 2) × (length q.read_line.waiting ≡ 0)) held.new.seat.me) }
+        ensures step { IfSome result (λ made. (number_of made.from ≡ 1) × (number_of made.to ≡ 2)) }
     {
-        if self.readers != 1 || self.read_line.is_notified() {
-            return Err(share);
+        let step = self.count_as_reader(rt, held)?;
+        self.hand_to_readers(held, waking);
+        Some(step)
+    }
+
+    // Counts the writer as a reader, if it is counted.
+    fn count_as_reader<R: Wait>(&self, rt: &R, held: &mut Out) -> Option<Step>
+        requires seat { held.old.seat.table_id ≡ self.now.table.shared.table_id }
+        requires alone { HasState IsExclusive held.old.seat.me }
+        ensures seat { (held.new.seat.table_id ≡ held.old.seat.table_id) × (held.new.seat.me.1 ≡ held.old.seat.me.1) }
+        ensures alone { HasState IsExclusive held.new.seat.me }
+        ensures counts { CountsAsReader held.old.seat.me.0 held.new.seat.me.0 }
+        ensures was { IfSome result (λ _. HasState (λ n q. (n ≡ 2) × IsExclusive 1 q) held.new.seat.me) }
+        ensures step { IfSome result (λ made. (number_of made.from ≡ 1) × (number_of made.to ≡ 2)) }
+    {
+        for _ in rt.forever() {
+            let seen = self.look_alone(held);
+            if seen % READER < WRITER {
+                return None;
+            }
+            if let Some(step) = self.recount(held, seen, seen - WRITER + READER) {
+                return Some(step);
+            }
         }
-        let ReadShare(()) = share;
-        self.readers = 0;
-        self.writers = 1;
-        Ok(WriteShare(()))
+        unreachable!()
     }
 
-    /// Nobody waits in vain, and who writes is alone.
-    pub fn nobody_waits_in_vain(&self)
-        ensures { NobodyWaitsInVain self.now }
+    // Lets all readers in that wait, once the writer is counted as one.
+    fn hand_to_readers(&self, held: &mut Out, waking: &mut Waking)
+        requires seat { held.old.seat.table_id ≡ self.now.table.shared.table_id }
+        requires reads { HasState (λ n q. (n ≡ 2) × IsExclusive 1 q) held.old.seat.me }
+        ensures seat { (held.new.seat.table_id ≡ held.old.seat.table_id) × (rest held.new.seat.me.1 ≡ rest held.old.seat.me.1) }
+        ensures number { held.new.seat.me.0 ≡ held.old.seat.me.0 }
+        ensures lets_in { HasState (λ n q. (n ≡ 2) × IsExclusive n q × (length q.read_line.waiting ≡ 0)) held.new.seat.me }
     {
-        let _ = &self.readers;
-    }
-}
-
-impl Grantor<ReadShare> for Shares<Task> {
-    #[inline(always)]
-    fn give_back<K: WakeSink<Task>>(&mut self, grant: ReadShare, sink: &mut K) {
-        let ReadShare(()) = grant;
-        self.unread(sink);
-    }
-}
-
-impl Grantor<WriteShare> for Shares<Task> {
-    #[inline(always)]
-    fn give_back<K: WakeSink<Task>>(&mut self, grant: WriteShare, sink: &mut K) {
-        let WriteShare(()) = grant;
-        self.unwrite(sink);
+        state!(held.seat, self).downgrade(waking)
     }
 }

@@ -1,0 +1,176 @@
+//! The value of a mutex, with one that has it.
+ghost use Rattle.std.specs.Prelude.{◌≡◌, []};
+ghost use mir.Syntax.{named};
+ghost use Rattle.event_locks.specs.Word.{HasPlace, HasValue};
+ghost use Rattle.std.specs.Arc.{arc_value};
+
+use super::{Lent, Mutex};
+use crate::lock::{Borrowed, Shared};
+use std::alloc::Global;
+use std::fmt;
+use std::fmt::{Debug, Formatter};
+use std::marker::Model;
+use std::ops::{Deref, DerefMut};
+use std::sync::{Arc, Wait};
+use std::time::Clock;
+
+// Where the value goes back.
+struct Place<'a, T, R> {
+    hold: Borrowed<'a, Mutex<T>, R>,
+    lent: Lent<T>,
+    ghost seated: { lent.table_id ≡ hold.lock.now.word.table.shared.table_id },
+    ghost has: { HasPlace lent.me },
+}
+
+// The same, with a share of the mutex.
+struct PlaceArc<T, R> {
+    hold: Shared<Mutex<T>, R>,
+    lent: Lent<T>,
+    ghost seated: { lent.table_id ≡ (arc_value hold.lock).word.table.shared.table_id },
+    ghost has: { HasPlace lent.me },
+}
+
+/// The value of a mutex. Dropping the guard gives it back. A contract sees the value.
+#[must_use = "a guard that is dropped at once gives back what it holds"]
+pub struct MutexGuard<'a, T: Drop, R: Wait + Clock> {
+    place: Place<'a, T, R>,
+    value: T,
+}
+
+/// The value of a mutex, by a guard that shares the mutex, and so may go to another thread. Dropping it gives the value back.
+/// A contract sees the value.
+#[must_use = "a guard that is dropped at once gives back what it holds"]
+pub struct MutexGuardArc<T: Drop, R: Wait + Clock + Drop> {
+    place: PlaceArc<T, R>,
+    value: T,
+}
+
+impl<'a, T: Drop, R: Wait + Clock> Model for MutexGuard<'a, T, R> {
+    ghost Value = { T };
+
+    ghost view = { λ guard. guard.value };
+}
+
+impl<T: Drop, R: Wait + Clock + Drop> Model for MutexGuardArc<T, R> {
+    ghost Value = { T };
+
+    ghost view = { λ guard. guard.value };
+}
+
+impl<'a, T: Drop, R: Wait + Clock> MutexGuard<'a, T, R> {
+    #[inline(always)]
+    pub(crate) fn new(hold: Borrowed<'a, Mutex<T>, R>, lent: Lent<T>) -> Self
+        requires { (lent.table_id ≡ hold.lock.now.word.table.shared.table_id) × HasValue lent.me }
+    {
+        let mut lent = lent;
+        let value = hold.lock.word.take_out(&mut lent);
+        MutexGuard {
+            place: Place { hold, lent },
+            value,
+        }
+    }
+
+    /// The mutex.
+    pub fn source(&self) -> &'a Mutex<T> {
+        self.place.hold.lock
+    }
+}
+
+impl<T: Drop, R: Wait + Clock + Drop> MutexGuardArc<T, R> {
+    pub(crate) fn new(hold: Shared<Mutex<T>, R>, lent: Lent<T>) -> Self
+        requires { (lent.table_id ≡ (arc_value hold.lock).word.table.shared.table_id) × HasValue lent.me }
+    {
+        let mut lent = lent;
+        let value = hold.lock.word.take_out(&mut lent);
+        MutexGuardArc {
+            place: PlaceArc { hold, lent },
+            value,
+        }
+    }
+
+    /// The mutex.
+    pub fn source(&self) -> &Arc<Mutex<T>, Global> {
+        &self.place.hold.lock
+    }
+}
+
+impl<T: Drop, R: Wait + Clock> Deref for MutexGuard<'_, T, R> {
+    type Target = T;
+
+    ghost deref_gives = { λ guard value. value ≡ guard };
+
+    #[inline(always)]
+    fn deref(&self) -> &T {
+        &self.value
+    }
+}
+
+impl<T: Drop, R: Wait + Clock + Drop> Deref for MutexGuardArc<T, R> {
+    type Target = T;
+
+    ghost deref_gives = { λ guard value. value ≡ guard };
+
+    #[inline(always)]
+    fn deref(&self) -> &T {
+        &self.value
+    }
+}
+
+impl<T: Drop, R: Wait + Clock> DerefMut for MutexGuard<'_, T, R> {
+    ghost use Rattle.std.specs.Borrow.{Lends, sem};
+    ghost use Rattle.event_locks.specs.contracts.mutex.guard.MutexGuard.{the_row};
+
+    ghost deref_mut_gives = { λ guard value. value ≡ guard };
+
+    #[inline(always)]
+    fn deref_mut(&mut self) -> &mut T
+        ensures* writes_back { sem 𝓛 (Lends (the_row (record { mir = named 1; lft = [] }) T.row R.row) T.row self.entry result (λ w. w)) }
+        ensures shows { result.now ≡ self.old }
+    {
+        &mut self.value
+    }
+}
+
+impl<T: Drop, R: Wait + Clock + Drop> DerefMut for MutexGuardArc<T, R> {
+    ghost use Rattle.std.specs.Borrow.{Lends, sem};
+    ghost use Rattle.event_locks.specs.contracts.mutex.guard.MutexGuardArc.{the_row};
+
+    ghost deref_mut_gives = { λ guard value. value ≡ guard };
+
+    #[inline(always)]
+    fn deref_mut(&mut self) -> &mut T
+        ensures* writes_back { sem 𝓛 (Lends (the_row T.row R.row) T.row self.entry result (λ w. w)) }
+        ensures shows { result.now ≡ self.old }
+    {
+        &mut self.value
+    }
+}
+
+impl<T: Drop, R: Wait + Clock> Drop for MutexGuard<'_, T, R> {
+    #[inline(always)]
+    fn drop(self) {
+        let MutexGuard { place, value } = self;
+        let Place { hold, lent } = place;
+        hold.lock.give_back(hold.rt, lent, value);
+    }
+}
+
+impl<T: Drop, R: Wait + Clock + Drop> Drop for MutexGuardArc<T, R> {
+    fn drop(self) {
+        let MutexGuardArc { place, value } = self;
+        let PlaceArc { hold, lent } = place;
+        hold.lock.give_back(&hold.rt, lent, value);
+    }
+}
+
+impl<T: Drop + Debug, R: Wait + Clock> Debug for MutexGuard<'_, T, R> {
+    fn fmt<W: fmt::Write>(&self, f: &mut Formatter<W>) -> fmt::Result {
+        Debug::fmt(&self.value, f)
+    }
+}
+
+impl<T: Drop + Debug, R: Wait + Clock + Drop> Debug for MutexGuardArc<T, R> {
+    fn fmt<W: fmt::Write>(&self, f: &mut Formatter<W>) -> fmt::Result {
+        Debug::fmt(&self.value, f)
+    }
+}

@@ -1,0 +1,144 @@
+//! Waits for a permit.
+ghost use Rattle.std.specs.Prelude.{◌≡◌, IsSomeAnd};
+ghost use Rattle.std.specs.Arc.{arc_value};
+
+use super::Semaphore;
+use super::guard::{SemaphoreGuard, SemaphoreGuardArc};
+use crate::error::LockError;
+use crate::line::competitor::Competitor;
+use crate::lock::{Borrowed, Obtaining, Shared};
+use futures::Future;
+use futures::task::{Context, Poll};
+use std::sync::Wait;
+use std::time::{Clock, Duration, Instant};
+
+/// A wait for a permit. It asks once it is waited on or polled, and not before.
+///
+/// A thread blocks by [`wait`](Acquire::wait), [`wait_timeout`](Acquire::wait_timeout) or
+/// [`wait_deadline`](Acquire::wait_deadline). A task awaits it: it is a future, and a poll after its output is
+/// [`LockError::Finished`]. Threads and tasks wait in one queue, and a thread that waits on one which was polled before keeps
+/// its place. Dropped while it waits, it leaves the queue, and what it was notified of goes to the next.
+#[must_use = "nothing is asked for until it is waited on or polled"]
+#[derive(Drop)]
+pub struct Acquire<'a, R: Wait + Clock> {
+    obtaining: Obtaining<Semaphore, Competitor, Borrowed<'a, Semaphore, R>>,
+}
+
+/// A wait for a permit that shares its semaphore, and so may go to another thread; else as [`Acquire`].
+#[must_use = "nothing is asked for until it is waited on or polled"]
+#[derive(Drop)]
+pub struct AcquireArc<R: Wait + Clock + Drop> {
+    obtaining: Obtaining<Semaphore, Competitor, Shared<Semaphore, R>>,
+}
+
+impl<'a, R: Wait + Clock> Acquire<'a, R> {
+    #[inline(always)]
+    pub(crate) fn new(
+        obtaining: Obtaining<Semaphore, Competitor, Borrowed<'a, Semaphore, R>>,
+    ) -> Self {
+        Acquire { obtaining }
+    }
+
+    /// Blocks the thread until it has a permit. It allocates what the thread parks on and a place in the queue, if it has to
+    /// wait. An error says that it could not: then it is in no queue.
+    #[inline(always)]
+    pub fn wait(self) -> Result<SemaphoreGuard<'a, R>, LockError> {
+        let Acquire { obtaining } = self;
+        let (hold, permit) = obtaining.wait()?;
+        Ok(SemaphoreGuard::new(hold, permit))
+    }
+
+    /// Blocks the thread until it has a permit, or so long. `None` says that it was in vain: then the thread is in no queue. With
+    /// no time left it only attempts: it enters no queue and allocates nothing. A clock that can't be read ends the wait; a
+    /// moment that can't be represented never comes.
+    pub fn wait_timeout(
+        self,
+        timeout: Duration,
+    ) -> Result<Option<SemaphoreGuard<'a, R>>, LockError> {
+        let Acquire { obtaining } = self;
+        match obtaining.wait_timeout(timeout)? {
+            Some((hold, permit)) => Ok(Some(SemaphoreGuard::new(hold, permit))),
+            None => Ok(None),
+        }
+    }
+
+    /// Blocks the thread until it has a permit, or until this moment. `None` says that it was in vain: then the thread is in no
+    /// queue. At a moment that has passed it only attempts. A clock that can't be read ends the wait.
+    pub fn wait_deadline(
+        self,
+        deadline: Instant,
+    ) -> Result<Option<SemaphoreGuard<'a, R>>, LockError> {
+        let Acquire { obtaining } = self;
+        match obtaining.wait_deadline(deadline)? {
+            Some((hold, permit)) => Ok(Some(SemaphoreGuard::new(hold, permit))),
+            None => Ok(None),
+        }
+    }
+}
+
+impl<R: Wait + Clock + Drop> AcquireArc<R> {
+    pub(crate) fn new(obtaining: Obtaining<Semaphore, Competitor, Shared<Semaphore, R>>) -> Self {
+        AcquireArc { obtaining }
+    }
+
+    /// As [`Acquire::wait`].
+    pub fn wait(self) -> Result<SemaphoreGuardArc<R>, LockError> {
+        let AcquireArc { obtaining } = self;
+        let (hold, permit) = obtaining.wait()?;
+        Ok(SemaphoreGuardArc::new(hold, permit))
+    }
+
+    /// As [`Acquire::wait_timeout`].
+    pub fn wait_timeout(
+        self,
+        timeout: Duration,
+    ) -> Result<Option<SemaphoreGuardArc<R>>, LockError> {
+        let AcquireArc { obtaining } = self;
+        match obtaining.wait_timeout(timeout)? {
+            Some((hold, permit)) => Ok(Some(SemaphoreGuardArc::new(hold, permit))),
+            None => Ok(None),
+        }
+    }
+
+    /// As [`Acquire::wait_deadline`].
+    pub fn wait_deadline(
+        self,
+        deadline: Instant,
+    ) -> Result<Option<SemaphoreGuardArc<R>>, LockError> {
+        let AcquireArc { obtaining } = self;
+        match obtaining.wait_deadline(deadline)? {
+            Some((hold, permit)) => Ok(Some(SemaphoreGuardArc::new(hold, permit))),
+            None => Ok(None),
+        }
+    }
+}
+
+impl<'a, R: Wait + Clock> Future for Acquire<'a, R> {
+    type Output = Result<SemaphoreGuard<'a, R>, LockError>;
+
+    ghost needs = { λ acquire s. IsSomeAnd acquire.obtaining.hold (λ hold. s ≡ hold.lock.now.source) };
+
+    fn poll(&mut self, cx: &mut Context<'_>) -> Poll<Result<SemaphoreGuard<'a, R>, LockError>> {
+        match self.obtaining.poll(cx) {
+            Poll::Ready(Ok((hold, permit))) => Poll::Ready(Ok(SemaphoreGuard::new(hold, permit))),
+            Poll::Ready(Err(error)) => Poll::Ready(Err(error)),
+            Poll::Pending => Poll::Pending,
+        }
+    }
+}
+
+impl<R: Wait + Clock + Drop> Future for AcquireArc<R> {
+    type Output = Result<SemaphoreGuardArc<R>, LockError>;
+
+    ghost needs = { λ acquire s. IsSomeAnd acquire.obtaining.hold (λ hold. s ≡ (arc_value hold.lock).source) };
+
+    fn poll(&mut self, cx: &mut Context<'_>) -> Poll<Result<SemaphoreGuardArc<R>, LockError>> {
+        match self.obtaining.poll(cx) {
+            Poll::Ready(Ok((hold, permit))) => Poll::Ready(Ok(SemaphoreGuardArc::new(
+                hold, permit,
+            ))),
+            Poll::Ready(Err(error)) => Poll::Ready(Err(error)),
+            Poll::Pending => Poll::Pending,
+        }
+    }
+}
