@@ -69,7 +69,7 @@ fn a_withdrawal_waits_until_there_is_as_much(rt: HostRuntime) {
 
 #[test]
 fn a_deposit_waits_until_its_limit(rt: HostRuntime) {
-    let balance = Mutex::new(rt.alloc(), 5);
+    let balance = Mutex::new(rt.alloc(), 5).expect(&rt, "a mutex");
     let taken = balance.try_lock(&rt);
     let late = deposit_within(&rt, rt.alloc(), &balance, 1, Duration::ZERO);
     assert_eq!(rt; late, Ok(false));

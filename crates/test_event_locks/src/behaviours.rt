@@ -1,22 +1,17 @@
 //! What each lock does in the order in which callers of other crates' locks use it.
-use crate::support::{check, new_task};
-use event_locks::{
-    Attempt, Barrier, Grants, LockError, Mutex, Obtaining, OnceCell, RwLock, Semaphore, SetError,
-    SetReason,
-};
+use crate::support::{check, new_lock, new_mutex, new_semaphore, new_task};
+use event_locks::{Barrier, LockError, Mutex, OnceCell, RwLock, Semaphore, SetError, SetReason};
+use std::fmt::Debug;
 use std::sync::Arc;
 use std::sync::atomic::{AtomicUsize, Ordering};
 use std::thread;
+use test_lock_support::Waits;
 use test_support::Runtime;
 
 // It is granted at the first poll, and has nothing to give after that.
-fn is_over_once_granted<
-    R: Runtime,
-    S,
-    Q: Attempt<S, Refusal = LockError> + Drop,
-    H: Grants<S, Q::Output, Output: Drop> + Drop,
->(rt: &R, waits: Obtaining<S, Q, H>) {
+fn is_over_once_granted<R: Runtime, W: Waits>(rt: &R, waits: W) {
     let mut waits = waits;
+    waits.can_be_polled();
     let task = new_task(rt);
     check(rt, "ready", task.poll(&mut waits).is_ready(), true);
     let finished = waits.wait().err();
@@ -25,7 +20,7 @@ fn is_over_once_granted<
 
 #[test]
 fn a_future_that_gave_its_output_is_over(rt: HostRuntime) {
-    let mutex = Mutex::new(rt.alloc(), 7u64);
+    let mutex = new_mutex(&rt, 7u64);
     is_over_once_granted(&rt, mutex.lock(&rt, rt.alloc()));
     check(
         &rt,
@@ -37,19 +32,19 @@ fn a_future_that_gave_its_output_is_over(rt: HostRuntime) {
 
 #[test]
 fn a_mutex_keeps_what_its_guard_writes(rt: HostRuntime) {
-    let mut mutex = Mutex::new(rt.alloc(), 1u64);
+    let mutex = new_mutex(&rt, 1u64);
     *mutex.lock(&rt, rt.alloc()).wait().expect(&rt, "the value") = 2;
-    if let Some(value) = mutex.get_mut() {
-        *value = value.saturating_add(1);
-    }
-    let value = mutex.get_mut().copied();
-    let values = (value, mutex.into_inner());
-    check(&rt, "the value", values, (Some(3), Some(3)));
+    let mut guard = mutex.try_lock(&rt).expect(&rt, "the value");
+    *guard = guard.saturating_add(1);
+    let taken = (*guard, guard.source().try_lock(&rt).is_none());
+    check(&rt, "the value, and whether it is out", taken, (3, true));
+    drop(guard);
+    check(&rt, "the value", mutex.into_inner(), Some(3));
 }
 
 #[test]
 fn a_writer_downgrades_and_one_reader_of_two_does_not_upgrade(rt: HostRuntime) {
-    let mut lock = RwLock::new(rt.alloc(), 7u64);
+    let mut lock = new_lock(&rt, 7u64);
     *lock.get_mut() = 6;
     let mut writer = lock.try_write(&rt).expect(&rt, "the writer");
     *writer = writer.saturating_add(2);
@@ -66,8 +61,105 @@ fn a_writer_downgrades_and_one_reader_of_two_does_not_upgrade(rt: HostRuntime) {
 }
 
 #[test]
+fn an_owned_writer_downgrades_and_one_reader_of_two_does_not_upgrade(rt: HostRuntime) {
+    let lock = Arc::new(rt.alloc(), new_lock(&rt, 7u64)).expect(&rt, "memory");
+    let writer = RwLock::try_write_arc(&lock, rt).expect(&rt, "a share");
+    let mut writer = writer.expect(&rt, "the writer");
+    writer.with(|value| *value = 8);
+    let reader = writer.downgrade();
+    let other = RwLock::try_read_arc(&lock, rt).expect(&rt, "a share");
+    let other = other.expect(&rt, "another reader");
+    let reader = reader.try_upgrade().err().expect(&rt, "the reader");
+    check(&rt, "the value", reader.with(|value| *value), 8);
+    drop(other);
+    let writer = reader.try_upgrade().ok().expect(&rt, "the writer");
+    check(&rt, "read meanwhile", lock.try_read(&rt).is_none(), true);
+    drop(writer);
+    check(&rt, "free", lock.try_write(&rt).is_some(), true);
+}
+
+#[test]
+fn a_lock_that_is_taken_has_no_owned_guard_to_give(rt: HostRuntime) {
+    let semaphore = Arc::new(rt.alloc(), new_semaphore(&rt, 1)).expect(&rt, "memory");
+    let _permit = Semaphore::try_acquire_arc(&semaphore, rt).expect(&rt, "a share");
+    let other = Semaphore::try_acquire_arc(&semaphore, rt).expect(&rt, "a share");
+    check(&rt, "a second permit", other.is_some(), false);
+    let mutex = Arc::new(rt.alloc(), new_mutex(&rt, 7u64)).expect(&rt, "memory");
+    let guard = Mutex::try_lock_arc(&mutex, rt).expect(&rt, "a share");
+    let guard = guard.expect(&rt, "the value");
+    let other = Mutex::try_lock_arc(guard.source(), rt).expect(&rt, "a share");
+    check(&rt, "the value", other.is_some(), false);
+}
+
+#[test]
+fn a_read_write_lock_that_is_taken_has_no_owned_guard_to_give(rt: HostRuntime) {
+    let lock = Arc::new(rt.alloc(), new_lock(&rt, 7u64)).expect(&rt, "memory");
+    let reader = RwLock::try_read_arc(&lock, rt).expect(&rt, "a share");
+    let writer = RwLock::try_write_arc(&lock, rt).expect(&rt, "a share");
+    check(&rt, "a writer", writer.is_some(), false);
+    drop((reader, writer));
+    let _writer = RwLock::try_write_arc(&lock, rt).expect(&rt, "a share");
+    let reader = RwLock::try_read_arc(&lock, rt).expect(&rt, "a share");
+    check(&rt, "a reader", reader.is_some(), false);
+}
+
+#[test]
+fn a_semaphore_has_no_more_permits_than_it_can_count(rt: HostRuntime) {
+    let semaphore = new_semaphore(&rt, usize::MAX);
+    semaphore.add_permits(&rt, 1);
+    let free = semaphore.available();
+    check(&rt, "free", free, Semaphore::MAX_PERMITS);
+    let permit = semaphore.try_acquire(&rt).expect(&rt, "a permit");
+    semaphore.add_permits(&rt, 1);
+    drop(permit);
+    let free = semaphore.available();
+    check(&rt, "free", free, Semaphore::MAX_PERMITS);
+}
+
+// What this shows of itself is this text.
+fn shows<V: Debug, R: Runtime>(rt: &R, value: &V, expected: &str) {
+    let shown = format!(in rt.alloc(); "{value:?}").expect(rt, "a text");
+    check(rt, "shown", shown.as_str(), expected);
+}
+
+#[test]
+fn a_semaphore_and_its_guards_show_themselves(rt: HostRuntime) {
+    let semaphore = Arc::new(rt.alloc(), new_semaphore(&rt, 3)).expect(&rt, "memory");
+    let permit = semaphore.try_acquire(&rt).expect(&rt, "a permit");
+    let owned = Semaphore::try_acquire_arc(&semaphore, rt).expect(&rt, "a share");
+    let owned = owned.expect(&rt, "a permit");
+    shows(&rt, &*semaphore, "Semaphore { available: 1 }");
+    shows(&rt, &permit, "SemaphoreGuard");
+    shows(&rt, &owned, "SemaphoreGuardArc");
+}
+
+#[test]
+fn a_mutex_and_its_guards_show_themselves(rt: HostRuntime) {
+    let mutex = Arc::new(rt.alloc(), new_mutex(&rt, 7u64)).expect(&rt, "memory");
+    shows(&rt, &*mutex, "Mutex { is_locked: false }");
+    let guard = mutex.try_lock(&rt).expect(&rt, "the value");
+    shows(&rt, &*mutex, "Mutex { is_locked: true }");
+    shows(&rt, &guard, "7");
+    drop(guard);
+    let owned = Mutex::try_lock_arc(&mutex, rt).expect(&rt, "a share");
+    shows(&rt, &owned.expect(&rt, "the value"), "7");
+}
+
+#[test]
+fn a_read_write_lock_and_its_guards_show_themselves(rt: HostRuntime) {
+    let lock = new_lock(&rt, 7u64);
+    let (first, second) = (lock.try_read(&rt), lock.try_read(&rt));
+    shows(&rt, &lock, "RwLock { readers: 2, is_written: false }");
+    shows(&rt, &first.expect(&rt, "a reader"), "7");
+    drop(second);
+    let writer = lock.try_write(&rt).expect(&rt, "the writer");
+    shows(&rt, &lock, "RwLock { readers: 0, is_written: true }");
+    shows(&rt, &writer, "7");
+}
+
+#[test]
 fn a_shared_permit_goes_to_another_thread(rt: HostRuntime) {
-    let semaphore = Arc::new(rt.alloc(), Semaphore::new(rt.alloc(), 1));
+    let semaphore = Arc::new(rt.alloc(), new_semaphore(&rt, 1));
     let semaphore = semaphore.expect(&rt, "memory");
     let acquire = Semaphore::acquire_arc(&semaphore, rt, rt.alloc());
     let permit = acquire.expect(&rt, "a share").wait();

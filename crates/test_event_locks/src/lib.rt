@@ -5,6 +5,7 @@
 //! |---|---|
 //! | `threads` | threads that wait in each way, and are woken once they are let in |
 //! | `arrivals` | a thread that waits by a request of the test's own: it parks, and who has no time stays out of the queue |
+//! | `races` | one lets go while another one goes into the queue |
 //! | `stress` | threads and tasks at these locks, which give up at times |
 //! | `behaviours` | what each lock does when it is called in the order that its users know from other crates |
 //! | `monitor` | a value that threads and tasks wait for |
@@ -21,6 +22,8 @@ mod arrivals;
 mod behaviours;
 #[cfg(test)]
 mod monitor;
+#[cfg(test)]
+mod races;
 #[cfg(test)]
 mod stress;
 #[cfg(test)]

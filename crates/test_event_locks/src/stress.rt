@@ -1,24 +1,20 @@
 //! Threads and tasks that wait at once, and give up at times.
-use crate::support::{check, new_task};
-use event_locks::{
-    Attempt, Barrier, Grants, LockError, Mutex, Obtaining, OnceCell, RwLock, Semaphore,
-};
+use crate::support::{check, new_lock, new_mutex, new_semaphore, new_task};
+use event_locks::{Barrier, Counts, Mutex, OnceCell, RwLock, RwLockReadGuardArc, Semaphore};
 use futures::executor::block_on;
-use std::alloc::AllocError;
+use std::alloc::{AllocError, Global};
+use std::sync::Arc;
 use std::thread;
 use std::time::{Duration, Instant};
+use test_lock_support::Waits;
 use test_support::Runtime;
 
 const THREADS: usize = 8;
 
 // What is given in this way, or `None` if it gave up.
-fn in_some_way<
-    R: Runtime,
-    S,
-    Q: Attempt<S, Refusal = LockError> + Drop,
-    H: Grants<S, Q::Output, Output: Drop> + Drop,
->(rt: &R, way: usize, waits: Obtaining<S, Q, H>) -> Option<H::Output> {
+fn in_some_way<R: Runtime, W: Waits>(rt: &R, way: usize, waits: W) -> Option<W::Granted> {
     let mut waits = waits;
+    waits.can_be_polled();
     match way % 4 {
         0 => Some(waits.wait().expect(rt, "a grant")),
         1 => Some(
@@ -53,14 +49,24 @@ fn rounds<R: Runtime, F: Fn(usize) -> usize>(rt: &R, thread: usize, round: &F) -
 
 #[derive(Drop)]
 struct Locks {
-    semaphore: Semaphore,
-    mutex: Mutex<usize>,
-    shared: RwLock<usize>,
+    semaphore: Arc<Semaphore, Global>,
+    mutex: Arc<Mutex<usize>, Global>,
+    shared: Arc<RwLock<usize>, Global>,
     cell: OnceCell<usize>,
 }
 
-// Gives up the turn to make a value, and counts at the mutex and at the read-write lock in one round, with a permit if it was given one. Returns how often.
-fn round<R: Runtime>(rt: &R, locks: &Locks, way: usize) -> usize {
+fn new_locks<R: Runtime>(rt: &R) -> Locks {
+    Locks {
+        semaphore: Arc::new(rt.alloc(), new_semaphore(rt, 3)).expect(rt, "memory"),
+        mutex: Arc::new(rt.alloc(), new_mutex(rt, 0)).expect(rt, "memory"),
+        shared: Arc::new(rt.alloc(), new_lock(rt, 0)).expect(rt, "memory"),
+        cell: OnceCell::new(rt.alloc()),
+    }
+}
+
+// Gives up the turn to make a value, and counts at the mutex and at the read-write lock in one round, with a permit if it
+// was given one. Returns how often.
+fn borrows<R: Runtime>(rt: &R, locks: &Locks, way: usize) -> usize {
     let mut counted = 0usize;
     drop(in_some_way(rt, way, locks.cell.claim(rt, rt.alloc())));
     let _permit = in_some_way(rt, way, locks.semaphore.acquire(rt, rt.alloc()));
@@ -76,6 +82,61 @@ fn round<R: Runtime>(rt: &R, locks: &Locks, way: usize) -> usize {
     counted
 }
 
+// Counts by guards that share the mutex and the read-write lock.
+fn shares<R: Runtime + Copy>(rt: &R, locks: &Locks, way: usize) -> usize {
+    let mut counted = 0usize;
+    let acquire = Semaphore::acquire_arc(&locks.semaphore, *rt, rt.alloc());
+    let _permit = in_some_way(rt, way, acquire.expect(rt, "a share"));
+    let lock = Mutex::lock_arc(&locks.mutex, *rt, rt.alloc());
+    if let Some(mut count) = in_some_way(rt, way, lock.expect(rt, "a share")) {
+        *count = count.saturating_add(1);
+        counted = 1;
+    }
+    let read = RwLock::read_arc(&locks.shared, *rt, rt.alloc());
+    drop(in_some_way(rt, way, read.expect(rt, "a share")));
+    let write = RwLock::write_arc(&locks.shared, *rt, rt.alloc());
+    if let Some(mut count) = in_some_way(rt, way, write.expect(rt, "a share")) {
+        count.with(|count| *count = count.saturating_add(1));
+        counted = counted.saturating_add(1);
+    }
+    counted
+}
+
+// Counts where that needs no wait.
+fn tries<R: Runtime + Copy>(rt: &R, locks: &Locks) -> usize {
+    let mut counted = 0usize;
+    let _permit = Semaphore::try_acquire_arc(&locks.semaphore, *rt).expect(rt, "a share");
+    let guard = Mutex::try_lock_arc(&locks.mutex, *rt).expect(rt, "a share");
+    if let Some(mut count) = guard {
+        *count = count.saturating_add(1);
+        counted = 1;
+    }
+    match RwLock::try_read_arc(&locks.shared, *rt).expect(rt, "a share") {
+        Some(reader) => counted.saturating_add(upgrades(reader)),
+        None => counted,
+    }
+}
+
+// Counts as a reader that writes if it is alone, and then reads again.
+fn upgrades<R: Runtime>(reader: RwLockReadGuardArc<usize, R>) -> usize {
+    match reader.try_upgrade() {
+        Ok(mut writer) => {
+            writer.with(|count| *count = count.saturating_add(1));
+            drop(writer.downgrade());
+            1
+        }
+        Err(_reader) => 0,
+    }
+}
+
+fn round<R: Runtime + Copy>(rt: &R, locks: &Locks, way: usize) -> usize {
+    match (way / 4) % 3 {
+        0 => borrows(rt, locks, way),
+        1 => shares(rt, locks, way),
+        _ => tries(rt, locks),
+    }
+}
+
 // The sum of what the threads counted.
 fn sum<R: Runtime>(rt: &R, counted: Result<Vec<usize>, AllocError>) -> usize {
     let mut all = 0usize;
@@ -85,21 +146,32 @@ fn sum<R: Runtime>(rt: &R, counted: Result<Vec<usize>, AllocError>) -> usize {
     all
 }
 
-fn lock_rounds<R: Runtime>(rt: &R, locks: &Locks, thread: usize) -> usize {
+fn lock_rounds<R: Runtime + Copy>(rt: &R, locks: &Locks, thread: usize) -> usize {
     rounds(rt, thread, &|way| round(rt, locks, way))
+}
+
+// All is free, and nobody is left in a queue.
+fn is_free(counts: Counts, free: u64) -> bool {
+    counts
+        == Counts {
+            free,
+            notified: 0,
+            waiting: 0,
+            starving: 0,
+            is_shut: false,
+        }
 }
 
 #[test]
 fn nothing_is_lost_among_threads_and_tasks_that_give_up(rt: HostRuntime) {
-    let locks = Locks {
-        semaphore: Semaphore::new(rt.alloc(), 3),
-        mutex: Mutex::new(rt.alloc(), 0),
-        shared: RwLock::new(rt.alloc(), 0),
-        cell: OnceCell::new(rt.alloc()),
-    };
+    let locks = new_locks(&rt);
     let work = |thread| lock_rounds(&rt, &locks, thread);
     let all = sum(&rt, thread::map_indices(&rt, rt.alloc(), THREADS, &work));
-    check(&rt, "free", locks.semaphore.available(&rt), 3);
+    let is_free = [
+        is_free(locks.semaphore.counts(&rt), 3),
+        is_free(locks.mutex.counts(&rt), 1),
+    ];
+    check(&rt, "free", is_free, [true, true]);
     let count = *locks.mutex.try_lock(&rt).expect(&rt, "the mutex");
     let written = *locks.shared.try_write(&rt).expect(&rt, "the lock");
     check(&rt, "the counts", count.saturating_add(written), all);
@@ -130,13 +202,11 @@ fn barrier_rounds<R: Runtime>(rt: &R, barrier: &Barrier, thread: usize) -> usize
 }
 
 // Three wait for a fourth.
-fn all_wait<
-    R: Runtime,
-    S,
-    Q: Attempt<S, Refusal = LockError> + Drop,
-    H: Grants<S, Q::Output, Output: Drop> + Drop,
->(rt: &R, waits: (Obtaining<S, Q, H>, Obtaining<S, Q, H>, Obtaining<S, Q, H>)) {
-    let ((mut first, mut second, mut third), task) = (waits, new_task(rt));
+fn all_wait<R: Runtime>(rt: &R, barrier: &Barrier) {
+    let task = new_task(rt);
+    let mut first = barrier.wait(rt, rt.alloc());
+    let mut second = barrier.wait(rt, rt.alloc());
+    let mut third = barrier.wait(rt, rt.alloc());
     check(rt, "one", task.poll(&mut first).is_pending(), true);
     check(rt, "two", task.poll(&mut second).is_pending(), true);
     check(rt, "three", task.poll(&mut third).is_pending(), true);
@@ -151,7 +221,5 @@ fn each_round_of_a_barrier_lets_all_through_that_did_not_give_up(rt: HostRuntime
     check(&rt, "whether some got through", leaders > 0, true);
     check(&rt, "through", through, leaders.saturating_mul(PARTIES));
     // Nobody is left there.
-    let first = barrier.wait(&rt, rt.alloc());
-    let second = barrier.wait(&rt, rt.alloc());
-    all_wait(&rt, (first, second, barrier.wait(&rt, rt.alloc())));
+    all_wait(&rt, &barrier);
 }

@@ -1,4 +1,5 @@
 //! What the tests share.
+use event_locks::{Mutex, RwLock, Semaphore};
 use futures::test::MockTask;
 use std::alloc::AllocGlobal;
 use std::fmt::{Debug, Display};
@@ -17,6 +18,21 @@ where
     R: Abort,
 {
     assert_eq!(rt; answer, expected, "{asked}");
+}
+
+/// A semaphore with so many permits.
+pub fn new_semaphore<R: Abort + AllocGlobal>(rt: &R, permits: usize) -> Semaphore {
+    Semaphore::new(rt.alloc(), permits).expect(rt, "a semaphore")
+}
+
+/// A mutex round this value.
+pub fn new_mutex<T: Drop, R: Abort + AllocGlobal>(rt: &R, value: T) -> Mutex<T> {
+    Mutex::new(rt.alloc(), value).expect(rt, "a mutex")
+}
+
+/// A read-write lock round this value.
+pub fn new_lock<T: Drop, R: Abort + AllocGlobal>(rt: &R, value: T) -> RwLock<T> {
+    RwLock::new(rt.alloc(), value).expect(rt, "a lock")
 }
 
 /// A task that is not woken.

@@ -1,13 +1,14 @@
 //! Threads that wait in each way, and are woken once they are let in. That each lock wakes whom it lets in is tested by
 //! tasks, in `test_lock_waits`: a thread that is woken differs from a task in nothing else.
-use crate::support::{check, is_over_soon, is_so_soon, new_task};
-use event_locks::{Attempt, Grants, LockError, Obtaining, RwLock, Semaphore};
+use crate::support::{check, is_over_soon, is_so_soon, new_lock, new_semaphore, new_task};
+use event_locks::Semaphore;
 use futures::executor::block_on;
 use futures::test::MockTask;
 use std::sync::Arc;
 use std::sync::atomic::{AtomicBool, Ordering};
 use std::thread;
 use std::time::Duration;
+use test_lock_support::Waits;
 use test_support::Runtime;
 
 // A way to wait until it is granted.
@@ -22,12 +23,8 @@ enum Way {
 const WAYS: [Way; 4] = [Way::Blocking, Way::Timed, Way::LongestTimed, Way::Awaited];
 
 // Whether it is granted to one that waits in this way.
-fn is_granted<
-    R: Runtime,
-    S,
-    Q: Attempt<S, Refusal = LockError> + Drop,
-    H: Grants<S, Q::Output, Output: Drop> + Drop,
->(rt: &R, waits: Obtaining<S, Q, H>, way: Way) -> bool {
+fn is_granted<R: Runtime, W: Waits>(rt: &R, waits: W, way: Way) -> bool {
+    waits.can_be_polled();
     let limit = match way {
         Way::Blocking => return waits.wait().is_ok(),
         Way::Awaited => return block_on(rt, waits).expect(rt, "an executor").is_ok(),
@@ -39,18 +36,9 @@ fn is_granted<
 }
 
 // The same wait, after a poll in vain by this task.
-fn polled<
-    R: Runtime,
-    S,
-    Q: Attempt<S, Refusal = LockError> + Drop,
-    H: Grants<S, Q::Output, Output: Drop> + Drop,
->(
-    rt: &R,
-    waits: Obtaining<S, Q, H>,
-    task: &MockTask,
-    is_polled: &AtomicBool,
-) -> Obtaining<S, Q, H> {
+fn polled<R: Runtime, W: Waits>(rt: &R, waits: W, task: &MockTask, is_polled: &AtomicBool) -> W {
     let mut waits = waits;
+    waits.can_be_polled();
     let is_pending = task.poll(&mut waits).is_pending();
     check(rt, "whether the task waits", is_pending, true);
     check(rt, "whether it is woken", task.is_woken(), false);
@@ -92,20 +80,20 @@ macro_rules! is_woken_in_the_place_of_a_task {
             );
             let permit = $semaphore.try_acquire($rt).expect($rt, "the permit");
             permit.forget();
-            check($rt, "free", $semaphore.available($rt), 0);
+            check($rt, "free", $semaphore.available(), 0);
         }
     }};
 }
 
 #[test]
 fn a_thread_that_waits_in_the_place_of_a_task_is_woken(rt: HostRuntime) {
-    let semaphore = Semaphore::new(rt.alloc(), 0);
+    let semaphore = new_semaphore(&rt, 0);
     is_woken_in_the_place_of_a_task!(&rt, semaphore, semaphore.acquire(&rt, rt.alloc()));
 }
 
 #[test]
 fn a_thread_that_waits_by_a_share_is_woken(rt: HostRuntime) {
-    let semaphore = Arc::new(rt.alloc(), Semaphore::new(rt.alloc(), 0));
+    let semaphore = Arc::new(rt.alloc(), new_semaphore(&rt, 0));
     let semaphore = semaphore.expect(&rt, "memory");
     is_woken_in_the_place_of_a_task!(
         &rt,
@@ -117,7 +105,7 @@ fn a_thread_that_waits_by_a_share_is_woken(rt: HostRuntime) {
 // A thread that has not polled. It stands in the queue as a writer, which is seen: it keeps other readers out.
 #[test]
 fn a_thread_that_waits_is_woken(rt: HostRuntime) {
-    let lock = RwLock::new(rt.alloc(), 7u64);
+    let lock = new_lock(&rt, 7u64);
     for way in WAYS {
         let reader = lock.try_read(&rt).expect(&rt, "the value");
         is_woken!(

@@ -15,7 +15,7 @@ pub trait Case<R> {
 }
 
 /// Runs a case with each kind of wait, each time on a new lock. Those that wait have a runtime of their own. A test calls
-/// this alone: each place that names the kinds is slow to prove. The error is a refusal of memory for a share.
+/// this alone: each place that names the kinds is slow to prove. The error is a refusal of memory for a lock or a share.
 pub fn each<C, R, W>(rt: &R, own: &W, case: &C) -> Result<(), AllocError>
 where
     C: Case<R>,
@@ -23,17 +23,21 @@ where
     W: Wait + Clock + Clone + Sync,
 {
     let alloc = rt.alloc();
-    let semaphore = Semaphore::new(alloc, 1);
+    let semaphore = Semaphore::new(alloc, 1)?;
     case.run(rt, &Of::<_, _, ()>::new(&semaphore, own, alloc));
-    let semaphore = Arc::new(alloc, Semaphore::new(alloc, 1))?;
+    let semaphore = Arc::new(alloc, Semaphore::new(alloc, 1)?)?;
     case.run(rt, &Of::<_, _, ()>::new(&semaphore, own, alloc));
-    let mutex = Mutex::new(alloc, 7u64);
+    let mutex = Mutex::new(alloc, 7u64)?;
     case.run(rt, &Of::<_, _, ()>::new(&mutex, own, alloc));
-    let mutex = Arc::new(alloc, Mutex::new(alloc, 7u64))?;
+    let mutex = Arc::new(alloc, Mutex::new(alloc, 7u64)?)?;
     case.run(rt, &Of::<_, _, ()>::new(&mutex, own, alloc));
-    let shared = RwLock::new(alloc, 7u64);
+    let shared = RwLock::new(alloc, 7u64)?;
     case.run(rt, &Of::<_, _, Read>::new(&shared, own, alloc));
-    let shared = RwLock::new(alloc, 7u64);
+    let shared = RwLock::new(alloc, 7u64)?;
+    case.run(rt, &Of::<_, _, Write>::new(&shared, own, alloc));
+    let shared = Arc::new(alloc, RwLock::new(alloc, 7u64)?)?;
+    case.run(rt, &Of::<_, _, Read>::new(&shared, own, alloc));
+    let shared = Arc::new(alloc, RwLock::new(alloc, 7u64)?)?;
     case.run(rt, &Of::<_, _, Write>::new(&shared, own, alloc));
     let barrier = Barrier::new(alloc, case.waiters().saturating_add(1));
     case.run(rt, &Of::<_, _, ()>::new(&barrier, own, alloc));

@@ -1,9 +1,10 @@
 //! Each kind of wait, so that what is said of every one is written once and run with each.
+use crate::waits::Waits;
 use event_locks::{
-    Arriving, Asking, Attempt, Barrier, BarrierWait, Borrowed, Claim, Ended, Entering, Grants,
-    IsSet, LockError, Mutex, MutexGuard, Obtaining, Once, OnceCell, Permit, Permits, ReadShare,
-    Request, Rounds, RwLock, RwLockReadGuard, RwLockWriteGuard, Seat, Semaphore, SemaphoreGuard,
-    Shared, Shares, Slot, Task, Turn, Vacant, WriteShare,
+    Acquire, AcquireArc, Barrier, BarrierWait, Claim, Claiming, Counts, Lock, LockArc, LockError,
+    Mutex, MutexGuard, MutexGuardArc, OnceCell, ReadArc, RwLock, RwLockReadGuard,
+    RwLockReadGuardArc, RwLockWriteGuard, RwLockWriteGuardArc, Seeing, Semaphore, SemaphoreGuard,
+    SemaphoreGuardArc, Vacant, WriteArc,
 };
 use std::alloc::{AllocError, Global};
 use std::marker::PhantomData;
@@ -25,15 +26,8 @@ pub enum Sharing {
 
 /// A lock that threads share, and a way to wait for it.
 pub trait Kind: Sync {
-    /// What stands under the lock.
-    type State;
-
-    /// What a wait requests.
-    type Request: Attempt<Self::State, Refusal = LockError> + Drop;
-
-    /// How a wait holds the lock.
-    type Hold: Grants<Self::State, <Self::Request as Request<Self::State>>::Output, Output: Drop>
-        + Drop;
+    /// A wait for it.
+    type Waits: Waits;
 
     /// What keeps those waiting that come. Dropping it ends that.
     type Held: Drop;
@@ -45,7 +39,12 @@ pub trait Kind: Sync {
     fn hold(&self) -> Self::Held;
 
     /// A new wait. The error is a refused share of the lock.
-    fn waits(&self) -> Result<Obtaining<Self::State, Self::Request, Self::Hold>, AllocError>;
+    fn waits(&self) -> Result<Self::Waits, AllocError>;
+
+    /// How the lock stands, if those that wait for it compete with newcomers.
+    fn counts(&self) -> Option<Counts> {
+        None
+    }
 }
 
 /// A lock, and the runtime of those that wait for it. Where a lock can be waited for in two ways, `A` says which.
@@ -92,11 +91,7 @@ pub struct Write;
 pub struct See;
 
 impl<'a, R: Wait + Clock + Sync> Kind for Of<'a, Semaphore, R> {
-    type State = Permits<Task>;
-
-    type Request = Seat<Permit>;
-
-    type Hold = Borrowed<'a, Permits<Task>, R>;
+    type Waits = Acquire<'a, R>;
 
     type Held = Option<SemaphoreGuard<'a, R>>;
 
@@ -108,39 +103,39 @@ impl<'a, R: Wait + Clock + Sync> Kind for Of<'a, Semaphore, R> {
         self.lock.try_acquire(self.rt)
     }
 
-    fn waits(&self) -> Result<Obtaining<Permits<Task>, Seat<Permit>, Self::Hold>, AllocError> {
+    fn waits(&self) -> Result<Self::Waits, AllocError> {
         Ok(self.lock.acquire(self.rt, self.alloc))
+    }
+
+    fn counts(&self) -> Option<Counts> {
+        Some(self.lock.counts(self.rt))
     }
 }
 
 impl<'a, R: Wait + Clock + Clone + Sync> Kind for Of<'a, Arc<Semaphore, Global>, R> {
-    type State = Permits<Task>;
+    type Waits = AcquireArc<R>;
 
-    type Request = Seat<Permit>;
-
-    type Hold = Shared<Semaphore, R>;
-
-    type Held = Option<SemaphoreGuard<'a, R>>;
+    type Held = Result<Option<SemaphoreGuardArc<R>>, AllocError>;
 
     fn sharing(&self) -> Sharing {
         Sharing::One
     }
 
-    fn hold(&self) -> Option<SemaphoreGuard<'a, R>> {
-        self.lock.try_acquire(self.rt)
+    fn hold(&self) -> Result<Option<SemaphoreGuardArc<R>>, AllocError> {
+        Semaphore::try_acquire_arc(self.lock, self.rt.clone()?)
     }
 
-    fn waits(&self) -> Result<Obtaining<Permits<Task>, Seat<Permit>, Self::Hold>, AllocError> {
+    fn waits(&self) -> Result<Self::Waits, AllocError> {
         Semaphore::acquire_arc(self.lock, self.rt.clone()?, self.alloc)
+    }
+
+    fn counts(&self) -> Option<Counts> {
+        Some(self.lock.counts(self.rt))
     }
 }
 
 impl<'a, R: Wait + Clock + Sync> Kind for Of<'a, Mutex<u64>, R> {
-    type State = Slot<u64, Task>;
-
-    type Request = Seat<u64>;
-
-    type Hold = Borrowed<'a, Slot<u64, Task>, R>;
+    type Waits = Lock<'a, u64, R>;
 
     type Held = Option<MutexGuard<'a, u64, R>>;
 
@@ -152,39 +147,39 @@ impl<'a, R: Wait + Clock + Sync> Kind for Of<'a, Mutex<u64>, R> {
         self.lock.try_lock(self.rt)
     }
 
-    fn waits(&self) -> Result<Obtaining<Slot<u64, Task>, Seat<u64>, Self::Hold>, AllocError> {
+    fn waits(&self) -> Result<Self::Waits, AllocError> {
         Ok(self.lock.lock(self.rt, self.alloc))
+    }
+
+    fn counts(&self) -> Option<Counts> {
+        Some(self.lock.counts(self.rt))
     }
 }
 
 impl<'a, R: Wait + Clock + Clone + Sync> Kind for Of<'a, Arc<Mutex<u64>, Global>, R> {
-    type State = Slot<u64, Task>;
+    type Waits = LockArc<u64, R>;
 
-    type Request = Seat<u64>;
-
-    type Hold = Shared<Mutex<u64>, R>;
-
-    type Held = Option<MutexGuard<'a, u64, R>>;
+    type Held = Result<Option<MutexGuardArc<u64, R>>, AllocError>;
 
     fn sharing(&self) -> Sharing {
         Sharing::One
     }
 
-    fn hold(&self) -> Option<MutexGuard<'a, u64, R>> {
-        self.lock.try_lock(self.rt)
+    fn hold(&self) -> Result<Option<MutexGuardArc<u64, R>>, AllocError> {
+        Mutex::try_lock_arc(self.lock, self.rt.clone()?)
     }
 
-    fn waits(&self) -> Result<Obtaining<Slot<u64, Task>, Seat<u64>, Self::Hold>, AllocError> {
+    fn waits(&self) -> Result<Self::Waits, AllocError> {
         Mutex::lock_arc(self.lock, self.rt.clone()?, self.alloc)
+    }
+
+    fn counts(&self) -> Option<Counts> {
+        Some(self.lock.counts(self.rt))
     }
 }
 
 impl<'a, R: Wait + Clock + Sync> Kind for Of<'a, RwLock<u64>, R, Read> {
-    type State = Shares<Task>;
-
-    type Request = Seat<ReadShare>;
-
-    type Hold = Entering<'a, u64, R>;
+    type Waits = event_locks::Read<'a, u64, R>;
 
     type Held = Option<RwLockWriteGuard<'a, u64, R>>;
 
@@ -196,17 +191,31 @@ impl<'a, R: Wait + Clock + Sync> Kind for Of<'a, RwLock<u64>, R, Read> {
         self.lock.try_write(self.rt)
     }
 
-    fn waits(&self) -> Result<Obtaining<Shares<Task>, Seat<ReadShare>, Self::Hold>, AllocError> {
+    fn waits(&self) -> Result<Self::Waits, AllocError> {
         Ok(self.lock.read(self.rt, self.alloc))
     }
 }
 
+impl<'a, R: Wait + Clock + Clone + Sync> Kind for Of<'a, Arc<RwLock<u64>, Global>, R, Read> {
+    type Waits = ReadArc<u64, R>;
+
+    type Held = Result<Option<RwLockWriteGuardArc<u64, R>>, AllocError>;
+
+    fn sharing(&self) -> Sharing {
+        Sharing::All
+    }
+
+    fn hold(&self) -> Result<Option<RwLockWriteGuardArc<u64, R>>, AllocError> {
+        RwLock::try_write_arc(self.lock, self.rt.clone()?)
+    }
+
+    fn waits(&self) -> Result<Self::Waits, AllocError> {
+        RwLock::read_arc(self.lock, self.rt.clone()?, self.alloc)
+    }
+}
+
 impl<'a, R: Wait + Clock + Sync> Kind for Of<'a, RwLock<u64>, R, Write> {
-    type State = Shares<Task>;
-
-    type Request = Seat<WriteShare>;
-
-    type Hold = Entering<'a, u64, R>;
+    type Waits = event_locks::Write<'a, u64, R>;
 
     type Held = Option<RwLockReadGuard<'a, u64, R>>;
 
@@ -218,8 +227,26 @@ impl<'a, R: Wait + Clock + Sync> Kind for Of<'a, RwLock<u64>, R, Write> {
         self.lock.try_read(self.rt)
     }
 
-    fn waits(&self) -> Result<Obtaining<Shares<Task>, Seat<WriteShare>, Self::Hold>, AllocError> {
+    fn waits(&self) -> Result<Self::Waits, AllocError> {
         Ok(self.lock.write(self.rt, self.alloc))
+    }
+}
+
+impl<'a, R: Wait + Clock + Clone + Sync> Kind for Of<'a, Arc<RwLock<u64>, Global>, R, Write> {
+    type Waits = WriteArc<u64, R>;
+
+    type Held = Result<Option<RwLockReadGuardArc<u64, R>>, AllocError>;
+
+    fn sharing(&self) -> Sharing {
+        Sharing::One
+    }
+
+    fn hold(&self) -> Result<Option<RwLockReadGuardArc<u64, R>>, AllocError> {
+        RwLock::try_read_arc(self.lock, self.rt.clone()?)
+    }
+
+    fn waits(&self) -> Result<Self::Waits, AllocError> {
+        RwLock::write_arc(self.lock, self.rt.clone()?, self.alloc)
     }
 }
 
@@ -236,11 +263,7 @@ impl<R: Wait + Clock> Drop for Arrives<'_, R> {
 }
 
 impl<'a, R: Wait + Clock + Sync> Kind for Of<'a, Barrier, R> {
-    type State = Rounds<Task>;
-
-    type Request = Seat<Ended>;
-
-    type Hold = Arriving<'a, R>;
+    type Waits = BarrierWait<'a, R>;
 
     type Held = Arrives<'a, R>;
 
@@ -252,17 +275,13 @@ impl<'a, R: Wait + Clock + Sync> Kind for Of<'a, Barrier, R> {
         Arrives(Some(self.lock.wait(self.rt, self.alloc)))
     }
 
-    fn waits(&self) -> Result<Obtaining<Rounds<Task>, Seat<Ended>, Self::Hold>, AllocError> {
+    fn waits(&self) -> Result<Self::Waits, AllocError> {
         Ok(self.lock.wait(self.rt, self.alloc))
     }
 }
 
 impl<'a, R: Wait + Clock + Sync> Kind for Of<'a, OnceCell<u64>, R> {
-    type State = Once<Task>;
-
-    type Request = Seat<Turn>;
-
-    type Hold = Asking<'a, u64, R>;
+    type Waits = Claiming<'a, u64, R>;
 
     type Held = Result<Option<Claim<'a, u64, R>>, LockError>;
 
@@ -275,7 +294,7 @@ impl<'a, R: Wait + Clock + Sync> Kind for Of<'a, OnceCell<u64>, R> {
         claiming.wait_timeout(Duration::ZERO)
     }
 
-    fn waits(&self) -> Result<Obtaining<Once<Task>, Seat<Turn>, Self::Hold>, AllocError> {
+    fn waits(&self) -> Result<Self::Waits, AllocError> {
         Ok(self.lock.claim(self.rt, self.alloc))
     }
 }
@@ -293,11 +312,7 @@ impl<R: Wait + Clock> Drop for Sets<'_, R> {
 }
 
 impl<'a, R: Wait + Clock + Sync> Kind for Of<'a, OnceCell<u64>, R, See> {
-    type State = Once<Task>;
-
-    type Request = Seat<IsSet>;
-
-    type Hold = Asking<'a, u64, R>;
+    type Waits = Seeing<'a, u64, R>;
 
     type Held = Sets<'a, R>;
 
@@ -313,7 +328,7 @@ impl<'a, R: Wait + Clock + Sync> Kind for Of<'a, OnceCell<u64>, R, See> {
         })
     }
 
-    fn waits(&self) -> Result<Obtaining<Once<Task>, Seat<IsSet>, Self::Hold>, AllocError> {
+    fn waits(&self) -> Result<Self::Waits, AllocError> {
         Ok(self.lock.wait(self.rt, self.alloc))
     }
 }

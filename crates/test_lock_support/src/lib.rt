@@ -3,6 +3,8 @@
 
 mod cases;
 mod kinds;
+mod waits;
 
 pub use cases::{Case, each};
 pub use kinds::{Arrives, Kind, Of, Read, See, Sets, Sharing, Write};
+pub use waits::Waits;

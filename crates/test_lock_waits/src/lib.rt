@@ -6,6 +6,7 @@
 //! | `waits` | tasks that wait for each lock, and are woken once they are let in |
 //! | `limits` | waits that end at their limit, at one that has passed and by a clock that can't be read |
 //! | `told` | one that is told and dropped, which gives on what it was handed |
+//! | `turns` | that nobody is passed over for ever, and when newcomers are shut out |
 //!
 //! `support` has what they share.
 #![tactic(auto)]
@@ -16,5 +17,7 @@ mod limits;
 mod support;
 #[cfg(test)]
 mod told;
+#[cfg(test)]
+mod turns;
 #[cfg(test)]
 mod waits;

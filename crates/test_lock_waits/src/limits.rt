@@ -1,5 +1,5 @@
 //! Waits that end at their limit. Who gives up there stands in no queue, and what it was handed is not lost.
-use crate::support::{check, in_time, is_over_soon};
+use crate::support::{check, in_time, is_over_soon, new_semaphore};
 use crate::waits::Polled;
 use event_locks::Semaphore;
 use std::alloc::AllocGlobal;
@@ -8,7 +8,7 @@ use std::sync::Wait;
 use std::sync::atomic::{AtomicBool, Ordering};
 use std::time::{Clock, Duration, Instant};
 use std::{io, thread};
-use test_lock_support::{Case, Kind, Sharing, each};
+use test_lock_support::{Case, Kind, Sharing, Waits, each};
 use test_support::{CountedClock, NoClock, OwnClock, Runtime, WithClock};
 
 // One waits with each of these limits, in vain. Then another one comes first.
@@ -93,12 +93,12 @@ fn is_taken<R: Runtime, C: Wait + Clock>(rt: &R, clock: &C, semaphore: &Semaphor
     let given = given.expect(rt, "an answer").is_some();
     check(rt, "whether it is granted", given, true);
     drop(first);
-    check(rt, "how many are free", semaphore.available(rt), 2);
+    check(rt, "how many are free", semaphore.available(), 2);
 }
 
 #[test]
 fn what_comes_while_the_clock_is_read_is_taken(rt: HostRuntime) {
-    let semaphore = Semaphore::new(rt.alloc(), 0);
+    let semaphore = new_semaphore(&rt, 0);
     let (rt, semaphore) = (&rt, &semaphore);
     let clock = Gives { rt, semaphore };
     let clock = &clock;
@@ -173,10 +173,10 @@ fn waited<R: Runtime>(
 }
 
 fn ends<R: Runtime>(rt: &R, limit: u64, meanwhile: [Meanwhile; 4], expected: (bool, u64)) {
-    let semaphore = Semaphore::new(rt.alloc(), 0);
+    let semaphore = new_semaphore(rt, 0);
     let waited = waited(rt, &semaphore, limit, meanwhile);
     check(rt, "given, after looks", waited, expected);
-    check(rt, "free", semaphore.available(rt), usize::from(waited.0));
+    check(rt, "free", semaphore.available(), usize::from(waited.0));
 }
 
 #[test]
@@ -209,7 +209,7 @@ fn waits_in_vain<R: Runtime, C: Wait + Clock>(
 
 // Each of many waits would have to end late, and not only one, which a busy machine may bring about.
 fn parks_until_its_limit<R: Runtime>(rt: &R) -> bool {
-    let semaphore = Semaphore::new(rt.alloc(), 0);
+    let semaphore = new_semaphore(rt, 0);
     let (limit, late) = (Duration::from_millis(50), Duration::from_millis(75));
     for _ in 0..30u32 {
         let reads = Cell::new(0);

@@ -1,4 +1,5 @@
 //! What the tests share.
+use event_locks::{RwLock, Semaphore};
 use futures::test::MockTask;
 use std::alloc::AllocGlobal;
 use std::fmt::{Debug, Display};
@@ -23,6 +24,16 @@ where
     R: Abort,
 {
     assert_eq!(rt; answer, expected, "{asked}");
+}
+
+/// A semaphore with so many permits.
+pub fn new_semaphore<R: Abort + AllocGlobal>(rt: &R, permits: usize) -> Semaphore {
+    Semaphore::new(rt.alloc(), permits).expect(rt, "a semaphore")
+}
+
+/// A read-write lock round this value.
+pub fn new_lock<R: Abort + AllocGlobal>(rt: &R, value: u64) -> RwLock<u64> {
+    RwLock::new(rt.alloc(), value).expect(rt, "a lock")
 }
 
 /// A task that is not woken.

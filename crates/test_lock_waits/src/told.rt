@@ -1,24 +1,16 @@
 //! One that gives up: what it was handed goes to the next, and who waited for it alone is let in.
-use crate::support::check;
+use crate::support::{check, new_lock};
 use crate::waits::Polled;
-use event_locks::{Attempt, Grants, LockError, Obtaining, RwLock};
 use std::time::Duration;
-use test_lock_support::{Case, Kind, each};
+use test_lock_support::{Case, Kind, Waits, each};
 use test_support::Runtime;
 
 // Both wait, and the first is dropped once it is woken.
-fn passes_on<R, S, Q, P, H, I, G>(
-    rt: &R,
-    first: Obtaining<S, Q, H>,
-    second: Obtaining<S, P, I>,
-    held: G,
-)
+fn passes_on<R, W, V, G>(rt: &R, first: W, second: V, held: G)
 where
     R: Runtime,
-    Q: Attempt<S, Refusal = LockError> + Drop,
-    P: Attempt<S, Refusal = LockError> + Drop,
-    H: Grants<S, Q::Output, Output: Drop> + Drop,
-    I: Grants<S, P::Output, Output: Drop> + Drop,
+    W: Waits,
+    V: Waits,
     G: Drop,
 {
     let first = Polled::new(rt, first);
@@ -55,7 +47,7 @@ fn who_is_dropped_once_it_is_told_passes_it_on(rt: HostRuntime) {
 
 #[test]
 fn a_reader_gives_way_to_a_writer(rt: HostRuntime) {
-    let shared = RwLock::new(rt.alloc(), 7u64);
+    let shared = new_lock(&rt, 7);
     let writer = shared.try_write(&rt).expect(&rt, "the value");
     let first = shared.read(&rt, rt.alloc());
     passes_on(&rt, first, shared.write(&rt, rt.alloc()), writer);
@@ -63,7 +55,7 @@ fn a_reader_gives_way_to_a_writer(rt: HostRuntime) {
 
 #[test]
 fn a_writer_gives_way_to_a_reader(rt: HostRuntime) {
-    let shared = RwLock::new(rt.alloc(), 7u64);
+    let shared = new_lock(&rt, 7);
     let reader = shared.try_read(&rt).expect(&rt, "the value");
     let first = shared.write(&rt, rt.alloc());
     passes_on(&rt, first, shared.read(&rt, rt.alloc()), reader);
@@ -73,7 +65,7 @@ fn a_writer_gives_way_to_a_reader(rt: HostRuntime) {
 #[test]
 fn readers_come_in_once_no_writer_waits(rt: HostRuntime) {
     for is_dropped in [true, false] {
-        let shared = RwLock::new(rt.alloc(), 7u64);
+        let shared = new_lock(&rt, 7);
         let reader = shared.try_read(&rt).expect(&rt, "the value");
         let writer = Polled::new(&rt, shared.write(&rt, rt.alloc())).into_waits();
         let mut first = Polled::new(&rt, shared.read(&rt, rt.alloc()));
@@ -98,7 +90,7 @@ fn readers_come_in_once_no_writer_waits(rt: HostRuntime) {
 // A reader that is alone writes first, though a writer waits, which is let in afterwards.
 #[test]
 fn upgrade_with_a_concurrent_writer(rt: HostRuntime) {
-    let lock = RwLock::new(rt.alloc(), 0u64);
+    let lock = new_lock(&rt, 0);
     let reader = lock.try_read(&rt).expect(&rt, "the reader");
     let behind = Polled::new(&rt, lock.write(&rt, rt.alloc()));
     check(&rt, "read", lock.try_read(&rt).is_none(), true);

@@ -1,40 +1,26 @@
 //! Tasks that wait in each way, and are woken once they are let in.
-use crate::support::{check, new_task};
-use event_locks::{
-    Attempt, Barrier, Claim, Grants, LockError, Obtaining, OnceCell, RwLock, Semaphore, Vacant,
-};
+use crate::support::{check, new_lock, new_semaphore, new_task};
+use event_locks::{Barrier, Claim, OnceCell, RwLock, Vacant};
 use futures::test::MockTask;
 use std::sync::Arc;
 use std::thread;
 use std::time::Duration;
-use test_lock_support::{Case, Kind, Sharing, each};
+use test_lock_support::{Case, Kind, Sharing, Waits, each};
 use test_support::Runtime;
 
 /// A wait that a task of its own polls.
-pub struct Polled<S, Q: Attempt<S>, H: Grants<S, Q::Output>> {
+#[derive(Drop)]
+pub struct Polled<W> {
     task: MockTask,
-    waits: Obtaining<S, Q, H>,
+    waits: W,
     is_granted: bool,
 }
 
-impl<S, Q: Attempt<S> + Drop, H: Grants<S, Q::Output> + Drop> Drop for Polled<S, Q, H> {
-    fn drop(self) {
-        let Polled {
-            task: _,
-            waits: _,
-            is_granted: _,
-        } = self;
-    }
-}
-
-impl<
-    S,
-    Q: Attempt<S, Refusal = LockError> + Drop,
-    H: Grants<S, Q::Output, Output: Drop> + Drop,
-> Polled<S, Q, H> {
+impl<W: Waits> Polled<W> {
     /// Polls this wait, which is not granted at once, and wakes nobody.
-    pub fn new<R: Runtime>(rt: &R, waits: Obtaining<S, Q, H>) -> Self {
+    pub fn new<R: Runtime>(rt: &R, waits: W) -> Self {
         let (mut waits, task) = (waits, new_task(rt));
+        waits.can_be_polled();
         let pending = task.poll(&mut waits).is_pending();
         check(rt, "whether it waits", pending, true);
         check(rt, "whether it is woken", task.is_woken(), false);
@@ -52,6 +38,7 @@ impl<
 
     /// Polls again, in vain. That wakes nobody: its task is registered.
     pub fn waits_on<R: Runtime>(&mut self, rt: &R) {
+        self.waits.can_be_polled();
         let pending = self.task.poll(&mut self.waits).is_pending();
         check(rt, "whether it waits on", pending, true);
         check(rt, "whether it is woken", self.task.is_woken(), false);
@@ -66,7 +53,7 @@ impl<
     }
 
     /// The wait, which nobody polls any more.
-    pub fn into_waits(self) -> Obtaining<S, Q, H> {
+    pub fn into_waits(self) -> W {
         let Polled {
             task: _,
             waits,
@@ -80,6 +67,7 @@ impl<
         if self.is_granted || !self.task.is_woken() {
             return;
         }
+        self.waits.can_be_polled();
         let ready = self.task.poll(&mut self.waits).is_ready();
         check(rt, "whether it is granted", ready, true);
         self.is_granted = true;
@@ -143,7 +131,7 @@ fn all_tasks_are_woken_in_their_turn(rt: HostRuntime) {
 
 #[test]
 fn added_permits_wake_as_many(rt: HostRuntime) {
-    let semaphore = Semaphore::new(rt.alloc(), 0);
+    let semaphore = new_semaphore(&rt, 0);
     let mut first = Polled::new(&rt, semaphore.acquire(&rt, rt.alloc()));
     let mut second = Polled::new(&rt, semaphore.acquire(&rt, rt.alloc()));
     let third = Polled::new(&rt, semaphore.acquire(&rt, rt.alloc()));
@@ -154,17 +142,13 @@ fn added_permits_wake_as_many(rt: HostRuntime) {
     first.is_granted(&rt);
     second.is_granted(&rt);
     drop(third);
-    check(&rt, "free", semaphore.available(&rt), 2);
+    check(&rt, "free", semaphore.available(), 2);
 }
 
 // It is granted at the first poll.
-fn comes_last<
-    R: Runtime,
-    S,
-    Q: Attempt<S, Refusal = LockError> + Drop,
-    H: Grants<S, Q::Output, Output: Drop> + Drop,
->(rt: &R, waits: Obtaining<S, Q, H>) {
+fn comes_last<R: Runtime, W: Waits>(rt: &R, waits: W) {
     let mut waits = waits;
+    waits.can_be_polled();
     let ready = new_task(rt).poll(&mut waits).is_ready();
     check(rt, "whether the round has ended", ready, true);
 }
@@ -181,7 +165,7 @@ fn a_task_that_comes_last_wakes_all(rt: HostRuntime) {
 
 #[test]
 fn a_writer_that_downgrades_wakes_all_readers(rt: HostRuntime) {
-    let shared = RwLock::new(rt.alloc(), 7u64);
+    let shared = new_lock(&rt, 7);
     let writer = shared.try_write(&rt).expect(&rt, "the value");
     let mut first = Polled::new(&rt, shared.read(&rt, rt.alloc()));
     let mut second = Polled::new(&rt, shared.read(&rt, rt.alloc()));
@@ -215,7 +199,7 @@ fn a_value_that_is_set_wakes_those_that_would_make_it(rt: HostRuntime) {
 // A writer that shares its lock goes to another thread, whose end lets a reader in that shares it too.
 #[test]
 fn owned_guards_of_a_read_write_lock(rt: HostRuntime) {
-    let lock = Arc::new(rt.alloc(), RwLock::new(rt.alloc(), 7u64));
+    let lock = Arc::new(rt.alloc(), new_lock(&rt, 7));
     let lock = lock.expect(&rt, "memory");
     let write = RwLock::write_arc(&lock, rt, rt.alloc());
     let writer = write.expect(&rt, "a share").wait();

@@ -1,13 +1,13 @@
 //! Waits for each lock of `event_locks` that are refused memory, and calls there that need none.
 use crate::support::{Runtime, Starved, all_memory, check, count_refused, leave, new_task};
 use event_listener::ListenError;
-use event_locks::{Attempt, Barrier, Grants, LockError, Obtaining};
+use event_locks::{Barrier, LockError, Mutex, RwLock, Semaphore};
 use futures::task::Poll;
 use std::cell::Cell;
 use std::io;
 use std::sync::atomic::{AtomicU64, Ordering};
 use std::time::{Duration, Instant};
-use test_lock_support::{Case, Kind, Sharing, each};
+use test_lock_support::{Case, Kind, Sharing, Waits, each};
 use test_queue_memory::Budget;
 use test_support::{OwnClock, WithClock};
 
@@ -38,6 +38,7 @@ impl<R: Runtime, K: Kind> Starved for InVain<'_, R, K> {
     fn is_granted(&self, budget: &mut Budget, bytes: usize) -> bool {
         let (rt, task) = (self.rt, new_task(self.rt));
         let mut waits = self.kind.waits().expect(rt, "a share");
+        waits.can_be_polled();
         leave(rt, budget, bytes);
         let refusal = if self.is_polled {
             let polled = task.poll(&mut waits);
@@ -90,9 +91,11 @@ impl<R: Runtime> Case<R> for EachIsRefused {
         check(rt, "a parker", in_vain.parkers.get() > 0, !is_polled);
         // Nobody is left in the queue who would be handed it.
         let (task, mut waits) = (new_task(rt), kind.waits().expect(rt, "a share"));
+        waits.can_be_polled();
         check(rt, refused, task.poll(&mut waits).is_pending(), true);
         drop(held);
         check(rt, "woken", task.is_woken(), true);
+        waits.can_be_polled();
         check(rt, "given", task.poll(&mut waits).is_ready(), true);
     }
 }
@@ -111,13 +114,45 @@ fn each_request_of_a_wait_for_a_lock_is_refused(rt: HostRuntime) {
     }
 }
 
+// The locks that allocate when they are made.
+#[derive(Clone, Copy, Debug)]
+enum New {
+    Semaphore,
+    Mutex,
+    RwLock,
+}
+
+#[derive(Drop)]
+struct NewLock<'a, R> {
+    rt: &'a R,
+    new: New,
+}
+
+impl<R: Runtime> Starved for NewLock<'_, R> {
+    fn is_granted(&self, budget: &mut Budget, bytes: usize) -> bool {
+        let (rt, alloc) = (self.rt, self.rt.alloc());
+        leave(rt, budget, bytes);
+        let is_made = match self.new {
+            New::Semaphore => Semaphore::new(alloc, 1).is_ok(),
+            New::Mutex => Mutex::new(alloc, 7u64).is_ok(),
+            New::RwLock => RwLock::new(alloc, 7u64).is_ok(),
+        };
+        budget.give_back();
+        is_made
+    }
+}
+
+#[test]
+fn each_request_of_a_new_lock_is_refused(rt: HostRuntime) {
+    let rt = &rt;
+    for new in [New::Semaphore, New::Mutex, New::RwLock] {
+        let refused = count_refused(rt, &NewLock { rt, new });
+        check(rt, new, refused > 0, true);
+    }
+}
+
 // One that waits until a moment that has passed attempts, and enters no queue.
-fn is_late_without_memory<R, S, Q, H>(rt: &R, waits: Obtaining<S, Q, H>)
-where
-    R: Runtime,
-    Q: Attempt<S, Refusal = LockError> + Drop,
-    H: Grants<S, Q::Output, Output: Drop> + Drop,
-{
+fn is_late_without_memory<R: Runtime, W: Waits>(rt: &R, waits: W) {
     let now = Instant::now(rt).expect(rt, "the time");
     let hog = all_memory(rt);
     let late = waits.wait_deadline(now).ok();
@@ -140,6 +175,8 @@ impl<R: Runtime> Case<R> for NeedsNone {
         is_late_without_memory(rt, kind.waits().expect(rt, "a share"));
         let mut first = kind.waits().expect(rt, "a share");
         let mut second = kind.waits().expect(rt, "a share");
+        first.can_be_polled();
+        second.can_be_polled();
         check(rt, "waits", task.poll(&mut first).is_pending(), true);
         check(rt, "waits", other.poll(&mut second).is_pending(), true);
         let hog = all_memory(rt);
@@ -148,6 +185,7 @@ impl<R: Runtime> Case<R> for NeedsNone {
         let given = first.wait_timeout(Duration::MAX).ok();
         check(rt, "told", given.map(|it| it.is_some()), Some(true));
         check(rt, "woken", other.is_woken(), true);
+        second.can_be_polled();
         check(rt, "given", other.poll(&mut second).is_ready(), true);
         drop(kind.hold());
         if kind.sharing() != Sharing::Together {
