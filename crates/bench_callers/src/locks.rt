@@ -13,7 +13,7 @@ pub trait Threaded: Threads + Wait + Clock + Clone + Sync + AllocGlobal {}
 impl<R: Threads + Wait + Clock + Clone + Sync + AllocGlobal> Threaded for R {}
 
 pub fn lock_mutex<R: Threaded>(rt: &R, threads: usize, rounds: u64) -> Result<Duration> {
-    let (mutex, alloc) = (&Mutex::new(rt.alloc(), 0u64), rt.alloc());
+    let (mutex, alloc) = (&Mutex::new(rt.alloc(), 0u64)?, rt.alloc());
     measured(
         rt,
         threads,
@@ -29,7 +29,7 @@ pub fn lock_mutex<R: Threaded>(rt: &R, threads: usize, rounds: u64) -> Result<Du
 }
 
 pub fn try_mutex<R: Threaded>(rt: &R, threads: usize, rounds: u64) -> Result<Duration> {
-    let mutex = &Mutex::new(rt.alloc(), 0u64);
+    let mutex = &Mutex::new(rt.alloc(), 0u64)?;
     measured(
         rt,
         threads,
@@ -50,7 +50,7 @@ pub fn acquire<R: Threaded>(
     threads: usize,
     rounds: u64,
 ) -> Result<Duration> {
-    let (semaphore, alloc) = (&Semaphore::new(rt.alloc(), permits), rt.alloc());
+    let (semaphore, alloc) = (&Semaphore::new(rt.alloc(), permits)?, rt.alloc());
     measured(
         rt,
         threads,
@@ -61,8 +61,8 @@ pub fn acquire<R: Threaded>(
 
 pub fn hand_over<R: Threaded>(rt: &R, rounds: u64) -> Result<Duration> {
     let (here, there) = (
-        &Semaphore::new(rt.alloc(), 0),
-        &Semaphore::new(rt.alloc(), 0),
+        &Semaphore::new(rt.alloc(), 0)?,
+        &Semaphore::new(rt.alloc(), 0)?,
     );
     let alloc = rt.alloc();
     measured(
@@ -91,7 +91,7 @@ pub fn hand_over<R: Threaded>(rt: &R, rounds: u64) -> Result<Duration> {
 }
 
 pub fn read<R: Threaded>(rt: &R, threads: usize, rounds: u64) -> Result<Duration> {
-    let (lock, alloc) = (&RwLock::new(rt.alloc(), 0u64), rt.alloc());
+    let (lock, alloc) = (&RwLock::new(rt.alloc(), 0u64)?, rt.alloc());
     measured(
         rt,
         threads,
@@ -101,7 +101,7 @@ pub fn read<R: Threaded>(rt: &R, threads: usize, rounds: u64) -> Result<Duration
 }
 
 pub fn write<R: Threaded>(rt: &R, threads: usize, rounds: u64) -> Result<Duration> {
-    let (lock, alloc) = (&RwLock::new(rt.alloc(), 0u64), rt.alloc());
+    let (lock, alloc) = (&RwLock::new(rt.alloc(), 0u64)?, rt.alloc());
     measured(
         rt,
         threads,

@@ -3,11 +3,13 @@
 //!
 //!     bench_callers time WORKLOAD THREADS [OPERATIONS]
 //!
-//! prints the nanoseconds of one operation, of one run. Without words it runs every workload for a moment. An error, or an
+//! prints the nanoseconds of one operation, of one run; or where threads share a mutex for a while, the longest wait, the
+//! smallest share, or how often one had it that comes seldom. Without words it runs every workload for a moment. An error, or an
 //! answer that the workload does not expect, is printed to standard error, with status 1.
 #![tactic(auto)]
 
 mod channels;
+mod fairness;
 mod locks;
 mod loops;
 mod request;

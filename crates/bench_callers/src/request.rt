@@ -29,9 +29,8 @@ pub fn answer<R: Threaded + RandomSource + Env, W: Write>(rt: &R, output: &mut W
             None => Some(workload.operations(threads)),
         };
         if let Some(operations) = operations {
-            let time = workload.run(rt, threads, operations)?;
-            let tenths = time.as_nanos().saturating_mul(10) / operations.max(1) as u128;
-            writeln!(output, "{}.{} ns per op", tenths / 10, tenths % 10)?;
+            let measured = workload.run(rt, threads, operations)?;
+            writeln!(output, "{measured}")?;
             return Ok(true);
         }
     }

@@ -2,11 +2,13 @@
 //!
 //!     peers LIBRARY WORKLOAD THREADS [OPERATIONS]
 //!
-//! prints the nanoseconds of one operation, of one run. The loops stand in `region`, which is never inlined, so that
+//! prints the nanoseconds of one operation, of one run; or where threads share a mutex for a while, the longest wait, the
+//! smallest share, or how often one had it that comes seldom. The loops stand in `region`, which is never inlined, so that
 //! callgrind can count it. A library that lacks a workload prints nothing, with status 2.
 
 use futures_lite::future::{block_on, zip};
 use std::future::Future;
+use std::hint::spin_loop;
 use std::mem::forget;
 use std::sync::{Condvar, Mutex};
 use std::thread;
@@ -390,10 +392,109 @@ fn time(library: &str, workload: &str, threads: u64, n: u64) -> Option<Duration>
     })
 }
 
-/// How many operations a run has, as in `crates/bench_callers`.
+/// So long a thread holds a mutex that is shared.
+const HOLDS: Duration = Duration::from_micros(20);
+
+/// So long a thread stays away that comes seldom.
+const AWAY: Duration = Duration::from_millis(1);
+
+/// Calls something while it has a mutex.
+type Lock<'a> = &'a (dyn Fn(&mut dyn FnMut()) + Sync);
+
+/// Does something with a mutex of this library.
+fn with_mutex<A>(library: &str, does: impl FnOnce(Lock<'_>) -> A) -> Option<A> {
+    Some(match library {
+        "async-lock" => {
+            let mutex = async_lock::Mutex::new(0u64);
+            does(&|work| {
+                let mut count = block_on(mutex.lock());
+                *count += 1;
+                work()
+            })
+        }
+        "tokio" => {
+            let mutex = tokio::sync::Mutex::new(0u64);
+            does(&|work| {
+                let mut count = mutex.blocking_lock();
+                *count += 1;
+                work()
+            })
+        }
+        "parking_lot" => {
+            let mutex = parking_lot::Mutex::new(0u64);
+            does(&|work| {
+                let mut count = mutex.lock();
+                *count += 1;
+                work()
+            })
+        }
+        "std" => {
+            let mutex = Mutex::new(0u64);
+            does(&|work| {
+                let mut count = mutex.lock().unwrap();
+                *count += 1;
+                work()
+            })
+        }
+        _ => return None,
+    })
+}
+
+/// A thread has the mutex again and again, for so long each time, and stays away for so long in between. Returns how often, and
+/// its longest wait.
+fn hammers(lock: Lock<'_>, ends: Instant, holds: Duration, away: Duration) -> (u64, Duration) {
+    let (mut locks, mut longest) = (0, Duration::ZERO);
+    loop {
+        let asked = Instant::now();
+        if asked >= ends {
+            return (locks, longest);
+        }
+        lock(&mut || {
+            let had = Instant::now();
+            longest = longest.max(had - asked);
+            while had.elapsed() < holds {
+                spin_loop();
+            }
+        });
+        locks += 1;
+        if !away.is_zero() {
+            thread::sleep(away);
+        }
+    }
+}
+
+/// How so many threads share a mutex in so many milliseconds.
+fn shares(library: &str, workload: &str, threads: u64, millis: u64) -> Option<String> {
+    let ends = Instant::now() + Duration::from_millis(millis);
+    let shares: Vec<(u64, Duration)> = with_mutex(library, |lock| {
+        thread::scope(|scope| {
+            let spawn = |index| {
+                let (holds, away) = match (workload, index) {
+                    ("seldom", 0) => (Duration::ZERO, AWAY),
+                    _ => (HOLDS, Duration::ZERO),
+                };
+                scope.spawn(move || hammers(lock, ends, holds, away))
+            };
+            let threads: Vec<_> = (0..threads).map(spawn).collect();
+            threads.into_iter().map(|it| it.join().unwrap()).collect()
+        })
+    })?;
+    let all: u64 = shares.iter().map(|share| share.0).sum();
+    let least = shares.iter().map(|share| share.0).min()?;
+    let longest = shares.iter().map(|share| share.1).max()?;
+    Some(match workload {
+        "longest_wait" => format!("{:.1} us at most", longest.as_nanos() as f64 / 1e3),
+        "smallest_share" => format!("{:.1} percent", (least * threads * 100) as f64 / all as f64),
+        _ => format!("{:.1} locks", shares[0].0 as f64),
+    })
+}
+
+/// How many operations a run has, or milliseconds where threads share a mutex, as in `crates/bench_callers`.
 fn operations(workload: &str, threads: u64) -> u64 {
     match workload {
         "handover" | "barrier" => 20_000,
+        "longest_wait" | "smallest_share" => 2_000,
+        "seldom" => 3_000,
         "channel_alone" => 1_000_000,
         channel if channel.starts_with("channel") => 100_000,
         _ if threads == 1 => 1_000_000,
@@ -412,8 +513,13 @@ fn main() {
         Some(n) => n.parse().expect("a number of operations"),
         None => operations(workload, threads),
     };
-    match time(library, workload, threads, n) {
-        Some(time) => println!("{:.1} ns per op", time.as_nanos() as f64 / n as f64),
+    let measured = match &workload[..] {
+        "longest_wait" | "smallest_share" | "seldom" => shares(library, workload, threads, n),
+        _ => time(library, workload, threads, n)
+            .map(|time| format!("{:.1} ns per op", time.as_nanos() as f64 / n as f64)),
+    };
+    match measured {
+        Some(measured) => println!("{measured}"),
         None => std::process::exit(2),
     }
 }
