@@ -21,6 +21,7 @@ mod steps;
 pub use call::{ChannelCall, ChannelHand};
 pub use channel::ChannelError;
 pub use error::{RecvError, RecvTimeoutError, SendError, SendReason, TryRecvError};
+pub use event_word::LockError;
 pub use iter::{Iter, TryIter};
 pub use laws::sent_is_received_in_order;
 pub use messages::{Messages, received_in_order};

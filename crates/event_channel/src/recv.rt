@@ -5,7 +5,7 @@ use crate::call::RestingHand;
 use crate::channel::Channel;
 use crate::error::RecvError;
 use crate::receiving::Receiving;
-use event_locks::LockError;
+use event_word::LockError;
 use futures::Future;
 use futures::task::{Context, Poll};
 use std::fmt;

@@ -6,7 +6,7 @@ use crate::call::RestingHand;
 use crate::channel::Channel;
 use crate::error::{SendError, SendReason};
 use crate::sending::Sending;
-use event_locks::LockError;
+use event_word::LockError;
 use futures::Future;
 use futures::task::{Context, Poll};
 use std::fmt;

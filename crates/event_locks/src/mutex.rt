@@ -2,22 +2,18 @@
 ghost use Rattle.std.specs.Prelude.{◌≡◌, ◌<◌, ◌≤◌, [], IfSome, true};
 ghost use Rattle.atomic_table.specs.Table.{rest};
 ghost use Rattle.event_wait.specs.Attempted.{Attempts, OnDone, OnRefused, OnUndone};
-ghost use Rattle.event_locks.specs.Free.{ServesTheStarving, Stands};
-ghost use Rattle.event_locks.specs.Word.{HasPlace, HasState, HasValue, HasValueToo};
+ghost use Rattle.event_word.specs.Free.{ServesTheStarving, Stands};
+ghost use Rattle.event_word.specs.Word.{HasPlace, HasState, HasValue, HasValueToo};
 
 mod guard;
 mod lock;
 
 pub use self::guard::{MutexGuard, MutexGuardArc};
 pub use self::lock::{Lock, LockArc};
-use crate::error::LockError;
-use crate::line::competing::{Competing, OneValue};
-use crate::line::competitor::{Coming, Competitor};
-use crate::line::counts::Counts;
-use crate::lock::{Borrowed, Obtaining, Shared};
-use crate::word::{Held, Seat, Word};
+use event_monitor::{Borrowed, Obtaining, Shared};
 use event_queue::TaskExchange;
 use event_wait::{Attempted, LineSource, Serves, Task, Tries};
+use event_word::{Coming, Competing, Competitor, Counts, Held, LockError, OneValue, Seat, Word};
 use std::alloc::{AllocError, Global};
 use std::fmt;
 use std::fmt::{Debug, Formatter};

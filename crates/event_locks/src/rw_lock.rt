@@ -1,23 +1,16 @@
 //! A read-write lock.
 ghost use Rattle.std.specs.Prelude.{◌≡◌, ◌+◌, ◌<◌, ◌≤◌};
 
-mod counts;
 mod guard;
-mod number;
-pub(crate) mod queues;
 mod requests;
-mod rights;
-mod shares;
 mod waits;
 
-pub use self::counts::RwLockCounts;
 pub use self::guard::{RwLockReadGuard, RwLockReadGuardArc, RwLockWriteGuard, RwLockWriteGuardArc};
-use self::queues::Queues;
 use self::requests::{Reader, Writer};
 pub use self::waits::{Read, ReadArc, Write, WriteArc};
-use crate::lock::{Borrowed, Obtaining, Shared};
-use crate::word::Word;
+use event_monitor::{Borrowed, Obtaining, Shared};
 use event_wait::{LineSource, Task};
+use event_word::{Queues, RwLockCounts, Word, is_written, readers};
 use std::alloc::{AllocError, Global};
 use std::fmt;
 use std::fmt::{Debug, Formatter};
@@ -181,8 +174,8 @@ impl<T> Debug for RwLock<T> {
     fn fmt<W: fmt::Write>(&self, f: &mut Formatter<W>) -> fmt::Result {
         let number = self.word.number();
         f.debug_struct("RwLock")
-            .field("readers", &number::readers(number))
-            .field("is_written", &number::is_written(number))
+            .field("readers", &readers(number))
+            .field("is_written", &is_written(number))
             .finish()
     }
 }

@@ -1,23 +1,18 @@
 //! A semaphore.
 ghost use Rattle.std.specs.Prelude.{◌≡◌, ◌<◌, ◌≤◌, true};
 ghost use Rattle.event_wait.specs.Attempted.{Attempts, OnDone, OnRefused, OnUndone};
-ghost use Rattle.event_locks.specs.Free.{ServesTheStarving, Stands};
-ghost use Rattle.event_locks.specs.Word.{HasState};
+ghost use Rattle.event_word.specs.Free.{ServesTheStarving, Stands};
+ghost use Rattle.event_word.specs.Word.{HasState};
 
 mod acquire;
 mod guard;
 
 pub use self::acquire::{Acquire, AcquireArc};
 pub use self::guard::{SemaphoreGuard, SemaphoreGuardArc};
-use crate::error::LockError;
-use crate::line::competing::{Competing, Permits};
-use crate::line::competitor::{Coming, Competitor};
-use crate::line::counts::Counts;
-use crate::lock::{Borrowed, Obtaining, Shared};
-use crate::word::permits::Permit;
-use crate::word::{Held, Word};
+use event_monitor::{Borrowed, Obtaining, Shared};
 use event_queue::TaskExchange;
 use event_wait::{Attempted, LineSource, Serves, Task, Tries};
+use event_word::{Coming, Competing, Competitor, Counts, Held, LockError, Permit, Permits, Word};
 use std::alloc::{AllocError, Global};
 use std::fmt;
 use std::fmt::{Debug, Formatter};
@@ -100,7 +95,7 @@ impl Semaphore {
     }
 
     /// Adds permits, all free at once, and notifies the first that wait of them. As many as
-    /// [`MAX_PERMITS`](Semaphore::MAX_PERMITS) are free at most. It may wait for the queue.
+    /// [`MAX_PERMITS`](Semaphore::MAX_PERMITS) are free at most. It does not wait: a thread that has the queue notifies then.
     pub fn add_permits<R: Wait>(&self, rt: &R, n: usize) {
         self.word.add(rt, n as u64);
     }

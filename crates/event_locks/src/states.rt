@@ -1,8 +1,3 @@
 //! What is behind the locks: plain states, with what is proved of each step. Nobody needs them to use a lock.
-pub use crate::barrier::{Ended, Rounds};
-pub use crate::line::competing::the_starving_find_one;
-pub use crate::line::{Line, turns_are_kept_along};
-pub use crate::monitor::{Waiter, Watch, Watched};
-pub use crate::once_cell::{IsSet, Once, Turn};
-pub use crate::rw_lock::queues::Queues;
-pub use crate::seat::{HandsOut, Seat};
+pub use event_monitor::{Ended, HandsOut, IsSet, Once, Rounds, Seat, Turn, Waiter, Watch, Watched};
+pub use event_word::{Line, Queues, the_starving_find_one, turns_are_kept_along};

@@ -1,7 +1,6 @@
 //! What errors and handles say.
 use crate::support::{Runtime, check, sides};
-use event_channel::{SendError, SendReason, TryRecvError};
-use event_locks::LockError;
+use event_channel::{LockError, SendError, SendReason, TryRecvError};
 use std::alloc::AllocError;
 use std::fmt::{Debug, Display};
 

@@ -2,9 +2,8 @@
 use crate::channels::ChannelRuntime;
 use crate::waiting::Waiting;
 use event_channel::{
-    Receiver, RecvError, RecvTimeoutError, SendError, SendReason, Sender, TryRecvError,
+    LockError, Receiver, RecvError, RecvTimeoutError, SendError, SendReason, Sender, TryRecvError,
 };
-use event_locks::LockError;
 use futures::StreamExt;
 use futures::executor::block_on;
 use std::thread;

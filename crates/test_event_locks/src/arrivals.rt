@@ -5,9 +5,9 @@ ghost use Rattle.event_wait.specs.Attempted.{Attempts};
 
 use crate::support::{check, is_over_soon, is_so_soon};
 use event_locks::LockError;
-use event_locks::waiters::tell_all;
 use event_queue::{Key, List, RegisterResult, State, TaskExchange, WakeSink};
 use event_wait::{Attempt, Attempted, Limit, Lock, Request, Task, obtain};
+use event_word::waiters::tell_all;
 use std::marker::Model;
 use std::sync::atomic::{AtomicBool, AtomicUsize, Ordering};
 use std::thread;

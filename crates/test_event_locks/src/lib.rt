@@ -9,6 +9,7 @@
 //! | `stress` | threads and tasks at these locks, which give up at times |
 //! | `behaviours` | what each lock does when it is called in the order that its users know from other crates |
 //! | `monitor` | a value that threads and tasks wait for |
+//! | `words` | threads that meet at the word of a lock, whose state another one has out |
 //! | `accounts` | what the page of the crate shows |
 //!
 //! `support` has what they share.
@@ -30,3 +31,5 @@ mod stress;
 mod support;
 #[cfg(test)]
 mod threads;
+#[cfg(test)]
+mod words;

@@ -3,11 +3,10 @@ use crate::support::{
     Answer, Runtime, Starved, all_memory, check, count_refused, leave, new_id, new_task,
 };
 use event_channel::{
-    ChannelError, Receiver, RecvError, RecvTimeoutError, SendError, SendReason, Sender,
+    ChannelError, LockError, Receiver, RecvError, RecvTimeoutError, SendError, SendReason, Sender,
     TryRecvError, bounded, unbounded,
 };
 use event_listener::{Event, ListenError, NeverInserted, WaitReason};
-use event_locks::LockError;
 use event_until::{Attempt, Until, UntilError};
 use futures::StreamExt;
 use futures::task::Poll;

@@ -1,11 +1,11 @@
 //! The value of a mutex, with one that has it.
 ghost use Rattle.std.specs.Prelude.{◌≡◌, []};
 ghost use mir.Syntax.{named};
-ghost use Rattle.event_locks.specs.Word.{HasPlace, HasValue};
+ghost use Rattle.event_word.specs.Word.{HasPlace, HasValue};
 ghost use Rattle.std.specs.Arc.{arc_value};
 
 use super::{Lent, Mutex};
-use crate::lock::{Borrowed, Shared};
+use event_monitor::{Borrowed, Shared};
 use std::alloc::Global;
 use std::fmt;
 use std::fmt::{Debug, Formatter};

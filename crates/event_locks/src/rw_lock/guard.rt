@@ -2,11 +2,11 @@
 ghost use Rattle.std.specs.Prelude.{◌≡◌};
 ghost use Rattle.std.specs.Fn.{FnOnceReturnsAt, FnOnceReturnsAtMut};
 ghost use Rattle.event_locks.specs.Reads.{Reads};
-ghost use Rattle.event_locks.specs.Watched.{Changes};
+ghost use Rattle.event_monitor.specs.Watched.{Changes};
 
 use super::RwLock;
-use super::rights::{ReadShare, WriteShare};
-use crate::lock::{Borrowed, Shared};
+use event_monitor::{Borrowed, Shared};
+use event_word::{ReadShare, WriteShare};
 use std::fmt;
 use std::fmt::{Debug, Formatter};
 use std::marker::Model;

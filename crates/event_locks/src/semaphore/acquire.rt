@@ -4,9 +4,8 @@ ghost use Rattle.std.specs.Arc.{arc_value};
 
 use super::Semaphore;
 use super::guard::{SemaphoreGuard, SemaphoreGuardArc};
-use crate::error::LockError;
-use crate::line::competitor::Competitor;
-use crate::lock::{Borrowed, Obtaining, Shared};
+use event_monitor::{Borrowed, Obtaining, Shared};
+use event_word::{Competitor, LockError};
 use futures::Future;
 use futures::task::{Context, Poll};
 use std::sync::Wait;

@@ -1,7 +1,7 @@
 //! Permits that were taken.
 use super::Semaphore;
-use crate::lock::{Borrowed, Hold, Shared};
-use crate::word::permits::Permit;
+use event_monitor::{Borrowed, Hold, Shared};
+use event_word::Permit;
 use std::alloc::Global;
 use std::fmt;
 use std::fmt::{Debug, Formatter};

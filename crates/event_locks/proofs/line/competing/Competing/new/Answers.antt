@@ -1,6 +1,0 @@
-use Rattle.event_locks.proofs.FreeLemmas.{stands-new}
-use Rattle.event_locks.proofs.line.competing.Competing.new.Goals as goal
-
-pub returns-clause-stands : goal.returns-clause-stands
-returns-clause-stands g c number may =
-    stands-new number _ c.new.ensures.waiting c.new.ensures.starving may

@@ -1,7 +1,0 @@
-use Rattle.event_locks.proofs.FreeLemmas.{stands-settled}
-use Rattle.event_locks.proofs.line.competing.CompetingKept.settle.Goals as goal
-
-pub returns-clause-stands : goal.returns-clause-stands
-returns-clause-stands g c =
-    let step = rw c.free.ensures at c.tell.ensures.step in
-    stands-settled c.args.number _ _ step c.tell.ensures.kept c.requires.3 c.requires.2

@@ -1,5 +1,0 @@
-use Rattle.event_locks.proofs.FreeLemmas.{finds_one}
-use Rattle.event_locks.proofs.line.competing.the_starving_find_one.Goals as goal
-
-pub returns : goal.returns
-returns g c = finds_one

@@ -1,7 +1,0 @@
-use Rattle.std.specs.Prelude.{◌≡◌}
-use Rattle.event_locks.specs.Queues.{CountsMore, IsExclusive}
-use Rattle.event_locks.specs.Word.{HasState}
-use Rattle.event_locks.proofs.rw_lock.shares.Word+Queues+Task+unit.count_as_reader.Given as goal
-
-abbrev pub invariant-loop : goal.invariant-loop
-invariant-loop g l = (l.held.seat.table_id ≡ l.initial.held.seat.table_id) × (l.held.seat.me.1 ≡ l.initial.held.seat.me.1) × HasState IsExclusive l.held.seat.me × CountsMore 0 l.initial.held.seat.me.0 l.held.seat.me.0

@@ -1,5 +1,0 @@
-use Rattle.std.specs.Prelude.{◌≡◌}
-use Rattle.event_locks.proofs.rw_lock.shares.Word+Queues+Task+unit.try_reader_again.Given as goal
-
-abbrev pub invariant-loop : goal.invariant-loop
-invariant-loop g l = l.seat.table_id ≡ l.initial.seat.table_id

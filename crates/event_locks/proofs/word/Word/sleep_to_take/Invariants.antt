@@ -1,6 +1,0 @@
-use Rattle.std.specs.Prelude.{◌≡◌}
-use Rattle.event_locks.specs.Word.{HasNothing}
-use Rattle.event_locks.proofs.word.Word.sleep_to_take.Given as goal
-
-abbrev pub invariant-loop : goal.invariant-loop
-invariant-loop g l = (l.seat.table_id ≡ l.initial.seat.table_id) × HasNothing l.seat.me

@@ -1,6 +1,0 @@
-use Rattle.std.specs.Prelude.{◌≡◌}
-use Rattle.event_locks.specs.Word.{HasNothing, number_of}
-use Rattle.event_locks.proofs.word.Word.take.Given as goal
-
-abbrev pub invariant-loop-pauses : goal.invariant-loop-pauses
-invariant-loop-pauses g l = (l.seat.table_id ≡ l.initial.seat.table_id) × HasNothing l.seat.me × g.S.Kept.rules.fits (number_of l.seen)

@@ -1,6 +1,0 @@
-use Rattle.std.proofs.Common.{rules}
-use Rattle.event_locks.proofs.WordKeeps.{sees_again}
-use Rattle.event_locks.proofs.word.held.Held.look.Goals as goal
-
-pub load-requires : goal.load-requires
-load-requires g c = (search rules, search rules, sees_again _ _ _ _ _ _ c.requires.seat.2)

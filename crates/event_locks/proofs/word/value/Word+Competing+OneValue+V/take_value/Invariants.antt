@@ -1,8 +1,0 @@
-use Rattle.std.specs.Prelude.{◌≡◌, []}
-use Rattle.atomic_table.specs.Table.{rest}
-use Rattle.event_locks.specs.Free.{ServesWith}
-use Rattle.event_locks.specs.Word.{HasState, count}
-use Rattle.event_locks.proofs.word.value.Word+Competing+OneValue+V.take_value.Given as goal
-
-abbrev pub invariant-loop : goal.invariant-loop
-invariant-loop g l = (l.held.seat.table_id ≡ l.initial.held.seat.table_id) × (rest l.held.seat.me.1 ≡ []) × HasState (λ n q. ServesWith (count l.initial.notified) n q.line) l.held.seat.me

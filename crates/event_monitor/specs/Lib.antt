@@ -1,0 +1,4 @@
+pub mod Obtained
+pub mod Rounds
+pub mod Once
+pub mod Watched

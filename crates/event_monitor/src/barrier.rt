@@ -1,0 +1,163 @@
+//! A barrier.
+ghost use Rattle.std.specs.Prelude.{◌≡◌, IsSomeAnd};
+
+mod rounds;
+
+pub use self::rounds::{Ended, Rounds};
+use crate::lock::{Hold, Obtaining};
+use crate::seat::{HandsOut, Seat};
+use event_queue::{Key, TaskExchange, WakeSink};
+use event_wait::{Attempted, Lock, Task};
+use event_word::LockError;
+use event_word::waiters::found;
+use futures::Future;
+use futures::task::{Context, Poll};
+use std::alloc::Global;
+use std::sync::Wait;
+use std::time::{Clock, Duration, Instant};
+
+/// Where a number of threads and tasks have to arrive before any goes on, round after round.
+#[derive(Drop)]
+pub struct Barrier {
+    rounds: Lock<Rounds<Task>>,
+}
+
+/// A wait for the others. It arrives once it is waited on or polled, and not before.
+///
+/// A thread blocks by [`wait`](BarrierWait::wait), [`wait_timeout`](BarrierWait::wait_timeout) or
+/// [`wait_deadline`](BarrierWait::wait_deadline). A task awaits it: it is a future, and a poll after its output is
+/// [`LockError::Finished`]. Dropped before its round has ended, it has not arrived.
+#[must_use = "it arrives only once it is waited on or polled"]
+#[derive(Drop)]
+pub struct BarrierWait<'a, R: Wait + Clock> {
+    obtaining: Obtaining<Lock<Rounds<Task>>, Seat<Ended>, Arriving<'a, R>>,
+}
+
+/// A round has ended.
+#[derive(Clone, Copy, Debug, PartialEq, Eq)]
+pub struct BarrierWaitResult {
+    is_leader: bool,
+}
+
+impl Barrier {
+    /// A barrier for `parties` threads and tasks. One for none is one for one. It takes no memory until somebody waits.
+    pub fn new(alloc: Global, parties: usize) -> Self {
+        Barrier {
+            rounds: Lock::of(Rounds::new(alloc, parties)),
+        }
+    }
+
+    /// Arrives, and waits until all have.
+    pub fn wait<'a, R: Wait + Clock>(&'a self, rt: &'a R, alloc: Global) -> BarrierWait<'a, R> {
+        BarrierWait {
+            obtaining: Obtaining::new(Arriving { barrier: self, rt }, alloc, Seat::new()),
+        }
+    }
+}
+
+impl BarrierWaitResult {
+    fn of(ended: Ended) -> Self {
+        BarrierWaitResult {
+            is_leader: ended.is_leader(),
+        }
+    }
+
+    /// Whether this one was the last to arrive. In each round one is.
+    pub fn is_leader(&self) -> bool
+        ensures { result ≡ self.now.is_leader }
+    {
+        self.is_leader
+    }
+}
+
+impl<R: Wait + Clock> BarrierWait<'_, R> {
+    /// Arrives, and blocks the thread until all have. It allocates what the thread parks on, if it has to wait.
+    pub fn wait(self) -> Result<BarrierWaitResult, LockError> {
+        let (_, ended) = self.obtaining.wait()?;
+        Ok(BarrierWaitResult::of(ended))
+    }
+
+    /// Arrives, and blocks the thread until all have, or so long. `None` says that not all had arrived in time: then this one has
+    /// not. With no time left it arrives only if it is the last. A clock that can't be read ends the wait; a moment that can't
+    /// be represented never comes.
+    pub fn wait_timeout(self, timeout: Duration) -> Result<Option<BarrierWaitResult>, LockError> {
+        match self.obtaining.wait_timeout(timeout)? {
+            Some((_, ended)) => Ok(Some(BarrierWaitResult::of(ended))),
+            None => Ok(None),
+        }
+    }
+
+    /// Arrives, and blocks the thread until all have, or until this moment. `None` says that not all had arrived in time: then
+    /// this one has not. At a moment that has passed it arrives only if it is the last. A clock that can't be read ends the
+    /// wait.
+    pub fn wait_deadline(self, deadline: Instant) -> Result<Option<BarrierWaitResult>, LockError> {
+        match self.obtaining.wait_deadline(deadline)? {
+            Some((_, ended)) => Ok(Some(BarrierWaitResult::of(ended))),
+            None => Ok(None),
+        }
+    }
+}
+
+impl<R: Wait + Clock> Future for BarrierWait<'_, R> {
+    type Output = Result<BarrierWaitResult, LockError>;
+
+    ghost needs = { λ wait s. IsSomeAnd wait.obtaining.hold (λ it. s ≡ it.barrier.now.rounds) };
+
+    fn poll(&mut self, cx: &mut Context<'_>) -> Poll<Result<BarrierWaitResult, LockError>> {
+        match self.obtaining.poll(cx) {
+            Poll::Ready(Ok((_, ended))) => Poll::Ready(Ok(BarrierWaitResult::of(ended))),
+            Poll::Ready(Err(error)) => Poll::Ready(Err(error)),
+            Poll::Pending => Poll::Pending,
+        }
+    }
+}
+
+/// Borrows a barrier and the runtime.
+#[derive(Drop)]
+pub(crate) struct Arriving<'a, R> {
+    barrier: &'a Barrier,
+    rt: &'a R,
+}
+
+impl<'a, R: Wait + Clock> Hold<Lock<Rounds<Task>>> for Arriving<'a, R> {
+    ghost held = { λ it. it.barrier.now.rounds };
+
+    type Runtime = R;
+
+    fn lock(&self) -> &Lock<Rounds<Task>> {
+        &self.barrier.rounds
+    }
+
+    fn rt(&self) -> &R {
+        self.rt
+    }
+}
+
+impl HandsOut<Ended> for Rounds<Task> {
+    const TRIES: u32 = 0;
+
+    fn try_hand<K: WakeSink<Task>>(&mut self, sink: &mut K) -> Option<Ended> {
+        self.try_end(sink)
+    }
+
+    fn hand_or_wait<C, X: TaskExchange<Task, C>, K: WakeSink<Task>>(
+        &mut self,
+        key: Option<Key>,
+        exchange: &X,
+        on: &mut C,
+        sink: &mut K,
+    ) -> Attempted<Ended, LockError> {
+        match key {
+            Some(key) => found(key, self.look_for_end(key, exchange, on)),
+            None => self.arrive(exchange, on, sink),
+        }
+    }
+
+    fn leave<K: WakeSink<Task>>(&mut self, key: Key, _sink: &mut K) -> Option<Ended> {
+        self.leave_round(key)
+    }
+
+    fn withdraw<K: WakeSink<Task>>(&mut self, key: Key, _sink: &mut K) {
+        drop(self.leave_round(key));
+    }
+}

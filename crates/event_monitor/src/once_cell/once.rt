@@ -1,0 +1,265 @@
+//! The state of a cell that is set once.
+ghost use Rattle.std.specs.Prelude.{◌≡◌, ◌+◌, ◌<◌, ◌≤◌, ◌++◌, true, false, [], is_some, length, None, IfSome, MatchOption};
+ghost use Rattle.std.specs.List.{FoldsTo};
+ghost use Rattle.event_queue.specs.Queue.{tasks_of};
+ghost use Rattle.event_queue.specs.Exchange.{RegistersWith};
+ghost use Rattle.event_queue.specs.Key.{without};
+ghost use Rattle.event_queue.specs.Queue.{order_of};
+ghost use Rattle.event_wait.specs.Attempted.{OnDone, OnRefused, OnWaits};
+ghost use Rattle.event_word.specs.Attempted.{CannotJoin, Comes, IfRefused};
+ghost use Rattle.event_word.specs.Line.{HandsOut, Looked, OnGranted, TellsAll, as_told, is_granted, left_by};
+ghost use Rattle.event_monitor.specs.Once.{MakersStay, NobodyWaitsInVain, making_at, making_by, turn_at, turns};
+
+use event_queue::{Key, List, RegisterResult, TaskExchange, WakeSink};
+use event_wait::{Attempted, Task};
+use event_word::LockError;
+use event_word::waiters::{hand_all, hand_out, join_line, leave_line, look_for, waiting};
+use std::alloc::Global;
+use std::marker::Model;
+
+/// The value is set. Only a step of the state below makes one.
+#[derive(Clone, Copy)]
+pub struct IsSet(());
+
+/// What one is to do that would make the value.
+#[derive(Clone, Copy)]
+pub enum Turn {
+    /// Make the value.
+    Make,
+    /// It has made the value.
+    Made,
+    /// Use the value: it is set.
+    Use,
+}
+
+/// Whether somebody makes the value, whether it is set, those that would make it, and those that wait for it.
+#[derive(Drop)]
+pub struct Once<W> {
+    making: usize,
+    is_set: bool,
+    makers: List<(), W>,
+    readers: List<(), W>,
+}
+
+impl<W> Model for Once<W> {
+    ghost use Rattle.event_monitor.specs.Once.{State, NobodyWaitsInVain};
+
+    ghost Value = { State W };
+
+    ghost view = { λ s. record { making = s.making; is_set = s.is_set; makers = s.makers; readers = s.readers } };
+
+    ghost invariant = { λ s. NobodyWaitsInVain (record { making = s.making; is_set = s.is_set; makers = s.makers; readers = s.readers }) };
+}
+
+impl<W> Once<W> {
+    /// Nobody makes the value.
+    pub fn new(alloc: Global) -> Self
+        ensures unset { result.is_set ≡ false }
+        ensures idle { result.making ≡ 0 }
+    {
+        Once {
+            making: 0,
+            is_set: false,
+            makers: List::new(alloc),
+            readers: List::new(alloc),
+        }
+    }
+
+    /// The turn of one that would make the value, unless another one makes it.
+    pub fn try_make(&mut self) -> Option<Turn>
+        ensures kept { self.new.is_set ≡ self.old.is_set }
+        ensures turn { IfSome result (λ turn. turn ≡ turn_at self.old) }
+        ensures takes { IfSome result (λ _. self.new.making ≡ making_at self.old) }
+        ensures none { result ≡ None → (self.new ≡ self.old) × (self.old.is_set ≡ false) × (0 < turns self.old) }
+        ensures queues { (self.new.makers ≡ self.old.makers) × (self.new.readers ≡ self.old.readers) }
+    {
+        if self.is_set {
+            return Some(Turn::Use);
+        }
+        if self.making > 0 || self.makers.is_notified() {
+            return None;
+        }
+        self.making = 1;
+        Some(Turn::Make)
+    }
+
+    /// Whether the value is set, for one that comes to use it.
+    pub fn try_use(&self) -> Option<IsSet>
+        ensures { MatchOption result (self.now.is_set ≡ false) (λ _. self.now.is_set ≡ true) }
+    {
+        if self.is_set {
+            return Some(IsSet(()));
+        }
+        None
+    }
+
+    /// The turn of one that comes to make the value; it waits while another one makes it, with the task that the exchange
+    /// makes.
+    pub fn come_to_make<C, X: TaskExchange<W, C>>(
+        &mut self,
+        exchange: &X,
+        on: &mut C,
+    ) -> Attempted<Turn, LockError>
+        ensures kept { self.new.is_set ≡ self.old.is_set }
+        ensures turn { OnDone result (λ turn. turn ≡ turn_at self.old) }
+        ensures takes { OnDone result (λ _. (self.new.making ≡ making_at self.old) × (self.new.makers ≡ self.old.makers)) }
+        ensures joins { Comes (X.exchanged exchange.now) self.old.makers on.old result self.new.makers on.new }
+        ensures waits { OnWaits result ((self.new.making ≡ self.old.making) × (0 < turns self.old)) }
+        ensures refused { OnRefused result (self.new ≡ self.old) }
+        ensures reason { IfRefused result (λ error. CannotJoin error self.old.makers self.new.makers × (0 < turns self.old)) }
+        ensures readers { self.new.readers ≡ self.old.readers }
+    {
+        if let Some(turn) = self.try_make() {
+            return Attempted::Done(turn);
+        }
+        waiting(join_line(&mut self.makers, exchange, on))
+    }
+
+    /// That the value is set, for one that comes to use it; it waits until the value is set, with the task that the exchange
+    /// makes.
+    pub fn come_to_use<C, X: TaskExchange<W, C>>(
+        &mut self,
+        exchange: &X,
+        on: &mut C,
+    ) -> Attempted<IsSet, LockError>
+        ensures kept { self.new.is_set ≡ self.old.is_set }
+        ensures set { OnDone result (λ _. (self.old.is_set ≡ true) × (self.new ≡ self.old)) }
+        ensures joins { Comes (X.exchanged exchange.now) self.old.readers on.old result self.new.readers on.new }
+        ensures waits { OnWaits result (self.old.is_set ≡ false) }
+        ensures refused { OnRefused result (self.new ≡ self.old) }
+        ensures reason { IfRefused result (λ error. CannotJoin error self.old.readers self.new.readers × (self.old.is_set ≡ false)) }
+        ensures makers { MakersStay self.old self.new }
+    {
+        if self.is_set {
+            return Attempted::Done(IsSet(()));
+        }
+        waiting(join_line(&mut self.readers, exchange, on))
+    }
+
+    /// What this one is to do, if it is its turn: then it leaves the queue.
+    pub fn look_to_make<C, X: TaskExchange<W, C>>(
+        &mut self,
+        key: Key,
+        exchange: &X,
+        on: &mut C,
+    ) -> RegisterResult<Turn>
+        ensures step { RegistersWith (X.exchanged exchange.now) self.old.makers key on.old (as_told result) self.new.makers on.new }
+        ensures looked { Looked (X.exchanged exchange.now) on.old result on.new }
+        ensures turn { OnGranted result (λ turn. turn ≡ turn_at self.old) }
+        ensures making { self.new.making ≡ making_by (is_granted result) self.old }
+        ensures kept { self.new.is_set ≡ self.old.is_set }
+        ensures readers { self.new.readers ≡ self.old.readers }
+    {
+        match look_for(&mut self.makers, key, exchange, on) {
+            RegisterResult::Notified(()) => {
+                if self.is_set {
+                    return RegisterResult::Notified(Turn::Use);
+                }
+                self.making = 1;
+                RegisterResult::Notified(Turn::Make)
+            }
+            RegisterResult::Registered => RegisterResult::Registered,
+            RegisterResult::NeverInserted => RegisterResult::NeverInserted,
+        }
+    }
+
+    /// Whether the value is set, for one that waits for it: then it leaves the queue.
+    pub fn look_to_use<C, X: TaskExchange<W, C>>(
+        &mut self,
+        key: Key,
+        exchange: &X,
+        on: &mut C,
+    ) -> RegisterResult<IsSet>
+        ensures step { RegistersWith (X.exchanged exchange.now) self.old.readers key on.old (as_told result) self.new.readers on.new }
+        ensures looked { Looked (X.exchanged exchange.now) on.old result on.new }
+        ensures kept { self.new.is_set ≡ self.old.is_set }
+        ensures makers { MakersStay self.old self.new }
+    {
+        match look_for(&mut self.readers, key, exchange, on) {
+            RegisterResult::Notified(()) => RegisterResult::Notified(IsSet(())),
+            RegisterResult::Registered => RegisterResult::Registered,
+            RegisterResult::NeverInserted => RegisterResult::NeverInserted,
+        }
+    }
+
+    /// Takes one out of the queue that would make the value, with its turn if it came up.
+    pub fn leave_making(&mut self, key: Key) -> Option<Turn>
+    where
+        W: Drop,
+        ensures has { MatchOption result (length self.new.makers.told ≡ length self.old.makers.told) (λ _. length self.new.makers.told + 1 ≡ length self.old.makers.told) }
+        ensures turn { IfSome result (λ turn. turn ≡ turn_at self.old) }
+        ensures making { self.new.making ≡ making_by (is_some result) self.old }
+        ensures kept { self.new.is_set ≡ self.old.is_set }
+        ensures others { order_of self.new.makers ≡ without key (order_of self.old.makers) }
+        ensures readers { self.new.readers ≡ self.old.readers }
+    {
+        if !leave_line(&mut self.makers, key).was_told() {
+            return None;
+        }
+        if self.is_set {
+            return Some(Turn::Use);
+        }
+        self.making = 1;
+        Some(Turn::Make)
+    }
+
+    /// Takes one out of the queue that waits for the value.
+    pub fn leave_using(&mut self, key: Key) -> Option<IsSet>
+    where
+        W: Drop,
+        ensures has { MatchOption result (length self.new.readers.told ≡ length self.old.readers.told) (λ _. length self.new.readers.told + 1 ≡ length self.old.readers.told) }
+        ensures kept { self.new.is_set ≡ self.old.is_set }
+        ensures others { order_of self.new.readers ≡ without key (order_of self.old.readers) }
+        ensures makers { MakersStay self.old self.new }
+    {
+        if leave_line(&mut self.readers, key).was_told() {
+            return Some(IsSet(()));
+        }
+        None
+    }
+
+    /// Whoever gives its turn up hands it to the next.
+    pub fn give_up<S: WakeSink<W>>(&mut self, sink: &mut S)
+        ensures kept { self.new.is_set ≡ self.old.is_set }
+        ensures next { 0 < self.old.making → (self.new.making ≡ 0) × HandsOut S.woke 1 self.old.makers self.new.makers sink.old sink.new }
+        ensures others { self.new.readers ≡ self.old.readers }
+        ensures unchanged { self.old.making ≡ 0 → (self.new ≡ self.old) × (sink.new ≡ sink.old) }
+    {
+        if self.making == 0 {
+            return;
+        }
+        self.making = 0;
+        hand_out(&mut self.makers, 1, sink);
+    }
+
+    /// The value is set, and nobody waits any more.
+    pub fn set<S: WakeSink<W>>(&mut self, sink: &mut S)
+        ensures set { (self.new.is_set ≡ true) × (self.new.making ≡ 0) }
+        ensures makers { TellsAll self.old.makers self.new.makers }
+        ensures readers { TellsAll self.old.readers self.new.readers }
+        ensures wakes { FoldsTo S.woke sink.old (tasks_of (length self.old.makers.waiting) self.old.makers ++ tasks_of (length self.old.readers.waiting) self.old.readers) sink.new }
+    {
+        self.making = 0;
+        self.is_set = true;
+        hand_all(&mut self.makers, sink);
+        hand_all(&mut self.readers, sink);
+    }
+
+    /// Nobody waits in vain: while the value is not set, one makes it or nobody waits to; once it is set, nobody waits.
+    pub fn nobody_waits_in_vain(&self)
+        ensures { NobodyWaitsInVain self.now }
+    {
+        let _ = &self.making;
+    }
+}
+
+impl Once<Task> {
+    /// Takes a turn back: what was made is set, and a turn that was given up goes to the next.
+    pub(crate) fn give_back<K: WakeSink<Task>>(&mut self, turn: Turn, sink: &mut K) {
+        match turn {
+            Turn::Make => self.give_up(sink),
+            Turn::Made => self.set(sink),
+            Turn::Use => {}
+        }
+    }
+}

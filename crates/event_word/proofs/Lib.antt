@@ -1,0 +1,9 @@
+pub mod LengthLemmas
+pub mod LineLemmas
+pub mod QueuesLemmas
+pub mod WordKeeps
+pub mod TurnLemmas
+pub mod FreeLemmas
+pub mod KeptTurns
+pub mod MoveLemmas
+pub mod EasesLemmas

@@ -1,0 +1,74 @@
+-- What whoever has the queues of a read-write lock needs to change the number.
+use Rattle.std.proofs.Common.{◌≡◌, ℕ, ◌+◌, ◌%◌, ◌<◌, ◌^◌, Option, None, Some, ◌∷◌, length, false, refl, sym, ap, subst, ◌∙◌, arith}
+use Rattle.atomic_table.specs.Table.{rest}
+use Rattle.event_queue.specs.declared.key.Key.{Key}
+use Rattle.event_queue.specs.declared.notice.Notice.{Notice}
+use Rattle.event_wait.specs.declared.lock.task.Task.{Task}
+use Rattle.event_word.specs.declared.shares.queues.Queues.{Queues}
+use Rattle.event_word.specs.declared.word.rule.Shelf.TheVariants as shelf
+use Rattle.event_word.specs.Count.{IsCount, readers_of, writers_of}
+use Rattle.event_word.specs.Queues.{Admits, CountsMore, IsExclusive, Renumbers, lock_rules, reading}
+use Rattle.event_word.specs.Word.{Eases, EasesFrom, HasState, Sat, Stays, Takes, number_of}
+use Rattle.event_word.proofs.EasesLemmas.{again, length-again}
+
+-- where who writes is alone, the number says so
+pub is_count : {W : Type 0} {n : ℕ} {q : Queues W} → IsExclusive n q → IsCount n
+is_count {W} {n} {q} alone = record {
+  alone = λ written. let none : reading n q ≡ 0 = grind (arith, alone.exclusive) in omega arith;
+  room = let fits : reading n q + length q.read_line.waiting < 2 ^ 60 = alone.fits in omega arith;
+}
+
+-- whoever has the queues may make the number one with which they are exclusive
+pub takes : {q : Queues Task} (old new : ℕ) → new % 2 ≡ 1 → IsExclusive (number_of new) q → Takes (lock_rules {W = Task}) old new × Stays (lock_rules {W = Task}) old new
+takes old new away alone = (record { out = away; fits = is_count alone }, record { on = λ lent. lent; off = λ lent. lent })
+
+-- one that was let in
+let_in : Key × Notice (Unit {0})
+let_in = (record { slot = 0; serial = 0 }, record { additional = false; tag = tt })
+
+-- the same queues with so many more that were let in
+with_more : ℕ → Queues Task → Queues Task
+with_more more q = record q {
+  read_line = record q.read_line { told = again (readers_of more) let_in q.read_line.told };
+  write_line = record q.write_line { told = again (writers_of more) let_in q.write_line.told };
+}
+
+-- as many more may be counted once others have changed the number
+eases-admits : (more b r : ℕ) (q : Queues Task) → Eases (lock_rules {W = Task}) b r → Admits more b q → Admits more r q
+unfolding with_more
+eases-admits more b r q eases admits =
+    let rs = length-again (readers_of more) let_in q.read_line.told in
+    let ws = length-again (writers_of more) let_in q.write_line.told in
+    let alone : IsExclusive b (with_more more q) = record {
+      exclusive = λ some. let none = admits.1.exclusive (omega (arith, rs, admits.0, some)) in omega (arith, ws, admits.0, none);
+      one = omega (arith, ws, admits.0, admits.1.one);
+      fits = omega (arith, rs, admits.0, admits.1.fits);
+      spare = admits.1.spare;
+    } in
+    let left = eases (with_more more q) alone in (
+      omega (arith, ws, left.one),
+      record {
+        exclusive = λ some. let none = left.exclusive (omega (arith, rs, ws, left.one, some)) in omega (arith, ws, left.one, none);
+        one = omega (arith, ws, left.one);
+        fits = omega (arith, rs, ws, left.one, left.fits);
+        spare = left.spare;
+      },
+    )
+
+-- whoever has the queues looks at the number again
+pub admits-on : (more r : ℕ) (m n : Sat (Queues Task) (Unit {0})) → HasState (Admits more) m → n ≡ (Some r, m.1) → EasesFrom (lock_rules {W = Task}) m.0 r → HasState (λ b q. (b ≡ r) × Admits more r q) n
+admits-on more r m n t is eases =
+    let from : Eases (lock_rules {W = Task}) t.0 r = subst (λ x. EasesFrom (lock_rules {W = Task}) x r) t.2 eases in
+    let out = ap (λ x. x.1) is in
+    (r, t.1, ap (λ x. x.0) is, out ∙ (t.3 ∙ ap (λ l. (0, shelf.State t.1) ∷ rest l) (sym out)), (refl, eases-admits more t.0 r t.1 from t.4))
+
+-- nobody has changed the number
+pub unchanged : {a : Option ℕ} {n : ℕ} → a ≡ Some n → CountsMore 0 a a
+unchanged {a} {n} is = record { others = n; eases = subst (λ x. EasesFrom (lock_rules {W = Task}) x n) (sym is) (λ q alone. alone); made = is ∙ ap (λ (m : ℕ). Some m) (omega arith) }
+
+-- others have changed it before
+pub since : {by : ℕ → ℕ} (a b c : Option ℕ) → CountsMore 0 a b → Renumbers by b c → Renumbers by a c
+since None b c one two = absurd one.eases
+since (Some n) b c one two =
+    let from : Eases (lock_rules {W = Task}) (one.others + 0) two.others = subst (λ x. EasesFrom (lock_rules {W = Task}) x two.others) one.made two.eases in
+    record { others = two.others; eases = λ q alone. from q (subst (λ (m : ℕ). IsExclusive m q) (omega arith) (one.eases q alone)); made = two.made }

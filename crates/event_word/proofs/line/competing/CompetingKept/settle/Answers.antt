@@ -1,0 +1,7 @@
+use Rattle.event_word.proofs.FreeLemmas.{stands-settled}
+use Rattle.event_word.proofs.line.competing.CompetingKept.settle.Goals as goal
+
+pub returns-clause-stands : goal.returns-clause-stands
+returns-clause-stands g c =
+    let step = rw c.free.ensures at c.tell.ensures.step in
+    stands-settled c.args.number _ _ step c.tell.ensures.kept c.requires.3 c.requires.2

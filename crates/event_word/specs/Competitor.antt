@@ -1,0 +1,32 @@
+-- How one competes.
+use Rattle.std.specs.Prelude.{◌≡◌, ◌↔◌, ℕ, ◌+◌, ◌≤◌, min, Bool, true, Option}
+use Rattle.event_queue.specs.declared.key.Key.{Key}
+use Rattle.event_wait.specs.Attempted.{Stores}
+use Rattle.event_word.specs.Turns.{State, Joins}
+use Rattle.event_word.specs.declared.line.competitor.Coming.{Coming}
+use Rattle.event_word.specs.declared.line.competitor.Coming.TheVariants.{New, Notified, Waits}
+
+-- how many came that were notified
+abbrev pub count_of : Coming → ℕ
+count_of New = 0
+count_of Notified = 1
+count_of (Waits key) = 0
+
+-- how often one has lost whose attempt finds nothing now, as far as that is counted
+abbrev pub losses_after : ℕ → Coming → ℕ
+losses_after losses New = losses
+losses_after losses Notified = min (losses + 1) 4294967295
+losses_after losses (Waits key) = losses
+
+module _ {W C : Type 0} (exchanged : C → Option W → W → C → Type 0) where
+  -- only the task of one that waits on is exchanged
+  abbrev pub Comes : C → Coming → C → Type 0
+  Comes before New after = after ≡ before
+  Comes before Notified after = after ≡ before
+  Comes before (Waits key) after = Stores exchanged before after
+
+  -- one that has lost so often waits at the end, and starves if that is twice
+  pub record Loses (losses : ℕ) (key : Key) (old : State W) (before : C) (new : State W) (after : C) : Type 0 where
+    pub starves : Bool
+    pub twice : (starves ≡ true) ↔ (2 ≤ losses)
+    pub joins : Joins exchanged starves key old before new after

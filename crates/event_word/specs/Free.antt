@@ -1,0 +1,46 @@
+-- What is free for those that compete, and what holds of it and of their queue. The number of a lock is what is free, and 2 ^ 61 while newcomers are shut out.
+use Rattle.std.specs.Prelude.{◌≡◌, ℕ, ◌+◌, ◌%◌, ◌^◌, ◌<◌, ◌≤◌, Bool, true, length}
+use Rattle.std.specs.List.{list_any}
+use Rattle.std.specs.Map.{keys_of}
+use Rattle.event_word.specs.Turns.{State, is_among}
+
+-- how many are free by this number
+abbrev pub free_of : ℕ → ℕ
+free_of n = n % 2 ^ 61
+
+-- newcomers may take what is free
+abbrev pub IsOpen : ℕ → Type 0
+IsOpen n = n < 2 ^ 61
+
+abbrev pub IsShut : ℕ → Type 0
+IsShut n = 2 ^ 61 ≤ n
+
+module _ {W : Type 0} where
+  -- whether one that starves is notified
+  abbrev pub one_starving_is_told : State W → Bool
+  one_starving_is_told s = list_any (is_among (keys_of s.queue.told)) s.starving
+
+  -- while one that starves is notified, newcomers are shut out, and as many are free as are notified, and these more
+  abbrev pub ServesWith : ℕ → ℕ → State W → Type 0
+  ServesWith more n s = one_starving_is_told s ≡ true → IsShut n × (length s.queue.told + more ≤ free_of n)
+
+  abbrev pub ServesTheStarving : ℕ → State W → Type 0
+  ServesTheStarving n s = ServesWith 0 n s
+
+  -- while fewer are notified than are free, nobody waits
+  abbrev pub NobodyWaitsInVain : ℕ → State W → Type 0
+  NobodyWaitsInVain n s = length s.queue.told < free_of n → length s.queue.waiting ≡ 0
+
+  abbrev pub NobodyWaits : State W → Type 0
+  NobodyWaits s = length s.queue.waiting ≡ 0
+
+  -- newcomers are shut out exactly while one starves
+  pub record ShutsForTheStarving (n : ℕ) (s : State W) : Type 0 where
+    pub only_then : IsShut n → 0 < length s.starving
+    pub shut : 0 < length s.starving → IsShut n
+
+  -- what holds of the number and of the queue between any two steps
+  pub record Stands (n : ℕ) (s : State W) : Type 0 where
+    pub nobody : NobodyWaitsInVain n s
+    pub shuts : ShutsForTheStarving n s
+    pub serves : ServesTheStarving n s

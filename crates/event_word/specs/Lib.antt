@@ -1,0 +1,13 @@
+pub mod Line
+pub mod Left
+pub mod Attempted
+pub mod Refused
+pub mod Turns
+pub mod Free
+pub mod Rules
+pub mod Competing
+pub mod Competitor
+pub mod Word
+pub mod Count
+pub mod Queues
+pub mod Leaving

@@ -1,0 +1,30 @@
+//! A lock on one word: what a semaphore, a mutex and a read-write lock are made of, proved between any two steps of any threads.
+//!
+//! [`Word`] keeps a *state*, the queues of those that wait, behind an atomic word. The word has a *number*, of what is free or
+//! who has the value, and a *code*, which says whether the state is there and whether somebody may wait. One compare-exchange
+//! takes what is free, and one gives it back where nobody waits. Else a thread takes the state out, notifies, and puts it back
+//! by a compare-exchange that fails where the word has changed: then it notifies again. What is out can't be dropped.
+//!
+//! What a lock says of its number and its state is its [`Kept::rules`]. [`Competing`] is the state of a semaphore and a mutex,
+//! whose queue is a [`Line`]; [`Queues`] is that of a read-write lock. [`waiters`] are the steps on a queue that any lock's
+//! state is made of, a channel's too. Nobody needs this crate to use a lock: [`event_locks`](../../event_locks/README.md) has
+//! them.
+#![tactic(auto)]
+
+mod error;
+mod line;
+mod shares;
+pub mod waiters;
+mod word;
+
+pub use error::LockError;
+pub use line::competing::{Competing, Counted, OneValue, Permits, the_starving_find_one};
+pub use line::competitor::{Coming, Competitor};
+pub use line::counts::Counts;
+pub use line::{Line, Queued, turns_are_kept_along};
+pub use shares::counts::RwLockCounts;
+pub use shares::number::{is_written, readers};
+pub use shares::queues::Queues;
+pub use shares::rights::{Out, ReadShare, WriteShare};
+pub use word::permits::Permit;
+pub use word::{Held, Kept, Seat, Shelf, Word};

@@ -1,0 +1,342 @@
+//! The queues of a read-write lock.
+ghost use Rattle.std.specs.Prelude.{◌≡◌, ℕ, ◌+◌, ◌*◌, ◌<◌, ◌≤◌, ◌^◌, ◌↔◌, length, IsTrue, IsFalse, IfErr, IfOk, OnErr};
+ghost use Rattle.event_queue.specs.Exchange.{JoinsWithTask, RegistersWith};
+ghost use Rattle.event_word.specs.Attempted.{CannotJoin};
+ghost use Rattle.event_word.specs.Count.{readers_of, writers_of};
+ghost use Rattle.event_word.specs.Line.{HasLeft, Looked, left_by};
+ghost use Rattle.event_word.specs.Queues.{HasNoRoom, IsAWriterThere, IsExclusive, IsNext, IsQuiet, LetsNextIn, LetsReadersIn, NoWriterIsThere, NobodyWaitsInVain, ReadersStay, RefusesReader, WritersStay, joined_by, reading, writing};
+
+use super::counts::RwLockCounts;
+use super::number;
+use crate::error::LockError;
+use crate::waiters::{hand_all, hand_out, join_line, leave_line, look_for, somebody_waits};
+use crate::word::Kept;
+use event_queue::{Key, List, ListenError, RegisterResult, TaskExchange, WakeSink};
+use event_wait::Task;
+use std::alloc::Global;
+
+// The number of one reader.
+const ONE_READER: u64 = 2;
+
+/// The queues of those that wait to read, and of those that wait to write.
+///
+/// Who has the value is counted in the number of the lock's word. Who was let in, and has not come yet, is notified in its
+/// queue, and has the value as well. No reader comes in while a writer waits, and a writer that goes lets all readers in
+/// that wait.
+#[derive(Drop)]
+pub struct Queues<W> {
+    read_line: List<(), W>,
+    write_line: List<(), W>,
+    // Whether the readers go first where both wait: a writer has the value, or had it last.
+    readers_first: bool,
+}
+
+// Who is let in next.
+#[derive(Clone, Copy)]
+pub enum Next {
+    Nobody,
+    Readers,
+    Writer,
+}
+
+// What a wait in a queue led to.
+fn joined(waits: Result<Key, ListenError>) -> Result<Key, LockError>
+    ensures { result ≡ joined_by waits }
+{
+    match waits {
+        Ok(key) => Ok(key),
+        Err(error) => Err(LockError::Listen(error)),
+    }
+}
+
+// How many wait in a queue, and are not notified.
+fn waiting<W>(line: &List<(), W>) -> usize
+    ensures { result ≡ length line.now.waiting }
+{
+    line.total_listeners() - line.listeners_notified()
+}
+
+impl<W> Queues<W> {
+    /// Nobody waits.
+    pub fn new(alloc: Global) -> Self
+        ensures quiet { IsQuiet result }
+        ensures stands { NobodyWaitsInVain 0 result }
+    {
+        Queues {
+            read_line: List::new(alloc),
+            write_line: List::new(alloc),
+            readers_first: false,
+        }
+    }
+
+    /// Whether nobody waits, and nobody was let in who has not come yet.
+    pub fn is_quiet(&self) -> bool
+        ensures { IsTrue result ↔ IsQuiet self.now }
+    {
+        self.read_line.total_listeners() == 0 && self.write_line.total_listeners() == 0
+    }
+
+    /// How it stands by this number.
+    pub fn counts(&self, number: u64) -> RwLockCounts
+        ensures readers { (result.readers ≡ readers_of number) × (result.writers ≡ writers_of number) }
+        ensures let_in { (result.readers_let_in ≡ length self.now.read_line.told) × (result.writers_let_in ≡ length self.now.write_line.told) }
+        ensures waiting { (result.readers_waiting ≡ length self.now.read_line.waiting) × (result.writers_waiting ≡ length self.now.write_line.waiting) }
+    {
+        RwLockCounts {
+            readers: number::readers(number),
+            writers: number % 2,
+            readers_let_in: self.read_line.listeners_notified(),
+            writers_let_in: self.write_line.listeners_notified(),
+            readers_waiting: waiting(&self.read_line),
+            writers_waiting: waiting(&self.write_line),
+        }
+    }
+
+    // Whether one reader more can be counted.
+    fn has_room(&self, number: u64) -> bool
+        ensures room { IsTrue result → reading number self.now + length self.now.read_line.waiting + 2 < 2 ^ 60 }
+        ensures none { IsFalse result → HasNoRoom number self.now }
+    {
+        let waiting = self.read_line.total_listeners() as u64;
+        number::readers(number).saturating_add(waiting) < number::TOO_MANY - 2
+    }
+
+    // Whether a writer writes or was let in.
+    fn is_written(&self, number: u64) -> bool
+        ensures { IsTrue result ↔ (0 < writing number self.now) }
+    {
+        if number::is_written(number) {
+            return true;
+        }
+        self.write_line.is_notified()
+    }
+
+    // Whether a reader reads or was let in.
+    fn is_read(&self, number: u64) -> bool
+        ensures { IsTrue result ↔ (0 < reading number self.now) }
+    {
+        if number::readers(number) > 0 {
+            return true;
+        }
+        self.read_line.is_notified()
+    }
+
+    // Whether a writer writes, was let in, or waits.
+    fn is_wanted(&self, number: u64) -> bool
+        ensures wanted { IsTrue result → IsAWriterThere number self.now }
+        ensures unwanted { IsFalse result → NoWriterIsThere number self.now }
+    {
+        if number::is_written(number) {
+            return true;
+        }
+        self.write_line.total_listeners() > 0
+    }
+
+    /// Whether a newcomer may read: no writer writes, was let in or waits, and one reader more can be counted.
+    pub fn may_read(&self, number: u64) -> bool
+        ensures yes { IsTrue result → NoWriterIsThere number self.now }
+        ensures counted { IsTrue result → IsExclusive number self.now → IsExclusive (number + 2) self.now }
+        ensures no { IsFalse result → NoWriterIsThere number self.now → HasNoRoom number self.now }
+    {
+        self.has_room(number) && !self.is_wanted(number)
+    }
+
+    /// Whether a newcomer may write: nobody has the value, was let in or waits.
+    pub fn may_write(&self, number: u64) -> bool
+        ensures yes { IsTrue result ↔ ((number ≡ 0) × IsQuiet self.now) }
+        ensures counted { IsTrue result → IsExclusive number self.now → IsExclusive (number + 1) self.now }
+    {
+        number == 0 && self.is_quiet()
+    }
+
+    /// Whether the reader that asks may write from here on: it is the only one, and no other one was let in.
+    pub fn may_upgrade(&self, number: u64) -> bool
+        ensures yes { IsTrue result ↔ ((number ≡ 2) × (length self.now.read_line.told ≡ 0)) }
+        ensures counted { IsTrue result → IsExclusive number self.now → IsExclusive 1 self.now }
+    {
+        number == ONE_READER && !self.read_line.is_notified()
+    }
+
+    /// A newcomer waits in its queue to read, with the task that the exchange makes. It may allocate. An error leaves all as it
+    /// was.
+    pub fn wait_to_read<C, X: TaskExchange<W, C>>(
+        &mut self,
+        number: u64,
+        exchange: &X,
+        on: &mut C,
+    ) -> Result<Key, LockError>
+        ensures joins { IfOk result (λ key. JoinsWithTask (X.exchanged exchange.now) self.old.read_line on.old key self.new.read_line on.new) }
+        ensures others { WritersStay self.old self.new }
+        ensures refused { OnErr result ((self.new ≡ self.old) × (on.new ≡ on.old)) }
+        ensures reason { IfErr result (λ error. RefusesReader error number self.old self.new) }
+        ensures alone { IsExclusive number self.old → IsExclusive number self.new }
+    {
+        if !self.has_room(number) {
+            return Err(LockError::TooManyReaders);
+        }
+        joined(join_line(&mut self.read_line, exchange, on))
+    }
+
+    /// A newcomer waits in its queue to write, with the task that the exchange makes. It may allocate. An error leaves all as it
+    /// was.
+    pub fn wait_to_write<C, X: TaskExchange<W, C>>(
+        &mut self,
+        exchange: &X,
+        on: &mut C,
+    ) -> Result<Key, LockError>
+        ensures joins { IfOk result (λ key. JoinsWithTask (X.exchanged exchange.now) self.old.write_line on.old key self.new.write_line on.new) }
+        ensures others { ReadersStay self.old self.new }
+        ensures refused { OnErr result ((self.new ≡ self.old) × (on.new ≡ on.old)) }
+        ensures reason { IfErr result (λ error. CannotJoin error self.old.write_line self.new.write_line) }
+        ensures alone { (n : ℕ) → IsExclusive n self.old → IsExclusive n self.new }
+    {
+        joined(join_line(&mut self.write_line, exchange, on))
+    }
+
+    /// Whether this reader was let in: then it leaves its queue, and the number is to count it. Else it stores its task.
+    pub fn look_read<C, X: TaskExchange<W, C>>(
+        &mut self,
+        key: Key,
+        exchange: &X,
+        on: &mut C,
+    ) -> RegisterResult<()>
+        ensures looked { Looked (X.exchanged exchange.now) on.old result on.new }
+        ensures step { RegistersWith (X.exchanged exchange.now) self.old.read_line key on.old result self.new.read_line on.new }
+        ensures told { length self.new.read_line.told + left_by result ≡ length self.old.read_line.told }
+        ensures waiting { length self.new.read_line.waiting ≡ length self.old.read_line.waiting }
+        ensures others { WritersStay self.old self.new }
+        ensures counted { (n : ℕ) → IsExclusive n self.old → IsExclusive (n + 2 * left_by result) self.new }
+    {
+        look_for(&mut self.read_line, key, exchange, on)
+    }
+
+    /// Whether this writer was let in: then it leaves its queue, and the number is to count it. Else it stores its task.
+    pub fn look_write<C, X: TaskExchange<W, C>>(
+        &mut self,
+        key: Key,
+        exchange: &X,
+        on: &mut C,
+    ) -> RegisterResult<()>
+        ensures looked { Looked (X.exchanged exchange.now) on.old result on.new }
+        ensures step { RegistersWith (X.exchanged exchange.now) self.old.write_line key on.old result self.new.write_line on.new }
+        ensures told { length self.new.write_line.told + left_by result ≡ length self.old.write_line.told }
+        ensures waiting { length self.new.write_line.waiting ≡ length self.old.write_line.waiting }
+        ensures others { ReadersStay self.old self.new }
+        ensures counted { (n : ℕ) → IsExclusive n self.old → IsExclusive (n + left_by result) self.new }
+    {
+        look_for(&mut self.write_line, key, exchange, on)
+    }
+
+    /// Takes this reader out of its queue. Returns whether it was let in: then the number is to count it, or it goes at once.
+    pub fn leave_read(&mut self, key: Key) -> bool
+    where
+        W: Drop,
+        ensures let_in { IsTrue result → length self.new.read_line.told + 1 ≡ length self.old.read_line.told }
+        ensures not_yet { IsFalse result → length self.new.read_line.told ≡ length self.old.read_line.told }
+        ensures waiting { length self.new.read_line.waiting ≤ length self.old.read_line.waiting }
+        ensures left { HasLeft key self.old.read_line self.new.read_line }
+        ensures writers { WritersStay self.old self.new }
+        ensures alone { (n : ℕ) → IsExclusive n self.old → IsExclusive n self.new }
+        ensures counted { IsTrue result → (n : ℕ) → IsExclusive n self.old → IsExclusive (n + 2) self.new }
+    {
+        leave_line(&mut self.read_line, key).was_told()
+    }
+
+    /// Takes this writer out of its queue. Returns whether it was let in: then the number is to count it, or it goes at once. If
+    /// no other one is there, the readers are let in before the queues are put back.
+    pub fn leave_write(&mut self, key: Key) -> bool
+    where
+        W: Drop,
+        ensures let_in { IsTrue result → length self.new.write_line.told + 1 ≡ length self.old.write_line.told }
+        ensures not_yet { IsFalse result → length self.new.write_line.told ≡ length self.old.write_line.told }
+        ensures waiting { length self.new.write_line.waiting ≤ length self.old.write_line.waiting }
+        ensures left { HasLeft key self.old.write_line self.new.write_line }
+        ensures readers { ReadersStay self.old self.new }
+        ensures alone { (n : ℕ) → IsExclusive n self.old → IsExclusive n self.new }
+        ensures counted { IsTrue result → (n : ℕ) → IsExclusive n self.old → IsExclusive (n + 1) self.new }
+    {
+        leave_line(&mut self.write_line, key).was_told()
+    }
+
+    /// Lets all readers in that wait: the writer reads from here on.
+    pub fn downgrade<S: WakeSink<W>>(&mut self, sink: &mut S)
+        ensures step { LetsReadersIn S.woke self.old self.new sink.old sink.new }
+        ensures nobody_waits { length self.new.read_line.waiting ≡ 0 }
+        ensures told { length self.new.read_line.told ≡ length self.old.read_line.told + length self.old.read_line.waiting }
+        ensures turn { self.new.readers_first ≡ self.old.readers_first }
+        ensures counted { IsExclusive 1 self.old → IsExclusive 2 self.new }
+    {
+        hand_all(&mut self.read_line, sink);
+    }
+
+    // Who is let in next.
+    fn next(&self, number: u64) -> Next
+        ensures { IsNext result number self.now }
+    {
+        if self.is_written(number) {
+            return Next::Nobody;
+        }
+        if !somebody_waits(&self.write_line) {
+            return Next::Readers;
+        }
+        if self.is_read(number) {
+            return Next::Nobody;
+        }
+        if self.readers_first && somebody_waits(&self.read_line) {
+            return Next::Readers;
+        }
+        Next::Writer
+    }
+
+    /// Lets those in who are next by this number. Returns whether somebody is in the queues still.
+    ///
+    /// All readers that wait are let in where no writer writes or waits. Where nobody has the value, and both wait, the readers
+    /// are let in if a writer had it last, and else the first writer.
+    pub fn let_in<S: WakeSink<W>>(&mut self, number: u64, sink: &mut S) -> bool
+        requires { IsExclusive number self.old }
+        ensures stands { NobodyWaitsInVain number self.new }
+        ensures still { IsTrue result ↔ ¬ IsQuiet self.new }
+        ensures step { LetsNextIn S.woke number self.old self.new sink.old sink.new }
+        ensures turn { IsTrue self.new.readers_first ↔ (0 < writing number self.new) }
+    {
+        self.let_next_in(number, sink);
+        self.readers_first = self.is_written(number);
+        !self.is_quiet()
+    }
+
+    // The same, but for whose turn it is.
+    fn let_next_in<S: WakeSink<W>>(&mut self, number: u64, sink: &mut S)
+        requires { IsExclusive number self.old }
+        ensures alone { IsExclusive number self.new }
+        ensures reader_waits { 0 < length self.new.read_line.waiting → IsAWriterThere number self.new }
+        ensures writer_waits { 0 < length self.new.write_line.waiting → 0 < reading number self.new + writing number self.new }
+        ensures step { LetsNextIn S.woke number self.old self.new sink.old sink.new }
+    {
+        match self.next(number) {
+            Next::Nobody => {}
+            Next::Readers => {
+                hand_all(&mut self.read_line, sink);
+            }
+            Next::Writer => {
+                hand_out(&mut self.write_line, 1, sink);
+            }
+        }
+    }
+}
+
+impl Kept for Queues<Task> {
+    ghost use Rattle.event_word.specs.Queues.{lock_rules};
+
+    ghost rules = { lock_rules };
+
+    // The number shows nothing of the queues.
+    fn number(&self, number: u64) -> u64 {
+        number
+    }
+
+    fn settle<K: WakeSink<Task>>(&mut self, number: u64, sink: &mut K) -> bool {
+        self.let_in(number, sink)
+    }
+
+    ghost promises = { λ _ _ stands. stands.alone };
+}

@@ -1,0 +1,103 @@
+//! What those that compete for a lock do with its state out.
+ghost use Rattle.std.specs.Prelude.{◌≡◌, ◌<◌, ◌≤◌, true, IfOk, OnErr};
+ghost use Rattle.atomic_table.specs.Table.{rest};
+ghost use Rattle.event_word.specs.Competitor.{Comes, count_of};
+ghost use Rattle.event_word.specs.Free.{ServesTheStarving, ServesWith, Stands, free_of, IsShut};
+ghost use Rattle.event_word.specs.Word.{HasState};
+ghost use Rattle.event_wait.specs.Attempted.{Stores};
+
+use super::Word;
+use super::held::Held;
+use crate::error::LockError;
+use crate::line::competing::{Competing, Counted, SHUT, free};
+use crate::line::competitor::{Coming, Competitor};
+use crate::line::counts::Counts;
+use crate::state;
+use event_queue::{Key, TaskExchange};
+use event_wait::Task;
+use std::sync::Wait;
+
+impl<C: Counted, V> Word<Competing<C>, V> {
+    /// How many are free, a moment ago.
+    #[inline(always)]
+    pub fn free(&self) -> u64 {
+        free(self.number())
+    }
+
+    /// How it stands at some moment of this call.
+    pub fn counts<R: Wait>(&self, rt: &R) -> Counts
+        ensures nobody { result.notified < result.free → result.waiting ≡ 0 }
+        ensures shuts { (0 < result.starving → result.is_shut ≡ true) × (result.is_shut ≡ true → 0 < result.starving) }
+    {
+        let (number, mut held) = self.take(rt);
+        let counts = self.counted(&mut held, number);
+        drop(self.put_back(rt, held));
+        counts
+    }
+
+    fn counted(&self, held: &mut Held<Competing<C>, V>, number: u64) -> Counts
+        requires seat { held.old.seat.table_id ≡ self.now.table.shared.table_id }
+        requires stands { HasState (λ n q. (n ≡ number) × Stands n q.line) held.old.seat.me }
+        ensures seat { (held.new.seat.table_id ≡ held.old.seat.table_id) × (rest held.new.seat.me.1 ≡ rest held.old.seat.me.1) }
+        ensures serves { HasState (λ n q. ServesTheStarving n q.line) held.new.seat.me }
+        ensures nobody { result.notified < result.free → result.waiting ≡ 0 }
+        ensures shuts { (0 < result.starving → result.is_shut ≡ true) × (result.is_shut ≡ true → 0 < result.starving) }
+    {
+        let line = &state!(held.seat, self).line;
+        Counts {
+            free: free(number),
+            notified: line.told(),
+            waiting: line.waiting(),
+            starving: line.starving(),
+            is_shut: number >= SHUT,
+        }
+    }
+
+    /// One that competes comes to attempt.
+    pub fn come<O, X: TaskExchange<Task, O>>(
+        &self,
+        held: &mut Held<Competing<C>, V>,
+        request: &mut Competitor,
+        exchange: &X,
+        on: &mut O,
+    ) -> Coming
+        requires seat { held.old.seat.table_id ≡ self.now.table.shared.table_id }
+        requires stands { HasState (λ n q. Stands n q.line) held.old.seat.me }
+        ensures seat { (held.new.seat.table_id ≡ held.old.seat.table_id) × (rest held.new.seat.me.1 ≡ rest held.old.seat.me.1) }
+        ensures serves { HasState (λ n q. ServesWith (count_of result) n q.line) held.new.seat.me }
+        ensures comes { Comes (X.exchanged exchange.now) on.old result on.new }
+        ensures kept { request.new ≡ request.old }
+    {
+        state!(held.seat, self).come(request, exchange, on)
+    }
+
+    /// One whose attempt found nothing waits at the end of the queue.
+    pub fn lose<O, X: TaskExchange<Task, O>>(
+        &self,
+        held: &mut Held<Competing<C>, V>,
+        request: &mut Competitor,
+        coming: Coming,
+        exchange: &X,
+        on: &mut O,
+    ) -> Result<Key, LockError>
+        requires seat { held.old.seat.table_id ≡ self.now.table.shared.table_id }
+        requires serves { HasState (λ n q. ServesTheStarving n q.line) held.old.seat.me }
+        ensures seat { (held.new.seat.table_id ≡ held.old.seat.table_id) × (rest held.new.seat.me.1 ≡ rest held.old.seat.me.1) }
+        ensures serves { HasState (λ n q. ServesTheStarving n q.line) held.new.seat.me }
+        ensures waits { IfOk result (λ _. (request.old ≤ request.new) × Stores (X.exchanged exchange.now) on.old on.new) }
+        ensures refused { OnErr result ((request.new ≡ request.old) × (on.new ≡ on.old)) }
+    {
+        state!(held.seat, self).lose(request, coming, exchange, on)
+    }
+
+    /// One that competes leaves the queue, if it is there. Returns how it would have come.
+    pub fn leave(&self, held: &mut Held<Competing<C>, V>, request: &mut Competitor) -> Coming
+        requires seat { held.old.seat.table_id ≡ self.now.table.shared.table_id }
+        requires stands { HasState (λ n q. Stands n q.line) held.old.seat.me }
+        ensures seat { (held.new.seat.table_id ≡ held.old.seat.table_id) × (rest held.new.seat.me.1 ≡ rest held.old.seat.me.1) }
+        ensures serves { HasState (λ n q. ServesWith (count_of result) n q.line) held.new.seat.me }
+        ensures kept { request.new ≡ request.old }
+    {
+        state!(held.seat, self).leave(request)
+    }
+}

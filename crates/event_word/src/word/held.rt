@@ -1,0 +1,81 @@
+//! The state of a lock, out with one thread.
+ghost use Rattle.std.specs.Prelude.{◌≡◌, ◌++◌, ◌∷◌, ◌%◌, ℕ, [], Some, MatchBool};
+ghost use Rattle.event_word.specs.declared.word.rule.Shelf.TheVariants.{Value};
+ghost use Rattle.event_word.specs.Word.{EasesFrom, Lends, Stays, Takes, number_of};
+
+use super::kept::Kept;
+use super::rule::{LookAgain, Move, MoveLend};
+use super::{Seat, Word};
+
+/// The state, taken out from behind its word. It is no `Drop`: whoever has it puts it back.
+pub struct Held<S: Kept, V> {
+    pub seat: Seat<S, V>,
+}
+
+/// The state that is out with a seat, to be seen and changed.
+#[doc(hidden)]
+#[macro_export]
+macro_rules! state {
+    ($seat:expr, $word:expr) => {
+        match $seat.slot_mut(&$word.table.shared, 0) {
+            $crate::Shelf::State(state) => state,
+            $crate::Shelf::Value(_) => unreachable!(),
+        }
+    };
+}
+
+impl<S: Kept, V> Held<S, V> {
+    /// Looks at the word while the state is out, and remembers its number. What was promised of any state at the number that it
+    /// remembered is so at the number now.
+    #[inline(always)]
+    pub fn look(&mut self, word: &Word<S, V>) -> u64
+        requires seat { (self.old.seat.table_id ≡ word.now.table.shared.table_id) × (n : ℕ) × (self.old.seat.me.0 ≡ Some n) }
+        ensures seat { (self.new.seat.table_id ≡ self.old.seat.table_id) × (self.new.seat.me ≡ (Some (number_of result), self.old.seat.me.1)) }
+        ensures word { (result % 2 ≡ 1) × S.rules.fits (number_of result) }
+        ensures eases { EasesFrom S.rules self.old.seat.me.0 (number_of result) }
+    {
+        word.table.shared.load::<LookAgain<S>>(&mut self.seat, 0)
+    }
+
+    /// Changes the number while the state is out, if the word is as it was seen. Returns whether it was. Whoever has the state
+    /// out notifies of it later.
+    #[inline(always)]
+    pub fn change(&mut self, word: &Word<S, V>, seen: u64, new: u64) -> bool
+        requires seat { (self.old.seat.table_id ≡ word.now.table.shared.table_id) × (n : ℕ) × (self.old.seat.me.0 ≡ Some n) }
+        requires takes { Takes S.rules seen new × Stays S.rules seen new }
+        ensures seat { self.new.seat.table_id ≡ self.old.seat.table_id }
+        ensures changes { MatchBool result (self.new.seat.me ≡ (Some (number_of new), self.old.seat.me.1)) (self.new.seat.me ≡ self.old.seat.me) }
+    {
+        word.table
+            .shared
+            .compare_exchange::<Move>(&mut self.seat, 0, seen, new)
+            == seen
+    }
+
+    fn lend_step(&mut self, word: &Word<S, V>, seen: u64, new: u64) -> bool
+        requires seat { (self.old.seat.table_id ≡ word.now.table.shared.table_id) × (n : ℕ) × (self.old.seat.me.0 ≡ Some n) }
+        requires takes { Takes S.rules seen new × Lends S.rules seen new }
+        ensures seat { self.new.seat.table_id ≡ self.old.seat.table_id }
+        ensures lends { MatchBool result ((x : V) × (self.new.seat.me ≡ (Some (number_of new), (1, Value (Some x)) ∷ self.old.seat.me.1))) (self.new.seat.me ≡ self.old.seat.me) }
+    {
+        word.table
+            .shared
+            .compare_exchange::<MoveLend>(&mut self.seat, 0, seen, new)
+            == seen
+    }
+
+    /// The same, and takes the value out, which the seat has once the state is put back.
+    #[inline(always)]
+    pub fn lend(&mut self, word: &Word<S, V>, seen: u64, new: u64) -> bool
+        requires seat { (self.old.seat.table_id ≡ word.now.table.shared.table_id) × (n : ℕ) × (self.old.seat.me.0 ≡ Some n) }
+        requires takes { Takes S.rules seen new × Lends S.rules seen new }
+        ensures seat { self.new.seat.table_id ≡ self.old.seat.table_id }
+        ensures lends { MatchBool result ((x : V) × (self.new.seat.me ≡ (Some (number_of new), self.old.seat.me.1 ++ (1, Value (Some x)) ∷ []))) (self.new.seat.me ≡ self.old.seat.me) }
+    {
+        let lends = self.lend_step(word, seen, new);
+        if lends {
+            self.seat.turn();
+        }
+        lends
+    }
+}

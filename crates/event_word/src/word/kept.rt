@@ -1,0 +1,31 @@
+//! What a lock keeps behind its word.
+ghost use Rattle.std.specs.Prelude.{◌≡◌, ◌^◌, ◌<◌, ℕ, false};
+ghost use Rattle.event_word.specs.Rules.{Rules};
+
+use event_queue::WakeSink;
+use event_wait::Task;
+
+/// The state of a lock on one word: those that wait, and what belongs to them.
+pub trait Kept: Sized {
+    // What the lock says of its number and of this state.
+    ghost rules: { Rules Self };
+
+    /// The number that the word is to have before anybody is notified: with the bit set or cleared that shows newcomers
+    /// whether they may take what is free. It neither allocates nor waits.
+    fn number(&self, number: u64) -> u64
+        requires { (number < 2 ^ 62) × rules.fits number × rules.promised number self.now }
+        ensures room { result < 2 ^ 62 }
+        ensures fits { rules.fits result }
+        ensures promised { rules.promised result self.now }
+        ensures tells { rules.tells result self.now }
+        ensures lends { (rules.lends number → rules.lends result) × (rules.lends result → rules.lends number) };
+
+    /// Notifies those that wait of what is free by this number. Returns whether somebody waits still.
+    fn settle<K: WakeSink<Task>>(&mut self, number: u64, sink: &mut K) -> bool
+        requires { (number < 2 ^ 62) × rules.fits number × rules.promised number self.old × rules.tells number self.old }
+        ensures stands { rules.stands number self.new }
+        ensures quiet { result ≡ false → rules.quiet self.new };
+
+    // What stands is promised.
+    ghost promises: { (number : ℕ) (state : Self) → rules.stands number state → rules.promised number state };
+}

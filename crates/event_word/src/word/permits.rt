@@ -1,0 +1,117 @@
+//! The steps of a semaphore on its word.
+ghost use Rattle.std.specs.Prelude.{◌≡◌, [], Some};
+ghost use Rattle.atomic_table.specs.Table.{rest};
+ghost use Rattle.event_word.specs.Free.{ServesTheStarving, ServesWith};
+ghost use Rattle.event_word.specs.Word.{HasState, count};
+
+use super::held::Held;
+use super::serving::may_take;
+use super::{CROWDED, ONE, Word};
+use crate::line::competing::{Competing, Permits, SHUT, free};
+use std::sync::Wait;
+
+// As many permits may be free.
+const MOST: u64 = SHUT - 1;
+
+// A word below it is open to newcomers, and has room for one more permit.
+const FULL: u64 = MOST * ONE;
+
+/// One permit. It is no `Drop`, and only a step below makes one.
+pub struct Permit(());
+
+impl Permit {
+    /// Lets it go for ever.
+    pub fn forget(self) {
+        let Permit(()) = self;
+    }
+}
+
+impl Word<Competing<Permits>, ()> {
+    /// Takes a permit, if one is free for newcomers. It is one load and one compare-exchange where no other thread comes between.
+    #[inline(always)]
+    pub fn try_permit(&self) -> Option<Permit> {
+        let (seen, mut seat) = self.look();
+        if seen < ONE || seen >= SHUT * ONE {
+            return None;
+        }
+        if self.change(&mut seat, seen, seen - ONE) {
+            return Some(Permit(()));
+        }
+        self.try_permit_again()
+    }
+
+    #[cold]
+    #[inline(never)]
+    fn try_permit_again(&self) -> Option<Permit> {
+        let (mut seen, mut seat) = self.look();
+        for _ in 0..u64::MAX {
+            if seen >= SHUT * ONE || seen < ONE {
+                return None;
+            }
+            if self.change(&mut seat, seen, seen - ONE) {
+                return Some(Permit(()));
+            }
+            seen = self.look_again(&mut seat);
+        }
+        None
+    }
+
+    /// Gives a permit back, and notifies the first that waits, if one does. It does not wait for the state: whoever has that out
+    /// notifies. It is one load and one compare-exchange where nobody waits.
+    #[inline(always)]
+    pub fn give_permit<R: Wait>(&self, rt: &R, permit: Permit) {
+        let Permit(()) = permit;
+        let (seen, mut seat) = self.look();
+        if seen % 4 != CROWDED && seen < FULL && self.change(&mut seat, seen, seen + ONE) {
+            return;
+        }
+        self.add(rt, 1);
+    }
+
+    /// Adds so many permits, and notifies as many of those that wait. As many as the number holds are free at most.
+    #[cold]
+    #[inline(never)]
+    pub fn add<R: Wait>(&self, rt: &R, permits: u64) {
+        let (mut seen, mut seat) = self.look();
+        for _ in rt.forever() {
+            let more = permits.min(MOST - free(seen / ONE));
+            if seen % 4 == CROWDED {
+                match self.try_take(seat, seen, seen + more * ONE - 1) {
+                    Ok(held) => {
+                        drop(self.put_back(rt, held));
+                        return;
+                    }
+                    Err(again) => seat = again,
+                }
+            } else if self.change(&mut seat, seen, seen + more * ONE) {
+                return;
+            }
+            seen = self.look_again(&mut seat);
+        }
+        unreachable!()
+    }
+
+    /// Takes a permit with the state at hand, if one is free: for one that was notified, and came, also where newcomers may take
+    /// none. The state stays as it is.
+    pub fn take_permit(
+        &self,
+        held: &mut Held<Competing<Permits>, ()>,
+        notified: bool,
+    ) -> Option<Permit>
+        requires seat { held.old.seat.table_id ≡ self.now.table.shared.table_id }
+        requires serves { HasState (λ n q. ServesWith (count notified) n q.line) held.old.seat.me }
+        ensures seat { (held.new.seat.table_id ≡ held.old.seat.table_id) × (held.new.seat.me.1 ≡ held.old.seat.me.1) }
+        ensures serves { HasState (λ n q. ServesTheStarving n q.line) held.new.seat.me }
+    {
+        for _ in 0..u64::MAX {
+            let seen = self.look_serving(held, notified);
+            if !may_take(seen, notified) {
+                return None;
+            }
+            if held.change(self, seen, seen - ONE) {
+                return Some(Permit(()));
+            }
+        }
+        None
+    }
+}
