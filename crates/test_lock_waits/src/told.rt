@@ -1,6 +1,8 @@
 //! One that gives up: what it was handed goes to the next, and who waited for it alone is let in.
 use crate::support::{check, new_lock};
 use crate::waits::Polled;
+use event_locks::Mutex;
+use std::sync::Arc;
 use std::time::Duration;
 use test_lock_support::{Case, Kind, Waits, each};
 use test_support::Runtime;
@@ -99,4 +101,22 @@ fn upgrade_with_a_concurrent_writer(rt: HostRuntime) {
     *writer = 2;
     behind.let_in(&rt, writer);
     check(&rt, "the value", lock.into_inner(), 2);
+}
+
+// The mutex is gone but for the share of the one that was told, and with that goes its value.
+#[test]
+fn a_value_is_dropped_with_the_last_one_that_was_told(rt: HostRuntime) {
+    let value = Arc::new(rt.alloc(), 7u64).expect(&rt, "memory");
+    let kept = Arc::try_clone(&value).expect(&rt, "a share");
+    let mutex = Mutex::new(rt.alloc(), kept).expect(&rt, "a mutex");
+    let mutex = Arc::new(rt.alloc(), mutex).expect(&rt, "memory");
+    let held = Mutex::try_lock_arc(&mutex, rt).expect(&rt, "a share");
+    let told = Mutex::lock_arc(&mutex, rt, rt.alloc()).expect(&rt, "a share");
+    let told = Polled::new(&rt, told);
+    drop(mutex);
+    drop(held);
+    check(&rt, "whether it is woken", told.is_woken(), true);
+    check(&rt, "shares", Arc::strong_count(&value), 2);
+    drop(told);
+    check(&rt, "shares", Arc::strong_count(&value), 1);
 }

@@ -3,6 +3,7 @@ use crate::support::{check, new_lock, new_task};
 use crate::waits::Polled;
 use event_locks::Counts;
 use futures::test::MockTask;
+use std::time::Duration;
 use test_lock_support::{Case, Kind, Waits, each};
 use test_support::Runtime;
 
@@ -77,6 +78,21 @@ fn counts_of(free: u64, notified: usize, waiting: usize, starving: usize) -> Cou
     }
 }
 
+// One is notified and finds the lock taken twice. It starves, and waits.
+macro_rules! starves {
+    ($rt:expr, $kind:expr) => {{
+        let mut one = InTurn::new($rt, $kind.hold(), $kind.waits().expect($rt, "a share"));
+        for _ in 0..2u32 {
+            let (task, waits) = one.gives_back();
+            // The other one takes the lock again, since it comes first.
+            let held = $kind.hold();
+            one = InTurn { task, waits, held };
+            check($rt, "whether it is granted", one.is_granted(), false);
+        }
+        one
+    }};
+}
+
 // The one that starves is notified, and newcomers take nothing, though it is free.
 #[derive(Drop)]
 struct ShutsOut;
@@ -90,16 +106,9 @@ impl<R: Runtime> Case<R> for ShutsOut {
         if kind.counts().is_none() {
             return;
         }
-        let mut one = InTurn::new(rt, kind.hold(), kind.waits().expect(rt, "a share"));
-        for _ in 0..2u32 {
-            let (task, waits) = one.gives_back();
-            // It takes the lock again, if it can.
-            let held = kind.hold();
-            one = InTurn { task, waits, held };
-            check(rt, "whether it is granted", one.is_granted(), false);
-        }
+        let mut one = starves!(rt, kind);
         let (task, waits) = one.gives_back();
-        // It takes the lock again, if it can.
+        // It would take the lock again, if it could.
         let held = kind.hold();
         one = InTurn { task, waits, held };
         check(rt, "shut", kind.counts(), Some(counts_of(1, 1, 0, 1)));
@@ -111,6 +120,63 @@ impl<R: Runtime> Case<R> for ShutsOut {
 #[test]
 fn newcomers_are_shut_out_while_one_starves(rt: HostRuntime) {
     each(&rt, &rt, &ShutsOut).expect(&rt, "memory");
+}
+
+// The one that starves leaves: it is dropped, while it waits or once it is notified, or comes to its limit. Nobody is shut out
+// then.
+#[derive(Clone, Copy, Drop)]
+enum OpensAgain {
+    Dropped,
+    DroppedOnceNotified,
+    Late,
+}
+
+impl<R: Runtime> Case<R> for OpensAgain {
+    fn waiters(&self) -> usize {
+        1
+    }
+
+    fn run<K: Kind>(&self, rt: &R, kind: &K) {
+        if kind.counts().is_none() {
+            return;
+        }
+        let InTurn { task, waits, held } = starves!(rt, kind);
+        check(rt, "shut", kind.counts(), Some(counts_of(0, 0, 1, 1)));
+        match self {
+            OpensAgain::Dropped => {
+                drop(waits);
+                check(rt, "open", kind.counts(), Some(counts_of(0, 0, 0, 0)));
+                drop(held);
+            }
+            OpensAgain::DroppedOnceNotified => {
+                drop(held);
+                check(rt, "notified", task.is_woken(), true);
+                drop(waits);
+            }
+            OpensAgain::Late => {
+                let given = waits.wait_timeout(Duration::from_millis(1));
+                check(rt, "in vain", given.expect(rt, "an answer").is_none(), true);
+                check(rt, "open", kind.counts(), Some(counts_of(0, 0, 0, 0)));
+                drop(held);
+            }
+        }
+        check(rt, "free", kind.counts(), Some(counts_of(1, 0, 0, 0)));
+    }
+}
+
+#[test]
+fn newcomers_come_in_again_once_the_one_that_starves_is_dropped(rt: HostRuntime) {
+    each(&rt, &rt, &OpensAgain::Dropped).expect(&rt, "memory");
+}
+
+#[test]
+fn newcomers_come_in_again_once_one_is_dropped_that_was_notified(rt: HostRuntime) {
+    each(&rt, &rt, &OpensAgain::DroppedOnceNotified).expect(&rt, "memory");
+}
+
+#[test]
+fn newcomers_come_in_again_once_the_one_that_starves_is_late(rt: HostRuntime) {
+    each(&rt, &rt, &OpensAgain::Late).expect(&rt, "memory");
 }
 
 // Each reader comes before the last one has gone, and a writer in between.
