@@ -5,28 +5,14 @@
 //!
 //! # The lines
 //!
-//! One line of input gives one line of output. Numbers are decimal, and one space parts two words. Tags are `u64`,
-//! tasks `usize`, and listeners are numbered from 0 as they come. KIND is `d` for default and `a` for additional; `dr`
-//! and `ar` are the same relaxed.
+//! One line of input gives one line of output. A line `case NAME` is answered by itself: a new list begins, with an empty
+//! queue. Every other line is a call of the language of [`calls`], on a queue with tags, and is answered as there, but for
+//! two things. The tasks that it woke stand behind the reply with no word between. And a removal whose notification was
+//! propagated answers `removed taken`, since the Rust crate does not say where that went.
 //!
-//! - `case NAME`: the line itself. A new list begins, with an empty queue.
-//! - `listen`, `slisten`: `listener N`, its number. In the Rust crate the second listens on the stack.
-//! - `poll N TASK`: `pending`, and the task is stored; `ready TAG`; `finished` if the listener is no longer in the
-//!   queue.
-//! - `notify COUNT KIND TAG`: `told M`, how many were notified. Each gets a clone of the tag.
-//! - `notifyf COUNT KIND TAG`: `told M asked K`. A function makes the tags, TAG and those after it, and was called K
-//!   times.
-//! - `drop N`: `dropped`, with propagation.
-//! - `discard N`: `discarded true` if the listener was notified, else `discarded false`.
-//! - `remove N 0`, `remove N 1`: without and with propagation: `removed`, and then `none`, `created`, `task TASK`,
-//!   `notified d TAG`, `notified a TAG` or `taken`.
-//! - `wait N`: `ready TAG` or `finished`; `invalid` if the listener waits, since it would wait for ever.
-//! - `expire N`: a wait whose deadline has passed: `ready TAG`, `timeout` or `finished`.
-//! - `total`: `total M`. `isnotified`: `isnotified true` or `false`.
-//!
-//! The tasks that an operation woke stand at the end of its reply, in order. The reply is `invalid` to a line that is
-//! no operation, or names a listener that never came. A listener that has left keeps its number, which is then the key
-//! of no listener. The status is 0 at the end of the input. If memory runs out, or a line can't be read or written, the
+//! `slisten` listens on the stack in the Rust crate. `wait N` is `invalid` if the listener waits, since it would wait for
+//! ever, and `expire N` is a wait whose deadline has passed. A listener that has left keeps its number, which is then the
+//! key of no listener. The status is 0 at the end of the input. If memory runs out, or a line can't be read or written, the
 //! error goes to the standard error and the status is 1.
 //!
 //! # The sample
@@ -61,19 +47,48 @@
 //! No clause speaks of the lines; the sample and the comparison show them.
 #![tactic(auto)]
 
-mod answer;
-mod lines;
-mod machine;
-mod operation;
-
 use anyhow::Result;
-use std::io::{self, BufReader, BufWriter, Write};
+use calls::{Answer, Interpreter, Left, Queues, Reply, Undisturbed};
+use std::alloc::Global;
+use std::io::{self, BufRead, BufReader, BufWriter, Write};
 
 fn main(rt: HostRuntime) -> Result<()> {
     let alloc = rt.alloc();
     let input = BufReader::new(alloc, rt.reader())?;
     let mut output = BufWriter::new(alloc, io::writer(&rt))?;
-    lines::answer_all(alloc, input, &mut output)?;
+    answer_all(alloc, input, &mut output)?;
     output.flush()?;
+    Ok(())
+}
+
+// Answers each line of the input with one line, in order.
+fn answer_all<I: BufRead + Drop, W: Write>(alloc: Global, input: I, output: &mut W) -> Result<()> {
+    let mut hook = Undisturbed;
+    let mut interpreter = Interpreter::new(alloc, Queues::<u64>::new(alloc, 1)?, &mut hook);
+    for line in input.lines(alloc) {
+        let line = line?;
+        let line = line.as_str().trim_end();
+        if line.starts_with("case ") {
+            interpreter.restart(Queues::new(alloc, 1)?);
+            writeln!(output, "{line}")?;
+        } else {
+            print(interpreter.answer(line)?, output)?;
+        }
+    }
+    Ok(())
+}
+
+// An answer as the Rust crate's lists have it.
+fn print<W: Write>(answer: &Answer, output: &mut W) -> Result<()> {
+    for reply in answer.replies.iter() {
+        match reply {
+            Reply::Removed(Left::Passed(_) | Left::Lost(_, _)) => write!(output, "removed taken")?,
+            reply => write!(output, "{reply}")?,
+        }
+    }
+    for task in answer.woken.iter() {
+        write!(output, " {task}")?;
+    }
+    writeln!(output)?;
     Ok(())
 }
