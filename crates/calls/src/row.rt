@@ -15,6 +15,8 @@ pub struct Row<'t> {
     pub title: &'t str,
     /// What its calls are made on.
     pub subject: &'t str,
+    /// With what kind of that, where there are several.
+    pub kind: &'t str,
     pub lines: &'t str,
 }
 
@@ -22,8 +24,7 @@ pub struct Row<'t> {
 #[derive(Drop)]
 pub struct Difference<'t> {
     row: u8,
-    // The kind of its subject, where it is made on several.
-    with: &'static str,
+    kind: &'t str,
     // The number of the line, from the head on.
     line: usize,
     text: &'t str,
@@ -33,7 +34,10 @@ pub struct Difference<'t> {
 
 impl Display for Difference<'_> {
     fn fmt<W: Write>(&self, f: &mut Formatter<W>) -> fmt::Result {
-        write!(f, "row {}{}", self.row, self.with)?;
+        write!(f, "row {}", self.row)?;
+        if !self.kind.is_empty() {
+            write!(f, " with {}", self.kind)?;
+        }
         write!(f, ", line {}: {}", self.line, self.text)?;
         match &self.answer {
             Some(answer) => write!(f, ": but it answers {answer}"),
@@ -46,13 +50,6 @@ impl Display for Row<'_> {
     fn fmt<W: Write>(&self, f: &mut Formatter<W>) -> fmt::Result {
         writeln!(f, "{}\nrow {} {}", self.title, self.number, self.subject)?;
         f.write_str(self.lines)
-    }
-}
-
-impl Difference<'_> {
-    /// The same, found with this kind of subject: words that follow the row's number.
-    pub fn with(self, with: &'static str) -> Self {
-        Difference { with, ..self }
     }
 }
 
@@ -75,6 +72,7 @@ impl<'t> Row<'t> {
             number,
             title,
             subject,
+            kind: "",
             lines,
         })
     }
@@ -98,7 +96,7 @@ impl<'t> Row<'t> {
         };
         Difference {
             row: self.number,
-            with: "",
+            kind: self.kind,
             line,
             text,
             answer,
