@@ -1,8 +1,9 @@
 //! Lists of calls, one after another.
-use crate::events::{Events, Runtime, random_event_calls};
+use crate::rows::Rows;
+use crate::steps::random_steps;
 use anyhow::Result;
+use calls_events::Runtime;
 use random_calls::{Comparison, Request, Shown, Started, shorten};
-use std::fmt::Debug;
 use std::io::Print;
 
 // How many lists that differ are printed.
@@ -25,7 +26,7 @@ pub struct Tally {
 /// nothing to print to.
 pub fn try_lists<R: Runtime + Print>(rt: &R, request: Request) -> Result<Tally> {
     let started = Started::new(rt, request.limit)?;
-    let mut events = Events::new(rt);
+    let mut rows = Rows::new(rt);
     let mut tally = Tally {
         lists: 0,
         differing: 0,
@@ -37,12 +38,12 @@ pub fn try_lists<R: Runtime + Print>(rt: &R, request: Request) -> Result<Tally> 
         }
         let seed = request.seed.wrapping_add(times);
         let is_printed = tally.differing < PRINTED;
-        let differs = try_list(rt, &mut events, seed, is_printed)?;
+        let differs = try_list(rt, &mut rows, seed, is_printed)?;
         tally.lists = tally.lists.saturating_add(1);
         tally.differing = tally.differing.saturating_add(u64::from(differs));
     }
     if tally.lists >= LISTS_FOR_EACH_KIND {
-        tally.is_kind_missing = events.kinds.print_missing(rt)?;
+        tally.is_kind_missing = rows.kinds.print_missing(rt)?;
     }
     Ok(tally)
 }
@@ -50,31 +51,21 @@ pub fn try_lists<R: Runtime + Print>(rt: &R, request: Request) -> Result<Tally> 
 // Tries the list of this seed. Answers whether it differs.
 fn try_list<R: Runtime + Print>(
     rt: &R,
-    events: &mut Events<'_, R>,
+    rows: &mut Rows<'_, R>,
     seed: u64,
     is_printed: bool,
 ) -> Result<bool> {
     let alloc = rt.alloc();
-    let calls = random_event_calls(alloc, seed)?;
-    let Some(difference) = events.compare(calls.as_slice())? else {
+    let calls = random_steps(alloc, seed)?;
+    let Some(difference) = rows.compare(calls.as_slice())? else {
         return Ok(false);
     };
     if is_printed {
-        let shown = shorten(alloc, events, Shown { calls, difference })?;
-        print_shown(rt, seed, &shown)?;
+        let shown = shorten(alloc, rows, Shown { calls, difference })?;
+        println!(rt;
+            "the list of seed {seed} differs:\n{}",
+            shown.difference.text
+        )?;
     }
     Ok(true)
-}
-
-// A list without a call that shows its difference shows it once all calls were made.
-fn print_shown<C: Debug, R: Print>(rt: &R, seed: u64, shown: &Shown<C>) -> Result<()> {
-    println!(rt;
-        "the list of seed {seed} differs at call {}:",
-        shown.difference.call
-    )?;
-    for (number, call) in shown.calls.iter().enumerate() {
-        println!(rt; "  {number} {call:?}")?;
-    }
-    println!(rt; "  {}", shown.difference.text)?;
-    Ok(())
 }
