@@ -62,7 +62,7 @@ impl<'h, S: Subject + Drop, H: Hook> Interpreter<'h, S, H> {
         let before = self.subject.shape();
         let reply = self.make_once(call, Some(request));
         let refused = match reply {
-            Reply::NoMemory => Some((request, self.subject.shape() == before)),
+            Reply::NoMemory => Some((request, self.subject.stands(call, before))),
             _ => self.subject.refused_within(),
         };
         match refused {

@@ -235,6 +235,15 @@ impl<T: Tag + Drop> Subject for Queues<T> {
         [told, total, spare, self.replies.len(), tasks, missed]
     }
 
+    // A reservation that is refused keeps the room that it made before, and takes none away.
+    fn stands(&self, call: Call<'_>, before: [usize; 6]) -> bool {
+        let mut shape = self.shape();
+        if let Call::Reserve(_) = call {
+            shape[2] = before[2].min(shape[2]);
+        }
+        shape == before
+    }
+
     fn note(&mut self, answer: &mut Answer) -> Result<(), AllocError> {
         if !self.replies.is_empty() {
             answer.replies.clear();

@@ -19,6 +19,11 @@ pub trait Subject {
     /// What has to stand where memory is refused.
     fn shape(&self) -> [usize; 6];
 
+    /// Whether all of that stands after memory was refused to the call, before which the shape was this.
+    fn stands(&self, _call: Call<'_>, before: [usize; 6]) -> bool {
+        self.shape() == before
+    }
+
     /// Adds what the call that was made last gave beside its reply: the tasks that it woke, or the replies of a run.
     fn note(&mut self, answer: &mut Answer) -> Result<(), AllocError>;
 

@@ -1,8 +1,11 @@
 //! Queues while requests for memory are refused.
+use crate::hooks::{Refusing, Starving};
+use crate::rows::ROWS;
 use crate::support::check;
 use crate::{Budget, Hog};
+use calls::{Request, Row};
 use event_queue::{
-    IntoNotification, IntoTagged, Key, List, ListenError, Notify, RegisterResult, State, Woken,
+    IntoNotification, IntoTagged, Key, List, ListenError, Notify, RegisterResult, Woken,
 };
 use std::alloc::{AllocError, AllocGlobal};
 use std::cell::Cell;
@@ -21,56 +24,53 @@ fn insert<R: Abort>(rt: &R, list: &mut List<u32, u64>, serial: u64) -> Key {
     key
 }
 
-#[test]
-fn each_call_but_a_growth(rt: HostRuntime) {
-    let mut woken = Woken::with_room(rt.alloc(), 8).expect(&rt, "room for tasks");
-    let mut list = List::new(rt.alloc());
-    list.reserve(4).expect(&rt, "room");
-    let hog = Hog::new(rt.alloc()).expect(&rt, "all memory");
-    let gone = list.insert_uncounted().expect(&rt, "a listener");
-    let left = list.remove_uncounted(gone, true, &mut woken);
-    check(&rt, "one that waits", left, Some(State::Created));
-    let first = insert(&rt, &mut list, 1);
-    let second = insert(&rt, &mut list, 2);
-    let third = insert(&rt, &mut list, 3);
-    let told = list.notify_uncounted(&mut 2.tag(TAG), &mut woken);
-    check(&rt, "two", told, Ok(2));
-    // Another one is still told, so this notification is lost.
-    let lost = list.remove_uncounted(first, true, &mut woken);
-    let (additional, tag) = (false, TAG);
-    check(&rt, "lost", lost, Some(State::Lost { additional, tag }));
-    let late = insert(&rt, &mut list, 4);
-    let told = list.notify_uncounted(&mut 1.additional().tag(TAG), &mut woken);
-    check(&rt, "one more", told, Ok(1));
-    let given = list.register_uncounted(second, 5);
-    check(&rt, "a tag", given, RegisterResult::Notified(TAG));
-    let passed_on = list.remove_uncounted(third, true, &mut woken);
-    let to_late = Some(State::Passed { to: late });
-    check(&rt, "passed on", passed_on, to_late);
-    check(&rt, "the last is told", list.is_told_uncounted(late), true);
-    let nobody = list.register_uncounted(third, 5);
-    check(&rt, "a stale key", nobody, RegisterResult::NeverInserted);
-    let listeners = (list.total_listeners(), list.is_notified());
-    check(&rt, "listeners", listeners, (1, true));
-    check(&rt, "woken", woken.tasks(), [1, 2, 3, 4].as_slice());
-    drop(list);
-    drop(hog);
+fn new_budget<R: Abort + AllocGlobal>(rt: &R) -> Budget {
+    Budget::new(rt.alloc()).expect(rt, "all memory but a reserve")
 }
 
-// Worked row 49. Used-up serials are refused before memory, and take no room. The second time there is some.
+// Refused at least once are the first listener or reservation of each queue, the replies and the listeners of each run,
+// and the room of each sink.
 #[test]
-fn used_up_serials_are_refused_before_memory(rt: HostRuntime) {
-    let mut list: List<u32, u64> = List::starting_at(rt.alloc(), u64::MAX);
-    for time in 0..2 {
-        let hog = Hog::new(rt.alloc()).expect(&rt, "all memory");
-        let spare = list.spare();
-        let refused = list.insert_uncounted();
-        check(&rt, "a serial", refused, Err(ListenError::SerialsUsedUp));
-        check(&rt, "spare", list.spare(), spare);
-        check(&rt, "room", list.reserve(1).is_ok(), time > 0);
-        drop(hog);
-        list.reserve(1).expect(&rt, "room");
+fn each_request_of_a_row_is_refused_in_its_turn(rt: HostRuntime) {
+    let mut hook = Refusing::new(new_budget(&rt));
+    for place in 0..usize::MAX {
+        let Some(row) = Row::nth(ROWS, place) else {
+            break;
+        };
+        if let Err(wrong) = hook.each(rt.alloc(), row) {
+            panic!(&rt; "{}: {wrong:?}", row.title);
+        }
     }
+    let least = [
+        (Request::Slot, 6),
+        (Request::SlotInRun, 5),
+        (Request::Replies, 5),
+        (Request::Sink, 3),
+    ];
+    for (request, least) in least {
+        let refusals = hook.refusals_of(request);
+        check(&rt, (request, refusals), refusals >= least, true);
+    }
+}
+
+// No call is left out: each has no memory, or may ask for some, as listeners, reservations, runs and sinks do.
+#[test]
+fn calls_that_take_no_memory_have_none(rt: HostRuntime) {
+    let mut hook = Starving::new(new_budget(&rt));
+    let mut lines = 0usize;
+    for place in 0..usize::MAX {
+        let Some(row) = Row::nth(ROWS, place) else {
+            break;
+        };
+        match row.run_on_queues(rt.alloc(), &mut hook) {
+            Some(Ok(())) => lines = lines.wrapping_add(row.lines.lines().count()),
+            Some(Err(difference)) => panic!(&rt; "{}: {difference}", row.title),
+            None => panic!(&rt; "{}: no queues", row.title),
+        }
+    }
+    let calls = hook.starved.wrapping_add(hook.served);
+    check(&rt, "calls", calls, lines);
+    check(&rt, hook.starved, hook.starved >= 68, true);
 }
 
 // A task that counts its drops.
@@ -154,7 +154,7 @@ fn as_many_as_there_is_room_for_and_no_more(rt: HostRuntime) {
 // budgets lie so close that each of the three is the first to be refused once: then the room for those before it is kept.
 #[test]
 fn three_listeners_take_the_room_that_is_made_for_three_at_last(rt: HostRuntime) {
-    let mut budget = Budget::new(rt.alloc()).expect(&rt, "all memory but a reserve");
+    let mut budget = new_budget(&rt);
     let mut most = 0;
     for bytes in (0..Budget::MOST).step_by(Budget::STEP) {
         let mut list = List::new(rt.alloc());
@@ -189,7 +189,7 @@ fn three_listeners_take_the_room_that_is_made_for_three_at_last(rt: HostRuntime)
 // that nobody took.
 #[test]
 fn a_dropped_queue_gives_every_node_back(rt: HostRuntime) {
-    let mut budget = Budget::new(rt.alloc()).expect(&rt, "all memory but a reserve");
+    let mut budget = new_budget(&rt);
     budget
         .leave(Budget::MOST)
         .expect(&rt, "so much of the reserve");
