@@ -111,8 +111,9 @@ impl<T: Drop> Mutex<T> {
         self.word.give_value(rt, lent);
     }
 
-    fn attempt_held<C, X: TaskExchange<Task, C>>(
+    fn attempt_held<C, X: TaskExchange<Task, C>, R: Wait>(
         &self,
+        rt: &R,
         held: &mut Held<Competing<OneValue>, T>,
         request: &mut Competitor,
         exchange: &X,
@@ -128,11 +129,11 @@ impl<T: Drop> Mutex<T> {
         ensures refused { OnRefused result (request.new ≡ request.old) }
         ensures exchanged { Attempts (X.exchanged exchange.now) on.old result on.new }
     {
-        let coming = self.word.come(held, request, exchange, on);
+        let coming = self.word.come(held, &mut request.place, exchange, on);
         if let Coming::Waits(key) = coming {
             return Attempted::Waits(key);
         }
-        if self.word.take_value(held, coming.is_notified()) {
+        if self.word.take_value(rt, held, coming.is_notified()) {
             return Attempted::Done(());
         }
         match self.word.lose(held, request, coming, exchange, on) {
@@ -168,7 +169,7 @@ impl<T: Drop> Serves<Competitor> for Mutex<T> {
         on: &mut C,
     ) -> Attempted<Lent<T>, LockError> {
         let (_, mut held) = self.word.take(rt);
-        let attempted = self.attempt_held(&mut held, request, exchange, on);
+        let attempted = self.attempt_held(rt, &mut held, request, exchange, on);
         let lent = self.word.put_back(rt, held);
         match attempted {
             Attempted::Done(()) => Attempted::Done(lent),
@@ -184,8 +185,8 @@ impl<T: Drop> Serves<Competitor> for Mutex<T> {
         request: &mut Competitor,
     ) -> Result<Option<Lent<T>>, LockError> {
         let (_, mut held) = self.word.take(rt);
-        let coming = self.word.leave(&mut held, request);
-        let took = self.word.take_value(&mut held, coming.is_notified());
+        let coming = self.word.leave(&mut held, &mut request.place);
+        let took = self.word.take_value(rt, &mut held, coming.is_notified());
         let lent = self.word.put_back(rt, held);
         Ok(if took { Some(lent) } else { None })
     }
@@ -205,7 +206,7 @@ impl<T: Drop> Tries<Competitor> for Mutex<T> {
     fn give_up<R: Wait>(&self, rt: &R, request: &mut Competitor) {
         if request.is_waiting() {
             let (_, mut held) = self.word.take(rt);
-            self.word.leave(&mut held, request);
+            self.word.leave(&mut held, &mut request.place);
             drop(self.word.put_back(rt, held));
         }
     }

@@ -105,8 +105,9 @@ impl Semaphore {
         self.word.give_permit(rt, permit);
     }
 
-    fn attempt_held<C, X: TaskExchange<Task, C>>(
+    fn attempt_held<C, X: TaskExchange<Task, C>, R: Wait>(
         &self,
+        rt: &R,
         held: &mut Held<Competing<Permits>, ()>,
         request: &mut Competitor,
         exchange: &X,
@@ -121,11 +122,11 @@ impl Semaphore {
         ensures refused { OnRefused result (request.new ≡ request.old) }
         ensures exchanged { Attempts (X.exchanged exchange.now) on.old result on.new }
     {
-        let coming = self.word.come(held, request, exchange, on);
+        let coming = self.word.come(held, &mut request.place, exchange, on);
         if let Coming::Waits(key) = coming {
             return Attempted::Waits(key);
         }
-        match self.word.take_permit(held, coming.is_notified()) {
+        match self.word.take_permit(rt, held, coming.is_notified()) {
             Some(permit) => Attempted::Done(permit),
             None => match self.word.lose(held, request, coming, exchange, on) {
                 Ok(key) => Attempted::Waits(key),
@@ -161,7 +162,7 @@ impl Serves<Competitor> for Semaphore {
         on: &mut C,
     ) -> Attempted<Permit, LockError> {
         let (_, mut held) = self.word.take(rt);
-        let attempted = self.attempt_held(&mut held, request, exchange, on);
+        let attempted = self.attempt_held(rt, &mut held, request, exchange, on);
         drop(self.word.put_back(rt, held));
         attempted
     }
@@ -172,8 +173,8 @@ impl Serves<Competitor> for Semaphore {
         request: &mut Competitor,
     ) -> Result<Option<Permit>, LockError> {
         let (_, mut held) = self.word.take(rt);
-        let coming = self.word.leave(&mut held, request);
-        let permit = self.word.take_permit(&mut held, coming.is_notified());
+        let coming = self.word.leave(&mut held, &mut request.place);
+        let permit = self.word.take_permit(rt, &mut held, coming.is_notified());
         drop(self.word.put_back(rt, held));
         Ok(permit)
     }
@@ -193,7 +194,7 @@ impl Tries<Competitor> for Semaphore {
     fn give_up<R: Wait>(&self, rt: &R, request: &mut Competitor) {
         if request.is_waiting() {
             let (_, mut held) = self.word.take(rt);
-            self.word.leave(&mut held, request);
+            self.word.leave(&mut held, &mut request.place);
             drop(self.word.put_back(rt, held));
         }
     }

@@ -5,14 +5,16 @@ use Rattle.std.specs.Map.{lookup, remove_entry, set_value}
 use Rattle.std.proofs.lemmas.Bool.{eqb-true, and_parts, cond_both}
 use Rattle.std.proofs.lemmas.Map.{length-set_value}
 use Rattle.event_queue.specs.declared.key.Key.{Key}
-use Rattle.event_queue.specs.Exchange.{Exchanges, JoinsWithTask}
+use Rattle.event_queue.specs.declared.reply.RegisterResult.{RegisterResult}
+use Rattle.event_queue.specs.declared.reply.RegisterResult.TheVariants.{Notified, Registered, NeverInserted}
+use Rattle.event_queue.specs.Exchange.{Exchanges, JoinsWithTask, RegistersWith}
 use Rattle.event_queue.specs.Insert.{JoinsStoring}
 use Rattle.event_queue.specs.Key.{is_key, without}
-use Rattle.event_queue.specs.Queue.{Queue, IsQueue, order_of}
-use Rattle.event_queue.proofs.OrderLemmas.{Rises, All-append, All-filter, All-implied, other_serial}
-use Rattle.event_queue.specs.Register.{after_storing}
-use Rattle.event_queue.proofs.QueueLemmas.{rises_along, order_of-push, order_of-after_storing}
-use Rattle.event_word.specs.Line.{HasLeft, TellsUpTo, told_anew}
+use Rattle.event_queue.specs.Queue.{Queue, IsAbsent, IsQueue, order_of}
+use Rattle.event_queue.proofs.OrderLemmas.{NoneIs, Rises, All-append, All-filter, All-implied, none_is-without, other_serial}
+use Rattle.event_queue.specs.Register.{OnNotified, after_storing}
+use Rattle.event_queue.proofs.QueueLemmas.{IsAbsent-none, rises_along, order_of-push, order_of-after_storing}
+use Rattle.event_word.specs.Line.{HasLeft, IsNotInUnlessWaits, TellsUpTo, told_anew}
 use Rattle.event_word.specs.Turns.{State, is_among, AllDiffer, HasTurnFrom, HaveTurnsFrom, IsLine, Joins, StoresInTurn, WaitsOn, next_turn}
 use Rattle.event_word.specs.declared.line.Queued.{Queued}
 
@@ -114,6 +116,23 @@ among-without gone (k ∷ keys) key stays h = by_test (is_key key k) refl (is_ke
     by_test true here false there rest = rw (there, here) refl
     by_test false apart true there rest = rw there (rest (rw apart at h))
     by_test false apart false there rest = rw (there, apart) (rest (rw apart at h))
+
+among-none : (keys : List Key) (key : Key) → NoneIs key keys → is_among keys key ≡ false
+among-none [] key h = refl
+among-none (k ∷ keys) key h = rw h.0 (among-none keys key h.1)
+
+-- one that left is not among those that stay
+pub among-left : (key : Key) (old new : List Key) → new ≡ without key old → is_among new key ≡ false
+among-left key old new is = rw is (among-none (without key old) key (none_is-without key old))
+
+pub among-absent : {T W : Type 0} (key : Key) (q : Queue T W) → IsAbsent key q → is_among (order_of q) key ≡ false
+among-absent key q absent = among-none (order_of q) key (IsAbsent-none key q absent)
+
+pub not_in-looked : {T W C : Type 0} (exchanged : C → Option W → W → C → Type 0) (old new : Queue T W) (key : Key) (before after : C) (result : RegisterResult T)
+    → RegistersWith exchanged old key before result new after → OnNotified result (order_of new ≡ without key (order_of old)) → IsNotInUnlessWaits result key new
+not_in-looked exchanged old new key before after (Notified tag) step order = among-left key (order_of old) (order_of new) order
+not_in-looked exchanged old new key before after Registered step order = tt
+not_in-looked exchanged old new key before after NeverInserted step order = rw step.1 (among-absent key old step.0)
 
 all_among-more : (keys more : List Key) (some : List Key) → AllByRecursion (λ key. is_among keys key ≡ true) some → AllByRecursion (λ key. is_among (keys ++ more) key ≡ true) some
 all_among-more keys more some all = All-implied (λ key. is_among keys key ≡ true) (λ key. is_among (keys ++ more) key ≡ true) some (λ key h. among-more keys more key h) all

@@ -31,6 +31,13 @@ module _ {G : Type 0} where
   gained Absent = 0
   gained (Refused error) = 0
 
+  -- it waits, or got what it wants, or can't wait
+  abbrev pub IsSettled : {E : Type 0} → Attempted G E → Type 0
+  IsSettled (Done grant) = Unit {0}
+  IsSettled (Waits key) = Unit {0}
+  IsSettled Absent = ⊥
+  IsSettled (Refused error) = Unit {0}
+
   -- what holds of why one can't wait
   abbrev pub IfRefused : {E : Type 0} → Attempted G E → (E → Type 0) → Type 0
   IfRefused (Done grant) P = Unit {0}

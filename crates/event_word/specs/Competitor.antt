@@ -1,7 +1,8 @@
 -- How one competes.
-use Rattle.std.specs.Prelude.{◌≡◌, ◌↔◌, ℕ, ◌+◌, ◌≤◌, min, Bool, true, Option}
+use Rattle.std.specs.Prelude.{◌≡◌, ◌↔◌, ℕ, ◌+◌, ◌≤◌, min, Bool, true, Option, Some, None, IsSome}
 use Rattle.event_queue.specs.declared.key.Key.{Key}
 use Rattle.event_wait.specs.Attempted.{Stores}
+use Rattle.event_word.specs.Line.{IsNotIn}
 use Rattle.event_word.specs.Turns.{State, Joins}
 use Rattle.event_word.specs.declared.line.competitor.Coming.{Coming}
 use Rattle.event_word.specs.declared.line.competitor.Coming.TheVariants.{New, Notified, Waits}
@@ -18,12 +19,17 @@ losses_after losses New = losses
 losses_after losses Notified = min (losses + 1) 4294967295
 losses_after losses (Waits key) = losses
 
+-- nobody is in the queue by this key, if it is one
+abbrev pub NobodyIsBy : {W : Type 0} → Option Key → State W → Type 0
+NobodyIsBy None line = Unit {0}
+NobodyIsBy (Some key) line = IsNotIn key line.queue
+
 module _ {W C : Type 0} (exchanged : C → Option W → W → C → Type 0) where
-  -- only the task of one that waits on is exchanged
-  abbrev pub Comes : C → Coming → C → Type 0
-  Comes before New after = after ≡ before
-  Comes before Notified after = after ≡ before
-  Comes before (Waits key) after = Stores exchanged before after
+  -- the place of one that comes: one that is not notified keeps it, and only its task is exchanged; any other has left it
+  abbrev pub Comes : Option Key → C → Coming → State W → Option Key → C → Type 0
+  Comes old before New line new after = NobodyIsBy old line × (new ≡ None) × (after ≡ before)
+  Comes old before Notified line new after = IsSome old × NobodyIsBy old line × (new ≡ None) × (after ≡ before)
+  Comes old before (Waits key) line new after = (old ≡ Some key) × (new ≡ Some key) × Stores exchanged before after
 
   -- one that has lost so often waits at the end, and starves if that is twice
   pub record Loses (losses : ℕ) (key : Key) (old : State W) (before : C) (new : State W) (after : C) : Type 0 where

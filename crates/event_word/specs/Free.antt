@@ -1,5 +1,5 @@
 -- What is free for those that compete, and what holds of it and of their queue. The number of a lock is what is free, and 2 ^ 61 while newcomers are shut out.
-use Rattle.std.specs.Prelude.{◌≡◌, ℕ, ◌+◌, ◌%◌, ◌^◌, ◌<◌, ◌≤◌, Bool, true, length}
+use Rattle.std.specs.Prelude.{◌≡◌, ◌⊎◌, ℕ, ◌+◌, ◌%◌, ◌^◌, ◌<◌, ◌≤◌, Bool, true, false, length}
 use Rattle.std.specs.List.{list_any}
 use Rattle.std.specs.Map.{keys_of}
 use Rattle.event_word.specs.Turns.{State, is_among}
@@ -14,6 +14,10 @@ IsOpen n = n < 2 ^ 61
 
 abbrev pub IsShut : ℕ → Type 0
 IsShut n = 2 ^ 61 ≤ n
+
+-- none is free, or one that was not notified may take none
+abbrev pub NoneFor : Bool → ℕ → Type 0
+NoneFor notified n = (free_of n ≡ 0) ⊎ (notified ≡ false × IsShut n)
 
 module _ {W : Type 0} where
   -- whether one that starves is notified

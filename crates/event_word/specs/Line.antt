@@ -1,6 +1,6 @@
 -- What becomes of a queue, and what one that waits in it learns.
 use Rattle.std.specs.Prelude.{◌≡◌, ℕ, ◌+◌, ◌-◌, min, max, Bool, true, false, if◌then◌else◌, Option, Some, None, is_some, unwrap_or, List, [], ◌∷◌, ◌++◌, length, drop, Err}
-use Rattle.std.specs.List.{FoldsTo}
+use Rattle.std.specs.List.{FoldsTo, list_any}
 use Rattle.std.specs.Map.{lookup, remove_entry, set_value}
 use Rattle.event_queue.specs.declared.key.Key.{Key}
 use Rattle.event_queue.specs.declared.reply.ListenError.{ListenError}
@@ -61,6 +61,16 @@ module _ {T W : Type 0} where
   pub record HasLeftAndTold (key : Key) (n : ℕ) (old new : Queue T W) : Type 0 where
     pub left : order_of new ≡ without key (order_of old)
     pub tells : TellsUpTo n (after_leaving (Some key) old) new
+
+  -- nobody is in the queue by this key
+  abbrev pub IsNotIn : Key → Queue T W → Type 0
+  IsNotIn key q = list_any (is_key key) (order_of q) ≡ false
+
+  -- only one that waits on is in the queue after a look
+  abbrev pub IsNotInUnlessWaits : {G : Type 0} → RegisterResult G → Key → Queue T W → Type 0
+  IsNotInUnlessWaits (Notified grant) key q = IsNotIn key q
+  IsNotInUnlessWaits Registered key q = Unit {0}
+  IsNotInUnlessWaits NeverInserted key q = IsNotIn key q
 
   -- one that is in the queue has left it; one that is in none changes nothing
   abbrev pub Leaves : Option Key → Queue T W → Queue T W → Type 0

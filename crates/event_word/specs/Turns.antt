@@ -75,6 +75,7 @@ module _ {W : Type 0} where
   pub record Comes (key : Key) (old new : State W) : Type 0 where
     pub told : IsSome (lookup (is_key key) old.queue.told)
     pub queue : new.queue ≡ told_leaves key old.queue
+    pub order : order_of new.queue ≡ without key (order_of old.queue)
     pub starving : new.starving ≡ without key old.starving
     pub came : new.came ≡ old.came + 1
 

@@ -9,7 +9,7 @@ ghost use Rattle.event_queue.specs.Insert.{Inserts};
 ghost use Rattle.event_queue.specs.Key.{without};
 ghost use Rattle.event_queue.specs.Queue.{IsQueue, order_of};
 ghost use Rattle.event_word.specs.Attempted.{found_by, waits_by};
-ghost use Rattle.event_word.specs.Line.{CannotWait, HandsOut, HasLeft, Leaves, LeavesThenTells, Looked, TellsAll, TellsUpTo, WaitsBy, left_by, or_more, woken_at_once, woken_by_leaving, woken_up_to};
+ghost use Rattle.event_word.specs.Line.{CannotWait, HandsOut, HasLeft, IsNotIn, IsNotInUnlessWaits, Leaves, LeavesThenTells, Looked, TellsAll, TellsUpTo, WaitsBy, left_by, or_more, woken_at_once, woken_by_leaving, woken_up_to};
 ghost use Rattle.event_word.specs.Left.{left_as, told_of, waited_of};
 
 use crate::error::LockError;
@@ -173,7 +173,7 @@ pub fn join_line<W, C, X: TaskExchange<W, C>>(
     line.insert_with_uncounted(exchange, on)
 }
 
-// What a wait in a queue led to.
+/// Whether it waits, by which key, or why not.
 pub fn waiting<G>(waits: Result<Key, ListenError>) -> Attempted<G, LockError>
     ensures { result ≡ waits_by waits }
 {
@@ -183,7 +183,7 @@ pub fn waiting<G>(waits: Result<Key, ListenError>) -> Attempted<G, LockError>
     }
 }
 
-// What a look by this key led to.
+/// Whether this one was notified, waits still, or was never there.
 pub fn found<G>(key: Key, looked: RegisterResult<G>) -> Attempted<G, LockError>
     ensures { result ≡ found_by key looked }
 {
@@ -227,6 +227,7 @@ pub fn look_for<W, C, X: TaskExchange<W, C>>(
     ensures looked { Looked (X.exchanged exchange.now) on.old result on.new }
     ensures told { length line.new.told + left_by result ≡ length line.old.told }
     ensures waiting { length line.new.waiting ≡ length line.old.waiting }
+    ensures gone { IsNotInUnlessWaits result key line.new }
 {
     line.register_with_uncounted(key, exchange, on)
 }
@@ -274,6 +275,7 @@ pub fn leave_line<W: Drop>(line: &mut List<(), W>, key: Key) -> Left
     ensures told { length line.new.told + told_of result ≡ length line.old.told }
     ensures waiting { length line.new.waiting + waited_of result ≡ length line.old.waiting }
     ensures leaves { HasLeft key line.old line.new }
+    ensures gone { IsNotIn key line.new }
 {
     let mut nobody = Nobody {};
     let left = line.remove_uncounted(key, false, &mut nobody);

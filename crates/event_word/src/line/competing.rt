@@ -1,16 +1,16 @@
 //! Those that compete for what a lock's number counts.
-ghost use Rattle.std.specs.Prelude.{◌≡◌, ℕ, ◌<◌, ◌≤◌, true, IfOk, OnErr};
+ghost use Rattle.std.specs.Prelude.{◌≡◌, ℕ, ◌<◌, ◌≤◌, true, Some, None, IfOk, OnErr};
 ghost use Rattle.event_wait.specs.Attempted.{Stores};
-ghost use Rattle.event_word.specs.Competitor.{Comes, count_of};
+ghost use Rattle.event_word.specs.Competitor.{Comes, Loses, NobodyIsBy, count_of, losses_after};
 ghost use Rattle.event_word.specs.Free.{IsOpen, NobodyWaits, ServesTheStarving, ServesWith, Stands, free_of, one_starving_is_told};
 ghost use Rattle.event_word.specs.Competing.{rules_of};
 ghost use Rattle.event_word.specs.Turns.{State};
 
 use super::Line;
-use super::competitor::{Coming, Competitor};
+use super::competitor::{Coming, PATIENCE};
 use crate::error::LockError;
 use crate::word::Kept;
-use event_queue::{Key, TaskExchange, WakeSink};
+use event_queue::{Key, RegisterResult, TaskExchange, WakeSink};
 use event_wait::Task;
 use std::alloc::Global;
 use std::marker::PhantomData;
@@ -73,41 +73,79 @@ impl<C> Competing<C> {
 }
 
 impl<C> Competing<C> {
-    /// One that competes comes to attempt.
+    /// One that competes comes to attempt: one that was notified leaves the queue, and one that was not stores its task and waits
+    /// on.
     pub fn come<O, X: TaskExchange<Task, O>>(
         &mut self,
-        request: &mut Competitor,
+        place: &mut Option<Key>,
         exchange: &X,
         on: &mut O,
     ) -> Coming
-        ensures comes { Comes (X.exchanged exchange.now) on.old result on.new }
+        ensures comes { Comes (X.exchanged exchange.now) place.old on.old result self.new.line place.new on.new }
         ensures serves { (n : ℕ) → ServesTheStarving n self.old.line → ServesWith (count_of result) n self.new.line }
-        ensures kept { request.new ≡ request.old }
     {
-        request.come(&mut self.line, exchange, on)
+        let Some(key) = *place else {
+            return Coming::New;
+        };
+        match self.line.look(key, exchange, on) {
+            RegisterResult::Notified(()) => {
+                *place = None;
+                Coming::Notified
+            }
+            RegisterResult::Registered => Coming::Waits(key),
+            RegisterResult::NeverInserted => {
+                *place = None;
+                Coming::New
+            }
+        }
     }
 
-    /// One whose attempt found nothing waits at the end of the queue.
+    /// One whose attempt found nothing waits at the end of the queue: one that was notified has lost once more, and one that lost
+    /// [`PATIENCE`] times starves. It may allocate. An error says that it is in no queue.
     pub fn lose<O, X: TaskExchange<Task, O>>(
         &mut self,
-        request: &mut Competitor,
+        place: &mut Option<Key>,
+        losses: &mut u32,
         coming: Coming,
         exchange: &X,
         on: &mut O,
     ) -> Result<Key, LockError>
+        ensures place { IfOk result (λ key. place.new ≡ Some key) }
+        ensures losses { IfOk result (λ _. losses.new ≡ losses_after losses.old coming) }
+        ensures rises { losses.old ≤ losses.new }
+        ensures loses { IfOk result (λ key. Loses (X.exchanged exchange.now) losses.new key self.old.line on.old self.new.line on.new) }
+        ensures stores { IfOk result (λ _. Stores (X.exchanged exchange.now) on.old on.new) }
         ensures serves { (n : ℕ) → ServesTheStarving n self.old.line → ServesTheStarving n self.new.line }
-        ensures waits { IfOk result (λ _. (request.old ≤ request.new) × Stores (X.exchanged exchange.now) on.old on.new) }
-        ensures refused { OnErr result ((request.new ≡ request.old) × (on.new ≡ on.old)) }
+        ensures refused { OnErr result ((place.new ≡ place.old) × (losses.new ≡ losses.old) × (self.new.line ≡ self.old.line) × (on.new ≡ on.old)) }
     {
-        request.lose(&mut self.line, coming, exchange, on)
+        let lost = if coming.is_notified() {
+            losses.saturating_add(1)
+        } else {
+            *losses
+        };
+        match self.line.join(exchange, on, lost >= PATIENCE) {
+            Ok(key) => {
+                *place = Some(key);
+                *losses = lost;
+                Ok(key)
+            }
+            Err(error) => Err(LockError::Listen(error)),
+        }
     }
 
     /// One that competes leaves the queue, if it is there. Returns how it would have come.
-    pub fn leave(&mut self, request: &mut Competitor) -> Coming
+    pub fn leave(&mut self, place: &mut Option<Key>) -> Coming
+        ensures left { NobodyIsBy place.old self.new.line }
+        ensures place { place.new ≡ None }
         ensures serves { (n : ℕ) → ServesTheStarving n self.old.line → ServesWith (count_of result) n self.new.line }
-        ensures kept { request.new ≡ request.old }
     {
-        request.leave(&mut self.line)
+        let Some(key) = place.take() else {
+            return Coming::New;
+        };
+        if self.line.leave(key) {
+            return Coming::Notified;
+        }
+        Coming::New
     }
 }
 

@@ -3,7 +3,7 @@ ghost use Rattle.std.specs.Prelude.{◌≡◌, ℕ, ◌+◌, ◌*◌, ◌<◌, �
 ghost use Rattle.event_queue.specs.Exchange.{JoinsWithTask, RegistersWith};
 ghost use Rattle.event_word.specs.Attempted.{CannotJoin};
 ghost use Rattle.event_word.specs.Count.{readers_of, writers_of};
-ghost use Rattle.event_word.specs.Line.{HasLeft, Looked, left_by};
+ghost use Rattle.event_word.specs.Line.{HasLeft, IsNotIn, IsNotInUnlessWaits, Looked, left_by};
 ghost use Rattle.event_word.specs.Queues.{HasNoRoom, IsAWriterThere, IsExclusive, IsNext, IsQuiet, LetsNextIn, LetsReadersIn, NoWriterIsThere, NobodyWaitsInVain, ReadersStay, RefusesReader, WritersStay, joined_by, reading, writing};
 
 use super::counts::RwLockCounts;
@@ -39,7 +39,7 @@ pub enum Next {
     Writer,
 }
 
-// What a wait in a queue led to.
+// Whether it waits, by which key, or why not.
 fn joined(waits: Result<Key, ListenError>) -> Result<Key, LockError>
     ensures { result ≡ joined_by waits }
 {
@@ -204,6 +204,7 @@ impl<W> Queues<W> {
         ensures step { RegistersWith (X.exchanged exchange.now) self.old.read_line key on.old result self.new.read_line on.new }
         ensures told { length self.new.read_line.told + left_by result ≡ length self.old.read_line.told }
         ensures waiting { length self.new.read_line.waiting ≡ length self.old.read_line.waiting }
+        ensures gone { IsNotInUnlessWaits result key self.new.read_line }
         ensures others { WritersStay self.old self.new }
         ensures counted { (n : ℕ) → IsExclusive n self.old → IsExclusive (n + 2 * left_by result) self.new }
     {
@@ -221,6 +222,7 @@ impl<W> Queues<W> {
         ensures step { RegistersWith (X.exchanged exchange.now) self.old.write_line key on.old result self.new.write_line on.new }
         ensures told { length self.new.write_line.told + left_by result ≡ length self.old.write_line.told }
         ensures waiting { length self.new.write_line.waiting ≡ length self.old.write_line.waiting }
+        ensures gone { IsNotInUnlessWaits result key self.new.write_line }
         ensures others { ReadersStay self.old self.new }
         ensures counted { (n : ℕ) → IsExclusive n self.old → IsExclusive (n + left_by result) self.new }
     {
@@ -235,6 +237,7 @@ impl<W> Queues<W> {
         ensures not_yet { IsFalse result → length self.new.read_line.told ≡ length self.old.read_line.told }
         ensures waiting { length self.new.read_line.waiting ≤ length self.old.read_line.waiting }
         ensures left { HasLeft key self.old.read_line self.new.read_line }
+        ensures gone { IsNotIn key self.new.read_line }
         ensures writers { WritersStay self.old self.new }
         ensures alone { (n : ℕ) → IsExclusive n self.old → IsExclusive n self.new }
         ensures counted { IsTrue result → (n : ℕ) → IsExclusive n self.old → IsExclusive (n + 2) self.new }
@@ -251,6 +254,7 @@ impl<W> Queues<W> {
         ensures not_yet { IsFalse result → length self.new.write_line.told ≡ length self.old.write_line.told }
         ensures waiting { length self.new.write_line.waiting ≤ length self.old.write_line.waiting }
         ensures left { HasLeft key self.old.write_line self.new.write_line }
+        ensures gone { IsNotIn key self.new.write_line }
         ensures readers { ReadersStay self.old self.new }
         ensures alone { (n : ℕ) → IsExclusive n self.old → IsExclusive n self.new }
         ensures counted { IsTrue result → (n : ℕ) → IsExclusive n self.old → IsExclusive (n + 1) self.new }

@@ -1,8 +1,8 @@
 //! What readers and writers do with the queues out.
 ghost use Rattle.std.specs.Prelude.{◌≡◌, ◌*◌, IfOk, IsTrue, OnErr};
 ghost use Rattle.atomic_table.specs.Table.{rest};
-ghost use Rattle.event_word.specs.Attempted.{gained};
-ghost use Rattle.event_word.specs.Line.{Looked, left_by};
+ghost use Rattle.event_word.specs.Attempted.{IsSettled, gained};
+ghost use Rattle.event_word.specs.Line.{IsNotIn, IsNotInUnlessWaits, Looked, left_by};
 ghost use Rattle.event_word.specs.Queues.{Admits, CountsMore, IsExclusive, given};
 ghost use Rattle.event_word.specs.Word.{HasState, number_of};
 ghost use Rattle.event_wait.specs.Attempted.{Attempts, Stores};
@@ -30,6 +30,7 @@ impl Word<Queues<Task>, ()> {
         ensures seat { (held.new.seat.table_id ≡ held.old.seat.table_id) × (rest held.new.seat.me.1 ≡ rest held.old.seat.me.1) }
         ensures number { held.new.seat.me.0 ≡ held.old.seat.me.0 }
         ensures admits { HasState (Admits (2 * left_by result)) held.new.seat.me }
+        ensures gone { HasState (λ _ q. IsNotInUnlessWaits result key q.read_line) held.new.seat.me }
         ensures looked { Looked (X.exchanged exchange.now) on.old result on.new }
     {
         state!(held.seat, self).look_read(key, exchange, on)
@@ -48,6 +49,7 @@ impl Word<Queues<Task>, ()> {
         ensures seat { (held.new.seat.table_id ≡ held.old.seat.table_id) × (rest held.new.seat.me.1 ≡ rest held.old.seat.me.1) }
         ensures number { held.new.seat.me.0 ≡ held.old.seat.me.0 }
         ensures admits { HasState (Admits (left_by result)) held.new.seat.me }
+        ensures gone { HasState (λ _ q. IsNotInUnlessWaits result key q.write_line) held.new.seat.me }
         ensures looked { Looked (X.exchanged exchange.now) on.old result on.new }
     {
         state!(held.seat, self).look_write(key, exchange, on)
@@ -69,6 +71,7 @@ impl Word<Queues<Task>, ()> {
         ensures alone { HasState IsExclusive held.new.seat.me }
         ensures counts { CountsMore (2 * gained result) held.old.seat.me.0 held.new.seat.me.0 }
         ensures exchanged { Attempts (X.exchanged exchange.now) on.old result on.new }
+        ensures settled { IsSettled result }
     {
         match self.look_reading(held, key, exchange, on) {
             RegisterResult::Notified(()) => Attempted::Done(self.let_reader_in(rt, held)),
@@ -92,6 +95,7 @@ impl Word<Queues<Task>, ()> {
         ensures alone { HasState IsExclusive held.new.seat.me }
         ensures counts { CountsMore (gained result) held.old.seat.me.0 held.new.seat.me.0 }
         ensures exchanged { Attempts (X.exchanged exchange.now) on.old result on.new }
+        ensures settled { IsSettled result }
     {
         match self.look_writing(held, key, exchange, on) {
             RegisterResult::Notified(()) => Attempted::Done(self.let_writer_in(rt, held)),
@@ -114,6 +118,7 @@ impl Word<Queues<Task>, ()> {
         ensures alone { HasState IsExclusive held.new.seat.me }
         ensures counts { CountsMore (2 * gained result) held.old.seat.me.0 held.new.seat.me.0 }
         ensures exchanged { Attempts (X.exchanged exchange.now) on.old result on.new }
+        ensures settled { IsSettled result }
     {
         if let Some(share) = self.count_reader(rt, held) {
             return Attempted::Done(share);
@@ -138,6 +143,7 @@ impl Word<Queues<Task>, ()> {
         ensures alone { HasState IsExclusive held.new.seat.me }
         ensures counts { CountsMore (gained result) held.old.seat.me.0 held.new.seat.me.0 }
         ensures exchanged { Attempts (X.exchanged exchange.now) on.old result on.new }
+        ensures settled { IsSettled result }
     {
         if let Some(share) = self.count_writer(rt, held) {
             return Attempted::Done(share);
@@ -210,6 +216,7 @@ impl Word<Queues<Task>, ()> {
         ensures number { held.new.seat.me.0 ≡ held.old.seat.me.0 }
         ensures alone { HasState IsExclusive held.new.seat.me }
         ensures let_in { IsTrue result → HasState (Admits 2) held.new.seat.me }
+        ensures gone { HasState (λ _ q. IsNotIn key q.read_line) held.new.seat.me }
     {
         state!(held.seat, self).leave_read(key)
     }
@@ -222,6 +229,7 @@ impl Word<Queues<Task>, ()> {
         ensures number { held.new.seat.me.0 ≡ held.old.seat.me.0 }
         ensures alone { HasState IsExclusive held.new.seat.me }
         ensures let_in { IsTrue result → HasState (Admits 1) held.new.seat.me }
+        ensures gone { HasState (λ _ q. IsNotIn key q.write_line) held.new.seat.me }
     {
         state!(held.seat, self).leave_write(key)
     }

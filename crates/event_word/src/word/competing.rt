@@ -1,7 +1,7 @@
 //! What those that compete for a lock do with its state out.
-ghost use Rattle.std.specs.Prelude.{◌≡◌, ◌<◌, ◌≤◌, true, IfOk, OnErr};
+ghost use Rattle.std.specs.Prelude.{◌≡◌, ◌<◌, ◌≤◌, true, None, IfOk, OnErr};
 ghost use Rattle.atomic_table.specs.Table.{rest};
-ghost use Rattle.event_word.specs.Competitor.{Comes, count_of};
+ghost use Rattle.event_word.specs.Competitor.{Comes, NobodyIsBy, count_of};
 ghost use Rattle.event_word.specs.Free.{ServesTheStarving, ServesWith, Stands, free_of, IsShut};
 ghost use Rattle.event_word.specs.Word.{HasState};
 ghost use Rattle.event_wait.specs.Attempted.{Stores};
@@ -53,11 +53,11 @@ impl<C: Counted, V> Word<Competing<C>, V> {
         }
     }
 
-    /// One that competes comes to attempt.
+    /// One that competes comes to attempt, by its place in the queue if it has one.
     pub fn come<O, X: TaskExchange<Task, O>>(
         &self,
         held: &mut Held<Competing<C>, V>,
-        request: &mut Competitor,
+        place: &mut Option<Key>,
         exchange: &X,
         on: &mut O,
     ) -> Coming
@@ -65,13 +65,12 @@ impl<C: Counted, V> Word<Competing<C>, V> {
         requires stands { HasState (λ n q. Stands n q.line) held.old.seat.me }
         ensures seat { (held.new.seat.table_id ≡ held.old.seat.table_id) × (rest held.new.seat.me.1 ≡ rest held.old.seat.me.1) }
         ensures serves { HasState (λ n q. ServesWith (count_of result) n q.line) held.new.seat.me }
-        ensures comes { Comes (X.exchanged exchange.now) on.old result on.new }
-        ensures kept { request.new ≡ request.old }
+        ensures comes { HasState (λ _ q. Comes (X.exchanged exchange.now) place.old on.old result q.line place.new on.new) held.new.seat.me }
     {
-        state!(held.seat, self).come(request, exchange, on)
+        state!(held.seat, self).come(place, exchange, on)
     }
 
-    /// One whose attempt found nothing waits at the end of the queue.
+    /// One whose attempt found nothing waits at the end of the queue. It has lost so often then.
     pub fn lose<O, X: TaskExchange<Task, O>>(
         &self,
         held: &mut Held<Competing<C>, V>,
@@ -87,17 +86,24 @@ impl<C: Counted, V> Word<Competing<C>, V> {
         ensures waits { IfOk result (λ _. (request.old ≤ request.new) × Stores (X.exchanged exchange.now) on.old on.new) }
         ensures refused { OnErr result ((request.new ≡ request.old) × (on.new ≡ on.old)) }
     {
-        state!(held.seat, self).lose(request, coming, exchange, on)
+        state!(held.seat, self).lose(
+            &mut request.place,
+            &mut request.losses,
+            coming,
+            exchange,
+            on,
+        )
     }
 
     /// One that competes leaves the queue, if it is there. Returns how it would have come.
-    pub fn leave(&self, held: &mut Held<Competing<C>, V>, request: &mut Competitor) -> Coming
+    pub fn leave(&self, held: &mut Held<Competing<C>, V>, place: &mut Option<Key>) -> Coming
         requires seat { held.old.seat.table_id ≡ self.now.table.shared.table_id }
         requires stands { HasState (λ n q. Stands n q.line) held.old.seat.me }
         ensures seat { (held.new.seat.table_id ≡ held.old.seat.table_id) × (rest held.new.seat.me.1 ≡ rest held.old.seat.me.1) }
         ensures serves { HasState (λ n q. ServesWith (count_of result) n q.line) held.new.seat.me }
-        ensures kept { request.new ≡ request.old }
+        ensures left { HasState (λ _ q. NobodyIsBy place.old q.line) held.new.seat.me }
+        ensures place { place.new ≡ None }
     {
-        state!(held.seat, self).leave(request)
+        state!(held.seat, self).leave(place)
     }
 }

@@ -1,7 +1,7 @@
 //! The steps of a semaphore on its word.
-ghost use Rattle.std.specs.Prelude.{◌≡◌, [], Some};
+ghost use Rattle.std.specs.Prelude.{◌≡◌, [], Some, None};
 ghost use Rattle.atomic_table.specs.Table.{rest};
-ghost use Rattle.event_word.specs.Free.{ServesTheStarving, ServesWith};
+ghost use Rattle.event_word.specs.Free.{NoneFor, ServesTheStarving, ServesWith};
 ghost use Rattle.event_word.specs.Word.{HasState, count};
 
 use super::held::Held;
@@ -93,8 +93,9 @@ impl Word<Competing<Permits>, ()> {
 
     /// Takes a permit with the state at hand, if one is free: for one that was notified, and came, also where newcomers may take
     /// none. The state stays as it is.
-    pub fn take_permit(
+    pub fn take_permit<R: Wait>(
         &self,
+        rt: &R,
         held: &mut Held<Competing<Permits>, ()>,
         notified: bool,
     ) -> Option<Permit>
@@ -102,8 +103,9 @@ impl Word<Competing<Permits>, ()> {
         requires serves { HasState (λ n q. ServesWith (count notified) n q.line) held.old.seat.me }
         ensures seat { (held.new.seat.table_id ≡ held.old.seat.table_id) × (held.new.seat.me.1 ≡ held.old.seat.me.1) }
         ensures serves { HasState (λ n q. ServesTheStarving n q.line) held.new.seat.me }
+        ensures none { result ≡ None → HasState (λ n _. NoneFor notified n) held.new.seat.me }
     {
-        for _ in 0..u64::MAX {
+        for _ in rt.forever() {
             let seen = self.look_serving(held, notified);
             if !may_take(seen, notified) {
                 return None;
@@ -112,6 +114,6 @@ impl Word<Competing<Permits>, ()> {
                 return Some(Permit(()));
             }
         }
-        None
+        unreachable!()
     }
 }

@@ -1,6 +1,6 @@
 //! Looking at the number of a lock for which threads compete, with its state out.
 ghost use Rattle.std.specs.Prelude.{◌≡◌, ◌%◌, ◌<◌, ◌≤◌, false, true};
-ghost use Rattle.event_word.specs.Free.{IsOpen, ServesWith, free_of};
+ghost use Rattle.event_word.specs.Free.{IsOpen, NoneFor, ServesWith, free_of};
 ghost use Rattle.event_word.specs.Word.{HasState, count, number_of};
 
 use super::held::Held;
@@ -12,6 +12,7 @@ use crate::line::competing::{Competing, Counted, SHUT, free};
 pub(crate) fn may_take(seen: u64, notified: bool) -> bool
     ensures some { result ≡ true → (4 ≤ seen) × 0 < free_of (number_of seen) }
     ensures open { result ≡ true → notified ≡ false → IsOpen (number_of seen) }
+    ensures none { result ≡ false → NoneFor notified (number_of seen) }
 {
     free(seen / ONE) > 0 && (notified || seen < SHUT * ONE)
 }

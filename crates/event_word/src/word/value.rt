@@ -1,8 +1,8 @@
 //! The steps of a mutex on its word.
-ghost use Rattle.std.specs.Prelude.{◌≡◌, ◌∷◌, [], None, Some, ℕ, IfSome, MatchBool};
+ghost use Rattle.std.specs.Prelude.{◌≡◌, ◌∷◌, [], false, None, Some, ℕ, IfSome, MatchBool};
 ghost use Rattle.atomic_table.specs.Table.{rest};
 ghost use Rattle.event_word.specs.declared.word.rule.Shelf.TheVariants.{Value};
-ghost use Rattle.event_word.specs.Free.{ServesTheStarving, ServesWith};
+ghost use Rattle.event_word.specs.Free.{NoneFor, ServesTheStarving, ServesWith};
 ghost use Rattle.event_word.specs.Word.{HasState, HasValue, HasValueToo, count, number_of};
 
 use super::held::Held;
@@ -87,14 +87,20 @@ impl<V> Word<Competing<OneValue>, V> {
 
     /// Takes the value out with the state at hand, if it is there: for one that was notified, and came, also where newcomers may
     /// not. The seat has it once the state is put back, which stays as it is.
-    pub fn take_value(&self, held: &mut Held<Competing<OneValue>, V>, notified: bool) -> bool
+    pub fn take_value<R: Wait>(
+        &self,
+        rt: &R,
+        held: &mut Held<Competing<OneValue>, V>,
+        notified: bool,
+    ) -> bool
         requires seat { (held.old.seat.table_id ≡ self.now.table.shared.table_id) × (rest held.old.seat.me.1 ≡ []) }
         requires serves { HasState (λ n q. ServesWith (count notified) n q.line) held.old.seat.me }
         ensures seat { held.new.seat.table_id ≡ held.old.seat.table_id }
         ensures value { MatchBool result (HasValueToo held.new.seat.me) (rest held.new.seat.me.1 ≡ []) }
         ensures serves { HasState (λ n q. ServesTheStarving n q.line) held.new.seat.me }
+        ensures none { result ≡ false → HasState (λ n _. NoneFor notified n) held.new.seat.me }
     {
-        for _ in 0..u64::MAX {
+        for _ in rt.forever() {
             let seen = self.look_serving(held, notified);
             if !may_take(seen, notified) {
                 return false;
@@ -103,7 +109,7 @@ impl<V> Word<Competing<OneValue>, V> {
                 return true;
             }
         }
-        false
+        unreachable!()
     }
 
     /// The value. `None` says that it is out with a seat that was forgotten.

@@ -1,5 +1,6 @@
 use Rattle.event_word.proofs.LengthLemmas.{removed}
 use Rattle.event_word.proofs.LineLemmas.{has_left}
+use Rattle.event_word.proofs.TurnLemmas.{among-left}
 use Rattle.event_word.proofs.waiters.leave_line.Goals as goal
 
 pub returns-clause-told : goal.returns-clause-told
@@ -14,3 +15,6 @@ pub returns-clause-leaves : goal.returns-clause-leaves
 returns-clause-leaves g c =
     let call = c.remove_uncounted-left.ensures in
     has_left c.args.line.now c.remove_uncounted-left.new.self c.args.key c.remove_uncounted-left.result call.step call.gone call.order
+
+pub returns-clause-gone : goal.returns-clause-gone
+returns-clause-gone g c = among-left c.args.key _ _ c.remove_uncounted-left.ensures.order

@@ -3,7 +3,7 @@ use Rattle.event_word.proofs.EasesLemmas.{still_out, taken-on}
 use Rattle.event_word.proofs.word.permits.Word+Competing+Permits+unit.take_permit.Goals as goal
 
 pub returns-then-change-clause-serves : goal.returns-then-change-clause-serves
-returns-then-change-clause-serves c =
+returns-then-change-clause-serves g c =
     let seen = c.look_serving-seen.result in
     let is = c.if-change.ensures.changes in
     let may = c.if-not-may_take.ensures in
