@@ -21,7 +21,7 @@ pub enum Call<'t> {
     At(usize),
     /// `start SERIAL`: a new queue, whose first listener gets that serial, and the number 0.
     Start(u64),
-    /// `room N`: room for so many woken tasks in each later call. Without it there is room for all.
+    /// `room N`: room for so many woken tasks of all later calls. Without it there is room for all.
     Room(usize),
     /// `reserve N`: room in the queue.
     Reserve(usize),
@@ -31,6 +31,8 @@ pub enum Call<'t> {
     Id,
     /// `run CALL; CALL; ..`: calls of a queue as one.
     Run(&'t str),
+    /// `replays ENTRY; ENTRY; ..`: whether these entries are the record of a queue.
+    Replays(&'t str),
     /// `fits TYPE INTEGER`: whether it converts to a notification.
     Fits(&'t str, &'t str),
 }
@@ -105,6 +107,9 @@ impl<'t> Call<'t> {
     pub fn read(line: &'t str) -> Option<Call<'t>> {
         if let Some(calls) = line.strip_prefix("run ") {
             return Some(Call::Run(calls));
+        }
+        if let Some(entries) = line.strip_prefix("replays") {
+            return Some(Call::Replays(entries.trim_start()));
         }
         let mut words = Words(line.split(' '));
         let call = words.call()?;

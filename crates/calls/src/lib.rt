@@ -16,6 +16,9 @@
 //! `event_queue`, [`Queues`]. Crates above have events ([`Subject`]). Listeners are numbered from 0 as they come, over all
 //! queues or events of a row, and tasks are numbers. Single spaces part words. COUNT is a number or `max`.
 //!
+//! A queue gives its listeners serial numbers without a gap, from the first one on that it began with. To each `listen` it
+//! answers `number S` where a listener gets another serial than the next one, whatever calls were refused before.
+//!
 //! Call|Answers
 //! ---|---
 //! `listen`, `slisten`|`listener N`, `used up`, `no memory`
@@ -30,6 +33,7 @@
 //! `serial N`, `id`|`number S`, `used up`
 //! `at N`, `start SERIAL`, `reserve M`, `room M`, `ids FIRST`|`ok`, `no memory`
 //! `run CALL; CALL; ..`|the replies, parted by `; `. There a notification is `tagged COUNT KIND TAG TAG ..`
+//! `replays ENTRY; ENTRY; ..`|`true`, `false`
 //! `fits TYPE INTEGER`|`true`, `false`, of `u8`, `i32`, `usize`, `i128` or `u128`
 //! `starved CALL`|what it answers with no memory
 //!
@@ -39,14 +43,15 @@
 //! `invalid`.
 //!
 //! An answer is never parsed: what it displays is compared with the text ([`reads`]), which allocates nothing. A line that
-//! answers otherwise is a [`Difference`]: `row 14, line 4: poll 0 1 -> pending: but it answers finished`.
+//! answers otherwise is a [`Difference`]: `row 14, line 4: poll 0 1 -> pending: but it answers finished`. So is one that
+//! there is no memory to try, and a head, line 0, that names no subject.
 //!
 //! An [`Interpreter`] makes the calls, with a [`Hook`] round each. What a call is handed is made before, outside the hook:
 //! wakers, the calls of a run, room to keep what it gives. A hook learns what the call may ask memory for, and where it was
 //! refused, whether what has to stand does; then the same call may be made again. So *the N-th request is refused* and
 //! *this call takes no memory* are hooks over the same text. What has to stand is the [`shape`](Subject::shape) of the
 //! subject. After a refusal within a run, the other insertions, and they alone, are in the queue, under serials with no
-//! gap; then the whole run is made again, on a new queue.
+//! gap; then the whole run is made again, on a new queue. So a run with insertions comes first on its queue.
 //!
 //! No clause speaks of texts: rows show it when they run.
 #![tactic(auto)]

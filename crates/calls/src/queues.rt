@@ -3,7 +3,7 @@ mod acts;
 mod run;
 mod sink;
 
-use crate::answer::{Answer, Reply};
+use crate::answer::{Answer, Left, Reply};
 use crate::call::{Act, Call};
 use crate::hook::Request;
 use crate::subject::Subject;
@@ -23,17 +23,27 @@ struct Place {
     stored: Option<usize>,
 }
 
+// The serials of the first listener of a queue, and of its next one.
+#[derive(Clone, Copy)]
+struct Serials {
+    first: u64,
+    next: u64,
+}
+
 /// Queues whose tasks are numbers, the listeners that came to them, and a sink.
 #[derive(Drop)]
 pub struct Queues<T> {
     alloc: Global,
     queues: Vec<List<T, usize>>,
+    // Those of each queue.
+    serials: Vec<Serials>,
     // The number of the queue that calls are made on.
     at: usize,
     places: Vec<Place>,
     sink: Sink,
-    // The calls of the next run, and the replies of the last one.
+    // The calls of the next run, how many listeners it meets, and the replies of the last one.
     calls: Option<Calls<T>>,
+    met: usize,
     replies: Vec<Reply>,
 }
 
@@ -41,16 +51,20 @@ impl<T: Tag + Drop> Queues<T> {
     /// So many empty queues, to which no listener has come.
     pub fn new(alloc: Global, queues: usize) -> Result<Self, AllocError> {
         let mut lists = Vec::new(alloc);
+        let mut serials = Vec::new(alloc);
         for _ in 0..queues {
             lists.push(List::new(alloc))?;
+            serials.push(Serials { first: 0, next: 0 })?;
         }
         Ok(Queues {
             alloc,
             queues: lists,
+            serials,
             at: 0,
             places: Vec::new(alloc),
             sink: Sink::new(alloc)?,
             calls: None,
+            met: 0,
             replies: Vec::new(alloc),
         })
     }
@@ -67,8 +81,11 @@ impl<T: Tag + Drop> Queues<T> {
         let Some(queue) = self.queues.get_mut(self.at) else {
             return Reply::Invalid;
         };
+        let Some(serials) = self.serials.get_mut(self.at) else {
+            return Reply::Invalid;
+        };
         let inserted = queue.insert_uncounted();
-        keep(&mut self.places, inserted)
+        keep(&mut self.places, serials, inserted)
     }
 
     fn act(&mut self, number: usize, act: Act) -> Reply {
@@ -86,6 +103,13 @@ impl<T: Tag + Drop> Queues<T> {
             return Reply::Removed(left_by(state, self.places.as_slice()));
         }
         on.act(place, act)
+    }
+
+    fn total(&self) -> usize {
+        match self.queues.get(self.at) {
+            Some(queue) => queue.total_listeners(),
+            None => 0,
+        }
     }
 
     fn ask(&self, question: Call<'_>) -> Reply {
@@ -113,6 +137,9 @@ impl<T: Tag + Drop> Queues<T> {
     // Listeners are numbered from 0 again.
     fn start(&mut self, first: u64) -> Reply {
         self.places.clear();
+        if let Some(serials) = self.serials.get_mut(self.at) {
+            *serials = Serials { first, next: first };
+        }
         match self.queues.get_mut(self.at) {
             Some(queue) => {
                 *queue = List::starting_at(self.alloc, first);
@@ -127,6 +154,9 @@ impl<T: Tag + Drop> Queues<T> {
         let Some(queue) = self.queues.get_mut(self.at) else {
             return Reply::Invalid;
         };
+        let Some(serials) = self.serials.get_mut(self.at) else {
+            return Reply::Invalid;
+        };
         let Some(calls) = self.calls.take() else {
             return Reply::Invalid;
         };
@@ -136,7 +166,7 @@ impl<T: Tag + Drop> Queues<T> {
         }
         for reply in replies {
             let reply = match reply {
-                event_queue::Reply::Inserted(inserted) => keep(&mut self.places, inserted),
+                event_queue::Reply::Inserted(inserted) => keep(&mut self.places, serials, inserted),
                 event_queue::Reply::Registered(answer) => registered(answer),
                 event_queue::Reply::Removed(state) => {
                     Reply::Removed(left_by(state, self.places.as_slice()))
@@ -154,13 +184,22 @@ impl<T: Tag + Drop> Queues<T> {
     }
 }
 
-// Keeps the key of a listener that came.
-fn keep(places: &mut Vec<Place>, inserted: Result<Key, ListenError>) -> Reply {
+// Keeps the key of a listener that came. It has to have the next serial, also after a refusal: the reply is its serial
+// where that is another.
+fn keep(
+    places: &mut Vec<Place>,
+    serials: &mut Serials,
+    inserted: Result<Key, ListenError>,
+) -> Reply {
     let key = match inserted {
         Ok(key) => key,
         Err(ListenError::Memory) => return Reply::NoMemory,
         Err(ListenError::SerialsUsedUp) => return Reply::UsedUp,
     };
+    if key.serial() != serials.next {
+        return Reply::Number(key.serial());
+    }
+    serials.next = serials.next.saturating_add(1);
     let number = places.len();
     let place = Place {
         key,
@@ -178,6 +217,7 @@ impl<T: Tag + Drop> Subject for Queues<T> {
         self.replies.clear();
         self.places.reserve(1)?;
         if let Call::Run(text) = call {
+            self.met = self.total();
             self.calls = calls_of(self.alloc, text, self.places.as_slice())?;
             let calls = self.calls.as_ref().map_or(0, |calls| calls.len());
             self.places.reserve(calls)?;
@@ -223,16 +263,12 @@ impl<T: Tag + Drop> Subject for Queues<T> {
     }
 
     fn shape(&self) -> [usize; 6] {
-        let (told, total, spare) = match self.queues.get(self.at) {
-            Some(queue) => (
-                queue.listeners_notified(),
-                queue.total_listeners(),
-                queue.spare(),
-            ),
-            None => (0, 0, 0),
+        let (told, spare) = match self.queues.get(self.at) {
+            Some(queue) => (queue.listeners_notified(), queue.spare()),
+            None => (0, 0),
         };
         let (tasks, missed) = self.sink.shape();
-        [told, total, spare, self.replies.len(), tasks, missed]
+        [told, self.total(), spare, self.replies.len(), tasks, missed]
     }
 
     // A reservation that is refused keeps the room that it made before, and takes none away.
@@ -254,24 +290,32 @@ impl<T: Tag + Drop> Subject for Queues<T> {
         self.sink.note(answer)
     }
 
-    // The insertions that were not refused, and they alone, have to be in the queue, with no gap in their serials.
+    // The insertions that were not refused, and they alone, have to be in the queue. There is no gap in their serials
+    // where each is kept.
     fn refused_within(&self) -> Option<(Request, bool)> {
-        let mut replies = self.replies.iter();
-        if replies.all(|reply| !matches!(reply, Reply::NoMemory)) {
+        let (mut came, mut left) = (0usize, 0usize);
+        let mut is_refused = false;
+        for reply in self.replies.iter() {
+            match reply {
+                Reply::NoMemory => is_refused = true,
+                Reply::Listener(_) => came = came.wrapping_add(1),
+                Reply::Removed(Left::Nobody) => {}
+                Reply::Ready(_) | Reply::Removed(_) => left = left.wrapping_add(1),
+                _ => {}
+            }
+        }
+        if !is_refused {
             return None;
         }
-        let serials = self.places.iter().map(|place| place.key.serial());
-        let stands = match self.queues.get(self.at) {
-            Some(queue) => serials.eq(0..queue.total_listeners() as u64),
-            None => false,
-        };
+        let stands = self.total().checked_add(left) == self.met.checked_add(came);
         Some((Request::SlotInRun, stands))
     }
 
     fn prepare_again(&mut self, call: Call<'_>) -> Result<(), AllocError> {
         if let Call::Run(_) = call {
             if self.refused_within().is_some() {
-                self.start(0);
+                let first = self.serials.get(self.at).map_or(0, |serials| serials.first);
+                self.start(first);
             }
             return self.prepare(call);
         }

@@ -28,8 +28,15 @@ pub struct Difference<'t> {
     // The number of the line, from the head on.
     line: usize,
     text: &'t str,
-    // What the line answers, or none where it can't be tried.
-    answer: Option<String>,
+    found: Found,
+}
+
+// What is found in place of the answer of a line.
+#[derive(Drop)]
+enum Found {
+    Answer(String),
+    NoMemory,
+    NoSubject,
 }
 
 impl Display for Difference<'_> {
@@ -39,9 +46,10 @@ impl Display for Difference<'_> {
             write!(f, " with {}", self.kind)?;
         }
         write!(f, ", line {}: {}", self.line, self.text)?;
-        match &self.answer {
-            Some(answer) => write!(f, ": but it answers {answer}"),
-            None => f.write_str(": can't be tried"),
+        match &self.found {
+            Found::Answer(answer) => write!(f, ": but it answers {answer}"),
+            Found::NoMemory => f.write_str(": no memory to try it"),
+            Found::NoSubject => f.write_str(": no such subject"),
         }
     }
 }
@@ -49,7 +57,10 @@ impl Display for Difference<'_> {
 impl Display for Row<'_> {
     fn fmt<W: Write>(&self, f: &mut Formatter<W>) -> fmt::Result {
         writeln!(f, "{}\nrow {} {}", self.title, self.number, self.subject)?;
-        f.write_str(self.lines)
+        for line in self.lines.lines() {
+            writeln!(f, "{line}")?;
+        }
+        Ok(())
     }
 }
 
@@ -58,23 +69,7 @@ impl<'t> Row<'t> {
     /// lines, its subject is none.
     pub fn nth(text: &'t str, place: usize) -> Option<Row<'t>> {
         let mut parts = text.split("\nrow ").skip(place);
-        let (earlier, part) = (parts.next()?, parts.next()?);
-        let (_, title) = earlier.rsplit_once('\n').unwrap_or(("", earlier));
-        let (head, rest) = part.split_once('\n').unwrap_or((part, ""));
-        let (lines, _) = rest.split_once("\n\n").unwrap_or((rest, ""));
-        let (word, subject) = head.split_once(' ').unwrap_or(("", head));
-        let (number, subject) = match word.parse() {
-            Ok(number) if !lines.is_empty() => (number, subject),
-            Ok(number) => (number, ""),
-            Err(_) => (0, ""),
-        };
-        Some(Row {
-            number,
-            title,
-            subject,
-            kind: "",
-            lines,
-        })
+        Some(Row::read(parts.next()?, parts.next()?))
     }
 
     /// The first row of that number in the text.
@@ -88,8 +83,42 @@ impl<'t> Row<'t> {
         None
     }
 
-    /// The difference that this line answers that, or can't be tried. The head is line 0.
+    // The row whose head begins this part of a text. Its title ends the part before.
+    fn read(earlier: &'t str, part: &'t str) -> Row<'t> {
+        let (_, title) = earlier.rsplit_once('\n').unwrap_or(("", earlier));
+        let (head, rest) = part.split_once('\n').unwrap_or((part, ""));
+        let (lines, _) = rest.split_once("\n\n").unwrap_or((rest, ""));
+        let lines = lines.strip_suffix('\n').unwrap_or(lines);
+        let (word, subject) = head.split_once(' ').unwrap_or(("", head));
+        let (number, subject) = match word.parse() {
+            Ok(number) if !lines.is_empty() => (number, subject),
+            Ok(number) => (number, ""),
+            Err(_) => (0, ""),
+        };
+        Row {
+            number,
+            title,
+            subject,
+            kind: "",
+            lines,
+        }
+    }
+
+    /// The difference that this line answers that, or that there is no memory to try it. The head is line 0.
     pub fn differs(&self, line: usize, answer: Option<String>) -> Difference<'t> {
+        let found = match answer {
+            Some(answer) => Found::Answer(answer),
+            None => Found::NoMemory,
+        };
+        self.difference(line, found)
+    }
+
+    /// The difference that its head names none of the subjects.
+    pub fn has_no_subject(&self) -> Difference<'t> {
+        self.difference(0, Found::NoSubject)
+    }
+
+    fn difference(&self, line: usize, found: Found) -> Difference<'t> {
         let text = match line.checked_sub(1) {
             Some(before) => self.lines.lines().nth(before).unwrap_or(""),
             None => self.subject,
@@ -99,7 +128,7 @@ impl<'t> Row<'t> {
             kind: self.kind,
             line,
             text,
-            answer,
+            found,
         }
     }
 
@@ -113,7 +142,7 @@ impl<'t> Row<'t> {
         let mut interpreter = Interpreter::new(alloc, subject, hook);
         for (before, text) in self.lines.lines().enumerate() {
             let line = before.saturating_add(1);
-            match found(alloc, &mut interpreter, text) {
+            match other_answer(alloc, &mut interpreter, text) {
                 Ok(None) => {}
                 Ok(answer) => return Err(self.differs(line, answer)),
                 Err(_) => return Err(self.differs(line, None)),
@@ -150,7 +179,7 @@ impl<'t> Row<'t> {
 }
 
 // What the call of a line answers where that is not what the line says. The error is that there is no memory for it.
-fn found<S: Subject + Drop, H: Hook>(
+fn other_answer<S: Subject + Drop, H: Hook>(
     alloc: Global,
     interpreter: &mut Interpreter<'_, S, H>,
     line: &str,

@@ -20,6 +20,9 @@
 //!
 //! Without such a line all hands close the event. In any case a record has to replay.
 //!
+//! The head `written records` is that of records which the row writes. `replays ENTRIES` answers whether these are the
+//! record of a queue, `true` or `false`. There are none behind `replays` alone; their calls are `listen` and `notify`.
+//!
 //! Proved: no call is made by a hand that is none of the event's.
 #![tactic(auto)]
 
@@ -27,8 +30,10 @@ mod hand_calls;
 mod record;
 mod recorded;
 mod row;
+mod written;
 
 pub use hand_calls::{HandCalls, On, OwnListener};
 pub use record::{Closed, close, new_event};
 pub use recorded::Recorded;
 pub use row::run_on_records;
+pub use written::Written;

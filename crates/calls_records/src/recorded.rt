@@ -91,16 +91,10 @@ where
     }
 
     fn notify(&mut self, notice: Notice) -> Reply {
-        let additional = match notice.kind {
-            Kind::Default => false,
-            Kind::Additional => true,
-            _ => return Reply::Invalid,
-        };
-        let Tags::Clones(tag) = notice.tags else {
-            return Reply::Invalid;
-        };
-        match (u32::try_from(tag), self.hands.get_mut(self.hand)) {
-            (Ok(tag), Some(hand)) => self.on.notify(hand, notice.count, additional, tag),
+        match (kind_and_tag(notice), self.hands.get_mut(self.hand)) {
+            (Some((additional, tag)), Some(hand)) => {
+                self.on.notify(hand, notice.count, additional, tag)
+            }
             _ => Reply::Invalid,
         }
     }
@@ -111,6 +105,19 @@ where
             (Call::IsNotified, Some(hand)) => self.on.is_notified(hand),
             _ => Reply::Invalid,
         }
+    }
+}
+
+/// Whether a notification of a recorded event is additional, and its tag. No other has such a kind and a tag.
+pub fn kind_and_tag(notice: Notice) -> Option<(bool, u32)> {
+    let additional = match notice.kind {
+        Kind::Default => false,
+        Kind::Additional => true,
+        _ => return None,
+    };
+    match notice.tags {
+        Tags::Clones(tag) => Some((additional, u32::try_from(tag).ok()?)),
+        _ => None,
     }
 }
 

@@ -2,17 +2,22 @@
 use crate::hand_calls::{HandCalls, On};
 use crate::record::{Closed, close, new_event};
 use crate::recorded::Recorded;
+use crate::written::Written;
 use calls::{Difference, Hook, Request, Row, reads};
 use calls_events::Runtime;
 use event_listener::{Hand, RecordedEvent};
 use std::alloc::Global;
 
-/// Makes the calls of a row on a recorded event, if that is its subject, and looks at its record.
+/// Makes the calls of a row on a recorded event, if that is its subject, and looks at its record; or asks of records that
+/// it writes.
 pub fn run_on_records<'t, R: Runtime, H: Hook>(
     row: Row<'t>,
     rt: &R,
     hook: &mut H,
 ) -> Option<Result<(), Difference<'t>>> {
+    if row.subject == "written records" {
+        return Some(row.make_on(rt.alloc(), Written::new(rt.alloc()), hook));
+    }
     let words = row.subject.strip_prefix("recorded by ")?;
     let (count, in_turn) = match words.strip_suffix(" in turn") {
         Some(count) => (count, true),

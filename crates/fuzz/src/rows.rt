@@ -98,7 +98,7 @@ fn made_on<'t, R: Runtime>(row: Row<'t>, rt: &R) -> Result<(), RowDifference<'t>
     }
     match run_on_records(row, rt, &mut Undisturbed) {
         Some(made) => made,
-        None => Err(row.differs(0, None)),
+        None => Err(row.has_no_subject()),
     }
 }
 

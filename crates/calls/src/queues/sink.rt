@@ -7,8 +7,10 @@ use std::alloc::{AllocError, Global};
 #[derive(Drop)]
 pub struct Sink {
     woken: Woken<usize>,
-    // The room that the text sets.
-    room: Option<usize>,
+    // Whether the text sets its room. Then it is that of all calls from there on.
+    is_kept: bool,
+    // How many tasks it had before the call, and how many it had missed.
+    before: (usize, usize),
     // Whether a task that is let go counts as woken, and the one that the last call let go.
     wakes_let_go: bool,
     let_go: Option<usize>,
@@ -19,7 +21,8 @@ impl Sink {
     pub fn new(alloc: Global) -> Result<Self, AllocError> {
         Ok(Sink {
             woken: Woken::with_room(alloc, 0)?,
-            room: None,
+            is_kept: false,
+            before: (0, 0),
             wakes_let_go: false,
             let_go: None,
         })
@@ -42,17 +45,21 @@ impl Sink {
 
     /// Comes before a call, which wakes so many tasks at most.
     pub fn begin(&mut self, alloc: Global, tasks: usize) -> Result<(), AllocError> {
-        self.woken = Woken::with_room(alloc, self.room.unwrap_or(tasks))?;
+        if !self.is_kept {
+            self.woken = Woken::with_room(alloc, tasks)?;
+        }
+        self.before = self.shape();
         self.let_go = None;
         Ok(())
     }
 
-    /// Makes room for so many tasks, in this call and in those that follow.
+    /// Makes room for so many tasks of the calls that follow.
     pub fn set_room(&mut self, alloc: Global, tasks: usize) -> Reply {
         match Woken::with_room(alloc, tasks) {
             Ok(woken) => {
                 self.woken = woken;
-                self.room = Some(tasks);
+                self.is_kept = true;
+                self.before = (0, 0);
                 Reply::Done
             }
             Err(_) => Reply::NoMemory,
@@ -66,14 +73,15 @@ impl Sink {
 
     /// Adds what the call woke.
     pub fn note(&self, answer: &mut Answer) -> Result<(), AllocError> {
-        for task in self.woken.tasks() {
+        let (tasks, missed) = self.before;
+        for task in self.woken.tasks().iter().skip(tasks) {
             answer.woken.push(*task)?;
         }
         match self.let_go {
             Some(task) if self.wakes_let_go => answer.woken.push(task)?,
             _ => {}
         }
-        answer.missed = self.woken.missed();
+        answer.missed = self.woken.missed().saturating_sub(missed);
         Ok(())
     }
 }
