@@ -1,12 +1,16 @@
 //! Every schedule of a length.
-use crate::watched::{Size, Step, Watched};
+use crate::safe::Watched;
+use crate::table::take;
 use anyhow::Result;
-use std::alloc::Global;
+use calls_worlds::{Act, Step};
+use std::alloc::{AllocError, Global};
 use std::io::Print;
 
 /// What was found, and what it took.
 #[derive(Drop)]
-pub struct Search {
+pub struct Search<'a> {
+    alloc: Global,
+    size: &'a str,
     /// The steps up to the one that is looked at. Where a wake-up was lost, those that led to it.
     pub path: Vec<Step>,
     /// Lists of as many steps as were asked for, each of them taken.
@@ -17,9 +21,12 @@ pub struct Search {
     pub not_taken: u64,
 }
 
-impl Search {
-    pub fn new(alloc: Global) -> Search {
+impl<'a> Search<'a> {
+    /// A search of worlds of this size.
+    pub fn new(alloc: Global, size: &'a str) -> Self {
         Search {
+            alloc,
+            size,
             path: Vec::new(alloc),
             schedules: 0,
             taken: 0,
@@ -29,26 +36,24 @@ impl Search {
 
     /// Goes on from the path by every schedule of so many steps more, and answers whether no wake-up was lost after any
     /// step. It ends at the first that was. A step that is not taken is not followed further.
-    pub fn go_on<S: Size, P: Print>(
-        &mut self,
-        alloc: Global,
-        size: S,
-        depth: usize,
-        progress: &P,
-    ) -> Result<bool> {
+    pub fn go_on<V: Watched, P: Print>(&mut self, depth: usize, progress: &P) -> Result<bool> {
         if depth == 0 {
             self.schedules = self.schedules.saturating_add(1);
             return Ok(true);
         }
-        let actors = size.world(alloc)?.actors();
-        for actor in 0..actors {
-            for act in size.acts() {
-                match self.make(alloc, size, Step { actor, act })? {
-                    Made::NotTaken => {}
-                    Made::Lost => return Ok(false),
-                    Made::Safe => {
+        let world = self.world::<V>()?;
+        for number in 0..usize::MAX {
+            let actor = world.actor(number);
+            if world.spot(actor).is_none() {
+                break;
+            }
+            for act in Act::ALL {
+                match self.make::<V>(Step { actor, act })? {
+                    None => {}
+                    Some(false) => return Ok(false),
+                    Some(true) => {
                         self.report(progress)?;
-                        if !self.go_on(alloc, size, depth - 1, progress)? {
+                        if !self.go_on::<V, P>(depth - 1, progress)? {
                             return Ok(false);
                         }
                         self.path.pop();
@@ -59,23 +64,27 @@ impl Search {
         Ok(true)
     }
 
-    // Makes one step after the path. Where it is taken, the path has it.
-    fn make<S: Size>(&mut self, alloc: Global, size: S, step: Step) -> Result<Made> {
-        let mut world = size.world(alloc)?;
-        for earlier in self.path.iter() {
-            world.make(*earlier);
+    fn world<V: Watched>(&self) -> Result<V, AllocError> {
+        V::sized(self.alloc, self.size).unwrap_or(Err(AllocError))
+    }
+
+    // Makes one step after the path, if such a world has it. Where it is taken, the path has it, and the answer is whether
+    // no wake-up is lost then.
+    fn make<V: Watched>(&mut self, step: Step) -> Result<Option<bool>> {
+        if V::step_of(step).is_none() {
+            return Ok(None);
         }
-        if !world.make(step) {
+        let mut world = self.world::<V>()?;
+        for earlier in self.path.iter() {
+            take(&mut world, *earlier);
+        }
+        if !take(&mut world, step) {
             self.not_taken = self.not_taken.saturating_add(1);
-            return Ok(Made::NotTaken);
+            return Ok(None);
         }
         self.taken = self.taken.saturating_add(1);
         self.path.push(step)?;
-        Ok(if world.is_safe() {
-            Made::Safe
-        } else {
-            Made::Lost
-        })
+        Ok(Some(world.is_safe()))
     }
 
     // Writes how many steps were taken, now and then.
@@ -85,12 +94,4 @@ impl Search {
         }
         Ok(())
     }
-}
-
-// What became of a step.
-#[derive(Clone, Copy)]
-enum Made {
-    NotTaken,
-    Safe,
-    Lost,
 }

@@ -1,15 +1,16 @@
 //! The lines of the input, and what is answered to each.
 use crate::all::Search;
-use crate::request::{Request, Unreadable, World};
+use crate::safe::Watched;
 use crate::table::write_run;
-use crate::watched::{Size, Step};
 use anyhow::Result;
+use calls_worlds::{no_step, steps_of};
+use event_worlds::{ChannelWorld, FlagWorld, MutexWorld, SemaphoreWorld};
 use std::alloc::Global;
 use std::io::{BufRead, Print, Write};
 
 /// Answers each line of the input, in order: the line itself, what it asks for, and an empty line. A line that asks for
-/// nothing is answered `invalid`, and which word of it is wrong. Answers whether each of them asked for something and
-/// no wake-up was lost in any.
+/// nothing is answered `invalid`, and what of it is wrong. Answers whether each of them asked for something and no wake-up
+/// was lost in any.
 pub fn answer_all<P: Print, R: BufRead + Drop, W: Write>(
     progress: &P,
     alloc: Global,
@@ -21,64 +22,70 @@ pub fn answer_all<P: Print, R: BufRead + Drop, W: Write>(
         let line = line?;
         let line = line.as_str().trim_end();
         writeln!(output, "{line}")?;
-        let is_safe = match Request::read(alloc, line) {
-            Ok(Request::Run { world, steps }) => run(alloc, world, steps.as_slice(), output)?,
-            Ok(Request::All { world, depth }) => search(progress, alloc, world, depth, output)?,
-            Err(Unreadable::Memory(error)) => return Err(error.into()),
-            Err(Unreadable::Word(word)) => {
-                writeln!(output, "invalid: {word}")?;
-                false
-            }
-        };
+        let is_safe = answer(progress, alloc, line, output)?;
         writeln!(output)?;
         all_are_safe = all_are_safe && is_safe;
     }
     Ok(all_are_safe)
 }
 
-fn run<W: Write>(alloc: Global, world: World, steps: &[Step], output: &mut W) -> Result<bool> {
-    match world {
-        World::Mutex(size) => run_in(alloc, size, steps, output),
-        World::Flag(size) => run_in(alloc, size, steps, output),
-        World::Semaphore(size) => run_in(alloc, size, steps, output),
-        World::Channel(size) => run_in(alloc, size, steps, output),
-    }
-}
-
-fn run_in<S: Size, W: Write>(
-    alloc: Global,
-    size: S,
-    steps: &[Step],
-    output: &mut W,
-) -> Result<bool> {
-    let mut world = size.world(alloc)?;
-    write_run(&mut world, steps, output)
-}
-
-fn search<P: Print, W: Write>(
+fn answer<P: Print, W: Write>(
     progress: &P,
     alloc: Global,
-    world: World,
-    depth: usize,
+    line: &str,
     output: &mut W,
 ) -> Result<bool> {
-    match world {
-        World::Mutex(size) => search_in(progress, alloc, size, depth, output),
-        World::Flag(size) => search_in(progress, alloc, size, depth, output),
-        World::Semaphore(size) => search_in(progress, alloc, size, depth, output),
-        World::Channel(size) => search_in(progress, alloc, size, depth, output),
+    let (head, asked) = line.split_once(": ").unwrap_or((line, ""));
+    let (name, size) = head.split_once(' ').unwrap_or((head, ""));
+    let is_safe = match name {
+        "mutex" => answer_in::<MutexWorld, P, W>(progress, alloc, size, asked, output)?,
+        "flag" => answer_in::<FlagWorld, P, W>(progress, alloc, size, asked, output)?,
+        "semaphore" => answer_in::<SemaphoreWorld, P, W>(progress, alloc, size, asked, output)?,
+        "channel" => answer_in::<ChannelWorld, P, W>(progress, alloc, size, asked, output)?,
+        _ => None,
+    };
+    if is_safe.is_none() {
+        writeln!(output, "invalid: no world `{head}`")?;
     }
+    Ok(is_safe.unwrap_or(false))
 }
 
-fn search_in<P: Print, S: Size, W: Write>(
+// None where there is no world of this size.
+fn answer_in<V: Watched, P: Print, W: Write>(
     progress: &P,
     alloc: Global,
-    size: S,
-    depth: usize,
+    size: &str,
+    asked: &str,
+    output: &mut W,
+) -> Result<Option<bool>> {
+    let Some(world) = V::sized(alloc, size) else {
+        return Ok(None);
+    };
+    let mut world = world?;
+    let depth = asked
+        .strip_prefix("all ")
+        .and_then(|depth| depth.parse().ok());
+    if let Some(depth) = depth {
+        let mut search = Search::new(alloc, size);
+        let is_safe = search.go_on::<V, P>(depth, progress)?;
+        return Ok(Some(write_found(alloc, &mut world, &search, is_safe, output)?));
+    }
+    if let Some(word) = no_step::<V>(asked) {
+        writeln!(output, "invalid: no step `{word}`")?;
+        return Ok(Some(false));
+    }
+    let steps = steps_of(alloc, asked)?;
+    Ok(Some(write_run(alloc, &mut world, steps.as_slice(), output)?))
+}
+
+// Writes what was found in worlds like this new one.
+fn write_found<V: Watched, W: Write>(
+    alloc: Global,
+    world: &mut V,
+    search: &Search<'_>,
+    is_safe: bool,
     output: &mut W,
 ) -> Result<bool> {
-    let mut search = Search::new(alloc);
-    let is_safe = search.go_on(alloc, size, depth, progress)?;
     writeln!(
         output,
         "{} schedules, {} steps taken, {} not taken",
@@ -89,7 +96,6 @@ fn search_in<P: Print, S: Size, W: Write>(
         return Ok(true);
     }
     writeln!(output, "a wake-up is lost:")?;
-    let mut world = size.world(alloc)?;
-    write_run(&mut world, search.path.as_slice(), output)?;
+    write_run(alloc, world, search.path.as_slice(), output)?;
     Ok(false)
 }

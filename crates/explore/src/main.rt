@@ -1,34 +1,27 @@
 //! Runs the worlds of `event_worlds`, models of a lock (flag, semaphore, channel) and its clients, and shows every
-//! step. It answers each line of its input:
+//! step. A line of its input is a world, a colon, a space, and what is asked for, in the language of [`calls_worlds`]:
 //!
-//! - `mutex CLIENTS: STEPS`: the run as a table, and how many of its steps were taken.
-//! - `flag CLIENTS SETTERS: STEPS`: the same. The clients are numbered from 0, and the setters after them.
-//! - `semaphore CLIENTS PERMITS: STEPS`: the same.
-//! - `channel SENDERS RECEIVERS CAPACITY: STEPS`: the same. The senders are numbered from 0, the receivers after them,
-//!   and who closes the channel comes last.
-//! - `all mutex CLIENTS DEPTH`, `all flag CLIENTS SETTERS DEPTH`, `all semaphore CLIENTS PERMITS DEPTH`,
-//!   `all channel SENDERS RECEIVERS CAPACITY DEPTH`: runs every schedule of that length, and looks after each step
-//!   whether a wake-up is lost.
+//! - `mutex 2: 0:2 1:5`: the run as a table, and how many of its steps were taken. Client 0 goes twice, then client 1 five
+//!   times. Worlds are `mutex CLIENTS`, `flag CLIENTS SETTERS`, `semaphore CLIENTS PERMITS` and
+//!   `channel SENDERS RECEIVERS CAPACITY`; words of a schedule are `ACTOR:TIMES` and `ACTOR:ACT`.
+//! - `mutex 2: all 8`: runs every schedule of that length, and looks after each step whether a wake-up is lost.
 //!
-//! STEPS are separated by commas. Each is the number of an actor (a client, setter or closer), an act and, if it is
-//! done more than once, how often. `docs/DEFINITIONS.md` says where each act leads from each place. An act is one of
-//! these:
+//! `docs/DEFINITIONS.md` says where each act leads from each place. An act is one of these:
 //!
 //! - `Go`: what the client's place has next: it tries, listens, registers, goes on by its wake-up, frees, notifies.
+//! - `SendN`, in `channel`: a sender that is `Idle` begins to send the message N.
 //! - `Poll`, in `mutex` and `channel`: it is polled, with a wake-up or without.
 //! - `More`, in `semaphore`: it takes one more permit, if it holds one and another is free.
 //! - `TimeOut`, in all but `flag`: its deadline passes while it is parked.
 //! - `Cancel`, in all but `flag`: it gives up, and its listener is dropped.
 //!
-//! In a `flag` the acts of a lock may be written, and only `Go` is ever a step. In a `channel` messages are numbered
-//! from 1 on: a sender that goes from `Idle` begins to send the next number. `Go` of the last actor is one of the three
-//! steps of closing. For any other line it prints `invalid`, the number of the first word that is wrong or missing, and
-//! that word.
+//! In a `flag` the acts of a lock may be written, and only `Go` is ever a step. `closer:Go` is one of the three steps of
+//! closing. For any other line it prints `invalid`, and what is no world or no step.
 //!
-//!     make explore RUN='mutex 2: 0 Go 2, 1 Go 3, 0 Go 2, 1 Go 2'
-//!     make explore RUN='semaphore 3 2: 0 Go 2, 0 More, 1 Go 5, 2 Go 5, 0 Go 2'
-//!     make explore RUN='channel 2 2 1: 2 Go 5, 3 Go 5, 0 Go 3, 2 Cancel, 3 Go 4'
-//!     make explore RUN='all mutex 3 10'
+//!     make explore RUN='mutex 2: 0:2 1:3 0:2 1:2'
+//!     make explore RUN='semaphore 3 2: 0:2 0:More 1:5 2:5 0:2'
+//!     make explore RUN='channel 2 2 1: r0:5 r1:5 s0:Send7 s0:2 r0:Cancel r1:4'
+//!     make explore RUN='mutex 3: all 10'
 //!     make explore < LINES
 //!
 //! The status is 1 if a wake-up was lost, a line is invalid, memory ran out, or a line can't be read or written, and
@@ -36,28 +29,28 @@
 //!
 //! # The table
 //!
-//! One step a line: what was done, who has the lock, whether the flag is set, how many permits are free or how many
-//! messages wait, and where each actor is then. The number after the place of a semaphore's client is how many permits
-//! it holds, and at `Releasing` how many listeners it is still to notify. The number after the place of a channel's
-//! client is its message: the one that it sends or sent last, or received last; `owes` says that it is still to notify
-//! the other side. `told` says that a client is notified, `waits` that it is in line and not notified, and `wake` that
-//! it has its wake-up. A step that is not taken changes nothing, and is marked.
+//! One step a line: what was done, where each actor is then, and what all share: who has the lock, whether the flag is set,
+//! how many permits are free, or which messages wait. `told` says that an actor is notified, `wake` that it has its
+//! wake-up. A client with `has N` holds so many permits, or sends or sent that message last, or received it; one with
+//! `owes N` is still to notify so many. At `Second`, `Ending`, `ToRegister` and `Parked`, in a flag at `Check2`, `Dropping`,
+//! `ToRegister` and `Parked`, a client is in line; there it waits unless it is told. A step that is not taken changes
+//! nothing, and is marked.
 //!
 //! # What a lost wake-up looks like
 //!
-//! Take a lock whose release notifies first and frees the lock afterwards. This is its table for
-//! `0 Go 3, 1 Go 5, 0 Go, 1 Go`; it was written by hand, since no world here does that:
+//! Take a lock whose release notifies first and frees the lock afterwards. This is its table for `0:3 1:5 0:1 1:1`; it was
+//! written by hand, since no world here does that:
 //!
-//!     | step | act                      | lock    | 0                       | 1                       |
-//!     |    2 |    0 Go                  | 0       | Holding                 | Idle                    |
-//!     |    3 |    0 Go                  | 0       | Releasing               | Idle                    |
-//!     |    4 |    1 Go                  | 0       | Releasing               | First                   |
-//!     |    5 |    1 Go                  | 0       | Releasing               | ToListen                |
-//!     |    6 |    1 Go                  | 0       | Releasing               | Second       waits      |
-//!     |    7 |    1 Go                  | 0       | Releasing               | ToRegister   waits      |
-//!     |    8 |    1 Go                  | 0       | Releasing               | Parked       waits      |
-//!     |    9 |    0 Go                  | free    | Idle                    | Parked       waits      |
-//!     |   10 |    1 Go        not taken | free    | Idle                    | Parked       waits      |
+//!     | step | act                 | 0                        | 1                        | lock                     |
+//!     |    2 | 0:Go                | Holding                  | Idle                     | 0                        |
+//!     |    3 | 0:Go                | Releasing                | Idle                     | 0                        |
+//!     |    4 | 1:Go                | Releasing                | First                    | 0                        |
+//!     |    5 | 1:Go                | Releasing                | ToListen                 | 0                        |
+//!     |    6 | 1:Go                | Releasing                | Second                   | 0                        |
+//!     |    7 | 1:Go                | Releasing                | ToRegister               | 0                        |
+//!     |    8 | 1:Go                | Releasing                | Parked                   | 0                        |
+//!     |    9 | 0:Go                | Idle                     | Parked                   | free                     |
+//!     |   10 | 1:Go      not taken | Idle                     | Parked                   | free                     |
 //!
 //! In step 3 client 0 notifies with no listener there, and the lock still held. Client 1 finds it held twice and parks.
 //! Step 9 frees the lock and notifies none: client 1 is parked for ever. `event_worlds` proves that its mutex world
@@ -65,27 +58,21 @@
 //!
 //! # Every schedule
 //!
-//! A schedule of DEPTH steps is counted if each of its steps is taken; a step that is not taken is not followed
-//! further. Steps that schedules have in common are made and counted once. So `all mutex 2 8` has to find 286
+//! A schedule of a length is counted if each of its steps is taken; a step that is not taken is not followed further. Steps
+//! that schedules have in common are made and counted once. All messages are 9. So `mutex 2: all 8` has to find 286
 //! schedules, 546 steps taken and 1542 not taken. After each step the program asks the world's public questions, and
 //! the first lost wake-up ends the search with its table. It writes the number of steps taken to the standard error,
 //! each 100,000.
 //!
-//! `stdin` has eleven runs and five searches. What `stdout` says of them was made by another program that knows the
-//! tables of the worlds alone, and no queue. Nineteen invalid lines follow, each with a wrong or missing word, and so
-//! the status of that run is 1.
+//! `stdin` has twelve runs and five searches. What `stdout` says of them was made by another program that knows the
+//! tables of the worlds alone, and no queue; of one run, by hand. Twenty invalid lines follow, each with a wrong or missing
+//! word, and so the status of that run is 1.
 #![tactic(auto)]
 
 mod all;
-mod channel;
-mod flag;
 mod lines;
-mod mutex;
-mod places;
-mod request;
-mod semaphore;
+mod safe;
 mod table;
-mod watched;
 
 use anyhow::Result;
 use std::io::{self, BufReader, BufWriter, Write};

@@ -1,93 +1,71 @@
 //! A run of a world as a table.
-use crate::watched::{Shared, Spot, Standing, Step, Watched};
+use crate::safe::Watched;
 use anyhow::Result;
+use calls_worlds::{Step, World, write_state};
+use std::alloc::Global;
 use std::io::Write;
 
-/// Makes the steps in order, and writes a line for each: what was done, and where everybody is then. A step that is not
+/// Takes the steps in order, and writes a line for each: what was done, and where everybody is then. A step that is not
 /// taken changes nothing, and is marked. Answers whether no wake-up was lost after any of them.
 pub fn write_run<V: Watched, W: Write>(
+    alloc: Global,
     world: &mut V,
     steps: &[Step],
     output: &mut W,
 ) -> Result<bool> {
-    write_header(world, output)?;
-    write!(output, "|    0 | {:<24} |", "start")?;
-    write_state(world, output)?;
+    let mut parts = String::new(alloc);
+    write_state(world, &mut parts)?;
+    write_header(parts.as_str(), output)?;
+    write!(output, "|    0 | {:<9} {:<9} |", "start", "")?;
+    write_parts(parts.as_str(), output)?;
     let mut is_safe = world.is_safe();
     let mut made: u64 = 0;
     for (number, step) in (1u64..).zip(steps.iter()) {
-        let is_step = world.make(*step);
+        let is_step = take(world, *step);
         made = made.saturating_add(u64::from(is_step));
         let mark = if is_step { "" } else { "not taken" };
-        let act = step.act.name();
         write!(
             output,
-            "| {number:>4} | {:>4} {act:<9} {mark:<9} |",
-            step.actor
+            "| {number:>4} | {:<9} {mark:<9} |",
+            step.to_string(alloc)?
         )?;
-        write_state(world, output)?;
+        parts.clear();
+        write_state(world, &mut parts)?;
+        write_parts(parts.as_str(), output)?;
         is_safe = is_safe && world.is_safe();
     }
     writeln!(output, "{made} steps taken")?;
     Ok(is_safe)
 }
 
-fn write_header<V: Watched, W: Write>(world: &V, output: &mut W) -> Result<()> {
-    let shared = match world.shared() {
-        Shared::Lock { .. } => "lock",
-        Shared::Flag { .. } => "flag",
-        Shared::Permits { .. } => "free",
-        Shared::Messages { .. } => "queued",
-    };
-    write!(output, "| step | {:<24} | {shared:<7} |", "act")?;
-    for actor in 0..world.actors() {
-        match world.shared() {
-            Shared::Permits { .. } | Shared::Messages { .. } => write!(output, " {actor:<27} |")?,
-            _ => write!(output, " {actor:<23} |")?,
-        }
+/// Takes the step, and answers whether it was one.
+pub fn take<V: World>(world: &mut V, step: Step) -> bool {
+    match V::step_of(step) {
+        Some(step) => world.take(step),
+        None => false,
     }
-    write!(output, "\n|---|---|---|")?;
-    for _ in 0..world.actors() {
+}
+
+// A column for each part, under its name.
+fn write_header<W: Write>(parts: &str, output: &mut W) -> Result<()> {
+    write!(output, "| step | {:<19} |", "act")?;
+    for part in parts.split(", ") {
+        let (name, _) = part.split_once(' ').unwrap_or((part, ""));
+        write!(output, " {name:<24} |")?;
+    }
+    write!(output, "\n|---|---|")?;
+    for _ in parts.split(", ") {
         write!(output, "---|")?;
     }
     writeln!(output)?;
     Ok(())
 }
 
-// What the actors share, and each actor's place.
-fn write_state<V: Watched, W: Write>(world: &V, output: &mut W) -> Result<()> {
-    match world.shared() {
-        Shared::Lock { holder: None } => write!(output, " {:<7} |", "free")?,
-        Shared::Lock {
-            holder: Some(client),
-        } => write!(output, " {client:<7} |")?,
-        Shared::Flag { is_set: false } => write!(output, " {:<7} |", "not set")?,
-        Shared::Flag { is_set: true } => write!(output, " {:<7} |", "set")?,
-        Shared::Permits { free } => write!(output, " {free:<7} |")?,
-        Shared::Messages { waiting } => write!(output, " {waiting:<7} |")?,
-    }
-    for actor in 0..world.actors() {
-        if let Some(spot) = world.spot(actor) {
-            write_spot(spot, output)?;
-        }
+fn write_parts<W: Write>(parts: &str, output: &mut W) -> Result<()> {
+    for part in parts.split(", ") {
+        let (_, value) = part.split_once(' ').unwrap_or((part, ""));
+        write!(output, " {value:<24} |")?;
     }
     writeln!(output)?;
-    Ok(())
-}
-
-fn write_spot<W: Write>(spot: Spot, output: &mut W) -> Result<()> {
-    let standing = match spot.standing {
-        Standing::Absent => "",
-        Standing::Waiting => "waits",
-        Standing::Told => "told",
-    };
-    let wake = if spot.has_wake { "wake" } else { "" };
-    write!(output, " {:<12}", spot.place)?;
-    match spot.number {
-        None => {}
-        Some(0) => write!(output, " {:>3}", "")?,
-        Some(number) => write!(output, " {number:>3}")?,
-    }
-    write!(output, " {standing:<5} {wake:<4} |")?;
     Ok(())
 }

@@ -1,5 +1,4 @@
 //! All places of a client of a lock by all news.
-use crate::table::check;
 use event_worlds::News::{
     self, Begin, Busy, Dropped, Freed, Got, Listening, Notified, Refused, Registered, TimedOut,
     Told, Woke,
@@ -50,7 +49,7 @@ fn each_place_by_each_news(rt: HostRuntime) {
         for news in NEWS {
             let line = TABLE.iter().find(|line| (line.0, line.1) == (place, news));
             let to = line.map(|line| line.2);
-            check(&rt, (place, news), place.after(news), to);
+            assert_eq!(rt; place.after(news), to, "{place:?} {news:?}");
         }
     }
 }

@@ -1,25 +1,17 @@
 //! Tests of `event_worlds` by its public calls.
 //!
-//! `client_table` has all places of a client of a lock by all news. `mutex`, `semaphore`, `flag` and `channel` have all
-//! places of all actors by all acts, with all that a try may find, waiting and told. Their tables say what each step
-//! changes in the whole world: who goes where, who is told, who gets a wake-up, who holds what. `table` says how to read
-//! a table, and runs it. What is expected comes from the description of the worlds. `runs` has how many steps of a run
-//! are counted, and `hostile` worlds of too many, and of nobody.
+//! `client_table` has all places of a client of a lock by all news. `tables` has all places of all actors of each world by
+//! all acts, with all that a try may find, waiting and told, as rows of the language of [`calls_worlds`]: what each step
+//! changes in the whole world, who goes where, who is told, who gets a wake-up, who holds what; how many steps of a run are
+//! counted; and worlds of too many, and of nobody. What is expected comes from the description of the worlds. `texts` runs
+//! them, and the worked rows. `wrong` has rows that differ.
 #![tactic(auto)]
 
 #[cfg(test)]
-mod channel;
-#[cfg(test)]
 mod client_table;
 #[cfg(test)]
-mod flag;
+mod tables;
 #[cfg(test)]
-mod hostile;
+mod texts;
 #[cfg(test)]
-mod mutex;
-#[cfg(test)]
-mod runs;
-#[cfg(test)]
-mod semaphore;
-#[cfg(test)]
-mod table;
+mod wrong;
