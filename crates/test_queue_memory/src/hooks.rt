@@ -1,9 +1,14 @@
-//! Hooks that refuse memory to calls of rows on queues.
+//! Hooks that refuse memory to calls of texts.
 use crate::Budget;
-use calls::{Hook, Request, Row};
-use std::alloc::Global;
+use calls::{Hook, Request};
 
-/// How far the calls of a row have come, or what happened that must not.
+/// What makes calls, always the same, with a hook round each.
+pub trait Calls {
+    /// Makes the calls, and answers whether all was as it has to be.
+    fn make(&self, hook: &mut Refusing) -> bool;
+}
+
+/// How far the calls have come, or what happened that must not.
 #[derive(Clone, Copy, Debug, PartialEq, Eq)]
 pub enum Stage {
     /// The call is still to come, after so many that may ask for memory.
@@ -20,7 +25,7 @@ pub enum Stage {
     RefusedWithoutCause,
     /// What has to stand after a refusal did not.
     DoesNotStand(Request),
-    /// A call gave another answer than the row says.
+    /// A call gave another answer than it has to.
     OtherAnswer,
     /// The greatest budget was too small.
     NeverServed,
@@ -29,24 +34,39 @@ pub enum Stage {
 /// What must not happen, during the call after so many that may ask for memory, with so many bytes.
 pub type Wrong = (Stage, usize, usize);
 
-/// Refuses one request of a row after another.
+/// Refuses one request of calls after another.
 #[derive(Drop)]
 pub struct Refusing {
     budget: Budget,
     refusals: [usize; 10],
+    is_made_again: bool,
     bytes: usize,
     stage: Stage,
 }
 
 impl Refusing {
-    /// A hook that has refused nothing yet.
+    /// A hook that has refused nothing yet. Each call that it refuses is made again, with memory.
     pub fn new(budget: Budget) -> Self {
         Refusing {
             budget,
             refusals: [0; 10],
+            is_made_again: true,
             bytes: 0,
             stage: Stage::Made,
         }
+    }
+
+    /// The same hook, but no refused call is made again.
+    pub fn for_good(self) -> Self {
+        Refusing {
+            is_made_again: false,
+            ..self
+        }
+    }
+
+    /// Whether the calls that are made now were refused memory, and all stood that has to.
+    pub fn has_refused(&self) -> bool {
+        self.stage == Stage::Refused
     }
 
     /// How often this request was refused.
@@ -54,11 +74,11 @@ impl Refusing {
         self.refusals.get(request as usize).copied().unwrap_or(0)
     }
 
-    /// Makes the calls of the row again and again, each time with its next request refused, until it has no more. Answers
-    /// how many calls may ask for memory.
-    pub fn each(&mut self, alloc: Global, row: Row<'_>) -> Result<usize, Wrong> {
+    /// Makes the calls again and again, each time with the next request refused, until there are no more. Answers how many
+    /// calls may ask for memory.
+    pub fn each<C: Calls>(&mut self, calls: &C) -> Result<usize, Wrong> {
         for after in 0..1000 {
-            if !self.refuse_during(alloc, after, row)? {
+            if !self.refuse_during(after, calls)? {
                 return Ok(after);
             }
         }
@@ -66,11 +86,11 @@ impl Refusing {
     }
 
     // Refuses each request of that call, the first by the smallest budget. Answers whether there is such a call.
-    fn refuse_during(&mut self, alloc: Global, after: usize, row: Row<'_>) -> Result<bool, Wrong> {
+    fn refuse_during<C: Calls>(&mut self, after: usize, calls: &C) -> Result<bool, Wrong> {
         for bytes in (0..Budget::MOST).step_by(Budget::STEP) {
             self.bytes = bytes;
             self.stage = Stage::Before(after);
-            let is_right = matches!(row.run_on_queues(alloc, self), Some(Ok(())));
+            let is_right = calls.make(self);
             match self.stage {
                 Stage::Refused if is_right => {}
                 Stage::Made if is_right => return Ok(true),
@@ -113,7 +133,7 @@ impl Hook for Refusing {
             Stage::Made => Stage::DoesNotStand(request),
             _ => Stage::RefusedWithoutCause,
         };
-        true
+        self.is_made_again
     }
 
     fn starve(&mut self) -> bool {
@@ -125,7 +145,7 @@ impl Hook for Refusing {
     }
 }
 
-/// Takes all memory during each call that is to take none, and during those that a row starves.
+/// Takes all memory during each call that is to take none, and during those that a text starves.
 #[derive(Drop)]
 pub struct Starving {
     budget: Budget,

@@ -3,34 +3,28 @@ use event_queue::{List, TaskExchange, WakeSink};
 use std::alloc::Global;
 use std::cell::Cell;
 
-/// What became of the tag or the task of this number.
-#[derive(Clone, Copy, Debug, PartialEq, Eq)]
-pub enum Deed {
-    Dropped(usize),
-    Woken(usize),
-}
-
-/// What became of tags and tasks, in order.
+/// What became of tags and tasks, in order, as a text.
 #[derive(Drop)]
 pub struct Log {
     alloc: Global,
-    deeds: Cell<Vec<Deed>>,
+    deeds: Cell<String>,
 }
 
 impl Log {
     pub fn new(alloc: Global) -> Self {
-        let deeds = Cell::new(Vec::new(alloc));
+        let deeds = Cell::new(String::new(alloc));
         Log { alloc, deeds }
     }
 
     /// What was noted since the last call.
-    pub fn take(&self) -> Vec<Deed> {
-        self.deeds.replace(Vec::new(self.alloc))
+    pub fn take(&self) -> String {
+        self.deeds.replace(String::new(self.alloc))
     }
 
-    fn note(&self, deed: Deed) {
+    /// Notes what became of the tag or the task of this number.
+    pub fn note(&self, deed: &str, number: usize) {
         let mut deeds = self.take();
-        let _ = deeds.push(deed);
+        let _ = write!(deeds, ", {deed} {number}");
         self.deeds.set(deeds);
     }
 
@@ -55,14 +49,14 @@ impl Mark<'_> {
 
     fn wake(self) {
         let Mark { number, log } = self;
-        log.note(Deed::Woken(number));
+        log.note("wakes", number);
     }
 }
 
 impl Drop for Mark<'_> {
     fn drop(self) {
         let Mark { number, log } = self;
-        log.note(Deed::Dropped(number));
+        log.note("drops", number);
     }
 }
 
