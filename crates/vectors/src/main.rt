@@ -1,27 +1,43 @@
-//! Runs the worked rows, and prints `row N ok` or `row N differs` for each, in order of number. The status is 0 if none
-//! differs.
+//! Runs the worked rows, and prints `row N ok` or `row N differs` for each, in order of number; with the argument `-v`, the
+//! text of each before that. The status is 0 if none differs.
 //!
-//! If a call of a row fails, the text of its error goes to the standard error, and the row differs. Words on the
-//! command line are ignored. The table of rows and its printing do not allocate, so a row that ran out of memory has
-//! its line, too: the tests of the crate ([`refused`]) have each request of a row fail in turn, and `make starved` runs
-//! the program with too few addresses.
+//! A row is a short list of calls, each with the answer that it must give, as text in the language of `calls`. It ends at
+//! the first line that answers otherwise, or for which there is no memory: then the row differs, and the standard error
+//! says which line that is, what was wanted and what came. On events each row is made twice, with each kind of listener.
 //!
-//! `make run` runs it without proof, in under a minute. `make vectors` proves it and all below it, runs it, and keeps
-//! the program as `crates/vectors/out/vectors`. The rows stand in the crates `rows_*`; `rows_harness` says how to add
-//! one. What the rows show, they show when they run.
+//! The table of rows and its printing do not allocate, so a row that ran out of memory has its line, too: the tests of the
+//! crate ([`refused`]) have each request of a row fail in turn, and `make starved` runs the program with too few addresses.
+//!
+//! `make run` runs it without proof, in under a minute. `make vectors` proves it and all below it, runs it, and keeps the
+//! program as `crates/vectors/out/vectors`. What the rows show, they show when they run.
+//!
+//! # Another row
+//!
+//! - Write its title, which says what it shows, its head and its lines into the text of its family: [`queue`], [`events`],
+//!   [`records`] or [`calls_worlds`]. No two rows have one number. `calls` has the calls and the subjects.
+//! - Add its line to `crates/vectors/stdout`, and its calls to the counts of [`refused`]. `make run` shows whether its
+//!   answers are right.
+//!
+//! A call that no row has made yet is a variant of `Call` in `calls`, with an arm where its subject makes calls. Another
+//! subject is a type with `calls::Subject`, and an arm of [`rows`].
 #![tactic(auto)]
 
 ghost use Rattle.std.specs.Prelude.{◌≡◌, IfOk, IsErr, if◌then◌else◌};
 ghost use Rattle.std.specs.Process.{exit_status};
 
-mod any_row;
+mod events;
+mod print;
+mod queue;
+mod records;
 #[cfg(test)]
 mod refused;
+mod rows;
 
-use any_row::AnyRow;
-use rows_harness::{Undisturbed, print_rows};
-use std::io;
+use calls::Undisturbed;
+use print::print_rows;
+use rows::TEXTS;
 use std::process::ExitCode;
+use std::{env, io};
 
 // The status of the program, by whether no row differs. Where a line could not be printed, that goes to the standard
 // error.
@@ -40,8 +56,11 @@ fn status<R: Eprint>(rt: &R, none_differs: io::Result<bool>) -> ExitCode
 }
 
 fn main(rt: HostRuntime) -> ExitCode {
-    status(
-        &rt,
-        print_rows::<AnyRow, _, _>(&rt, rt.alloc(), &mut Undisturbed),
-    )
+    // Without memory for the words of the command line there is none for the rows either.
+    let with_texts = match env::args(&rt) {
+        Ok(mut words) => words.any(|word| word.as_str() == "-v"),
+        Err(_) => false,
+    };
+    let none_differs = print_rows(&rt, TEXTS.as_slice(), with_texts, &mut Undisturbed);
+    status(&rt, none_differs)
 }

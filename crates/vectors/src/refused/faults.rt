@@ -1,17 +1,16 @@
-//! Rows of one call that are wrong, each in a way that the driver has to find.
-use crate::refused::check;
-use crate::refused::driver::{Driver, OneRow, Stage, Wrong};
-use rows_harness::{Harness, Hook, Refusal, Request, Row, Subject, Wakers};
+//! Subjects of one call that are wrong, each in a way that the hooks have to find.
+use crate::refused::{check, new_budget};
+use calls::{Answer, Call, Hook, Reply, Request, Row, Subject};
+use calls_events::Runtime;
 use std::alloc::{AllocError, Global};
-use std::sync::Wait;
-use std::time::Clock;
-use test_support::Runtime;
+use std::process::Abort;
+use test_queue_memory::{Calls, Refusing, Stage, Starving, Wrong};
 
-// A row of one call, which takes two blocks.
-#[derive(Clone, Copy, Debug, PartialEq, Eq)]
-enum TrialRow {
+// A subject whose call takes two blocks.
+#[derive(Clone, Copy, Debug)]
+enum Fault {
     /// Nothing is wrong.
-    Right,
+    None,
     /// A refused call leaves something.
     LeavesSomething,
     /// A refused call gives another answer in place of the refusal.
@@ -20,25 +19,13 @@ enum TrialRow {
     AllocatesInSecret,
 }
 
-impl Row for TrialRow {
-    // These rows are found by no number.
-    fn numbered(_number: u8) -> Option<Self> {
-        None
-    }
-
-    fn run<R, H>(self, harness: &mut Harness<'_, R, H>)
-    where
-        R: Wait + Clock + Clone,
-        H: Hook,
-    {
-        let alloc = harness.alloc();
-        harness.make(&mut Trial(self, 0), alloc, true);
-    }
-}
-
-// The row, and how much was left by its calls.
+// The subject, and how much was left by its calls.
 #[derive(Drop)]
-struct Trial(TrialRow, usize);
+struct Trial {
+    alloc: Global,
+    fault: Fault,
+    left: usize,
+}
 
 // Two blocks, which are dropped at once.
 fn take_two(alloc: Global) -> Result<(), AllocError> {
@@ -48,53 +35,94 @@ fn take_two(alloc: Global) -> Result<(), AllocError> {
 }
 
 impl Subject for Trial {
-    type Call = Global;
+    fn prepare(&mut self, _call: Call<'_>) -> Result<(), AllocError> {
+        Ok(())
+    }
 
-    type Answer = bool;
-
-    type Shape = usize;
-
-    fn make(&mut self, alloc: Global, _wakers: &mut Wakers) -> Result<bool, Refusal> {
-        let taken = take_two(alloc);
-        if taken.is_ok() || self.0 == TrialRow::LeavesSomething {
-            self.1 = self.1.wrapping_add(1);
+    fn make(&mut self, _call: Call<'_>) -> Reply {
+        let taken = take_two(self.alloc);
+        if taken.is_ok() || matches!(self.fault, Fault::LeavesSomething) {
+            self.left = self.left.wrapping_add(1);
         }
-        match taken {
-            Ok(()) => Ok(true),
-            Err(_) if self.0 == TrialRow::AnswersOtherwise => Ok(false),
-            Err(_) => Err(Refusal::Memory),
+        match (taken, self.fault) {
+            (Ok(()), _) => Reply::Done,
+            (Err(_), Fault::AnswersOtherwise) => Reply::Dropped,
+            (Err(_), _) => Reply::NoMemory,
         }
     }
 
-    fn request(&self, _alloc: Global) -> Option<Request> {
-        match self.0 {
-            TrialRow::AllocatesInSecret => None,
+    fn request(&self, _call: Call<'_>) -> Option<Request> {
+        match self.fault {
+            Fault::AllocatesInSecret => None,
             _ => Some(Request::Slot),
         }
     }
 
-    fn shape(&self) -> usize {
-        self.1
+    fn shape(&self) -> [usize; 6] {
+        [self.left, 0, 0, 0, 0, 0]
+    }
+
+    fn note(&mut self, _answer: &mut Answer) -> Result<(), AllocError> {
+        Ok(())
     }
 }
 
-// What is found of the row, and how often it was refused until then.
-fn finds<R: Runtime>(rt: &R, row: TrialRow, asks: bool, expected: Result<usize, Wrong>) -> usize {
-    let mut driver = Driver::new(rt, true);
-    let found = driver.each(asks, &OneRow { rt, row });
-    check(rt, row, found, expected);
-    driver.refusals_of(Request::Slot)
+// A row of one call on such a subject.
+#[derive(Clone, Copy)]
+struct OneCall {
+    alloc: Global,
+    fault: Fault,
+}
+
+impl OneCall {
+    fn is_right<H: Hook>(self, hook: &mut H) -> bool {
+        let OneCall { alloc, fault } = self;
+        let row = Row {
+            number: 0,
+            title: "",
+            subject: "",
+            kind: "",
+            lines: "total -> ok",
+        };
+        let left = 0;
+        row.make_on(alloc, Trial { alloc, fault, left }, hook)
+            .is_ok()
+    }
+}
+
+impl Calls for OneCall {
+    fn make(&self, hook: &mut Refusing) -> bool {
+        self.is_right(hook)
+    }
+}
+
+// What is found of the subject with its requests refused, and how often it was refused until then; and whether its call
+// has its answer where calls that are to take no memory have none.
+fn finds<R: Runtime + Abort>(
+    rt: &R,
+    fault: Fault,
+    refused: Result<usize, Wrong>,
+    starved: bool,
+) -> usize {
+    let alloc = rt.alloc();
+    let call = OneCall { alloc, fault };
+    let mut hook = Refusing::new(new_budget(rt));
+    check(rt, fault, hook.each(&call), refused);
+    let refusals = hook.refusals_of(Request::Slot);
+    drop(hook);
+    let mut hook = Starving::new(new_budget(rt));
+    check(rt, fault, call.is_right(&mut hook), starved);
+    refusals
 }
 
 #[test]
 fn what_is_wrong_is_found(rt: HostRuntime) {
-    let refused = finds(&rt, TrialRow::Right, true, Ok(1));
     // Some budget refused the first block, and some the second.
-    check(&rt, refused, refused >= 2, true);
-    finds(&rt, TrialRow::Right, false, Ok(0));
+    let refusals = finds(&rt, Fault::None, Ok(1), true);
+    check(&rt, refusals, refusals >= 2, true);
     let left = Err((Stage::DoesNotStand(Request::Slot), 0, 0));
-    finds(&rt, TrialRow::LeavesSomething, true, left);
+    finds(&rt, Fault::LeavesSomething, left, true);
     let other = Err((Stage::OtherAnswer, 0, 0));
-    finds(&rt, TrialRow::AnswersOtherwise, true, other);
-    finds(&rt, TrialRow::AllocatesInSecret, false, other);
+    finds(&rt, Fault::AnswersOtherwise, other, true);
+    finds(&rt, Fault::AllocatesInSecret, Ok(0), false);
 }

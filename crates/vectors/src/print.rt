@@ -1,0 +1,60 @@
+//! Prints how rows end.
+use crate::rows::{TEXTS, run};
+use calls::{Hook, Row};
+use calls_events::Runtime;
+use std::io;
+
+/// What is printed first.
+pub const HEAD: &str =
+    "A row is a list of calls with the answers that they must give: it is ok if they give them, and differs if one does not.";
+
+/// Prints the head, and how each row of the texts ends, in order of number: a line `row N ok` or `row N differs`, and the
+/// difference to the standard error. With their texts, an empty line and that of each row come before. Answers whether no
+/// row differs, or the error of a line that could not be printed.
+///
+/// Each text has its rows in order of number. The rows allocate; their table and the printing do not, so a row that was
+/// refused memory has its line too.
+pub fn print_rows<R, H>(rt: &R, texts: &[&str], with_texts: bool, hook: &mut H) -> io::Result<bool>
+where
+    R: Runtime + Print + Eprint,
+    H: Hook,
+{
+    println!(rt; "{HEAD}")?;
+    let mut none_differs = true;
+    let mut places = [0usize; TEXTS.len()];
+    for number in 0..=u8::MAX {
+        for (text, place) in texts.iter().zip(places.iter_mut()) {
+            match Row::nth(text, *place) {
+                Some(row) if row.number <= number => {
+                    *place = place.wrapping_add(1);
+                    none_differs &= print_row(rt, row, with_texts, hook)?;
+                }
+                _ => {}
+            }
+        }
+    }
+    Ok(none_differs)
+}
+
+fn print_row<R, H>(rt: &R, row: Row<'_>, with_text: bool, hook: &mut H) -> io::Result<bool>
+where
+    R: Runtime + Print + Eprint,
+    H: Hook,
+{
+    if with_text {
+        print!(rt; "\n{row}")?;
+    }
+    let number = row.number;
+    match run(row, rt, hook) {
+        Ok(()) => {
+            println!(rt; "row {number} ok")?;
+            Ok(true)
+        }
+        Err(difference) => {
+            println!(rt; "row {number} differs")?;
+            // Where this can't be printed, the line above still says that the row differs.
+            let _ = eprintln!(rt; "{difference}");
+            Ok(false)
+        }
+    }
+}

@@ -1,0 +1,183 @@
+//! Each text.
+use crate::events::EVENTS;
+use crate::queue::QUEUE;
+use crate::records::RECORDS;
+use crate::refused::printed::{print_each_refusal, print_without_memory};
+use crate::refused::{check, new_budget};
+use crate::rows::run;
+use calls::{Request, Row};
+use calls_events::Runtime;
+use calls_worlds::WORLDS;
+use std::process::Abort;
+use test_queue_memory::{Calls, Refusing, Starving};
+
+// What no worked row has.
+const OTHERS: &str = "
+A run begins with any serial.
+row 1 list tags
+start 5 -> ok
+run listen; listen; tagged 3 d 7 -> listener 0; listener 1; refused after 1
+serial 1 -> number 6
+
+A sink has room for the tasks of several calls.
+row 2 list
+room 2 -> ok
+listen -> listener 0
+poll 0 1 -> pending
+listen -> listener 1
+poll 1 2 -> pending
+listen -> listener 2
+poll 2 3 -> pending
+notify 1 a -> told 1 wakes 1
+notify 1 a -> told 1 wakes 2
+notify 1 a -> told 1 missed 1
+";
+
+// How many rows a text has, and how many calls these make, with each kind of listener, and with those that make an event,
+// close it, and replay its record. So many of them or more allocate nothing.
+#[derive(Drop)]
+struct Counts {
+    rows: usize,
+    calls: usize,
+    starved: usize,
+}
+
+// A row.
+#[derive(Drop)]
+struct OneRow<'r, R> {
+    rt: &'r R,
+    row: Row<'static>,
+}
+
+impl<'r, R: Runtime> Calls for OneRow<'r, R> {
+    fn make(&self, hook: &mut Refusing) -> bool {
+        run(self.row, self.rt, hook).is_ok()
+    }
+}
+
+// Makes each row of the text with its requests for memory refused in turn, and answers how many calls may make any.
+fn refuse_each<R: Runtime + Abort>(rt: &R, hook: &mut Refusing, text: &'static str) -> usize {
+    let mut asking = 0usize;
+    for place in 0..usize::MAX {
+        let Some(row) = Row::nth(text, place) else {
+            break;
+        };
+        match hook.each(&OneRow { rt, row }) {
+            Ok(calls) => asking = asking.wrapping_add(calls),
+            Err(wrong) => panic!(rt; "row {}: {wrong:?}", row.number),
+        }
+    }
+    asking
+}
+
+// Makes the rows of the text with no memory during the calls that are to take none.
+fn starve_each<R: Runtime + Abort>(rt: &R, text: &'static str, counts: Counts) {
+    let mut hook = Starving::new(new_budget(rt));
+    let mut rows = 0usize;
+    for place in 0..usize::MAX {
+        let Some(row) = Row::nth(text, place) else {
+            break;
+        };
+        if let Err(difference) = run(row, rt, &mut hook) {
+            panic!(rt; "{difference}");
+        }
+        rows = rows.wrapping_add(1);
+    }
+    let Starving {
+        starved,
+        served,
+        ..
+    } = hook;
+    check(rt, "rows", rows, counts.rows);
+    check(rt, "calls", starved.wrapping_add(served), counts.calls);
+    check(rt, starved, starved >= counts.starved, true);
+}
+
+// Each of these requests is refused so often, or more often. That is counted from the calls of the rows alone: how many
+// requests a call makes, and of which sizes, follows from the layout of a queue. Printed, each call that asks for memory is
+// refused, too.
+fn family<R: Runtime + Abort>(
+    rt: &R,
+    text: &'static str,
+    requests: &[(Request, usize)],
+    counts: Counts,
+) {
+    let mut hook = Refusing::new(new_budget(rt));
+    let asking = refuse_each(rt, &mut hook, text);
+    for (request, least) in requests.iter() {
+        let refused = hook.refusals_of(*request);
+        check(rt, (*request, refused, *least), refused >= *least, true);
+    }
+    drop(hook);
+    starve_each(rt, text, counts);
+    check(rt, "printed", print_each_refusal(rt, text), Ok(asking));
+    print_without_memory(rt, text);
+}
+
+// Thirteen queues get a first listener that comes alone. Six runs are made, and five of them insert. Four sinks have room.
+#[test]
+fn rows_on_a_queue(rt: HostRuntime) {
+    let requests = [
+        (Request::Slot, 13),
+        (Request::SlotInRun, 5),
+        (Request::Replies, 6),
+        (Request::Sink, 4),
+    ];
+    let counts = Counts {
+        rows: 16,
+        calls: 117,
+        starved: 78,
+    };
+    family(&rt, QUEUE, requests.as_slice(), counts);
+}
+
+// With two kinds of listeners: 23 rows make one, and three have two waits.
+#[test]
+fn rows_on_an_event(rt: HostRuntime) {
+    let requests = [(Request::Listener, 46), (Request::Parker, 12)];
+    let counts = Counts {
+        rows: 24,
+        calls: 412,
+        starved: 296,
+    };
+    family(&rt, EVENTS, requests.as_slice(), counts);
+}
+
+// Three rows make an event. Two of them make calls, and ask of their record whether it replays. Three records that were
+// written by hand begin with a listener.
+#[test]
+fn rows_on_a_recorded_event(rt: HostRuntime) {
+    let requests = [
+        (Request::Hands, 3),
+        (Request::Entry, 2),
+        (Request::Replay, 5),
+    ];
+    let counts = Counts {
+        rows: 4,
+        calls: 22,
+        starved: 5,
+    };
+    family(&rt, RECORDS, requests.as_slice(), counts);
+}
+
+#[test]
+fn other_rows(rt: HostRuntime) {
+    let counts = Counts {
+        rows: 2,
+        calls: 13,
+        starved: 8,
+    };
+    let requests = [(Request::SlotInRun, 1), (Request::Slot, 1)];
+    family(&rt, OTHERS, requests.as_slice(), counts);
+}
+
+// Each row makes a world, and each schedule of its lines takes no memory.
+#[test]
+fn rows_on_worlds(rt: HostRuntime) {
+    let counts = Counts {
+        rows: 22,
+        calls: 82,
+        starved: 60,
+    };
+    family(&rt, WORLDS, [(Request::World, 22)].as_slice(), counts);
+}

@@ -1,0 +1,50 @@
+//! Rows in which a call meets a refusal.
+use crate::refused::{check, new_budget};
+use crate::rows::run;
+use calls::Row;
+use test_queue_memory::Starving;
+
+const STARVED: &str = "
+A listener whose wait was refused its parker stands where it was.
+row 46 event
+listen -> listener 0
+starved timeout 0 1000 -> no memory
+total -> total 1
+notify 1 d -> told 1
+poll 0 1 -> ready wakes 1
+
+An event whose queue was refused memory is as new.
+row 47 event
+starved listen -> no memory
+total -> total 0
+notify 1 d -> told 0
+listen -> listener 0
+total -> total 1
+
+A source whose identities are used up gives none.
+row 52 event
+ids 18446744073709551615 -> ok
+id -> used up
+id -> used up
+
+The greatest reservation is refused, and leaves the queue as it was.
+row 52 list
+reserve max -> no memory
+has_room 1 -> false
+total -> total 0
+";
+
+#[test]
+fn rows_that_meet_a_refusal(rt: HostRuntime) {
+    let mut rows = 0usize;
+    for place in 0..usize::MAX {
+        let Some(row) = Row::nth(STARVED, place) else {
+            break;
+        };
+        if let Err(difference) = run(row, &rt, &mut Starving::new(new_budget(&rt))) {
+            panic!(&rt; "{difference}");
+        }
+        rows = rows.wrapping_add(1);
+    }
+    check(&rt, "rows", rows, 4);
+}
