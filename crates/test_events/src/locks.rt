@@ -4,10 +4,12 @@
 //! A tag is made under the lock of its event, so the lock is held while the function of a notification runs. A call that
 //! wrongly waits for that lock does not return, and its test fails at the limit that the toolchain has for every test.
 //! Where two threads meet, the one that makes the tag sleeps for 50 milliseconds, in which the other one makes its call.
-use crate::script::{Answer, Call, Step, new_task, run};
-use crate::support::{Runtime, check, discard, has_listeners, listen, listen_as, new_event, shows};
+use crate::support::{
+    Runtime, check, discard, has_listeners, listen, listen_as, new_event, run_lines, shows,
+};
 use event_listener::{Event, EventIds, IntoNotification, IntoTagged, ListenError, Listener};
 use futures::task::Poll;
+use futures::test::MockTask;
 use std::hint;
 use std::sync::Barrier;
 use std::sync::atomic::{AtomicU64, Ordering};
@@ -17,14 +19,15 @@ use test_support::{
     Borrowing, Case, ListenerKind, Sharing, Trial, answered, both, deadline_after, waker_of,
 };
 
-const ANOTHER_EVENT: [Step; 6] = [
-    (Call::Listen(2), Answer::Done, [false, false]),
-    (Call::Poll(0, 0), Answer::Pending, [false, false]),
-    (Call::Tell(1, 7), Answer::Told(1), [true, false]),
-    (Call::Poll(0, 0), Answer::Tag(7), [false, false]),
-    (Call::Discard(1), Answer::WasTold(false), [false, false]),
-    (Call::Count, Answer::Counts(0, false), [false, false]),
-];
+const ANOTHER_EVENT: &str = "\
+listen -> listener 0
+listen -> listener 1
+await 0 0 -> pending
+notify 1 d 7 -> told 1 awake 0
+await 0 0 -> ready 7
+discard 1 -> discarded false
+total -> total 0
+isnotified -> isnotified false";
 
 // Whether a listener listens to its event, and to another, and whether it does so beside a second. The listener that is
 // told carries the answers out.
@@ -39,7 +42,7 @@ impl<R: Runtime> Case<R> for UnderTheLock {
         let other = Event::with_tag(next.expect(rt, "an identity"));
         let (told, first, second) = (listen(trial), listen(trial), listen(trial));
         let call = || {
-            run(rt, &ANOTHER_EVENT);
+            run_lines(rt, "event tags", ANOTHER_EVENT);
             shows(rt, event, "Event(<locked>)");
             let same = first.same_event(&second);
             [first.listens_to(event), first.listens_to(&other), same]
@@ -115,6 +118,13 @@ fn each_waits_for_the_lock<R: Runtime + Threads + Sync>(rt: &R, event: &Event<u3
 #[test]
 fn calls_of_other_threads_wait_for_the_lock(rt: HostRuntime) {
     each_waits_for_the_lock(&rt, &new_event(&rt));
+}
+
+// A new task. It is polled once, since a task is woken until its first poll begins.
+fn new_task<R: Runtime>(rt: &R) -> MockTask {
+    let task = MockTask::new(rt).expect(rt, "a task");
+    task.enter(|_| ());
+    task
 }
 
 // While the first four are told, one after another, the second last and the last of them are polled, and one more listens

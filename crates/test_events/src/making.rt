@@ -1,8 +1,9 @@
 //! How listeners are made by the macro and by slots, and what events, slots, listeners and refusals show of themselves.
 use crate::support::{Runtime, check, discard, has_listeners, new_event, new_event_at, shows};
 use event_listener::{
-    Event, EventIds, EventListener, IntoTagged, ListenError, Listener, NeverInserted, NotifyError,
-    StackListener, StackSlot, WaitError, WaitReason, listener,
+    CloseError, Event, EventIds, EventListener, IntoTagged, ListenError, Listener, NeverInserted,
+    NotifyError, RecordError, RecordedPollError, StackListener, StackSlot, WaitError, WaitReason,
+    listener,
 };
 use futures::task::Poll;
 use futures::test::MockTask;
@@ -203,6 +204,20 @@ fn refusals_say_what_was_refused(rt: HostRuntime) {
     let absent: WaitError<u8> = WaitError::NeverInserted;
     reads(&rt, absent, "listener is not in the queue");
     reads(&rt, WaitError::Memory(7u8), "no memory for a parker");
+    reads(&rt, RecordError::Memory, "no memory for the record");
+    reads(
+        &rt,
+        RecordError::SerialsUsedUp,
+        "serial numbers are used up",
+    );
+    reads(
+        &rt,
+        RecordedPollError::NeverInserted,
+        "listener is not in the queue",
+    );
+    reads(&rt, RecordedPollError::Memory, "no memory for the record");
+    reads(&rt, CloseError::HandsMissing, "hands are missing");
+    reads(&rt, CloseError::Differs, "notes differ from the record");
 }
 
 // The event is dropped while three listeners stand in its queue.

@@ -1,4 +1,8 @@
-//! What the tests share: the one assertion, and the calls that have to succeed. Each ends the test where it does not.
+//! What the tests share: the one assertion, rows that have to hold, and the calls that have to succeed. Each ends the test
+//! where it does not.
+use calls::{Difference, Row, Undisturbed};
+use calls_events::run_on_events;
+use calls_records::run_on_records;
 use event_listener::{Event, EventIds, Listener};
 use std::alloc::AllocGlobal;
 use std::fmt::Debug;
@@ -16,6 +20,42 @@ where
     R: Abort,
 {
     assert_eq!(rt; answer, expected, "{asked:?}");
+}
+
+/// How a row differs on its subject, with each kind of listener where that is an event.
+pub fn made<'t, R: Runtime>(rt: &R, row: Row<'t>) -> Result<(), Difference<'t>> {
+    match run_on_events(row, rt, &mut Undisturbed) {
+        Some(made) => made,
+        None => run_on_records(row, rt, &mut Undisturbed).expect(rt, "a subject"),
+    }
+}
+
+/// A row did not differ.
+pub fn holds<R: Abort>(rt: &R, made: Result<(), Difference<'_>>) {
+    if let Err(difference) = made {
+        panic!(rt; "{difference}");
+    }
+}
+
+/// The row holds.
+pub fn run<R: Runtime>(rt: &R, row: Row<'_>) {
+    holds(rt, made(rt, row));
+}
+
+/// The row of these lines.
+pub fn row_of<'t>(subject: &'t str, lines: &'t str) -> Row<'t> {
+    Row {
+        number: 0,
+        title: "",
+        subject,
+        kind: "",
+        lines,
+    }
+}
+
+/// These lines hold.
+pub fn run_lines<R: Runtime>(rt: &R, subject: &str, lines: &str) {
+    run(rt, row_of(subject, lines));
 }
 
 /// The value has this text for debugging.

@@ -2,8 +2,8 @@
 //! until it is told, with room for a wake or two; a task that spins is polled some hundred thousand times.
 ghost use Rattle.std.specs.Prelude.{All};
 
-use crate::support::{Runtime, check};
-use event_listener::{Event, EventIds, IntoNotification, IntoTagged, NeverInserted};
+use crate::support::{Runtime, check, listen_as, new_event};
+use event_listener::{Event, IntoNotification, IntoTagged, NeverInserted};
 use futures::Future;
 use futures::executor::{TaskSet, block_on};
 use futures::future::{Either, join_all, select};
@@ -14,18 +14,6 @@ use std::sync::atomic::{AtomicU32, Ordering};
 use std::thread::{self, Threads};
 use std::time::{Clock, Duration};
 use test_support::{Awaited, Borrowing, ListenerKind, Sharing};
-
-fn new_event<R: Abort>(rt: &R) -> Event<u32> {
-    Event::with_tag(EventIds::new().next().expect(rt, "an identity"))
-}
-
-fn listen_as<'ev, K, L, R>(rt: &R, event: &'ev Event<u32>) -> L
-where
-    K: ListenerKind<'ev, u32, R, Listener = L>,
-    R: Runtime,
-{
-    K::listen(rt, rt.alloc(), event).expect(rt, "a listener")
-}
 
 // A listener that counts its polls.
 #[derive(Drop)]

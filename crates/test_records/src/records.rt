@@ -1,11 +1,11 @@
 //! Records that were written by hand, and the record that a state keeps.
-use crate::support::{Runtime, check, entry};
+use crate::notes::{asked, counted, entry, listened, notified, registered, removed};
+use crate::support::{Runtime, check};
 use event_listener::RegisterResult::{NeverInserted, Registered};
 use event_listener::{
     Former, Key, ListenError, Note, RecordedCall, RecordedReply, RecordedState, RegisterResult,
     StepCall, Task, Woken, replays,
 };
-use recorded_calls::lines::{asked, counted, listened, notified, registered, removed};
 use test_support::any_waker;
 
 const A: Key = Key { slot: 9, serial: 0 };

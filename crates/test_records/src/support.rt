@@ -1,10 +1,12 @@
-//! What the tests share. Each function ends the test where it fails.
-use event_listener::{Entry, Hand, Note, RecordedEvent};
+//! What the tests share: the one assertion, and the calls that have to succeed.
+use event_listener::{Event, EventIds};
 use std::fmt::Debug;
 use std::process::Abort;
+use test_support::ListenerKind;
 pub use test_support::Runtime;
 
-/// The answer is the expected one. Where it is not, the message has both, and what was asked.
+/// The answer is the expected one. Where it is not, the message has both, and what was asked. The assertion stands here
+/// once, in a generic function, and is proved once.
 pub fn check<A, V, R>(rt: &R, asked: A, answer: V, expected: V)
 where
     A: Debug + Drop,
@@ -14,13 +16,16 @@ where
     assert_eq!(rt; answer, expected, "{asked:?}");
 }
 
-/// A new event with so many hands. All events that this makes have one number.
-pub fn new_event<R: Runtime>(rt: &R, hands: usize) -> (RecordedEvent<u32>, Vec<Hand<u32>>) {
-    recorded_calls::new_event(rt.alloc(), hands).expect(rt, "an event")
+/// A new event, the only one of its source.
+pub fn new_event<T, R: Abort>(rt: &R) -> Event<T> {
+    Event::with_tag(EventIds::new().next().expect(rt, "an identity"))
 }
 
-/// The entry of a call by that hand, or by nobody.
-pub fn entry(hand: Option<usize>, note: Note<u32>) -> Entry<u32> {
-    let Note { call, reply } = note;
-    Entry { hand, call, reply }
+/// A new listener of this kind.
+pub fn listen_as<'ev, K, L, R>(rt: &R, event: &'ev Event<u32>) -> L
+where
+    K: ListenerKind<'ev, u32, R, Listener = L>,
+    R: Runtime,
+{
+    K::listen(rt, rt.alloc(), event).expect(rt, "a listener")
 }
