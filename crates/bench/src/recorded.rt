@@ -1,9 +1,10 @@
 //! Recorded events.
 use crate::error::BenchError;
 use crate::subject::{Subject, waker_of};
+use calls::Reply;
+use calls_records::{HandCalls, On, OwnListener};
 use event_listener::{EventIds, Hand, ListenError, RecordedEvent};
-use futures::task::{Context, Poll};
-use recorded_calls::{Calls, On, OwnListener, Refusal};
+use futures::task::Context;
 use std::alloc::{AllocGlobal, Global};
 use std::sync::Wait;
 use std::time::Clock;
@@ -31,7 +32,7 @@ impl<'ev, R: AllocGlobal + Wait + Clock + Clone> Subject for OnRecorded<'ev, R> 
     fn listen(&mut self) -> Result<OwnListener<'ev, R>, ListenError> {
         match self.event.listen(&mut self.hand) {
             Ok(listener) => Ok(listener),
-            Err(Refusal::SerialsUsedUp) => Err(ListenError::SerialsUsedUp),
+            Err(Reply::UsedUp) => Err(ListenError::SerialsUsedUp),
             Err(_) => Err(ListenError::Memory),
         }
     }
@@ -42,14 +43,15 @@ impl<'ev, R: AllocGlobal + Wait + Clock + Clone> Subject for OnRecorded<'ev, R> 
             return false;
         };
         let polled = self.event.poll(&mut self.hand, listener, waker);
-        matches!(polled, Ok(Poll::Ready(_)))
+        matches!(polled, Reply::Ready(_))
     }
 
     #[inline(always)]
     fn notify(&mut self, count: usize) -> usize {
-        self.event
-            .notify(&mut self.hand, count, false, 0)
-            .unwrap_or(0)
+        match self.event.notify(&mut self.hand, count, false, 0) {
+            Reply::Told(told, _) => told,
+            _ => 0,
+        }
     }
 
     #[inline(always)]
@@ -63,12 +65,16 @@ impl<'ev, R: AllocGlobal + Wait + Clock + Clone> Subject for OnRecorded<'ev, R> 
 
     #[inline(always)]
     fn is_notified(&mut self) -> bool {
-        self.event.is_notified(&mut self.hand).unwrap_or(false)
+        let answer = self.event.is_notified(&mut self.hand);
+        matches!(answer, Reply::IsNotified(true))
     }
 
     #[inline(always)]
     fn total_listeners(&mut self) -> usize {
-        self.event.total_listeners(&mut self.hand).unwrap_or(0)
+        match self.event.total_listeners(&mut self.hand) {
+            Reply::Total(total) => total,
+            _ => 0,
+        }
     }
 }
 

@@ -1,6 +1,6 @@
 //! Why a round is not as it has to be.
+use calls::Reply;
 use event_listener::{IdsUsedUp, ListenError, NotifyError, RecordError};
-use recorded_calls::Refusal;
 use std::alloc::{AllocError, AllocFailed};
 use std::io;
 use thiserror::Error;
@@ -79,8 +79,9 @@ impl From<RecordError> for Fault {
     }
 }
 
-impl From<Refusal> for Fault {
-    fn from(_: Refusal) -> Self {
+/// Where a call has no other answer.
+impl From<Reply> for Fault {
+    fn from(_: Reply) -> Self {
         Fault::Refused
     }
 }

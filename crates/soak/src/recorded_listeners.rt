@@ -2,10 +2,10 @@
 use crate::counts::Counts;
 use crate::fault::Fault;
 use crate::step::{Listeners, Runtime, Step, has_room};
+use calls::Reply;
+use calls_records::HandCalls;
 use event_listener::Hand;
-use futures::task::Poll;
 use random_calls::{listener_at, take_listener};
-use recorded_calls::{Calls, Refusal};
 use std::time::Duration;
 use test_support::any_waker;
 
@@ -47,7 +47,7 @@ impl<'ev, C: Drop, L: Drop, R> RecordedListeners<'ev, C, L, R> {
 
 impl<'ev, C, L, R> RecordedListeners<'ev, C, L, R>
 where
-    C: Calls<Listener = L>,
+    C: HandCalls<Listener = L>,
     L: Drop,
     R: Runtime,
 {
@@ -69,33 +69,33 @@ where
         let Some(listener) = self.listeners.get_mut(at) else {
             return Ok(());
         };
-        match self.on.poll(&mut self.hand, listener, waker) {
-            Ok(polled) => {
-                self.counts.take(polled != Poll::Pending);
-                Ok(())
-            }
-            Err(Refusal::NeverInserted) => Ok(()),
-            Err(refusal) => Err(refusal.into()),
+        let reply = self.on.poll(&mut self.hand, listener, waker);
+        self.take(reply)
+    }
+
+    // A listener was polled, or waited, that may have given its tag before.
+    fn take(&mut self, reply: Reply) -> Result<(), Fault> {
+        match reply {
+            Reply::Ready(_) => self.counts.take(true),
+            Reply::Pending | Reply::TimedOut => self.counts.take(false),
+            Reply::Finished => {}
+            refusal => return Err(refusal.into()),
         }
+        Ok(())
     }
 
     fn wait(&mut self, place: usize, limit: Duration) -> Result<(), Fault> {
         let Some(listener) = take_listener(&mut self.listeners, place) else {
             return Ok(());
         };
-        let (answer, _) = self.on.wait_timeout(&mut self.hand, listener, limit);
-        match answer {
-            Ok(tag) => {
-                self.counts.take(tag.is_some());
-                Ok(())
-            }
-            Err(Refusal::NeverInserted) => Ok(()),
-            Err(refusal) => Err(refusal.into()),
-        }
+        let (reply, _) = self.on.wait(&mut self.hand, listener, Some(limit));
+        self.take(reply)
     }
 
     fn notify(&mut self, count: usize, additional: bool) -> Result<(), Fault> {
-        let told = self.on.notify(&mut self.hand, count, additional, 0)?;
+        let Reply::Told(told, _) = self.on.notify(&mut self.hand, count, additional, 0) else {
+            return Err(Fault::Refused);
+        };
         self.counts.told = self.counts.told.saturating_add(told as u64);
         Ok(())
     }
@@ -104,8 +104,10 @@ where
         let Some(listener) = take_listener(&mut self.listeners, place) else {
             return Ok(());
         };
-        let (answer, _) = self.on.discard(&mut self.hand, listener);
-        self.counts.take(answer?);
+        let (Reply::Discarded(was_told), _) = self.on.discard(&mut self.hand, listener) else {
+            return Err(Fault::Refused);
+        };
+        self.counts.take(was_told);
         Ok(())
     }
 
@@ -119,7 +121,7 @@ where
 
 impl<'ev, C, L, R> Listeners for RecordedListeners<'ev, C, L, R>
 where
-    C: Calls<Listener = L>,
+    C: HandCalls<Listener = L>,
     L: Drop,
     R: Runtime,
 {

@@ -4,9 +4,9 @@ use crate::event_listeners::EventListeners;
 use crate::fault::Fault;
 use crate::recorded_listeners::RecordedListeners;
 use crate::step::{Listeners, Runtime, random_step};
+use calls_records::HandCalls;
 use event_listener::{Event, Hand};
 use random_calls::RandomNumbers;
-use recorded_calls::Calls;
 use std::sync::atomic::AtomicU64;
 use test_support::ListenerKind;
 
@@ -38,7 +38,7 @@ pub fn run_worker<'ev, A, B, C, R>(
 where
     A: ListenerKind<'ev, u64, R>,
     B: ListenerKind<'ev, u64, R>,
-    C: Calls + Drop,
+    C: HandCalls + Drop,
     R: Runtime,
 {
     let mut random = RandomNumbers::new(seed, hand.number() as u64);

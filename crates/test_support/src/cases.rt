@@ -1,5 +1,5 @@
 //! Tests that are written once and run with each kind of listener.
-use crate::kinds::{Borrowing, ListenerKind, Sharing};
+use calls_events::{Borrowing, ListenerKind, Sharing};
 use event_listener::{Event, EventIds, ListenError, Listener};
 use std::alloc::AllocGlobal;
 use std::marker::PhantomData;

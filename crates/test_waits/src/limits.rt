@@ -1,11 +1,10 @@
 //! When a wait ends, by the clock of its listener.
 use crate::stage::Habit::{self, Back, Exact, Fails, Notifies, Slow};
 use crate::stage::{AnyEvent, WAITS, check, ends_soon, greatest, limit, long, now};
-use crate::trial::{Case, Polled, Trial, all};
+use crate::trial::{Case, Polled, Refusal, Trial, all};
 use event_listener::{Former, RecordedReply, RegisterResult};
 use futures::task::Poll;
 use futures::test::MockTask;
-use recorded_calls::Refusal;
 use std::sync::atomic::Ordering;
 use std::time::Duration;
 use test_support::TIMED_WAITS;

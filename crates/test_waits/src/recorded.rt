@@ -2,10 +2,11 @@
 ghost use Rattle.event_listener.specs.Noting.{Owns};
 
 use crate::stage::{AnyEvent, SharedRuntime, Stage, StageClock, check};
-use crate::trial::{Polled, Trial, Waited};
-use event_listener::{Hand, RecordedEvent, RecordedListener, RecordedReply};
+use crate::trial::{Polled, Refusal, Trial, Waited, answered};
+use calls::Reply;
+use calls_records::{HandCalls, On, close, new_event};
+use event_listener::{Hand, RecordedEvent, RecordedListener, RecordedPollError, RecordedReply};
 use futures::task::Context;
-use recorded_calls::{Calls, On, answered, close, new_event};
 use std::sync::atomic::{AtomicUsize, Ordering};
 use std::sync::{Mutex, Wait};
 use std::time::Duration;
@@ -61,14 +62,20 @@ impl AnyEvent for Recorded {
         let (event, mut hand) = (&self.event, self.take(rt));
         let told = On { rt, event }.notify(&mut hand, count, false, tag);
         self.give_back(rt, hand);
-        told.expect(rt, "a notification")
+        let Reply::Told(told, _) = told else {
+            panic!(rt; "no notification: {told}");
+        };
+        told
     }
 
     fn count_listeners<R: Runtime>(&self, rt: &R) -> usize {
         let (event, mut hand) = (&self.event, self.take(rt));
         let total = On { rt, event }.total_listeners(&mut hand);
         self.give_back(rt, hand);
-        total.expect(rt, "a number")
+        let Reply::Total(total) = total else {
+            panic!(rt; "no number: {total}");
+        };
+        total
     }
 
     fn last_steps<R: Runtime>(&self, rt: &R) -> Option<Vec<RecordedReply<u32>>> {
@@ -123,7 +130,11 @@ impl<'a, R: SharedRuntime> Trial for OfRecorded<'a, R> {
     }
 
     fn poll(&self, waiter: &mut Waiter<'a, R>, cx: &mut Context<'_>) -> Polled {
-        Ok(waiter.listener.poll_in(&mut waiter.hand, cx)?)
+        match waiter.listener.poll_in(&mut waiter.hand, cx) {
+            Ok(polled) => Ok(polled),
+            Err(RecordedPollError::NeverInserted) => Err(Refusal::NeverInserted),
+            Err(RecordedPollError::Memory) => Err(Refusal::Memory),
+        }
     }
 
     fn wait(&self, waiter: Waiter<'a, R>, wait: WaitCall, limit: Duration) -> Waited {

@@ -1,9 +1,9 @@
 //! Many threads that call one recorded event.
 use crate::recorded::Recorded;
 use crate::stage::{SharedRuntime, check, end_of_race, now};
+use calls::Reply;
+use calls_records::{HandCalls, On};
 use event_listener::Hand;
-use futures::task::Poll;
-use recorded_calls::{Calls, On};
 use std::sync::atomic::Ordering;
 use std::thread;
 use std::time::Duration;
@@ -13,35 +13,36 @@ const HANDS: usize = 8;
 
 // A round of one thread: it listens, and does one of four things with its listener. Answers whether the listener was
 // dropped while it was in the queue.
-fn play_round<C: Calls, R: SharedRuntime>(
+fn play_round<C: HandCalls, R: SharedRuntime>(
     rt: &R,
     on: &C,
     hand: &mut Hand<u32>,
     round: usize,
 ) -> bool {
-    let mut listener = on.listen(hand).expect(rt, "a listener");
-    match round % 4 {
+    let mut listener = on.listen(hand).ok().expect(rt, "a listener");
+    let is_right = match round % 4 {
         0 => {
             let waker = any_waker(rt).expect(rt, "a waker");
-            let polled = on.poll(hand, &mut listener, waker).expect(rt, "a poll");
+            let polled = on.poll(hand, &mut listener, waker);
             drop(listener);
-            return polled == Poll::Pending;
+            if let Reply::Pending = polled {
+                return true;
+            }
+            matches!(polled, Reply::Ready(_))
         }
-        1 => {
-            let (was_told, _) = on.discard(hand, listener);
-            was_told.expect(rt, "an answer");
-        }
+        1 => matches!(on.discard(hand, listener).0, Reply::Discarded(_)),
         2 => {
-            let (waited, _) = on.wait_timeout(hand, listener, Duration::from_millis(1));
-            waited.expect(rt, "a wait");
+            let (waited, _) = on.wait(hand, listener, Some(Duration::from_millis(1)));
+            matches!(waited, Reply::Ready(_) | Reply::TimedOut)
         }
         _ => {
             let told = on.notify(hand, 1, round % 8 == 3, 7);
-            check(rt, told, told.expect(rt, "a notification") <= 1, true);
+            check(rt, round, matches!(told, Reply::Told(0 | 1, _)), true);
             drop(listener);
             return true;
         }
-    }
+    };
+    check(rt, round, is_right, true);
     false
 }
 
@@ -55,9 +56,15 @@ fn play<R: SharedRuntime>(rt: &R, recorded: &Recorded, thread: usize) {
         if play_round(rt, &on, &mut hand, round) {
             recorded.dropped.fetch_add(1, Ordering::SeqCst);
         }
-        let total = on.total_listeners(&mut hand).expect(rt, "a number");
-        check(rt, total, total <= HANDS, true);
-        on.is_notified(&mut hand).expect(rt, "an answer");
+        let total = on.total_listeners(&mut hand);
+        check(rt, "total", matches!(total, Reply::Total(0..=HANDS)), true);
+        let is_notified = on.is_notified(&mut hand);
+        check(
+            rt,
+            "asked",
+            matches!(is_notified, Reply::IsNotified(_)),
+            true,
+        );
         if now(rt) >= end {
             break;
         }

@@ -2,9 +2,8 @@
 use crate::recorded::{OfRecorded, Recorded};
 use crate::stage::{AnyEvent, SharedRuntime, Stage, StageClock, check};
 use crate::{limits, wakes};
-use event_listener::{Event, EventIds, Listener, RecordedReply};
+use event_listener::{Event, EventIds, Listener, RecordedReply, WaitError};
 use futures::task::{Context, Poll};
-use recorded_calls::{Refusal, answered};
 use std::marker::PhantomData;
 use std::time::Duration;
 use test_support::{Borrowing, ListenerKind, Sharing, WaitCall, WithClock, deadline_after};
@@ -23,11 +22,29 @@ pub enum Case {
     ToldAsItParks,
 }
 
+/// Why a poll or a wait gave nothing.
+#[derive(Clone, Copy, Debug, PartialEq, Eq)]
+pub enum Refusal {
+    /// The listener is not in the queue.
+    NeverInserted,
+    /// Memory was refused.
+    Memory,
+}
+
 /// What a poll answered.
 pub type Polled = Result<Poll<u32>, Refusal>;
 
 /// What a wait answered.
 pub type Waited = Result<Option<u32>, Refusal>;
+
+/// What a wait answered. The listener that comes back where memory was refused is dropped.
+pub fn answered<A, L: Drop>(reply: Result<A, WaitError<L>>) -> Result<A, Refusal> {
+    match reply {
+        Ok(answer) => Ok(answer),
+        Err(WaitError::NeverInserted) => Err(Refusal::NeverInserted),
+        Err(WaitError::Memory(_)) => Err(Refusal::Memory),
+    }
+}
 
 /// An event and its listeners, which are of one kind.
 pub trait Trial: Sync {
