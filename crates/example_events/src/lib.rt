@@ -1,9 +1,10 @@
-//! Short callers of `event_listener`, proved, and tested in `test_examples`. Pages quote them.
+//! Short callers of `event_listener` and of `event_queue`, proved, and tested in `test_examples`. Pages quote them.
 //!
+//! - [`queue`]: lines of visitors over a queue as a plain value, and under a lock.
 //! - [`flag`]: a flag that threads wait for: look, listen, look again, wait; set, then notify all; a listener for
 //!   callers that wait otherwise, which is one of the flag's event. Two flags of one `EventIds` have different events,
 //!   and making them fails only if fewer than two identities are left.
-//! - [`meeting`]: a thread that waits for such a flag until another one has set it, for `program_flag`.
+//! - [`meeting`]: a thread that waits for such a flag until another one has set it, for `program_examples`.
 //! - [`tagged`]: default and additional notifications with tags, each of which notifies one listener at most and does
 //!   not fail.
 //! - [`timed`]: a wait against a deadline, over any kind of listener; a failed wait is retried. One on a finished
@@ -33,6 +34,7 @@ pub mod flag;
 pub mod heard;
 pub mod meeting;
 pub mod polled;
+pub mod queue;
 pub mod race;
 pub mod record_table;
 pub mod recorded_flag;

@@ -1,6 +1,6 @@
 //! A lock and a semaphore over an event of `event_listener`: a client that finds the lock held, or no permit free,
-//! listens, tries again, and waits until a notification makes it try anew. `program_mutex` and `program_semaphore` are
-//! the programs.
+//! listens, tries again, and waits until a notification makes it try anew. `program_examples` runs
+//! threads over both.
 //!
 //! [`Mutex::lock`] blocks the calling thread, [`Mutex::lock_timeout`] does so for some time at most, and a
 //! [`PolledLock`] is polled by a task. A [`Semaphore`] has several permits; a [`Permit`] is one, or several: `more`
@@ -26,7 +26,7 @@
 //!
 //! For a lock of your own, implement `Contended`, whose `try_take` is one try, and `Taken`, whose `free` frees what was
 //! taken and says how many to notify; then call `try_once`, `take` and `take_timeout`. `docs/PROMISES.md` says what is
-//! proved, and what only `test_locks`, `test_examples` and `test_memory` show.
+//! proved, and what only `test_examples` and `test_memory` show.
 #![tactic(auto)]
 
 pub mod contended;

@@ -2,10 +2,10 @@
 use crate::support::check;
 use event_queue::ListenError::SerialsUsedUp;
 use event_queue::{Key, List, RegisterResult, Woken};
-use example_queue::counted::{admit_counted, leave_counted};
-use example_queue::shared::SharedTurnstile;
-use example_queue::tagged::{announce, call_to_desk};
-use example_queue::turnstile::Turnstile;
+use example_events::queue::counted::{admit_counted, leave_counted};
+use example_events::queue::shared::SharedTurnstile;
+use example_events::queue::tagged::{announce, call_to_desk};
+use example_events::queue::turnstile::Turnstile;
 use std::fmt::Debug;
 use std::process::Abort;
 use std::thread;

@@ -1,7 +1,7 @@
 //! What the tests share: what ends a test, and calls that have to succeed.
 use event_listener::{Event, EventId, EventIds, EventListener, IntoNotification, IntoTagged};
 use futures::test::MockTask;
-use std::fmt::Debug;
+use std::fmt::{Debug, Display};
 use std::process::Abort;
 use std::sync::Wait;
 use std::thread::Threads;
@@ -13,8 +13,14 @@ pub trait Host: Runtime + Threads + Sync {}
 
 impl<R: Runtime + Threads + Sync> Host for R {}
 
-/// The answer is the expected one. Where it is not, the message has both, and what was asked.
-pub fn check<V: PartialEq + Debug + Drop, R: Abort>(rt: &R, asked: &str, answer: V, expected: V) {
+/// The answer is the expected one. Where it is not, the message has both, and what was asked. The assertion stands here
+/// once, in a generic function, and is proved once.
+pub fn check<A, V, R>(rt: &R, asked: A, answer: V, expected: V)
+where
+    A: Display + Drop,
+    V: PartialEq + Debug + Drop,
+    R: Abort,
+{
     assert_eq!(rt; answer, expected, "{asked}");
 }
 

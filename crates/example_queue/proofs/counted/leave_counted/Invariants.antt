@@ -1,4 +1,0 @@
-use Rattle.example_queue.proofs.counted.leave_counted.Given as goal
-
-abbrev pub ghosts-leave_from : goal.ghosts-leave_from
-ghosts-leave_from a = record { name = a.blank.name; parts = a.blank.parts }

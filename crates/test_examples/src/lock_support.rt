@@ -1,0 +1,102 @@
+//! What the tests of locks share: the calls that have to succeed. Each ends the test where it does not.
+use crate::support::{check, new_id};
+use example_locks::contended::{Contended, Held, Taken, try_once};
+use example_locks::{Mutex, MutexError, MutexGuard, Permit, PolledLock, Semaphore};
+use futures::task::{Poll, Waker};
+use futures::test::MockTask;
+use std::process::Abort;
+use std::sync::Wait;
+use std::time::Clock;
+use test_support::waker_of;
+
+/// A free lock round this value.
+pub fn new_mutex<R: Abort>(rt: &R, value: u64) -> Mutex<u64> {
+    Mutex::new(new_id(rt), value)
+}
+
+/// The lock, which is free.
+pub fn hold<'a, R: Abort + Wait>(rt: &'a R, mutex: &'a Mutex<u64>) -> MutexGuard<'a, u64, R> {
+    mutex.try_lock(rt).expect(rt, "the lock")
+}
+
+/// A semaphore with so many permits.
+pub fn new_semaphore<R: Abort>(rt: &R, permits: usize) -> Semaphore {
+    Semaphore::new(new_id(rt), permits)
+}
+
+/// A permit, of which one is free.
+pub fn take_permit<'a, R: Abort + Wait>(rt: &'a R, semaphore: &'a Semaphore) -> Permit<'a, R> {
+    semaphore.try_acquire(rt).expect(rt, "a permit")
+}
+
+/// Whether a try finds the lock held.
+pub fn is_held<R: Wait>(rt: &R, mutex: &Mutex<u64>) -> bool {
+    mutex.try_lock(rt).is_none()
+}
+
+/// What somebody has taken and gives back when it is dropped, be it a lock or a permit.
+pub struct Keeper<'a, V: Taken, R: Wait> {
+    rt: &'a R,
+    held: Held<'a, V>,
+}
+
+impl<'a, V: Taken, R: Wait> Drop for Keeper<'a, V, R> {
+    fn drop(self) {
+        let Self { rt, held } = self;
+        held.free().notify(rt);
+    }
+}
+
+/// Takes it, where it is free.
+pub fn keep<'a, C, R>(rt: &'a R, contended: C) -> Option<Keeper<'a, C::Taken, R>>
+where
+    C: Contended<'a>,
+    R: Wait,
+{
+    let held = try_once(contended)?;
+    Some(Keeper { rt, held })
+}
+
+// A waker of this task, which begins a poll of it.
+fn new_waker<R: Abort>(rt: &R, task: &MockTask) -> Waker {
+    waker_of(task).expect(rt, "a waker")
+}
+
+/// The task polls the lock, and has to wait.
+pub fn waits<H: Abort, R>(host: &H, polled: &mut PolledLock<'_, u64, R>, task: &MockTask)
+where
+    R: Wait + Clock + Clone,
+{
+    let answer = polled.poll(new_waker(host, task));
+    let pending = matches!(answer, Ok(Poll::Pending));
+    check(host, "whether the poll is pending", pending, true);
+}
+
+/// The task polls the lock, and is given it.
+pub fn is_given<'a, H: Abort, R>(
+    host: &H,
+    polled: &mut PolledLock<'a, u64, R>,
+    task: &MockTask,
+) -> MutexGuard<'a, u64, R>
+where
+    R: Wait + Clock + Clone,
+{
+    match polled.poll(new_waker(host, task)) {
+        Ok(Poll::Ready(guard)) => guard,
+        _ => panic!(host; "the poll gives no lock"),
+    }
+}
+
+/// The task polls the lock, and is refused.
+pub fn is_refused<H: Abort, R>(
+    host: &H,
+    polled: &mut PolledLock<'_, u64, R>,
+    task: &MockTask,
+    expected: MutexError,
+)
+where
+    R: Wait + Clock + Clone,
+{
+    let refusal = polled.poll(new_waker(host, task)).err();
+    check(host, "the refusal", refusal, Some(expected));
+}
