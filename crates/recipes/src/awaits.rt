@@ -1,6 +1,6 @@
 //! Functions that await locks, over any runtime.
 use event_channel::Receiver;
-use event_locks::{Barrier, Claim, Mutex, OnceCell, RwLock, Semaphore};
+use event_locks::{Barrier, Mutex, RwLock, Semaphore};
 use futures::executor::block_on;
 use futures::future::{Either, join, select};
 use std::alloc::{AllocGlobal, Global};
@@ -70,19 +70,4 @@ where
     let both = join(barrier.wait(rt, alloc), barrier.wait(rt, alloc));
     let (first, second) = block_on(rt, both)?;
     Ok(first?.is_leader() != second?.is_leader())
-}
-
-/// Makes the value of a cell if it is this task's turn, and then has it as any other.
-pub fn make_name<R>(
-    rt: &R,
-    alloc: Global,
-    cell: &OnceCell<&'static str>,
-) -> anyhow::Result<&'static str>
-where
-    R: Wait + Clock + RandomSource + AllocGlobal,
-{
-    if let Claim::Vacant(turn) = block_on(rt, cell.claim(rt, alloc))?? {
-        let _ = turn.set("Ada");
-    }
-    Ok(*block_on(rt, cell.wait(rt, alloc))??)
 }

@@ -1,0 +1,191 @@
+//! Recipes over locks, channels and events, a module each, as [RECIPES.md](../../../docs/RECIPES.md) shows them. The
+//! program runs each once, and prints one line of what came of its calls. An error is printed to standard error, with
+//! status 1. No clause says what is printed, or that a wait returns.
+#![tactic(auto)]
+
+mod awaits;
+mod balance;
+mod cache;
+mod cell;
+mod first_wait;
+mod limiter;
+mod pool;
+mod queue;
+mod two_channels;
+
+use awaits::{deposit, first_of, meet, read_after_write, take_two};
+use balance::{Balance, deposit_later, withdraw, withdraw_as_task, withdraw_within};
+use cache::{Squares, square};
+use cell::{make_name, port};
+use event_channel::unbounded;
+use event_locks::{Barrier, Mutex, OnceCell, RwLock, Semaphore};
+use first_wait::first_wait;
+use limiter::{Load, run_all};
+use pool::Pool;
+use queue::{close_gracefully, sum_of_squares};
+use std::alloc::AllocGlobal;
+use std::io::Print;
+use std::process::ExitCode;
+use std::random::RandomSource;
+use std::sync::{Arc, Wait};
+use std::thread::{self, Threads};
+use std::time::{Clock, Duration};
+use two_channels::urgent_first;
+
+// The square of 2^32 is too large, so a worker gives that job up.
+fn run_pool<R>(rt: R) -> anyhow::Result<()>
+where
+    R: Threads + Wait + Clock + AllocGlobal + Print + Copy + Send + Sync + 'static,
+{
+    let alloc = rt.alloc();
+    let pool = Pool::new(rt, alloc, 2)?;
+    let nine = pool.submit(rt, alloc, 9)?;
+    let large = pool.submit(rt, alloc, 1 << 32)?;
+    println!(rt; "pool: {:?} {:?}", nine.wait(), large.wait())?;
+    pool.finish(rt)?;
+    Ok(())
+}
+
+fn run_queue<R>(rt: R) -> anyhow::Result<()>
+where
+    R: Threads + Wait + Clock + AllocGlobal + Print + Copy + Send + Sync + 'static,
+{
+    let all = sum_of_squares(rt, rt.alloc())?;
+    let (sum, late) = close_gracefully(rt, rt.alloc())?;
+    let late = late.map_err(|refused| (refused.reason, refused.message));
+    println!(rt; "queue: {all}; {sum} {late:?}")?;
+    Ok(())
+}
+
+fn run_limiter<R>(rt: R) -> anyhow::Result<()>
+where
+    R: Threads + Wait + Clock + AllocGlobal + Print + Copy + Send + Sync + 'static,
+{
+    let alloc = rt.alloc();
+    let permits = Arc::new(alloc, Semaphore::new(alloc, 2)?)?;
+    let load = Arc::new(alloc, Load::new())?;
+    run_all(rt, alloc, &permits, &load, 6)?;
+    println!(rt;
+        "limiter: two at most {}, {} free",
+        load.most() <= 2,
+        permits.available()
+    )?;
+    Ok(())
+}
+
+fn run_cell<R>(rt: &R) -> anyhow::Result<()>
+where
+    R: Wait + Clock + RandomSource + AllocGlobal + Print,
+{
+    let alloc = rt.alloc();
+    let cell = OnceCell::new(alloc);
+    let failed = port(rt, alloc, &cell, "http").is_err();
+    let made = port(rt, alloc, &cell, "8080")?;
+    let kept = port(rt, alloc, &cell, "9090")?;
+    let name = make_name(rt, alloc, &OnceCell::new(alloc))?;
+    println!(rt; "cell: {failed} {made} {kept}; {name}")?;
+    Ok(())
+}
+
+fn run_cache<R>(rt: &R) -> anyhow::Result<()>
+where
+    R: Wait + Clock + RandomSource + AllocGlobal + Print,
+{
+    let alloc = rt.alloc();
+    let cache = RwLock::new(alloc, Squares::new(alloc))?;
+    let first = square(rt, alloc, &cache, 7)?;
+    let again = square(rt, alloc, &cache, 7)?;
+    let other = square(rt, alloc, &cache, 9)?;
+    println!(rt;
+        "cache: {first} {again} {other}, {} kept",
+        cache.into_inner().len()
+    )?;
+    Ok(())
+}
+
+// A balance that is waited for. What it lacks comes from another thread.
+fn run_balance<R>(rt: R) -> anyhow::Result<()>
+where
+    R: Threads + Wait + Clock + RandomSource + AllocGlobal + Print + Copy + Send + Sync + 'static,
+{
+    let alloc = rt.alloc();
+    let balance = Arc::new(alloc, Balance::new(alloc, 10))?;
+    let left = withdraw(&rt, alloc, &balance, 4)?.left;
+    let late = withdraw_within(&rt, alloc, &balance, 7, Duration::from_millis(20))?;
+    print!(rt; "balance: {left} {}", late.is_some())?;
+
+    let other = deposit_later(rt, &balance, 10)?;
+    let left = withdraw(&rt, alloc, &balance, 15)?.left;
+    print!(rt; "; {left} of {}", other.join(&rt))?;
+    let other = deposit_later(rt, &balance, 10)?;
+    let left = withdraw_as_task(&rt, alloc, &balance, 8)?.left;
+    println!(rt; "; {left} of {}", other.join(&rt))?;
+    Ok(())
+}
+
+// A balance, in turn with messages.
+fn run_selects<R>(rt: &R) -> anyhow::Result<()>
+where
+    R: Wait + Clock + Clone + RandomSource + AllocGlobal + Print,
+{
+    let alloc = rt.alloc();
+    let balance = Mutex::new(alloc, 10u64)?;
+    print!(rt; "selects: {}", deposit(rt, alloc, &balance, 5)?)?;
+    let (sender, receiver) = unbounded(rt, alloc)?;
+    print!(rt; " {:?}", first_of(rt, alloc, &receiver, &balance)?)?;
+    let taken = balance.try_lock(rt);
+    sender.send_blocking(7)?;
+    print!(rt; " {:?}", first_of(rt, alloc, &receiver, &balance)?)?;
+    let limit = Duration::from_millis(20);
+    let in_time = balance.lock(rt, alloc).wait_timeout(limit)?.is_some();
+    drop(taken);
+    let [first, second, third] = urgent_first(rt)?;
+    println!(rt; " {in_time}; {first} {second} {third}")?;
+    Ok(())
+}
+
+// The second permit comes from another thread.
+fn run_joins<R>(rt: R) -> anyhow::Result<()>
+where
+    R: Threads + Wait + Clock + RandomSource + AllocGlobal + Print + Copy + Send + Sync + 'static,
+{
+    let alloc = rt.alloc();
+    let permits = Arc::new(alloc, Semaphore::new(alloc, 1)?)?;
+    let shared = Arc::try_clone(&permits)?;
+    let other = thread::spawn(&rt, move || {
+        thread::sleep(&rt, Duration::from_millis(20));
+        shared.add_permits(&rt, 1);
+    })?;
+    let free = take_two(&rt, alloc, &permits)?;
+    other.join(&rt);
+    let one_leads = meet(&rt, alloc, &Barrier::new(alloc, 2))?;
+    let doubled = read_after_write(&rt, alloc, &RwLock::new(alloc, 1)?)?;
+    println!(rt; "joins: {free} free, {one_leads}; {doubled}")?;
+    Ok(())
+}
+
+fn run<R>(rt: R) -> anyhow::Result<()>
+where
+    R: Threads + Wait + Clock + RandomSource + AllocGlobal + Print + Copy + Send + Sync + 'static,
+{
+    run_pool(rt)?;
+    run_queue(rt)?;
+    run_limiter(rt)?;
+    run_cell(&rt)?;
+    run_cache(&rt)?;
+    run_balance(rt)?;
+    run_selects(&rt)?;
+    run_joins(rt)?;
+    println!(rt; "event: the tag is {}", first_wait(rt, rt.alloc())?)?;
+    Ok(())
+}
+
+fn main(rt: HostRuntime) -> ExitCode {
+    match run(rt) {
+        Ok(()) => ExitCode::SUCCESS,
+        Err(error) => {
+            let _ = rt.eprintln(error);
+            ExitCode::FAILURE
+        }
+    }
+}
