@@ -4,7 +4,7 @@
 //! | Module | What it tests |
 //! |---|---|
 //! | `order` | messages in order, what a channel says of itself, many that are received at once, and iterators |
-//! | `calls` | tables: what calls answer and whom they wake; polls for another reason, and who is left alone or dropped; sends by force; a close |
+//! | `answers` | tables: what calls answer and whom they wake; polls for another reason, and who is left alone or dropped; sends by force; a close |
 //! | `handles` | clones, weak handles, the last of a side, a closed channel, and what makes none |
 //! | `limits` | calls that wait until a limit, and what comes while they look at the clock there |
 //! | `errors` | what errors and handles say |
@@ -17,7 +17,7 @@
 #![tactic(auto)]
 
 #[cfg(test)]
-mod calls;
+mod answers;
 #[cfg(test)]
 mod errors;
 #[cfg(test)]

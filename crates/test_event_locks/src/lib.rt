@@ -8,8 +8,6 @@
 //! | `races` | one lets go while another one goes into the queue |
 //! | `stress` | threads and tasks at these locks, which give up at times |
 //! | `behaviours` | what each lock does when it is called in the order that its users know from other crates |
-//! | `monitor` | a value that threads and tasks wait for |
-//! | `words` | threads that meet at the word of a lock, whose state another one has out |
 //! | `accounts` | what the page of the crate shows |
 //!
 //! `support` has what they share.
@@ -22,8 +20,6 @@ mod arrivals;
 #[cfg(test)]
 mod behaviours;
 #[cfg(test)]
-mod monitor;
-#[cfg(test)]
 mod races;
 #[cfg(test)]
 mod stress;
@@ -31,5 +27,3 @@ mod stress;
 mod support;
 #[cfg(test)]
 mod threads;
-#[cfg(test)]
-mod words;

@@ -32,7 +32,7 @@ fn in_some_way<R: Runtime, W: Waits>(rt: &R, way: usize, waits: W) -> Option<W::
     }
 }
 
-// A thousand rounds, or two seconds. Returns the sum of what the rounds count.
+// A thousand rounds, or ten seconds. Returns the sum of what the rounds count.
 fn rounds<R: Runtime, F: Fn(usize) -> usize>(rt: &R, thread: usize, round: &F) -> usize
     requires { F.IsAlwaysCallable round.now }
 {
@@ -40,7 +40,7 @@ fn rounds<R: Runtime, F: Fn(usize) -> usize>(rt: &R, thread: usize, round: &F) -
     let mut all = 0usize;
     for number in 0..1000usize {
         all = all.saturating_add(round(thread.saturating_add(number)));
-        if began.elapsed(rt).expect(rt, "the time") > Duration::from_secs(2) {
+        if began.elapsed(rt).expect(rt, "the time") > Duration::from_secs(10) {
             break;
         }
     }

@@ -7,12 +7,16 @@
 //! | `limits` | waits that end at their limit, at one that has passed and by a clock that can't be read |
 //! | `told` | one that is told and dropped, which gives on what it was handed |
 //! | `turns` | that nobody is passed over for ever, and when newcomers are shut out |
+//! | `monitor` | a value that threads and tasks wait for |
+//! | `words` | threads that meet at the word of a lock, whose state another one has out |
 //!
 //! `support` has what they share.
 #![tactic(auto)]
 
 #[cfg(test)]
 mod limits;
+#[cfg(test)]
+mod monitor;
 #[cfg(test)]
 mod support;
 #[cfg(test)]
@@ -21,3 +25,5 @@ mod told;
 mod turns;
 #[cfg(test)]
 mod waits;
+#[cfg(test)]
+mod words;
