@@ -1,17 +1,18 @@
 # help      prints these lines. Times are those of an idle machine with four processors, from nothing. What a check proves is
 #           kept, so the next one of the same sources takes seconds
-# run       compiles and runs the worked rows, with every check at run time, and proves nothing: under a minute
-# test      proves the libraries, and runs all tests and programs, and the programs that must not compile: a quarter of an hour
+# run       compiles and runs the worked rows, with every check at run time, and proves nothing: under a minute. `make run
+#           V=1` prints the text of each, too
+# test      proves the libraries, runs all tests and programs, and tries what must not compile: a quarter of an hour
 # gate      proves every crate with its tests, and tries the wrong bodies that the prover must refuse: an hour. A merge
 #           asks for `make test` and `make gate`, as .ci/run runs them
 # prove     proves every crate and its tests, and runs tests and programs, but tries no wrong bodies; `make prove JOBS=4`
 #           works on four crates at a time in 10 GB
 # vectors   proves and runs the program of the worked rows, and keeps it as crates/vectors/out/vectors: 12 minutes
 # check     proves every crate, without tests: what an edit changed takes seconds or minutes
-# refused   tries small programs that must not compile, and some that must: a minute or two
+# refused   tries programs that must not compile, and one that must: a minute
 # quoted    compares what pages quote, and the API pages, with the sources: a second
 # api       writes the API page of each library, its public items with their clauses, from the sources: a second
-# explore   shows a run of a world: `make explore RUN='mutex 2: 0 Go 2, 1 Go 5'`, or lines on its input: a minute. It proves
+# explore   shows a run of a world: `make explore RUN='mutex 2: 0:2 1:5'`, or lines on its input: a minute. It proves
 #           nothing; with PROVED=1 it proves the program first
 # fuzz      compares events and records with a queue on random lists of calls: `make fuzz SECONDS=600 SEED=7`, from another
 #           seed each time if none is given; it proves the program first, which takes minutes
@@ -26,6 +27,10 @@
 #           a folder as crates/replies/src/main.rt says
 .PHONY: help run test gate prove vectors check refused quoted api explore fuzz soak starved fmt bench diff
 
+# So that a target fails where the first command of a pipe does.
+SHELL := bash
+.SHELLFLAGS := -o pipefail -c
+
 # What a target that runs the toolchain begins with: it ends with status 2 where that is not there.
 needs_rt = $(if $(shell command -v rt),,$(error $@ needs the toolchain's command 'rt', which is not on the path))
 
@@ -33,7 +38,9 @@ help:
 	@sed -n 's/^# \{0,1\}//p; /^\.PHONY/q' $(firstword $(MAKEFILE_LIST))
 
 run:
-	$(needs_rt)@scripts/run
+	$(needs_rt)@echo "Compiling the worked rows, without proof. They run in about a minute."
+	@cd crates/vectors && rt try $(if $(V),-- -v) < /dev/null | awk '{ print; rows[$$NF]++ } END { print rows["ok"] + 0 " rows hold, " rows["differs"] + 0 " differ" }'
+	@echo "Nothing was proved: the rows ran with every check at run time. 'make gate' proves all."
 
 test:
 	$(needs_rt)@scripts/test
@@ -62,8 +69,11 @@ api:
 explore:
 	$(needs_rt)@scripts/explore "$(RUN)" "$(PROVED)"
 
+# The first run proves and keeps the program, and does nothing.
 fuzz soak:
-	$(needs_rt)@scripts/random $@ "$(SECONDS)" "$(SEED)"
+	$(needs_rt)@echo "Proving the program first. That takes minutes, unless an earlier run has kept it." >&2
+	@cd crates/$@ && rt run -- seed 0 times 0 < /dev/null >&2
+	@crates/$@/out/$@ seed "$(or $(SEED),$(shell date +%s))" seconds "$(or $(SECONDS),60)"
 
 starved:
 	$(needs_rt)@scripts/starved
