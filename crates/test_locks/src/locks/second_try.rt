@@ -1,6 +1,5 @@
 //! A lock that is freed between a client's first try and its listening.
-use crate::lock_support::{hold, is_held, new_mutex, waits};
-use crate::support::{check, is_woken, new_task};
+use crate::support::{check, hold, is_held, is_woken, new_mutex, new_task, waits};
 use std::sync::{self, Wait};
 use std::time::Clock;
 use test_support::Interrupted;

@@ -1,6 +1,5 @@
 //! What the types of a client's way leave open: which notification is owed, and that a listener is dropped.
-use crate::lock_support::{hold, new_mutex, waits};
-use crate::support::{check, is_woken, new_task};
+use crate::support::{check, hold, is_woken, new_mutex, new_task, waits};
 use example_locks::contended::{Clients, Contended, Owed, Taken, take, try_once};
 use example_locks::{Mutex, MutexGuard, PolledLock};
 use futures::test::MockTask;

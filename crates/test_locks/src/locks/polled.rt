@@ -1,6 +1,7 @@
 //! Locks that are polled by hand.
-use crate::lock_support::{hold, is_given, is_held, is_refused, new_mutex, waits};
-use crate::support::{check, is_woken, new_task};
+use crate::support::{
+    check, hold, is_given, is_held, is_refused, is_woken, new_mutex, new_task, waits,
+};
 use example_locks::MutexError;
 
 #[test]

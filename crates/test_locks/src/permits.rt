@@ -1,6 +1,5 @@
 //! Permits of a semaphore: taking and giving them back, and threads that wait for them.
-use crate::lock_support::{new_semaphore, take_permit};
-use crate::support::check;
+use crate::support::{check, new_semaphore, take_permit};
 use example_locks::{Permit, Semaphore};
 use std::alloc::AllocGlobal;
 use std::process::Abort;

@@ -1,13 +1,40 @@
-//! What the tests of locks share: the calls that have to succeed. Each ends the test where it does not.
-use crate::support::{check, new_id};
+//! What the tests share: the calls that have to succeed. Each ends the test where it does not.
+use event_listener::{EventId, EventIds};
 use example_locks::contended::{Contended, Held, Taken, try_once};
 use example_locks::{Mutex, MutexError, MutexGuard, Permit, PolledLock, Semaphore};
 use futures::task::{Poll, Waker};
 use futures::test::MockTask;
+use std::fmt::{Debug, Display};
 use std::process::Abort;
 use std::sync::Wait;
 use std::time::Clock;
-use test_support::waker_of;
+use test_support::{Runtime, waker_of};
+
+/// The answer is the expected one. Where it is not, the message has both, and what was asked. The assertion stands here
+/// once, in a generic function, and is proved once.
+pub fn check<A, V, R>(rt: &R, asked: A, answer: V, expected: V)
+where
+    A: Display + Drop,
+    V: PartialEq + Debug + Drop,
+    R: Abort,
+{
+    assert_eq!(rt; answer, expected, "{asked}");
+}
+
+/// The first identity of a source.
+pub fn new_id<R: Abort>(rt: &R) -> EventId {
+    EventIds::new().next().expect(rt, "an identity")
+}
+
+/// A task that is not woken.
+pub fn new_task<R: Runtime>(rt: &R) -> MockTask {
+    MockTask::new(rt).expect(rt, "a task")
+}
+
+/// Since its last poll began the task was woken, or was not.
+pub fn is_woken<R: Abort>(rt: &R, task: &MockTask, expected: bool) {
+    check(rt, "whether the task is woken", task.is_woken(), expected);
+}
 
 /// A free lock round this value.
 pub fn new_mutex<R: Abort>(rt: &R, value: u64) -> Mutex<u64> {

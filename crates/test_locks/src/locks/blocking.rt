@@ -1,6 +1,5 @@
 //! Locks that block the thread.
-use crate::lock_support::{hold, new_mutex, waits};
-use crate::support::{check, is_woken, new_task};
+use crate::support::{check, hold, is_woken, new_mutex, new_task, waits};
 use example_locks::{Mutex, MutexGuard};
 use std::alloc::AllocGlobal;
 use std::process::Abort;

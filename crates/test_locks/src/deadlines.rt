@@ -1,6 +1,5 @@
 //! Clients that are told again and again, and find it taken each time.
-use crate::lock_support::{Keeper, keep, new_mutex, new_semaphore};
-use crate::support::check;
+use crate::support::{Keeper, check, keep, new_mutex, new_semaphore};
 use example_locks::contended::Contended;
 use std::cell::Cell;
 use std::io;

@@ -1,6 +1,7 @@
 //! Locks that are refused.
-use crate::lock_support::{hold, is_given, is_refused, new_mutex, new_semaphore, take_permit};
-use crate::support::{check, new_task};
+use crate::support::{
+    check, hold, is_given, is_refused, new_mutex, new_semaphore, new_task, take_permit,
+};
 use example_locks::{MutexError, SemaphoreError};
 use std::time::Duration;
 use test_support::Unshared;
