@@ -24,7 +24,7 @@
 #           scripts/bench says. It writes the tables and the chart of docs/BENCHMARKS.md: a quarter of an hour, and the
 #           programs' proofs
 # diff      compares the queue with the Rust crate, if its answers are at hand: `make diff ORACLE=FOLDER`, with
-#           a folder as crates/replies/src/main.rt says
+#           a folder as crates/vectors/src/replies.rt says
 .PHONY: help run test gate prove vectors check refused quoted api explore fuzz soak starved fmt bench diff
 
 # So that a target fails where the first command of a pipe does.
@@ -67,7 +67,8 @@ api:
 	@scripts/pages write
 
 explore:
-	$(needs_rt)@scripts/explore "$(RUN)" "$(PROVED)"
+	$(needs_rt)@echo "$(if $(PROVED),Proving,Compiling) the program first, if no earlier run has kept it." >&2
+	@cd crates/explore && $(if $(RUN),echo '$(RUN)' |) rt $(if $(PROVED),run,try --seconds 3600)
 
 # The first run proves and keeps the program, and does nothing.
 fuzz soak:
