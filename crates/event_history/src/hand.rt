@@ -30,7 +30,8 @@ impl<S, C> Hand<S, C> {
     /// The hand at rest.
     #[inline(always)]
     pub fn rest(self) -> Resting<S, C>
-        ensures { (result.rest.badge.table_id ≡ self.seat.table_id) × (result.rest.badge.views ≡ self.seat.me.0 ∷ []) }
+        ensures { (result.rest.badge.table_id ≡ self.seat.table_id)
+            × (result.rest.badge.views ≡ self.seat.me.0 ∷ []) }
     {
         let Hand { seat } = self;
         Resting {
@@ -54,7 +55,8 @@ impl<S, C> Resting<S, C> {
     #[inline(always)]
     pub fn take(&mut self) -> Hand<S, C>
         requires { (v : View S C) × (self.old.rest.badge.views ≡ v ∷ []) }
-        ensures hand { (result.seat.table_id ≡ self.old.rest.badge.table_id) × (self.old.rest.badge.views ≡ result.seat.me.0 ∷ []) }
+        ensures hand { (result.seat.table_id ≡ self.old.rest.badge.table_id)
+            × (self.old.rest.badge.views ≡ result.seat.me.0 ∷ []) }
         ensures left { self.new.rest.badge.views ≡ [] }
     {
         let rest = mem::replace(&mut self.rest, Rest::of(Badge::blank()));
@@ -66,7 +68,8 @@ impl<S, C> Resting<S, C> {
     /// Puts a hand in, after a call. It drops one that is there.
     #[inline(always)]
     pub fn put(&mut self, hand: Hand<S, C>)
-        ensures { (self.new.rest.badge.table_id ≡ hand.seat.table_id) × (self.new.rest.badge.views ≡ hand.seat.me.0 ∷ []) }
+        ensures { (self.new.rest.badge.table_id ≡ hand.seat.table_id)
+            × (self.new.rest.badge.views ≡ hand.seat.me.0 ∷ []) }
     {
         let Hand { seat } = hand;
         self.rest = Rest::of(seat.into_badge());

@@ -22,108 +22,200 @@ use crate::history::Steps;
 /// A listener whose listening stands in a history, and which no later call took out, is in the queue that the history leads
 /// to.
 pub fn stays<T, W>()
-    ensures { (key : Key) (log : QueueLog T W) (q : Queue T W) → LeadsTo calls is_empty log q → Listens key log → IsIn key q }
+    ensures { (key : Key) (log : QueueLog T W) (q : Queue T W) → LeadsTo calls is_empty log q
+        → Listens key log → IsIn key q }
 {}
 
 /// So a registration of it is not answered that it was never inserted, and a removal of it finds it.
 pub fn never_absent<T, W>()
-    ensures registered { (key : Key) (log : QueueLog T W) (q next : Queue T W) (reply : RegisterResult T) → LeadsTo calls is_empty log q → Listens key log → calls q (Register key reply) next → reply ≢ NeverInserted }
-    ensures removed { (key : Key) (log : QueueLog T W) (q next : Queue T W) (propagate : Bool) (reply : Option (State T W)) → LeadsTo calls is_empty log q → Listens key log → calls q (Remove key propagate reply) next → IsSome reply }
+    ensures registered { (key : Key) (log : QueueLog T W) (q next : Queue T W)
+        (reply : RegisterResult T) → LeadsTo calls is_empty log q → Listens key log
+        → calls q (Register key reply) next → reply ≢ NeverInserted }
+    ensures removed { (key : Key) (log : QueueLog T W) (q next : Queue T W) (propagate : Bool)
+        (reply : Option (State T W)) → LeadsTo calls is_empty log q → Listens key log
+        → calls q (Remove key propagate reply) next → IsSome reply }
 {}
 
 /// A listener that a hand joined by, and that no later call of this hand took out, is in the queue whenever the hand makes a
 /// call or looks, since no other hand takes it out. So a registration of it is not answered that it was never inserted, and a
 /// removal of it finds it.
 pub fn own_listener_stays<T, W>()
-    ensures stands { (key : Key) (number : ℕ) (log : QueueLog T W) (q : Queue T W) → LeadsTo calls is_empty log q → EachRests rests_on log → OwnsListener key (calls_by number log) → IsIn key q }
-    ensures called { (key : Key) (v w : View (Queue T W) (QueueCall T W)) (call : QueueCall T W) (before after : Queue T W) → Leads calls is_empty rests_on v call before after w → OwnsListener key v.mine → IsIn key before }
-    ensures looked { (key : Key) (v w : View (Queue T W) (QueueCall T W)) (looks : Looks calls is_empty rests_on v w) → OwnsListener key w.mine → IsIn key looks.led }
-    ensures registered { (key : Key) (v w : View (Queue T W) (QueueCall T W)) (reply : RegisterResult T) (before after : Queue T W) → Leads calls is_empty rests_on v (Register key reply) before after w → OwnsListener key v.mine → reply ≢ NeverInserted }
-    ensures removed { (key : Key) (v w : View (Queue T W) (QueueCall T W)) (propagate : Bool) (reply : Option (State T W)) (before after : Queue T W) → Leads calls is_empty rests_on v (Remove key propagate reply) before after w → OwnsListener key v.mine → IsSome reply }
+    ensures stands { (key : Key) (number : ℕ) (log : QueueLog T W) (q : Queue T W)
+        → LeadsTo calls is_empty log q → EachRests rests_on log
+        → OwnsListener key (calls_by number log) → IsIn key q }
+    ensures called { (key : Key) (v w : View (Queue T W) (QueueCall T W)) (call : QueueCall T W)
+        (before after : Queue T W) → Leads calls is_empty rests_on v call before after w
+        → OwnsListener key v.mine → IsIn key before }
+    ensures looked { (key : Key) (v w : View (Queue T W) (QueueCall T W))
+        (looks : Looks calls is_empty rests_on v w) → OwnsListener key w.mine → IsIn key looks.led }
+    ensures registered { (key : Key) (v w : View (Queue T W) (QueueCall T W))
+        (reply : RegisterResult T) (before after : Queue T W)
+        → Leads calls is_empty rests_on v (Register key reply) before after w
+        → OwnsListener key v.mine → reply ≢ NeverInserted }
+    ensures removed { (key : Key) (v w : View (Queue T W) (QueueCall T W)) (propagate : Bool)
+        (reply : Option (State T W)) (before after : Queue T W)
+        → Leads calls is_empty rests_on v (Remove key propagate reply) before after w
+        → OwnsListener key v.mine → IsSome reply }
 {}
 
 /// How a hand comes to own a listener, by a call that inserts it, and that it owns it on after any call that does not take it
 /// out, such as a registration that stores a task. Such a hand may register and remove it.
 pub fn owns_on<T, W>()
-    ensures joined { (key : Key) (v w : View (Queue T W) (QueueCall T W)) (before after : Queue T W) → Leads calls is_empty rests_on v (Insert (Ok key)) before after w → OwnsListener key w.mine }
-    ensures kept { (key : Key) (v w : View (Queue T W) (QueueCall T W)) (call : QueueCall T W) (before after : Queue T W) → Leads calls is_empty rests_on v call before after w → Stays key call → OwnsListener key v.mine → OwnsListener key w.mine }
-    ensures stored { (key : Key) (v w : View (Queue T W) (QueueCall T W)) (reply : RegisterResult T) (before after : Queue T W) → Leads calls is_empty rests_on v (Register key reply) before after w → reply ≡ Registered → OwnsListener key v.mine → OwnsListener key w.mine }
-    ensures may_call { (key : Key) (mine : List (QueueCall T W)) → OwnsListener key mine → AreAmong (Insert (Ok key) ∷ []) mine }
+    ensures joined { (key : Key) (v w : View (Queue T W) (QueueCall T W)) (before after : Queue T W)
+        → Leads calls is_empty rests_on v (Insert (Ok key)) before after w
+        → OwnsListener key w.mine }
+    ensures kept { (key : Key) (v w : View (Queue T W) (QueueCall T W)) (call : QueueCall T W)
+        (before after : Queue T W) → Leads calls is_empty rests_on v call before after w
+        → Stays key call → OwnsListener key v.mine → OwnsListener key w.mine }
+    ensures stored { (key : Key) (v w : View (Queue T W) (QueueCall T W)) (reply : RegisterResult T)
+        (before after : Queue T W)
+        → Leads calls is_empty rests_on v (Register key reply) before after w → reply ≡ Registered
+        → OwnsListener key v.mine → OwnsListener key w.mine }
+    ensures may_call { (key : Key) (mine : List (QueueCall T W)) → OwnsListener key mine
+        → AreAmong (Insert (Ok key) ∷ []) mine }
 {}
 
 /// Where a notification was refused no tag, a listener waits on only if as many as it counts are notified: in all, for a
 /// default one; for an additional one, of those that waited before that listener.
 pub fn told_or_as_many_before<T, W>()
-    ensures default_one { (key : Key) (old new : Queue T W) (count told : ℕ) → calls old (Notify count false (Ok told)) new → IsIn key old → IsTold key new ⊎ (Waits key new × (count ≤ length new.told)) }
-    ensures additional_one { (key : Key) (old new : Queue T W) (count told : ℕ) → calls old (Notify count true (Ok told)) new → IsIn key old → IsTold key new ⊎ (Waits key new × TellsFirst count old new) }
+    ensures default_one { (key : Key) (old new : Queue T W) (count told : ℕ)
+        → calls old (Notify count false (Ok told)) new → IsIn key old → IsTold key new
+        ⊎ (Waits key new × (count ≤ length new.told)) }
+    ensures additional_one { (key : Key) (old new : Queue T W) (count told : ℕ)
+        → calls old (Notify count true (Ok told)) new → IsIn key old → IsTold key new
+        ⊎ (Waits key new × TellsFirst count old new) }
 {}
 
 /// A notification that counts as many as there are listeners, additional or not, and that was refused no tag leaves each of
 /// them notified. The greatest count is always as many.
 pub fn tells_all<T, W>()
-    ensures enough { (key : Key) (old new : Queue T W) (count told : ℕ) (additional : Bool) → calls old (Notify count additional (Ok told)) new → listeners_of old ≤ count → IsIn key old → IsTold key new }
-    ensures greatest { (key : Key) (old new : Queue T W) (told : ℕ) (additional : Bool) → calls old (Notify (2 ^ 64 - 1) additional (Ok told)) new → IsIn key old → IsTold key new }
+    ensures enough { (key : Key) (old new : Queue T W) (count told : ℕ) (additional : Bool)
+        → calls old (Notify count additional (Ok told)) new → listeners_of old ≤ count
+        → IsIn key old → IsTold key new }
+    ensures greatest { (key : Key) (old new : Queue T W) (told : ℕ) (additional : Bool)
+        → calls old (Notify (2 ^ 64 - 1) additional (Ok told)) new → IsIn key old → IsTold key new }
 {}
 
 /// Whichever states one history leads to, the same listeners are notified in each, and the same wait, in the same order. So who
 /// is notified after a call is known wherever the history up to that call is.
 pub fn one_history_one_order<T, W>()
-    ensures told { (log : QueueLog T W) (q other : Queue T W) → LeadsTo calls is_empty log q → LeadsTo calls is_empty log other → keys_of q.told ≡ keys_of other.told }
-    ensures waiting { (log : QueueLog T W) (q other : Queue T W) → LeadsTo calls is_empty log q → LeadsTo calls is_empty log other → keys_of q.waiting ≡ keys_of other.waiting }
+    ensures told { (log : QueueLog T W) (q other : Queue T W) → LeadsTo calls is_empty log q
+        → LeadsTo calls is_empty log other → keys_of q.told ≡ keys_of other.told }
+    ensures waiting { (log : QueueLog T W) (q other : Queue T W) → LeadsTo calls is_empty log q
+        → LeadsTo calls is_empty log other → keys_of q.waiting ≡ keys_of other.waiting }
 {}
 
 /// A notified listener stays notified until the hand that it joined by takes its tag or removes it. So one that was notified
 /// at some point of what a hand has seen, and that the hand did not take out, is notified when the hand makes its next call,
 /// and where it looks.
 pub fn told_until_own_call<T, W>()
-    ensures run { (key : Key) (later : QueueLog T W) (q r : Queue T W) → IsTold key q → Runs calls q later r → EachStays key later → IsTold key r }
-    ensures stands { (key : Key) (number : ℕ) (log earlier later : QueueLog T W) (q r : Queue T W) → LeadsTo calls is_empty log r → EachRests rests_on log → OwnsListener key (calls_by number log) → log ≡ earlier ++ later → LeadsTo calls is_empty earlier q → IsTold key q → IsTold key r }
-    ensures called { (key : Key) (v w : View (Queue T W) (QueueCall T W)) (call : QueueCall T W) (earlier later : QueueLog T W) (q before after : Queue T W) → Leads calls is_empty rests_on v call before after w → OwnsListener key v.mine → v.seen ≡ earlier ++ later → LeadsTo calls is_empty earlier q → IsTold key q → IsTold key before }
-    ensures looked { (key : Key) (v w : View (Queue T W) (QueueCall T W)) (earlier later : QueueLog T W) (q : Queue T W) (looks : Looks calls is_empty rests_on v w) → OwnsListener key w.mine → w.seen ≡ earlier ++ later → LeadsTo calls is_empty earlier q → IsTold key q → IsTold key looks.led }
+    ensures run { (key : Key) (later : QueueLog T W) (q r : Queue T W) → IsTold key q
+        → Runs calls q later r → EachStays key later → IsTold key r }
+    ensures stands { (key : Key) (number : ℕ) (log earlier later : QueueLog T W) (q r : Queue T W)
+        → LeadsTo calls is_empty log r → EachRests rests_on log
+        → OwnsListener key (calls_by number log) → log ≡ earlier ++ later
+        → LeadsTo calls is_empty earlier q → IsTold key q → IsTold key r }
+    ensures called { (key : Key) (v w : View (Queue T W) (QueueCall T W)) (call : QueueCall T W)
+        (earlier later : QueueLog T W) (q before after : Queue T W)
+        → Leads calls is_empty rests_on v call before after w → OwnsListener key v.mine
+        → v.seen ≡ earlier ++ later → LeadsTo calls is_empty earlier q → IsTold key q
+        → IsTold key before }
+    ensures looked { (key : Key) (v w : View (Queue T W) (QueueCall T W))
+        (earlier later : QueueLog T W) (q : Queue T W) (looks : Looks calls is_empty rests_on v w)
+        → OwnsListener key w.mine → w.seen ≡ earlier ++ later → LeadsTo calls is_empty earlier q
+        → IsTold key q → IsTold key looks.led }
 {}
 
 /// A registration of a notified listener is answered its tag, and a removal of one finds it notified.
 pub fn told_is_found<T, W>()
-    ensures registered { (key : Key) (log : QueueLog T W) (q next : Queue T W) (reply : RegisterResult T) → LeadsTo calls is_empty log q → IsTold key q → calls q (Register key reply) next → (tag : T) × (reply ≡ Notified tag) }
-    ensures removed { (key : Key) (log : QueueLog T W) (q next : Queue T W) (propagate : Bool) (reply : Option (State T W)) → LeadsTo calls is_empty log q → IsTold key q → calls q (Remove key propagate reply) next → FindsTold propagate reply }
+    ensures registered { (key : Key) (log : QueueLog T W) (q next : Queue T W)
+        (reply : RegisterResult T) → LeadsTo calls is_empty log q → IsTold key q
+        → calls q (Register key reply) next → (tag : T) × (reply ≡ Notified tag) }
+    ensures removed { (key : Key) (log : QueueLog T W) (q next : Queue T W) (propagate : Bool)
+        (reply : Option (State T W)) → LeadsTo calls is_empty log q → IsTold key q
+        → calls q (Remove key propagate reply) next → FindsTold propagate reply }
 {}
 
 /// Where a hand owns a listener, and has seen that after it joined some hand notified all, by the greatest count and refused no
 /// tag, the listener is notified when the hand makes its next call, and where it looks. So a registration of it is answered
 /// its tag, and a removal finds it notified.
 pub fn told_by_another<T, W>()
-    ensures called { (key : Key) (number by : ℕ) (additional : Bool) (told : ℕ) (v w : View (Queue T W) (QueueCall T W)) (call : QueueCall T W) (earlier later : QueueLog T W) (before after : Queue T W) → Leads calls is_empty rests_on v call before after w → OwnsListener key v.mine → v.seen ≡ earlier ++ entry by (Notify (2 ^ 64 - 1) additional (Ok told)) ∷ later → IsAmong (Insert (Ok key)) (calls_by number earlier) → IsTold key before }
-    ensures looked { (key : Key) (number by : ℕ) (additional : Bool) (told : ℕ) (v w : View (Queue T W) (QueueCall T W)) (earlier later : QueueLog T W) (looks : Looks calls is_empty rests_on v w) → OwnsListener key w.mine → w.seen ≡ earlier ++ entry by (Notify (2 ^ 64 - 1) additional (Ok told)) ∷ later → IsAmong (Insert (Ok key)) (calls_by number earlier) → IsTold key looks.led }
-    ensures registered { (key : Key) (number by : ℕ) (additional : Bool) (told : ℕ) (v w : View (Queue T W) (QueueCall T W)) (reply : RegisterResult T) (earlier later : QueueLog T W) (before after : Queue T W) → Leads calls is_empty rests_on v (Register key reply) before after w → OwnsListener key v.mine → v.seen ≡ earlier ++ entry by (Notify (2 ^ 64 - 1) additional (Ok told)) ∷ later → IsAmong (Insert (Ok key)) (calls_by number earlier) → (tag : T) × (reply ≡ Notified tag) }
-    ensures removed { (key : Key) (number by : ℕ) (additional : Bool) (told : ℕ) (v w : View (Queue T W) (QueueCall T W)) (propagate : Bool) (reply : Option (State T W)) (earlier later : QueueLog T W) (before after : Queue T W) → Leads calls is_empty rests_on v (Remove key propagate reply) before after w → OwnsListener key v.mine → v.seen ≡ earlier ++ entry by (Notify (2 ^ 64 - 1) additional (Ok told)) ∷ later → IsAmong (Insert (Ok key)) (calls_by number earlier) → FindsTold propagate reply }
+    ensures called { (key : Key) (number by : ℕ) (additional : Bool) (told : ℕ)
+        (v w : View (Queue T W) (QueueCall T W)) (call : QueueCall T W)
+        (earlier later : QueueLog T W) (before after : Queue T W)
+        → Leads calls is_empty rests_on v call before after w → OwnsListener key v.mine
+        → v.seen ≡ earlier ++ entry by (Notify (2 ^ 64 - 1) additional (Ok told)) ∷ later
+        → IsAmong (Insert (Ok key)) (calls_by number earlier) → IsTold key before }
+    ensures looked { (key : Key) (number by : ℕ) (additional : Bool) (told : ℕ)
+        (v w : View (Queue T W) (QueueCall T W)) (earlier later : QueueLog T W)
+        (looks : Looks calls is_empty rests_on v w) → OwnsListener key w.mine
+        → w.seen ≡ earlier ++ entry by (Notify (2 ^ 64 - 1) additional (Ok told)) ∷ later
+        → IsAmong (Insert (Ok key)) (calls_by number earlier) → IsTold key looks.led }
+    ensures registered { (key : Key) (number by : ℕ) (additional : Bool) (told : ℕ)
+        (v w : View (Queue T W) (QueueCall T W)) (reply : RegisterResult T)
+        (earlier later : QueueLog T W) (before after : Queue T W)
+        → Leads calls is_empty rests_on v (Register key reply) before after w
+        → OwnsListener key v.mine
+        → v.seen ≡ earlier ++ entry by (Notify (2 ^ 64 - 1) additional (Ok told)) ∷ later
+        → IsAmong (Insert (Ok key)) (calls_by number earlier) → (tag : T) × (reply ≡ Notified tag) }
+    ensures removed { (key : Key) (number by : ℕ) (additional : Bool) (told : ℕ)
+        (v w : View (Queue T W) (QueueCall T W)) (propagate : Bool) (reply : Option (State T W))
+        (earlier later : QueueLog T W) (before after : Queue T W)
+        → Leads calls is_empty rests_on v (Remove key propagate reply) before after w
+        → OwnsListener key v.mine
+        → v.seen ≡ earlier ++ entry by (Notify (2 ^ 64 - 1) additional (Ok told)) ∷ later
+        → IsAmong (Insert (Ok key)) (calls_by number earlier) → FindsTold propagate reply }
 {}
 
 /// Whoever takes a tag listened and waited until a call of the history notified it with just that tag: a notification, or a
 /// removal that passed one on to it. The same holds of whoever is notified and took no tag yet, and who is in the queue
 /// listened.
 pub fn tag_was_told<T, W>()
-    ensures taken { (key : Key) (log : QueueLog T W) (q next : Queue T W) (tag : T) → LeadsTo calls is_empty log q → calls q (Register key (Notified tag)) next → (notice : Notice T) × (notice.tag ≡ tag) × WasTold key notice log q }
-    ensures stood { (key : Key) (by : ℕ) (earlier later : QueueLog T W) (end : Queue T W) (tag : T) → LeadsTo calls is_empty (earlier ++ entry by (Register key (Notified tag)) ∷ later) end → (q : Queue T W) × (notice : Notice T) × (notice.tag ≡ tag) × WasTold key notice earlier q }
-    ensures told { (key : Key) (log : QueueLog T W) (q : Queue T W) (notice : Notice T) → LeadsTo calls is_empty log q → lookup (is_key key) q.told ≡ Some notice → WasTold key notice log q }
-    ensures listened { (key : Key) (log : QueueLog T W) (q : Queue T W) → LeadsTo calls is_empty log q → IsIn key q → Listens key log }
+    ensures taken { (key : Key) (log : QueueLog T W) (q next : Queue T W) (tag : T)
+        → LeadsTo calls is_empty log q → calls q (Register key (Notified tag)) next
+        → (notice : Notice T) × (notice.tag ≡ tag) × WasTold key notice log q }
+    ensures stood { (key : Key) (by : ℕ) (earlier later : QueueLog T W) (end : Queue T W) (tag : T)
+        → LeadsTo calls is_empty (earlier ++ entry by (Register key (Notified tag)) ∷ later) end
+        → (q : Queue T W) × (notice : Notice T) × (notice.tag ≡ tag)
+        × WasTold key notice earlier q }
+    ensures told { (key : Key) (log : QueueLog T W) (q : Queue T W) (notice : Notice T)
+        → LeadsTo calls is_empty log q → lookup (is_key key) q.told ≡ Some notice
+        → WasTold key notice log q }
+    ensures listened { (key : Key) (log : QueueLog T W) (q : Queue T W)
+        → LeadsTo calls is_empty log q → IsIn key q → Listens key log }
 {}
 
 /// Who listened first has the lower serial, and is notified first: nobody waits while a later one is notified.
 pub fn first_told_first<T, W>()
-    ensures serials { (a b : Key) (x y : ℕ) (earlier between later : QueueLog T W) (q : Queue T W) → LeadsTo calls is_empty (earlier ++ entry x (Insert (Ok a)) ∷ (between ++ entry y (Insert (Ok b)) ∷ later)) q → a.serial < b.serial }
-    ensures told { (a b : Key) (log : QueueLog T W) (q : Queue T W) → LeadsTo calls is_empty log q → a.serial < b.serial → IsTold b q → IsIn a q → IsTold a q }
+    ensures serials { (a b : Key) (x y : ℕ) (earlier between later : QueueLog T W) (q : Queue T W)
+        → LeadsTo calls is_empty
+        (earlier ++ entry x (Insert (Ok a)) ∷ (between ++ entry y (Insert (Ok b)) ∷ later)) q
+        → a.serial < b.serial }
+    ensures told { (a b : Key) (log : QueueLog T W) (q : Queue T W) → LeadsTo calls is_empty log q
+        → a.serial < b.serial → IsTold b q → IsIn a q → IsTold a q }
 {}
 
 /// A notified listener that is dropped passes its notification on, with its tag, to the first that waits where its kind
 /// wants one more notified once it has left. Else the notification is lost, and is the answer.
 pub fn passes_on<T, W>()
-    ensures wanted { (key : Key) (log : QueueLog T W) (old new : Queue T W) (notice : Notice T) (reply : Option (State T W)) → LeadsTo calls is_empty log old → lookup (is_key key) old.told ≡ Some notice → calls old (Remove key true reply) new → how_many 1 notice.additional (told_leaves key old) ≡ 1 → (to : Key) × (reply ≡ Some (Passed to)) × GoesToFirst to notice old new }
-    ensures unwanted { (key : Key) (log : QueueLog T W) (old new : Queue T W) (notice : Notice T) (reply : Option (State T W)) → LeadsTo calls is_empty log old → lookup (is_key key) old.told ≡ Some notice → calls old (Remove key true reply) new → how_many 1 notice.additional (told_leaves key old) ≡ 0 → (reply ≡ Some (Lost notice.additional notice.tag)) × (new ≡ told_leaves key old) }
+    ensures wanted { (key : Key) (log : QueueLog T W) (old new : Queue T W) (notice : Notice T)
+        (reply : Option (State T W)) → LeadsTo calls is_empty log old
+        → lookup (is_key key) old.told ≡ Some notice → calls old (Remove key true reply) new
+        → how_many 1 notice.additional (told_leaves key old) ≡ 1 → (to : Key)
+        × (reply ≡ Some (Passed to)) × GoesToFirst to notice old new }
+    ensures unwanted { (key : Key) (log : QueueLog T W) (old new : Queue T W) (notice : Notice T)
+        (reply : Option (State T W)) → LeadsTo calls is_empty log old
+        → lookup (is_key key) old.told ≡ Some notice → calls old (Remove key true reply) new
+        → how_many 1 notice.additional (told_leaves key old) ≡ 0
+        → (reply ≡ Some (Lost notice.additional notice.tag)) × (new ≡ told_leaves key old) }
 {}
 
 /// A hand has seen, after a call, all that it had seen before. A hand that another one made calls after all that the other
 /// one had seen by then.
 pub fn told_hands_call_later<S: Steps>()
-    ensures seen { (v w : View S S.Call) (call : S.Call) → Extends S.goes S.starts S.rests v call w → StartsWith w.seen v.seen }
-    ensures later { (v w : View S S.Call) (call : S.Call) → Extends S.goes S.starts S.rests (newcomer v.seen) call w → (between : List (Entry S.Call)) × (number : ℕ) × (w.seen ≡ v.seen ++ between ++ entry number call ∷ []) }
+    ensures seen { (v w : View S S.Call) (call : S.Call) → Extends S.goes S.starts S.rests v call w
+        → StartsWith w.seen v.seen }
+    ensures later { (v w : View S S.Call) (call : S.Call)
+        → Extends S.goes S.starts S.rests (newcomer v.seen) call w → (between : List (Entry S.Call))
+        × (number : ℕ) × (w.seen ≡ v.seen ++ between ++ entry number call ∷ []) }
 {}

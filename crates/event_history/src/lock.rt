@@ -37,7 +37,10 @@ impl<S: Steps> Model for Lock<S> {
 
     ghost Value = { LockId };
 
-    ghost view = { λ lock. record { source = lock.source; table = lock.traced.table.shared.table_id } };
+    ghost view = { λ lock. record {
+      source = lock.source;
+      table = lock.traced.table.shared.table_id;
+    } };
 }
 
 impl<S: Steps> Lock<S> {
@@ -47,7 +50,8 @@ impl<S: Steps> Lock<S> {
     where
         S: Drop,
         requires { S.starts state }
-        ensures { IfOk result (λ made. (made.1.seat.table_id ≡ made.0.table) × (made.1.seat.me.0 ≡ newcomer [])) }
+        ensures { IfOk result (λ made. (made.1.seat.table_id ≡ made.0.table)
+            × (made.1.seat.me.0 ≡ newcomer [])) }
     {
         let (traced, hand) = Traced::new(alloc, state)?;
         let source = LineSource::new();
@@ -57,7 +61,8 @@ impl<S: Steps> Lock<S> {
     /// A hand that made no call yet, and has seen the history so far. It is one load.
     #[inline(always)]
     pub fn hand(&self) -> Hand<S, S::Call>
-        ensures { (result.seat.table_id ≡ self.now.table) × (result.seat.me.0 ≡ newcomer result.seat.me.0.seen) }
+        ensures { (result.seat.table_id ≡ self.now.table)
+            × (result.seat.me.0 ≡ newcomer result.seat.me.0.seen) }
     {
         self.traced.hand()
     }
@@ -79,10 +84,15 @@ impl<S: Steps> Lock<S> {
     ) -> Result<K::Reply, K>
         requires hand { hand.old.seat.table_id ≡ self.now.table }
         requires may { K.may step }
-        requires rests { (reply : K.Reply) → AreAmong (S.rests (K.call step reply)) hand.old.seat.me.0.mine }
+        requires rests { (reply : K.Reply)
+            → AreAmong (S.rests (K.call step reply)) hand.old.seat.me.0.mine }
         ensures hand { hand.new.seat.table_id ≡ hand.old.seat.table_id }
-        ensures call { IfOk result (λ reply. ExtendsThat S.goes S.starts S.rests (λ before after. K.does step before beside.old reply after beside.new) hand.old.seat.me.0 (K.call step reply) hand.new.seat.me.0) }
-        ensures kept { IfErr result (λ back. (back ≡ step) × (beside.new ≡ beside.old) × (hand.new.seat.me.0 ≡ hand.old.seat.me.0)) }
+        ensures call { IfOk result (λ reply.
+            ExtendsThat S.goes S.starts S.rests
+            (λ before after. K.does step before beside.old reply after beside.new)
+            hand.old.seat.me.0 (K.call step reply) hand.new.seat.me.0) }
+        ensures kept { IfErr result (λ back. (back ≡ step) × (beside.new ≡ beside.old)
+            × (hand.new.seat.me.0 ≡ hand.old.seat.me.0)) }
     {
         let seat = &mut hand.seat;
         if !self.traced.try_take(seat) {
@@ -104,8 +114,10 @@ impl<S: Steps> Lock<S> {
     /// A new hand, which has seen as much as this one. It is one load.
     pub fn tell(&self, hand: &mut Hand<S, S::Call>) -> Hand<S, S::Call>
         requires { hand.old.seat.table_id ≡ self.now.table }
-        ensures hand { (hand.new.seat.table_id ≡ hand.old.seat.table_id) × (hand.new.seat.me.0 ≡ hand.old.seat.me.0) }
-        ensures told { (result.seat.table_id ≡ hand.old.seat.table_id) × (result.seat.me.0 ≡ newcomer hand.old.seat.me.0.seen) }
+        ensures hand { (hand.new.seat.table_id ≡ hand.old.seat.table_id)
+            × (hand.new.seat.me.0 ≡ hand.old.seat.me.0) }
+        ensures told { (result.seat.table_id ≡ hand.old.seat.table_id)
+            × (result.seat.me.0 ≡ newcomer hand.old.seat.me.0.seen) }
     {
         self.traced.tell(hand)
     }
@@ -116,7 +128,8 @@ impl<S: Steps> Lock<S> {
         requires here { hand.old.seat.table_id ≡ self.now.table }
         requires there { other.seat.table_id ≡ self.now.table }
         ensures hand { hand.new.seat.table_id ≡ hand.old.seat.table_id }
-        ensures looks { Looks S.goes S.starts S.rests (both_views hand.old.seat.me.0 other.seat.me.0) hand.new.seat.me.0 }
+        ensures looks { Looks S.goes S.starts S.rests
+            (both_views hand.old.seat.me.0 other.seat.me.0) hand.new.seat.me.0 }
     {
         self.traced.absorb(hand, other);
     }
@@ -133,9 +146,12 @@ impl<S: Steps> Lock<S> {
     ) -> K::Reply
         requires hand { hand.old.seat.table_id ≡ self.now.table }
         requires may { K.may step }
-        requires rests { (reply : K.Reply) → AreAmong (S.rests (K.call step reply)) hand.old.seat.me.0.mine }
+        requires rests { (reply : K.Reply)
+            → AreAmong (S.rests (K.call step reply)) hand.old.seat.me.0.mine }
         ensures hand { hand.new.seat.table_id ≡ hand.old.seat.table_id }
-        ensures call { ExtendsThat S.goes S.starts S.rests (λ before after. K.does step before beside.old result after beside.new) hand.old.seat.me.0 (K.call step result) hand.new.seat.me.0 }
+        ensures call { ExtendsThat S.goes S.starts S.rests
+            (λ before after. K.does step before beside.old result after beside.new)
+            hand.old.seat.me.0 (K.call step result) hand.new.seat.me.0 }
     {
         self.traced.perform(rt, hand, step, beside)
     }
@@ -151,9 +167,11 @@ impl<S: Steps> Lock<S> {
     ) -> K::Reply
         requires hand { hand.old.seat.table_id ≡ self.now.table }
         requires may { K.may step }
-        requires rests { (reply : K.Reply) → AreAmong (S.rests (K.call step reply)) hand.old.seat.me.0.mine }
+        requires rests { (reply : K.Reply)
+            → AreAmong (S.rests (K.call step reply)) hand.old.seat.me.0.mine }
         ensures hand { hand.new.seat.table_id ≡ hand.old.seat.table_id }
-        ensures call { Extends S.goes S.starts S.rests hand.old.seat.me.0 (K.call step result) hand.new.seat.me.0 }
+        ensures call { Extends S.goes S.starts S.rests hand.old.seat.me.0 (K.call step result)
+            hand.new.seat.me.0 }
     {
         let mut waking = Waking::new();
         let reply = self.traced.perform(rt, hand, step, &mut waking);
@@ -174,7 +192,8 @@ impl<S: Steps> Lock<S> {
         requires rests { AreAmong (Q.rests request.old) hand.old.seat.me.0.mine }
         ensures hand { hand.new.seat.table_id ≡ hand.old.seat.table_id }
         ensures rests { AreAmong (Q.rests request.new) hand.new.seat.me.0.mine }
-        ensures call { Makes S.goes S.starts S.rests hand.old.seat.me.0 (Q.attempting request.old result) hand.new.seat.me.0 }
+        ensures call { Makes S.goes S.starts S.rests hand.old.seat.me.0
+            (Q.attempting request.old result) hand.new.seat.me.0 }
         ensures succeeded { OnDone result (λ output. Q.succeeds request.old output request.new) }
         ensures waited { OnUndone result (Q.waits request.old request.new) }
         ensures kept { OnRefused result (request.new ≡ request.old) }
@@ -195,7 +214,8 @@ impl<S: Steps> Lock<S> {
         requires rests { AreAmong (Q.rests request.old) hand.old.seat.me.0.mine }
         ensures hand { hand.new.seat.table_id ≡ hand.old.seat.table_id }
         ensures rests { AreAmong (Q.rests request.new) hand.new.seat.me.0.mine }
-        ensures call { Makes S.goes S.starts S.rests hand.old.seat.me.0 (Q.attempting request.old result) hand.new.seat.me.0 }
+        ensures call { Makes S.goes S.starts S.rests hand.old.seat.me.0
+            (Q.attempting request.old result) hand.new.seat.me.0 }
         ensures succeeded { OnDone result (λ output. Q.succeeds request.old output request.new) }
         ensures waited { OnUndone result (Q.waits request.old request.new) }
         ensures refused { OnRefused result (request.new ≡ request.old) }
@@ -221,10 +241,12 @@ impl<S: Steps> Lock<S> {
     ) -> Attempted<Q::Output, Q::Refusal>
         requires hand { hand.old.seat.table_id ≡ self.now.table }
         requires rests { AreAmong (Q.rests request.old) hand.old.seat.me.0.mine }
-        requires named { (answer : Attempted Q.Output Q.Refusal) (call : S.Call) → N.named answer call ↔ Q.attempting request.old answer call }
+        requires named { (answer : Attempted Q.Output Q.Refusal) (call : S.Call)
+            → N.named answer call ↔ Q.attempting request.old answer call }
         ensures hand { hand.new.seat.table_id ≡ hand.old.seat.table_id }
         ensures rests { AreAmong (Q.rests request.new) hand.new.seat.me.0.mine }
-        ensures call { Makes S.goes S.starts S.rests hand.old.seat.me.0 (Q.attempting request.old result) hand.new.seat.me.0 }
+        ensures call { Makes S.goes S.starts S.rests hand.old.seat.me.0
+            (Q.attempting request.old result) hand.new.seat.me.0 }
         ensures succeeded { OnDone result (λ output. Q.succeeds request.old output request.new) }
         ensures waited { OnUndone result (Q.waits request.old request.new) }
         ensures kept { OnRefused result (request.new ≡ request.old) }
@@ -255,8 +277,10 @@ impl<S: Steps> Lock<S> {
         requires rests { AreAmong (Q.rests request.old) hand.old.seat.me.0.mine }
         ensures hand { hand.new.seat.table_id ≡ hand.old.seat.table_id }
         ensures rests { AreAmong (Q.rests request.new) hand.new.seat.me.0.mine }
-        ensures call { Makes S.goes S.starts S.rests hand.old.seat.me.0 (Polls Q.attempting request.old result) hand.new.seat.me.0 }
-        ensures succeeded { IfReady result (λ answer. IfOk answer (λ output. Q.succeeds request.old output request.new)) }
+        ensures call { Makes S.goes S.starts S.rests hand.old.seat.me.0
+            (Polls Q.attempting request.old result) hand.new.seat.me.0 }
+        ensures succeeded { IfReady result
+            (λ answer. IfOk answer (λ output. Q.succeeds request.old output request.new)) }
         ensures refused { IfReady result (λ answer. OnErr answer (request.new ≡ request.old)) }
         ensures pending { OnPending result (Q.waits request.old request.new) }
         ensures registered { OnPending result (Covers cx.new (λ s. s ≡ self.now.source)) }
@@ -282,7 +306,8 @@ impl<S: Steps> Lock<S> {
         requires rests { AreAmong (Q.rests request.old) hand.old.seat.me.0.mine }
         ensures hand { hand.new.seat.table_id ≡ hand.old.seat.table_id }
         ensures rests { AreAmong (Q.rests request.new) hand.new.seat.me.0.mine }
-        ensures call { Makes S.goes S.starts S.rests hand.old.seat.me.0 (Q.leaving request.old result) hand.new.seat.me.0 }
+        ensures call { Makes S.goes S.starts S.rests hand.old.seat.me.0
+            (Q.leaving request.old result) hand.new.seat.me.0 }
         ensures left { IfOk result (λ answer. Q.leaves request.old answer request.new) }
         ensures kept { OnErr result (request.new ≡ request.old) }
     {
@@ -301,10 +326,12 @@ impl<S: Steps> Lock<S> {
     ) -> Result<Option<Q::Output>, Q::Refusal>
         requires hand { hand.old.seat.table_id ≡ self.now.table }
         requires rests { AreAmong (Q.rests request.old) hand.old.seat.me.0.mine }
-        requires named { (answer : Result (Option Q.Output) Q.Refusal) (call : S.Call) → N.named answer call ↔ Q.leaving request.old answer call }
+        requires named { (answer : Result (Option Q.Output) Q.Refusal) (call : S.Call)
+            → N.named answer call ↔ Q.leaving request.old answer call }
         ensures hand { hand.new.seat.table_id ≡ hand.old.seat.table_id }
         ensures rests { AreAmong (Q.rests request.new) hand.new.seat.me.0.mine }
-        ensures call { Makes S.goes S.starts S.rests hand.old.seat.me.0 (Q.leaving request.old result) hand.new.seat.me.0 }
+        ensures call { Makes S.goes S.starts S.rests hand.old.seat.me.0
+            (Q.leaving request.old result) hand.new.seat.me.0 }
         ensures left { IfOk result (λ answer. Q.leaves request.old answer request.new) }
         ensures kept { OnErr result (request.new ≡ request.old) }
     {

@@ -46,7 +46,9 @@ pub trait Request<S: Steps> {
         on: &mut C,
         sink: &mut K,
     ) -> Attempted<Self::Output, Self::Refusal>
-        ensures goes { (call : S.Call) × attempting self.old result call × RestsOn S.rests (rests self.old) call (rests self.new) × S.goes state.old call state.new }
+        ensures goes { (call : S.Call) × attempting self.old result call
+            × RestsOn S.rests (rests self.old) call (rests self.new)
+            × S.goes state.old call state.new }
         ensures succeeded { OnDone result (λ output. succeeds self.old output self.new) }
         ensures waited { OnUndone result (waits self.old self.new) }
         ensures kept { OnRefused result (self.new ≡ self.old) }
@@ -58,7 +60,9 @@ pub trait Request<S: Steps> {
         state: &mut S,
         sink: &mut K,
     ) -> Result<Option<Self::Output>, Self::Refusal>
-        ensures goes { (call : S.Call) × leaving self.old result call × RestsOn S.rests (rests self.old) call (rests self.new) × S.goes state.old call state.new }
+        ensures goes { (call : S.Call) × leaving self.old result call
+            × RestsOn S.rests (rests self.old) call (rests self.new)
+            × S.goes state.old call state.new }
         ensures left { IfOk result (λ answer. leaves self.old answer self.new) }
         ensures kept { OnErr result (self.new ≡ self.old) };
 }
@@ -84,12 +88,16 @@ pub trait Attempt<S: Steps>: Request<S> {
 
     /// Attempts it once. It does not look whether it waits in a queue, and does not leave one.
     fn attempt<K: WakeSink<Task>>(&mut self, state: &mut S, sink: &mut K) -> Option<Self::Output>
-        ensures goes { (call : S.Call) × trying self.old result call × RestsOn S.rests (Self.rests self.old) call (Self.rests self.new) × S.goes state.old call state.new }
+        ensures goes { (call : S.Call) × trying self.old result call
+            × RestsOn S.rests (Self.rests self.old) call (Self.rests self.new)
+            × S.goes state.old call state.new }
         ensures succeeded { IfSome result (λ output. Self.succeeds self.old output self.new) }
         ensures kept { result ≡ None → self.new ≡ self.old };
 
     /// Leaves the queue, if it is there, and gives on what it was notified of.
     fn give_up<K: WakeSink<Task>>(&mut self, state: &mut S, sink: &mut K)
-        ensures goes { (call : S.Call) × giving_up self.old call × RestsOn S.rests (Self.rests self.old) call (Self.rests self.new) × S.goes state.old call state.new }
+        ensures goes { (call : S.Call) × giving_up self.old call
+            × RestsOn S.rests (Self.rests self.old) call (Self.rests self.new)
+            × S.goes state.old call state.new }
         ensures kept { self.new ≡ self.old };
 }

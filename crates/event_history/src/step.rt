@@ -113,9 +113,12 @@ impl<S: Steps> Traced<S> {
     ) -> K::Reply
         requires hand { hand.old.seat.table_id ≡ self.now.table.shared.table_id }
         requires may { K.may step }
-        requires rests { (reply : K.Reply) → AreAmong (S.rests (K.call step reply)) hand.old.seat.me.0.mine }
+        requires rests { (reply : K.Reply)
+            → AreAmong (S.rests (K.call step reply)) hand.old.seat.me.0.mine }
         ensures hand { hand.new.seat.table_id ≡ hand.old.seat.table_id }
-        ensures call { ExtendsThat S.goes S.starts S.rests (λ before after. K.does step before beside.old result after beside.new) hand.old.seat.me.0 (K.call step result) hand.new.seat.me.0 }
+        ensures call { ExtendsThat S.goes S.starts S.rests
+            (λ before after. K.does step before beside.old result after beside.new)
+            hand.old.seat.me.0 (K.call step result) hand.new.seat.me.0 }
     {
         let seat = &mut hand.seat;
         take_out!(self, rt, seat);
@@ -134,10 +137,16 @@ impl<S: Steps> Traced<S> {
         after: &B,
     )
         requires seat { seat.old.table_id ≡ self.now.table.shared.table_id }
-        requires made { (q : S) × (r : S) × (seat.old.me.0.out ≡ q ∷ []) × (seat.old.me.1 ≡ (0, r) ∷ []) × (seat.old.me.0.spent ≡ false) × S.goes q (K.call step.value reply.now) r × K.does step.value q before.value reply.now r after.now }
+        requires made { (q : S) × (r : S) × (seat.old.me.0.out ≡ q ∷ [])
+            × (seat.old.me.1 ≡ (0, r) ∷ []) × (seat.old.me.0.spent ≡ false)
+            × S.goes q (K.call step.value reply.now) r
+            × K.does step.value q before.value reply.now r after.now }
         requires rests { AreAmong (S.rests (K.call step.value reply.now)) seat.old.me.0.mine }
-        ensures seat { (seat.new.table_id ≡ seat.old.table_id) × (seat.new.id ≡ seat.old.id) × (seat.new.me.1 ≡ []) }
-        ensures call { ExtendsThat S.goes S.starts S.rests (λ q r. K.does step.value q before.value reply.now r after.now) seat.old.me.0 (K.call step.value reply.now) seat.new.me.0 }
+        ensures seat { (seat.new.table_id ≡ seat.old.table_id) × (seat.new.id ≡ seat.old.id)
+            × (seat.new.me.1 ≡ []) }
+        ensures call { ExtendsThat S.goes S.starts S.rests
+            (λ q r. K.does step.value q before.value reply.now r after.now) seat.old.me.0
+            (K.call step.value reply.now) seat.new.me.0 }
     {
         self.give_back::<Brand, _, _>(seat, reply, &step);
     }

@@ -42,7 +42,9 @@ impl<T, W: Drop, B> Step<List<T, W>, B> for Register<W> {
 
     ghost call = { λ step reply. call.Register step.key reply };
 
-    ghost does = { λ step old beside reply new after. IsRegistration (Registers old step.key step.task reply new) old step.key reply new × (after ≡ beside) };
+    ghost does = { λ step old beside reply new after.
+        IsRegistration (Registers old step.key step.task reply new) old step.key reply new
+        × (after ≡ beside) };
 
     #[inline(always)]
     fn make(self, queue: &mut List<T, W>, _beside: &mut B) -> RegisterResult<T> {
@@ -62,7 +64,10 @@ impl<T, W, C, X: TaskExchange<W, C>> Step<List<T, W>, C> for RegisterWith<'_, X>
 
     ghost call = { λ step reply. call.Register step.key reply };
 
-    ghost does = { λ step old on reply new after. IsRegistration (RegistersWith (X.exchanged step.exchange.now) old step.key on reply new after) old step.key reply new };
+    ghost does = { λ step old on reply new after.
+        IsRegistration
+        (RegistersWith (X.exchanged step.exchange.now) old step.key on reply new after) old
+        step.key reply new };
 
     #[inline(always)]
     fn make(self, queue: &mut List<T, W>, on: &mut C) -> RegisterResult<T> {
@@ -82,7 +87,8 @@ impl<T, W, K: WakeSink<W>> Step<List<T, W>, K> for Remove {
 
     ghost call = { λ step reply. call.Remove step.key step.propagate reply };
 
-    ghost does = { λ step old sink reply new after. IsRemoval K.woke old step.key step.propagate sink reply new after };
+    ghost does = { λ step old sink reply new after.
+        IsRemoval K.woke old step.key step.propagate sink reply new after };
 
     #[inline(always)]
     fn make(self, queue: &mut List<T, W>, sink: &mut K) -> Option<State<T, W>> {
@@ -101,9 +107,12 @@ impl<T, W, N: Notification<Tag = T>, K: WakeSink<W>> Step<List<T, W>, K> for Not
 
     ghost may = { λ step. N.can_tag step.notification };
 
-    ghost call = { λ step reply. call.Notify (N.count step.notification) (N.is_additional step.notification) reply.1 };
+    ghost call = { λ step reply. call.Notify (N.count step.notification)
+        (N.is_additional step.notification) reply.1 };
 
-    ghost does = { λ step old sink reply new after. IsNotification N.tag_gives K.woke (N.count step.notification) (N.is_additional step.notification) old step.notification sink reply.1 new reply.0 after };
+    ghost does = { λ step old sink reply new after.
+        IsNotification N.tag_gives K.woke (N.count step.notification)
+        (N.is_additional step.notification) old step.notification sink reply.1 new reply.0 after };
 
     #[inline(always)]
     fn make(self, queue: &mut List<T, W>, sink: &mut K) -> (N, Result<usize, NotifyError>) {

@@ -38,7 +38,8 @@ impl<S: Steps> Traced<S> {
     where
         S: Drop,
         requires { S.starts state }
-        ensures { IfOk result (λ t. (t.1.seat.table_id ≡ t.0.table.shared.table_id) × (t.1.seat.me.0 ≡ newcomer [])) }
+        ensures { IfOk result (λ t. (t.1.seat.table_id ≡ t.0.table.shared.table_id)
+            × (t.1.seat.me.0 ≡ newcomer [])) }
     {
         let mut slots = Vec::with_capacity(alloc, 1)?;
         if let Err(_) = slots.push(state) {
@@ -53,7 +54,8 @@ impl<S: Steps> Traced<S> {
     /// A hand that made no call yet, and has seen the history so far. It is one load.
     #[inline(always)]
     pub fn hand(&self) -> Hand<S, S::Call>
-        ensures { (result.seat.table_id ≡ self.now.table.shared.table_id) × (result.seat.me.0 ≡ newcomer result.seat.me.0.seen) }
+        ensures { (result.seat.table_id ≡ self.now.table.shared.table_id)
+            × (result.seat.me.0 ≡ newcomer result.seat.me.0.seen) }
     {
         Hand {
             seat: self.table.shared.load_new_seat::<Enter>(0).1,
@@ -64,9 +66,11 @@ impl<S: Steps> Traced<S> {
     #[doc(hidden)]
     #[inline(always)]
     pub fn try_take(&self, seat: &mut Seat<S, View<S, S::Call>>) -> bool
-        requires { (seat.old.table_id ≡ self.now.table.shared.table_id) × (seat.old.me.1 ≡ []) × (seat.old.me.0.out ≡ []) × (seat.old.me.0.spent ≡ false) }
+        requires { (seat.old.table_id ≡ self.now.table.shared.table_id) × (seat.old.me.1 ≡ [])
+            × (seat.old.me.0.out ≡ []) × (seat.old.me.0.spent ≡ false) }
         ensures seat { (seat.new.table_id ≡ seat.old.table_id) × (seat.new.id ≡ seat.old.id) }
-        ensures takes { MatchBool result (Holds seat.old.me.0 seat.new.me) (seat.new.me ≡ seat.old.me) }
+        ensures takes { MatchBool result (Holds seat.old.me.0 seat.new.me)
+            (seat.new.me ≡ seat.old.me) }
     {
         self.table
             .shared
@@ -93,9 +97,11 @@ impl<S: Steps> Traced<S> {
     #[cold]
     #[inline(never)]
     fn take_awaited(&self, seat: &mut Seat<S, View<S, S::Call>>) -> bool
-        requires { (seat.old.table_id ≡ self.now.table.shared.table_id) × (seat.old.me.1 ≡ []) × (seat.old.me.0.out ≡ []) × (seat.old.me.0.spent ≡ false) }
+        requires { (seat.old.table_id ≡ self.now.table.shared.table_id) × (seat.old.me.1 ≡ [])
+            × (seat.old.me.0.out ≡ []) × (seat.old.me.0.spent ≡ false) }
         ensures seat { (seat.new.table_id ≡ seat.old.table_id) × (seat.new.id ≡ seat.old.id) }
-        ensures takes { MatchBool result (Holds seat.old.me.0 seat.new.me) (seat.new.me ≡ seat.old.me) }
+        ensures takes { MatchBool result (Holds seat.old.me.0 seat.new.me)
+            (seat.new.me ≡ seat.old.me) }
     {
         self.table.shared.swap::<Take>(seat, 0, AWAITED) == FREE
     }
@@ -110,9 +116,13 @@ impl<S: Steps> Traced<S> {
         maker: &M,
     )
         requires seat { seat.old.table_id ≡ self.now.table.shared.table_id }
-        requires step { (c : S.Call) × (q : S) × (r : S) × K.made c × (seat.old.me.0.out ≡ q ∷ []) × (seat.old.me.1 ≡ (0, r) ∷ []) × S.goes q c r × (seat.old.me.0.spent ≡ false) × AreAmong (S.rests c) seat.old.me.0.mine }
-        ensures seat { (seat.new.table_id ≡ seat.old.table_id) × (seat.new.id ≡ seat.old.id) × (seat.new.me.1 ≡ []) }
-        ensures extends { (c : S.Call) × K.made c × Returns S.starts S.goes S.rests seat.old.me c seat.new.me.0 }
+        requires step { (c : S.Call) × (q : S) × (r : S) × K.made c × (seat.old.me.0.out ≡ q ∷ [])
+            × (seat.old.me.1 ≡ (0, r) ∷ []) × S.goes q c r × (seat.old.me.0.spent ≡ false)
+            × AreAmong (S.rests c) seat.old.me.0.mine }
+        ensures seat { (seat.new.table_id ≡ seat.old.table_id) × (seat.new.id ≡ seat.old.id)
+            × (seat.new.me.1 ≡ []) }
+        ensures extends { (c : S.Call) × K.made c
+            × Returns S.starts S.goes S.rests seat.old.me c seat.new.me.0 }
     {
         if self.table.shared.swap::<GiveBack<S, K>>(seat, 0, FREE) == AWAITED {
             self.wake_one();
@@ -128,8 +138,10 @@ impl<S: Steps> Traced<S> {
     /// A new hand, which has seen as much as this one. It is one load.
     pub fn tell(&self, hand: &mut Hand<S, S::Call>) -> Hand<S, S::Call>
         requires { hand.old.seat.table_id ≡ self.now.table.shared.table_id }
-        ensures hand { (hand.new.seat.table_id ≡ hand.old.seat.table_id) × (hand.new.seat.me.0 ≡ hand.old.seat.me.0) }
-        ensures told { (result.seat.table_id ≡ hand.old.seat.table_id) × (result.seat.me.0 ≡ newcomer hand.old.seat.me.0.seen) }
+        ensures hand { (hand.new.seat.table_id ≡ hand.old.seat.table_id)
+            × (hand.new.seat.me.0 ≡ hand.old.seat.me.0) }
+        ensures told { (result.seat.table_id ≡ hand.old.seat.table_id)
+            × (result.seat.me.0 ≡ newcomer hand.old.seat.me.0.seen) }
     {
         Hand {
             seat: self.table.shared.split_seat::<Tell>(&mut hand.seat),
@@ -142,7 +154,8 @@ impl<S: Steps> Traced<S> {
         requires here { hand.old.seat.table_id ≡ self.now.table.shared.table_id }
         requires there { other.seat.table_id ≡ self.now.table.shared.table_id }
         ensures hand { hand.new.seat.table_id ≡ hand.old.seat.table_id }
-        ensures looks { Looks S.goes S.starts S.rests (both_views hand.old.seat.me.0 other.seat.me.0) hand.new.seat.me.0 }
+        ensures looks { Looks S.goes S.starts S.rests
+            (both_views hand.old.seat.me.0 other.seat.me.0) hand.new.seat.me.0 }
     {
         let Hand { seat: other } = other;
         let seat = &mut hand.seat;
@@ -172,8 +185,10 @@ pub fn wait_to_take<S: Steps, R: Wait>(
     rt: &R,
     seat: &mut Seat<S, View<S, S::Call>>,
 )
-    requires { (seat.old.table_id ≡ traced.now.table.shared.table_id) × (seat.old.me.1 ≡ []) × (seat.old.me.0.out ≡ []) × (seat.old.me.0.spent ≡ false) }
-    ensures { (seat.new.table_id ≡ seat.old.table_id) × (seat.new.id ≡ seat.old.id) × Holds seat.old.me.0 seat.new.me }
+    requires { (seat.old.table_id ≡ traced.now.table.shared.table_id) × (seat.old.me.1 ≡ [])
+        × (seat.old.me.0.out ≡ []) × (seat.old.me.0.spent ≡ false) }
+    ensures { (seat.new.table_id ≡ seat.old.table_id) × (seat.new.id ≡ seat.old.id)
+        × Holds seat.old.me.0 seat.new.me }
 {
     let shared = &traced.table.shared;
     for pauses in PAUSES {

@@ -88,7 +88,8 @@ pub trait Listener<T>: Sized {
         ensures polled { IsPolled (standing self.old) result (standing self.new) }
 
         // A poll that is pending has registered at the listener's source.
-        ensures registered { IfOk result (λ polled. OnPending polled (Covers cx.new (λ s. s ≡ (standing self.new).source))) }
+        ensures registered { IfOk result (λ polled.
+            OnPending polled (Covers cx.new (λ s. s ≡ (standing self.new).source))) }
         ensures kept { Keeps cx.old cx.new };
 
     /// Waits until the listener is notified or the limit has passed, and returns the tag or `None`. The listener has left

@@ -127,7 +127,8 @@ impl<T> OnceCell<T> {
         E: From<LockError>,
         F: FnOnce() -> Result<T, E> + Drop,
         requires { F.IsAlwaysCallable make }
-        ensures failed { IfErr result (λ error. FnOnceReturns F.FnOnce make tt (Err error) ⊎ IsMadeOfOne E.from_gives error) }
+        ensures failed { IfErr result (λ error. FnOnceReturns F.FnOnce make tt (Err error)
+            ⊎ IsMadeOfOne E.from_gives error) }
     {
         if let Some(value) = self.get() {
             return Ok(value);
@@ -253,7 +254,8 @@ impl<'a, T, R: Wait + Clock> Claiming<'a, T, R> {
 impl<'a, T, R: Wait + Clock> Future for Claiming<'a, T, R> {
     type Output = Result<Claim<'a, T, R>, LockError>;
 
-    ghost needs = { λ claiming s. IsSomeAnd claiming.obtaining.hold (λ asking. s ≡ asking.cell.now.once) };
+    ghost needs = { λ claiming s. IsSomeAnd claiming.obtaining.hold
+        (λ asking. s ≡ asking.cell.now.once) };
 
     fn poll(&mut self, cx: &mut Context<'_>) -> Poll<Result<Claim<'a, T, R>, LockError>> {
         if let Some(value) = at_hand(self.obtaining.idle()) {
@@ -307,7 +309,8 @@ impl<'a, T, R: Wait + Clock> Seeing<'a, T, R> {
 impl<'a, T, R: Wait + Clock> Future for Seeing<'a, T, R> {
     type Output = Result<&'a T, LockError>;
 
-    ghost needs = { λ seeing s. IsSomeAnd seeing.obtaining.hold (λ asking. s ≡ asking.cell.now.once) };
+    ghost needs = { λ seeing s. IsSomeAnd seeing.obtaining.hold
+        (λ asking. s ≡ asking.cell.now.once) };
 
     fn poll(&mut self, cx: &mut Context<'_>) -> Poll<Result<&'a T, LockError>> {
         if let Some(value) = at_hand(self.obtaining.idle()) {

@@ -16,5 +16,7 @@ pub fn equal_keys(left: Key, right: Key) -> bool
 
 /// A [`Woken`] with room for `n` that was given these tasks has kept the first `n` of them, and counts the others.
 pub fn woken_keeps_the_first<W: Drop>()
-    ensures { (n : ℕ) (tasks : List W) (after : Kept W) → FoldsTo ⟦<Woken<W> as WakeSink<W>>⟧.woke (record { tasks = []; room = n; missed = 0 }) tasks after → after ≡ first_of n tasks }
+    ensures { (n : ℕ) (tasks : List W) (after : Kept W)
+        → FoldsTo ⟦<Woken<W> as WakeSink<W>>⟧.woke (record { tasks = []; room = n; missed = 0 })
+        tasks after → after ≡ first_of n tasks }
 {}

@@ -71,7 +71,12 @@ impl<T, W> List<T, W> {
     ///
     /// Serials rise by one with each insertion, and no listener gets `u64::MAX`, so a queue that starts late has fewer.
     pub fn starting_at(alloc: Global, first: u64) -> Self
-        ensures empty { result ≡ record { told = []; waiting = []; next_serial = first; spare = 0 } }
+        ensures empty { result ≡ record {
+          told = [];
+          waiting = [];
+          next_serial = first;
+          spare = 0;
+        } }
         ensures queue { IsQueue result }
     {
         List {
@@ -125,7 +130,8 @@ impl<T, W> List<T, W> {
         on: &mut C,
         steps: &mut Steps<L>,
     ) -> Result<Key, ListenError>
-        ensures law { IsInsertionBy (InsertsWith (X.exchanged exchange.now) self.old on.old result self.new on.new) self.old result self.new }
+        ensures law { IsInsertionBy (InsertsWith (X.exchanged exchange.now) self.old on.old result
+            self.new on.new) self.old result self.new }
         ensures visits { steps.new.visits ≤ steps.old.visits + 3 }
         ensures counted { steps.new.visits ≡ steps.old.visits + visits_of_insertion result }
         ensures looks { steps.new.looks ≡ steps.old.looks }
@@ -187,7 +193,8 @@ impl<T, W> List<T, W> {
     ) -> RegisterResult<T>
     where
         W: Drop,
-        ensures law { IsRegistration (Registers self.old key task result self.new) self.old key result self.new }
+        ensures law { IsRegistration (Registers self.old key task result self.new) self.old
+            key result self.new }
         ensures visits { steps.new.visits ≤ steps.old.visits + 3 }
         ensures counted { steps.new.visits ≡ steps.old.visits + visits_of_registration result }
         ensures looks { steps.new.looks ≤ steps.old.looks + 1 }
@@ -208,7 +215,9 @@ impl<T, W> List<T, W> {
     ) -> RegisterResult<T>
     where
         M: Drop,
-        ensures law { IsRegistration (RegistersBy (M.changes change) self.old key on.old result self.new on.new) self.old key result self.new }
+        ensures law { IsRegistration
+            (RegistersBy (M.changes change) self.old key on.old result self.new on.new) self.old
+            key result self.new }
         ensures counted { steps.new.visits ≡ steps.old.visits + visits_of_registration result }
         ensures looked { steps.new.looks ≡ counted_on steps.old.looks 1 }
     {
@@ -235,7 +244,9 @@ impl<T, W> List<T, W> {
         on: &mut C,
         steps: &mut Steps<L>,
     ) -> RegisterResult<T>
-        ensures law { IsRegistration (RegistersWith (X.exchanged exchange.now) self.old key on.old result self.new on.new) self.old key result self.new }
+        ensures law { IsRegistration
+            (RegistersWith (X.exchanged exchange.now) self.old key on.old result self.new on.new)
+            self.old key result self.new }
         ensures visits { steps.new.visits ≤ steps.old.visits + 3 }
         ensures counted { steps.new.visits ≡ steps.old.visits + visits_of_registration result }
         ensures looks { steps.new.looks ≤ steps.old.looks + 1 }
@@ -261,7 +272,8 @@ impl<T, W> List<T, W> {
     ) -> Option<State<T, W>>
         ensures law { IsRemoval S.woke self.old key propagate sink.old result self.new sink.new }
         ensures visits { steps.new.visits ≤ steps.old.visits + 3 }
-        ensures counted { steps.new.visits ≡ steps.old.visits + visits_of_removal result key self.old }
+        ensures counted { steps.new.visits
+            ≡ steps.old.visits + visits_of_removal result key self.old }
         ensures looks { steps.new.looks ≤ steps.old.looks + 1 }
         ensures looked { steps.new.looks ≡ counted_on steps.old.looks 1 }
     {
@@ -295,7 +307,8 @@ impl<T, W> List<T, W> {
         ensures passed { self.new ≡ after_passing notice self.old }
         ensures wakes { FoldsTo S.woke sink.old (woken_by_passing notice self.old) sink.new }
         ensures queue { IsQueue self.new }
-        ensures visits { steps.new.visits ≡ steps.old.visits + how_many 1 notice.additional self.old }
+        ensures visits { steps.new.visits
+            ≡ steps.old.visits + how_many 1 notice.additional self.old }
         ensures looks { steps.new.looks ≡ steps.old.looks }
     {
         if self.how_many(1, notice.additional) == 0 {
@@ -322,7 +335,8 @@ impl<T, W> List<T, W> {
         steps: &mut Steps<L>,
     ) -> Result<usize, NotifyError>
         requires { N.can_tag n.old }
-        ensures law { IsNotification N.tag_gives S.woke (N.count n.old) (N.is_additional n.old) self.old n.old sink.old result self.new n.new sink.new }
+        ensures law { IsNotification N.tag_gives S.woke (N.count n.old) (N.is_additional n.old)
+            self.old n.old sink.old result self.new n.new sink.new }
 
         // One visit for each listener notified, even if a tag is refused.
         ensures visits { steps.new.visits ≡ steps.old.visits + told_by result }

@@ -57,7 +57,8 @@ impl<A, B> Model for Chain<A, B> {
       spare = length chain.table.spares;
     } };
 
-    ghost invariant = { λ chain. IsSound chain.entries (shown_in chain.table.slots.items) chain.table.spares chain.before_len chain.after_len };
+    ghost invariant = { λ chain. IsSound chain.entries (shown_in chain.table.slots.items)
+        chain.table.spares chain.before_len chain.after_len };
 }
 
 // Makes the ring with no entry where there is none.
@@ -92,7 +93,8 @@ impl<A, B> Chain<A, B> {
     /// How many more entries fit with no allocation.
     pub fn spare(&self) -> usize
         ensures value { result ≡ self.now.spare }
-        ensures slots_fit { length self.now.before + length self.now.after + self.now.spare < 2 ^ 64 }
+        ensures slots_fit { length self.now.before + length
+            self.now.after + self.now.spare < 2 ^ 64 }
     {
         self.table.spare()
     }
@@ -106,7 +108,8 @@ impl<A, B> Chain<A, B> {
         ensures succeeds { n ≤ self.old.spare → IsOk result }
         ensures enough { n ≤ self.old.spare → self.new ≡ self.old }
         ensures too_few { OnErr result (self.new.spare < n) }
-        ensures slots_fit { length self.new.before + length self.new.after + self.new.spare < 2 ^ 64 }
+        ensures slots_fit { length self.new.before + length
+            self.new.after + self.new.spare < 2 ^ 64 }
     {
         let spare = self.table.spare();
         if n <= spare {
@@ -122,7 +125,8 @@ impl<A, B> Chain<A, B> {
         ensures err { OnErr result (self.new.spare < self.old.spare + n) }
         ensures entries { self.new ≡ record self.old { spare = self.new.spare } }
         ensures kept { self.old.spare ≤ self.new.spare }
-        ensures slots_fit { length self.new.before + length self.new.after + self.new.spare < 2 ^ 64 }
+        ensures slots_fit { length self.new.before + length
+            self.new.after + self.new.spare < 2 ^ 64 }
     {
         start(&mut self.entries, self.table.allocator())?;
         self.table.grow(n)
@@ -182,7 +186,8 @@ impl<A, B> Chain<A, B> {
         ensures slot_after { All (λ entry. entry.0.slot ≢ result.slot) self.old.after }
 
         ensures spare { self.new.spare + 1 ≡ self.old.spare }
-        ensures slots_fit { length self.new.before + length self.new.after + self.new.spare < 2 ^ 64 }
+        ensures slots_fit { length self.new.before + length
+            self.new.after + self.new.spare < 2 ^ 64 }
         ensures visits { steps.new.visits ≡ steps.old.visits + 1 }
         ensures looks { steps.new.looks ≡ steps.old.looks }
     {
@@ -228,7 +233,8 @@ impl<A, B> Chain<A, B> {
     ) -> Option<Side<A, ()>>
     where
         M: Drop,
-        ensures step { TakesOrChanges (M.changes change) self.old key on.old result self.new on.new }
+        ensures step { TakesOrChanges (M.changes change) self.old key on.old
+            result self.new on.new }
         ensures visits { steps.new.visits ≡ steps.old.visits + visits_of_change result }
         ensures looks { steps.new.looks ≡ counted_on steps.old.looks 1 }
     {

@@ -26,7 +26,8 @@ impl<T: Drop, W: Drop> List<T, W> {
         sink: &mut S,
     ) -> Result<(), AllocError>
         // The answers, the tags, the woken tasks and the listeners left are those of the two lists.
-        ensures ok { OnOk result (RunsAll S.woke calls.items self.old replies.old.items sink.old self.new replies.new.items sink.new) }
+        ensures ok { OnOk result (RunsAll S.woke calls.items self.old replies.old.items sink.old
+            self.new replies.new.items sink.new) }
         ensures one_each { OnOk result (vec_len replies.new ≡ vec_len replies.old + vec_len calls) }
         ensures queue { IsQueue self.new }
 
@@ -34,7 +35,8 @@ impl<T: Drop, W: Drop> List<T, W> {
         ensures queue_unchanged { OnErr result (self.new ≡ self.old) }
         ensures replies_unchanged { OnErr result (replies.new.items ≡ replies.old.items) }
         ensures sink_unchanged { OnErr result (sink.new ≡ sink.old) }
-        ensures succeeds { vec_len replies.old + vec_len calls ≤ vec_capacity replies.old → IsOk result }
+        ensures succeeds { vec_len replies.old + vec_len calls
+            ≤ vec_capacity replies.old → IsOk result }
 
         // Who is gone stays gone.
         ensures gone { (key : Key) → IsGone key self.old → IsGone key self.new }

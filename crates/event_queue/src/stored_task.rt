@@ -30,7 +30,8 @@ pub(crate) struct Exchanging<'a, X> {
 }
 
 impl<'a, W, C, X: TaskExchange<W, C>> Change<Option<W>, C> for Exchanging<'a, X> {
-    ghost changes = { λ exchanging before handed_out stored after. StoresWhat (X.exchanged exchanging.exchange.now before handed_out) stored after };
+    ghost changes = { λ exchanging before handed_out stored after.
+        StoresWhat (X.exchanged exchanging.exchange.now before handed_out) stored after };
 
     #[inline(always)]
     fn change(self, on: &mut C, stored: Option<W>) -> Option<W>

@@ -25,7 +25,8 @@ impl<T> Notification for TagList<T> {
 
     ghost can_tag = { λ _. Unit {0} };
 
-    ghost tag_gives = { λ before answer after. TakesFirst (into_iter_items before.tags) answer (into_iter_items after.tags) };
+    ghost tag_gives = { λ before answer after.
+        TakesFirst (into_iter_items before.tags) answer (into_iter_items after.tags) };
 
     fn count(&self) -> usize {
         self.count

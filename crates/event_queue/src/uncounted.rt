@@ -44,7 +44,8 @@ impl<T, W> List<T, W> {
         exchange: &X,
         on: &mut C,
     ) -> Result<Key, ListenError>
-        ensures { IsInsertionBy (InsertsWith (X.exchanged exchange.now) self.old on.old result self.new on.new) self.old result self.new }
+        ensures { IsInsertionBy (InsertsWith (X.exchanged exchange.now) self.old on.old result
+            self.new on.new) self.old result self.new }
     {
         self.insert_with_from::<C, X, Brand>(exchange, on, Blank::new(1))
     }
@@ -57,7 +58,8 @@ impl<T, W> List<T, W> {
         blank: Blank,
     ) -> Result<Key, ListenError>
         requires { Opens blank L.name L.parts }
-        ensures { IsInsertionBy (InsertsWith (X.exchanged exchange.now) self.old on.old result self.new on.new) self.old result self.new }
+        ensures { IsInsertionBy (InsertsWith (X.exchanged exchange.now) self.old on.old result
+            self.new on.new) self.old result self.new }
     {
         self.insert_with(exchange, on, &mut Steps::<L>::new(blank))
     }
@@ -67,7 +69,8 @@ impl<T, W> List<T, W> {
     pub fn register_uncounted(&mut self, key: Key, task: W) -> RegisterResult<T>
     where
         W: Drop,
-        ensures { IsRegistration (Registers self.old key task result self.new) self.old key result self.new }
+        ensures { IsRegistration (Registers self.old key task result self.new) self.old
+            key result self.new }
     {
         self.register_from::<Brand>(key, task, Blank::new(1))
     }
@@ -77,7 +80,8 @@ impl<T, W> List<T, W> {
     where
         W: Drop,
         requires { Opens blank L.name L.parts }
-        ensures { IsRegistration (Registers self.old key task result self.new) self.old key result self.new }
+        ensures { IsRegistration (Registers self.old key task result self.new) self.old
+            key result self.new }
     {
         self.register(key, task, &mut Steps::<L>::new(blank))
     }
@@ -89,7 +93,9 @@ impl<T, W> List<T, W> {
         exchange: &X,
         on: &mut C,
     ) -> RegisterResult<T>
-        ensures { IsRegistration (RegistersWith (X.exchanged exchange.now) self.old key on.old result self.new on.new) self.old key result self.new }
+        ensures { IsRegistration
+            (RegistersWith (X.exchanged exchange.now) self.old key on.old result self.new on.new)
+            self.old key result self.new }
     {
         self.register_with_from::<C, X, Brand>(key, exchange, on, Blank::new(1))
     }
@@ -102,7 +108,9 @@ impl<T, W> List<T, W> {
         blank: Blank,
     ) -> RegisterResult<T>
         requires { Opens blank L.name L.parts }
-        ensures { IsRegistration (RegistersWith (X.exchanged exchange.now) self.old key on.old result self.new on.new) self.old key result self.new }
+        ensures { IsRegistration
+            (RegistersWith (X.exchanged exchange.now) self.old key on.old result self.new on.new)
+            self.old key result self.new }
     {
         self.register_with(key, exchange, on, &mut Steps::<L>::new(blank))
     }
@@ -142,7 +150,8 @@ impl<T, W> List<T, W> {
         sink: &mut S,
     ) -> Result<usize, NotifyError>
         requires { N.can_tag n.old }
-        ensures { IsNotification N.tag_gives S.woke (N.count n.old) (N.is_additional n.old) self.old n.old sink.old result self.new n.new sink.new }
+        ensures { IsNotification N.tag_gives S.woke (N.count n.old) (N.is_additional n.old) self.old
+            n.old sink.old result self.new n.new sink.new }
     {
         self.notify_from::<N, S, Brand>(n, sink, Blank::new(1))
     }
@@ -156,7 +165,8 @@ impl<T, W> List<T, W> {
     ) -> Result<usize, NotifyError>
         requires blank { Opens blank L.name L.parts }
         requires can_tag { N.can_tag n.old }
-        ensures { IsNotification N.tag_gives S.woke (N.count n.old) (N.is_additional n.old) self.old n.old sink.old result self.new n.new sink.new }
+        ensures { IsNotification N.tag_gives S.woke (N.count n.old) (N.is_additional n.old) self.old
+            n.old sink.old result self.new n.new sink.new }
     {
         self.notify(n, sink, &mut Steps::<L>::new(blank))
     }

@@ -22,9 +22,14 @@ impl<W> Model for Woken<W> {
 
     ghost Value = { Kept W };
 
-    ghost view = { λ woken. record { tasks = woken.tasks.items; room = woken.room; missed = woken.missed } };
+    ghost view = { λ woken. record {
+      tasks = woken.tasks.items;
+      room = woken.room;
+      missed = woken.missed;
+    } };
 
-    ghost invariant = { λ woken. (vec_len woken.tasks ≤ woken.room) × (woken.room ≤ vec_capacity woken.tasks) };
+    ghost invariant = { λ woken. (vec_len woken.tasks ≤ woken.room)
+        × (woken.room ≤ vec_capacity woken.tasks) };
 }
 
 impl<W> Woken<W> {

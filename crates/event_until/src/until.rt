@@ -53,7 +53,8 @@ impl<'a, A, R: Wait + Clock + Clone> Model for Until<'a, A, R> {
       listener = standing_of until.listener;
     } };
 
-    ghost invariant = { λ until. IfSome until.listener (λ listener. listener.standing.event_number ≡ until.event.now) };
+    ghost invariant = { λ until. IfSome until.listener
+        (λ listener. listener.standing.event_number ≡ until.event.now) };
 }
 
 impl<'a, A: Attempt, R: Wait + Clock + Clone> Until<'a, A, R> {
@@ -77,7 +78,8 @@ impl<'a, A: Attempt, R: Wait + Clock + Clone> Until<'a, A, R> {
     /// A listener that a poll left is dropped first. [`UntilError`] says which errors there are and what they leave.
     #[inline(always)]
     pub fn wait(&mut self) -> Result<A::Output, UntilError>
-        ensures succeeded { IfOk result (λ output. SucceedsAfter A.fails A.succeeds self.old.attempt output self.new.attempt) }
+        ensures succeeded { IfOk result (λ output.
+            SucceedsAfter A.fails A.succeeds self.old.attempt output self.new.attempt) }
         ensures failed { OnErr result (FailsAtLeast A.fails 1 self.old.attempt self.new.attempt) }
         ensures event { self.new.event_number ≡ self.old.event_number }
         ensures unlistened { self.new.listener ≡ None }
@@ -95,7 +97,8 @@ impl<'a, A: Attempt, R: Wait + Clock + Clone> Until<'a, A, R> {
     /// [`UntilError`] says which errors there are and what they leave.
     pub fn wait_timeout(&mut self, timeout: Duration) -> Result<Option<A::Output>, UntilError>
         ensures succeeded { Succeeded A.fails A.succeeds self.old.attempt result self.new.attempt }
-        ensures timed_out { IfOk result (λ answer. IfNone answer (FailsAtLeast A.fails 3 self.old.attempt self.new.attempt)) }
+        ensures timed_out { IfOk result (λ answer.
+            IfNone answer (FailsAtLeast A.fails 3 self.old.attempt self.new.attempt)) }
         ensures failed { OnErr result (FailsAtLeast A.fails 1 self.old.attempt self.new.attempt) }
         ensures event { self.new.event_number ≡ self.old.event_number }
         ensures unlistened { self.new.listener ≡ None }
@@ -111,7 +114,8 @@ impl<'a, A: Attempt, R: Wait + Clock + Clone> Until<'a, A, R> {
     /// [`UntilError`] says which errors there are and what they leave.
     pub fn wait_deadline(&mut self, deadline: Instant) -> Result<Option<A::Output>, UntilError>
         ensures succeeded { Succeeded A.fails A.succeeds self.old.attempt result self.new.attempt }
-        ensures timed_out { IfOk result (λ answer. IfNone answer (FailsAtLeast A.fails 3 self.old.attempt self.new.attempt)) }
+        ensures timed_out { IfOk result (λ answer.
+            IfNone answer (FailsAtLeast A.fails 3 self.old.attempt self.new.attempt)) }
         ensures failed { OnErr result (FailsAtLeast A.fails 1 self.old.attempt self.new.attempt) }
         ensures event { self.new.event_number ≡ self.old.event_number }
         ensures unlistened { self.new.listener ≡ None }
@@ -141,7 +145,8 @@ impl<'a, A: Attempt, R: Wait + Clock + Clone> Until<'a, A, R> {
     #[inline(always)]
     fn wait_until(&mut self, limit: Limit) -> Result<Option<A::Output>, UntilError>
         ensures succeeded { Succeeded A.fails A.succeeds self.old.attempt result self.new.attempt }
-        ensures timed_out { IfOk result (λ answer. IfNone answer (FailsAtLeast A.fails 3 self.old.attempt self.new.attempt)) }
+        ensures timed_out { IfOk result (λ answer.
+            IfNone answer (FailsAtLeast A.fails 3 self.old.attempt self.new.attempt)) }
         ensures failed { OnErr result (FailsAtLeast A.fails 1 self.old.attempt self.new.attempt) }
         ensures unlimited { limit ≡ Limit.Never → IfOk result IsSome }
         ensures event { self.new.event_number ≡ self.old.event_number }

@@ -45,7 +45,8 @@ pub trait Serves<Q> {
         exchange: &X,
         on: &mut C,
     ) -> Attempted<Self::Output, Self::Refusal>
-        ensures succeeded { OnDone result (λ output. succeeds self.now request.old output request.new) }
+        ensures succeeded { OnDone result (λ output.
+            succeeds self.now request.old output request.new) }
         ensures waited { OnUndone result (waits request.old request.new) }
         ensures kept { OnRefused result (request.new ≡ request.old) }
         ensures exchanged { Attempts (X.exchanged exchange.now) on.old result on.new };
@@ -70,7 +71,8 @@ pub trait Tries<Q>: Serves<Q> {
     /// Attempts it once, and does not wait for it. It does not look whether it waits in a queue, and does not leave one. It may
     /// wait for the lock.
     fn attempt<R: Wait>(&self, rt: &R, request: &mut Q) -> Option<Self::Output>
-        ensures succeeded { IfSome result (λ output. Self.succeeds self.now request.old output request.new) }
+        ensures succeeded { IfSome result (λ output.
+            Self.succeeds self.now request.old output request.new) }
         ensures kept { result ≡ None → request.new ≡ request.old };
 
     /// Leaves the queue, if it is there. What it was notified of goes on, in the same step. It may wait for the lock.

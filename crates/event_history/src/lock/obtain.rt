@@ -32,7 +32,8 @@ impl<S: Steps> Lock<S> {
         requires rests { AreAmong (Q.rests request.old) hand.old.seat.me.0.mine }
         ensures hand { hand.new.seat.table_id ≡ hand.old.seat.table_id }
         ensures rests { AreAmong (Q.rests request.new) hand.new.seat.me.0.mine }
-        ensures call { Makes S.goes S.starts S.rests hand.old.seat.me.0 (Q.trying request.old result) hand.new.seat.me.0 }
+        ensures call { Makes S.goes S.starts S.rests hand.old.seat.me.0
+            (Q.trying request.old result) hand.new.seat.me.0 }
         ensures succeeded { IfSome result (λ output. Q.succeeds request.old output request.new) }
         ensures kept { result ≡ None → request.new ≡ request.old }
     {
@@ -48,10 +49,12 @@ impl<S: Steps> Lock<S> {
     ) -> Option<Q::Output>
         requires hand { hand.old.seat.table_id ≡ self.now.table }
         requires rests { AreAmong (Q.rests request.old) hand.old.seat.me.0.mine }
-        requires named { (answer : Option Q.Output) (call : S.Call) → N.named answer call ↔ Q.trying request.old answer call }
+        requires named { (answer : Option Q.Output) (call : S.Call) → N.named answer call
+            ↔ Q.trying request.old answer call }
         ensures hand { hand.new.seat.table_id ≡ hand.old.seat.table_id }
         ensures rests { AreAmong (Q.rests request.new) hand.new.seat.me.0.mine }
-        ensures call { Makes S.goes S.starts S.rests hand.old.seat.me.0 (Q.trying request.old result) hand.new.seat.me.0 }
+        ensures call { Makes S.goes S.starts S.rests hand.old.seat.me.0
+            (Q.trying request.old result) hand.new.seat.me.0 }
         ensures succeeded { IfSome result (λ output. Q.succeeds request.old output request.new) }
         ensures kept { result ≡ None → request.new ≡ request.old }
     {
@@ -78,7 +81,8 @@ impl<S: Steps> Lock<S> {
         requires rests { AreAmong (Q.rests request.old) hand.old.seat.me.0.mine }
         ensures hand { hand.new.seat.table_id ≡ hand.old.seat.table_id }
         ensures rests { AreAmong (Q.rests request.new) hand.new.seat.me.0.mine }
-        ensures gave_up { GivesUp S.goes S.starts S.rests Q.has_place Q.giving_up (request.old, hand.old.seat.me.0) (request.new, hand.new.seat.me.0) }
+        ensures gave_up { GivesUp S.goes S.starts S.rests Q.has_place Q.giving_up
+            (request.old, hand.old.seat.me.0) (request.new, hand.new.seat.me.0) }
     {
         if request.is_waiting() {
             self.give_up_named::<Brand, _, _>(rt, hand, request);
@@ -94,10 +98,12 @@ impl<S: Steps> Lock<S> {
     )
         requires hand { hand.old.seat.table_id ≡ self.now.table }
         requires rests { AreAmong (Q.rests request.old) hand.old.seat.me.0.mine }
-        requires named { (answer : Unit {0}) (call : S.Call) → N.named answer call ↔ Q.giving_up request.old call }
+        requires named { (answer : Unit {0}) (call : S.Call) → N.named answer call
+            ↔ Q.giving_up request.old call }
         ensures hand { hand.new.seat.table_id ≡ hand.old.seat.table_id }
         ensures rests { AreAmong (Q.rests request.new) hand.new.seat.me.0.mine }
-        ensures call { Makes S.goes S.starts S.rests hand.old.seat.me.0 (Q.giving_up request.old) hand.new.seat.me.0 }
+        ensures call { Makes S.goes S.starts S.rests hand.old.seat.me.0 (Q.giving_up request.old)
+            hand.new.seat.me.0 }
         ensures kept { request.new ≡ request.old }
     {
         let mut waking = Waking::new();
@@ -131,7 +137,9 @@ impl<S: Steps> Lock<S> {
         ensures hand { hand.new.seat.table_id ≡ hand.old.seat.table_id }
         ensures rests { AreAmong (Q.rests request.new) hand.new.seat.me.0.mine }
         ensures never { limit ≡ Never → IfOk result IsSome }
-        ensures obtains { EndsObtaining S.goes S.starts S.rests Q.attempting Q.leaving Q.waits Q.succeeds Q.leaves (limit ≢ Never) Q.trying Q.has_place Q.giving_up (request.old, hand.old.seat.me.0) result (request.new, hand.new.seat.me.0) }
+        ensures obtains { EndsObtaining S.goes S.starts S.rests Q.attempting Q.leaving Q.waits
+            Q.succeeds Q.leaves (limit ≢ Never) Q.trying Q.has_place Q.giving_up
+            (request.old, hand.old.seat.me.0) result (request.new, hand.new.seat.me.0) }
     {
         if let Some(output) = try_first(self, rt, hand, request) {
             return Ok(Some(output));
@@ -152,8 +160,12 @@ fn try_first<S: Steps, Q: Attempt<S>, R: Wait>(
     requires rests { AreAmong (Q.rests request.old) hand.old.seat.me.0.mine }
     ensures hand { hand.new.seat.table_id ≡ hand.old.seat.table_id }
     ensures rests { AreAmong (Q.rests request.new) hand.new.seat.me.0.mine }
-    ensures obtained { IfSome result (λ output. HasObtained S.goes S.starts S.rests Q.attempting Q.leaving Q.waits Q.succeeds Q.leaves Q.trying (request.old, hand.old.seat.me.0) output (request.new, hand.new.seat.me.0)) }
-    ensures tried { result ≡ None → SomeRounds (Tries S.goes S.starts S.rests Q.attempting Q.leaving Q.waits Q.trying) (request.old, hand.old.seat.me.0) (request.new, hand.new.seat.me.0) }
+    ensures obtained { IfSome result (λ output.
+        HasObtained S.goes S.starts S.rests Q.attempting Q.leaving Q.waits Q.succeeds Q.leaves
+        Q.trying (request.old, hand.old.seat.me.0) output (request.new, hand.new.seat.me.0)) }
+    ensures tried { result ≡ None
+        → SomeRounds (Tries S.goes S.starts S.rests Q.attempting Q.leaving Q.waits Q.trying)
+        (request.old, hand.old.seat.me.0) (request.new, hand.new.seat.me.0) }
 {
     if request.is_waiting() {
         return None;
@@ -176,7 +188,9 @@ fn try_then_wait<S: Steps, Q: Attempt<S>, R: Wait + Clock>(
     ensures hand { hand.new.seat.table_id ≡ hand.old.seat.table_id }
     ensures rests { AreAmong (Q.rests request.new) hand.new.seat.me.0.mine }
     ensures never { limit ≡ Never → IfOk result IsSome }
-    ensures obtains { EndsObtaining S.goes S.starts S.rests Q.attempting Q.leaving Q.waits Q.succeeds Q.leaves (limit ≢ Never) Q.trying Q.has_place Q.giving_up (request.old, hand.old.seat.me.0) result (request.new, hand.new.seat.me.0) }
+    ensures obtains { EndsObtaining S.goes S.starts S.rests Q.attempting Q.leaving Q.waits
+        Q.succeeds Q.leaves (limit ≢ Never) Q.trying Q.has_place Q.giving_up
+        (request.old, hand.old.seat.me.0) result (request.new, hand.new.seat.me.0) }
 {
     match try_or_wait(lock, rt, alloc, hand, request, limit) {
         Ok(answer) => Ok(answer),
@@ -202,7 +216,9 @@ fn try_or_wait<S: Steps, Q: Attempt<S>, R: Wait + Clock>(
     ensures hand { hand.new.seat.table_id ≡ hand.old.seat.table_id }
     ensures rests { AreAmong (Q.rests request.new) hand.new.seat.me.0.mine }
     ensures never { limit ≡ Never → IfOk result IsSome }
-    ensures trying { EndsTrying S.goes S.starts S.rests Q.attempting Q.leaving Q.waits Q.succeeds Q.leaves (limit ≢ Never) Q.trying (request.old, hand.old.seat.me.0) result (request.new, hand.new.seat.me.0) }
+    ensures trying { EndsTrying S.goes S.starts S.rests Q.attempting Q.leaving Q.waits Q.succeeds
+        Q.leaves (limit ≢ Never) Q.trying (request.old, hand.old.seat.me.0) result
+        (request.new, hand.new.seat.me.0) }
 {
     if limit.has_passed(rt) {
         return match lock.leave(rt, hand, request) {
@@ -231,8 +247,12 @@ fn try_a_while<S: Steps, Q: Attempt<S>, R: Wait>(
     requires rests { AreAmong (Q.rests request.old) hand.old.seat.me.0.mine }
     ensures hand { hand.new.seat.table_id ≡ hand.old.seat.table_id }
     ensures rests { AreAmong (Q.rests request.new) hand.new.seat.me.0.mine }
-    ensures obtained { IfSome result (λ output. HasObtained S.goes S.starts S.rests Q.attempting Q.leaving Q.waits Q.succeeds Q.leaves Q.trying (request.old, hand.old.seat.me.0) output (request.new, hand.new.seat.me.0)) }
-    ensures tried { result ≡ None → SomeRounds (Tries S.goes S.starts S.rests Q.attempting Q.leaving Q.waits Q.trying) (request.old, hand.old.seat.me.0) (request.new, hand.new.seat.me.0) }
+    ensures obtained { IfSome result (λ output.
+        HasObtained S.goes S.starts S.rests Q.attempting Q.leaving Q.waits Q.succeeds Q.leaves
+        Q.trying (request.old, hand.old.seat.me.0) output (request.new, hand.new.seat.me.0)) }
+    ensures tried { result ≡ None
+        → SomeRounds (Tries S.goes S.starts S.rests Q.attempting Q.leaving Q.waits Q.trying)
+        (request.old, hand.old.seat.me.0) (request.new, hand.new.seat.me.0) }
 {
     for _ in 0..Q::TRIES {
         if request.is_waiting() {
@@ -257,9 +277,16 @@ fn take_if_notified<S: Steps, Q: Attempt<S>, R: Wait>(
     requires rests { AreAmong (Q.rests request.old) hand.old.seat.me.0.mine }
     ensures hand { hand.new.seat.table_id ≡ hand.old.seat.table_id }
     ensures rests { AreAmong (Q.rests request.new) hand.new.seat.me.0.mine }
-    ensures succeeded { IfOk result (λ answer. IfSome answer (λ output. Gets S.goes S.starts S.rests Q.attempting Q.leaving Q.succeeds (request.old, hand.old.seat.me.0) output (request.new, hand.new.seat.me.0))) }
-    ensures waited { result ≡ Ok None → SomeRounds (Round S.goes S.starts S.rests Q.attempting Q.leaving Q.waits) (request.old, hand.old.seat.me.0) (request.new, hand.new.seat.me.0) }
-    ensures refused { IfErr result (λ error. IsRefused S.goes S.starts S.rests Q.attempting Q.leaving (request.old, hand.old.seat.me.0) error (request.new, hand.new.seat.me.0)) }
+    ensures succeeded { IfOk result (λ answer.
+        IfSome answer (λ output.
+        Gets S.goes S.starts S.rests Q.attempting Q.leaving Q.succeeds
+        (request.old, hand.old.seat.me.0) output (request.new, hand.new.seat.me.0))) }
+    ensures waited { result ≡ Ok None
+        → SomeRounds (Round S.goes S.starts S.rests Q.attempting Q.leaving Q.waits)
+        (request.old, hand.old.seat.me.0) (request.new, hand.new.seat.me.0) }
+    ensures refused { IfErr result (λ error.
+        IsRefused S.goes S.starts S.rests Q.attempting Q.leaving (request.old, hand.old.seat.me.0)
+        error (request.new, hand.new.seat.me.0)) }
 {
     if !request.is_waiting() {
         return Ok(None);

@@ -84,9 +84,13 @@ impl<T> EventHand<T> {
         N::Notify: Drop,
         requires fits { N.fits n }
         requires can_tag { N.Notify.can_tag (N.meaning n) }
-        ensures tells { TellsSome N.Notify.tag_gives (N.Notify.count (N.meaning n)) (N.meaning n) result }
-        ensures call { Calls self.old.knows (call.Notify (N.Notify.count (N.meaning n)) (N.Notify.is_additional (N.meaning n)) result) self.new.knows }
-        ensures same { (self.new.event_number ≡ self.old.event_number) × (self.new.table ≡ self.old.table) }
+        ensures tells { TellsSome N.Notify.tag_gives (N.Notify.count (N.meaning n))
+            (N.meaning n) result }
+        ensures call { Calls self.old.knows
+            (call.Notify (N.Notify.count (N.meaning n)) (N.Notify.is_additional (N.meaning n))
+            result) self.new.knows }
+        ensures same { (self.new.event_number ≡ self.old.event_number)
+            × (self.new.table ≡ self.old.table) }
     {
         let step = Notify {
             notification: n.into_notification(),
@@ -113,7 +117,8 @@ impl<T> EventHand<T> {
     /// The call does not allocate. It may wait for the lock of the event.
     pub fn counts<R: Wait>(&mut self, rt: &R) -> (usize, usize)
         ensures call { Calls self.old.knows (call.Counts result.0 result.1) self.new.knows }
-        ensures same { (self.new.event_number ≡ self.old.event_number) × (self.new.table ≡ self.old.table) }
+        ensures same { (self.new.event_number ≡ self.old.event_number)
+            × (self.new.table ≡ self.old.table) }
     {
         perform!(self.shared, rt, self.hand, Counts, &mut ())
     }
@@ -124,7 +129,8 @@ impl<T> EventHand<T> {
     where
         T: Drop,
         R: Wait + Clock + Clone,
-        ensures event { IfOk result (λ listener. listener.standing.event_number ≡ self.old.event_number) }
+        ensures event { IfOk result (λ listener.
+            listener.standing.event_number ≡ self.old.event_number) }
         ensures unfinished { IfOk result (λ listener. listener.standing.is_finished ≡ false) }
         ensures table { IfOk result (λ listener. listener.table ≡ self.old.table) }
         ensures listens { IfOk result (Listens self.old.knows.seen) }
@@ -152,8 +158,12 @@ impl<T> EventHand<T> {
         T: Drop,
         H: Drop,
         requires table { listener.table ≡ self.old.table }
-        ensures waits { listener.standing.is_finished ≡ false → (after : Known T) × WaitsBy listener.standing.key (limit ≢ Never) listener.knows (answered result) after × IfOk result (λ tag. Looks calls is_empty rests_on (both_views self.old.knows after) self.new.knows) }
-        ensures same { (self.new.event_number ≡ self.old.event_number) × (self.new.table ≡ self.old.table) }
+        ensures waits { listener.standing.is_finished ≡ false → (after : Known T)
+            × WaitsBy listener.standing.key (limit ≢ Never) listener.knows (answered result) after
+            × IfOk result (λ tag.
+            Looks calls is_empty rests_on (both_views self.old.knows after) self.new.knows) }
+        ensures same { (self.new.event_number ≡ self.old.event_number)
+            × (self.new.table ≡ self.old.table) }
     {
         let mut listener = listener;
         match listener.wait_in_queue(limit) {
@@ -169,7 +179,8 @@ impl<T> EventHand<T> {
     ///
     /// Returns an error if the share fails.
     pub fn tell(&mut self) -> Result<Self, AllocError>
-        ensures told { IfOk result (λ told. (told.knows ≡ newcomer self.old.knows.seen) × (told.table ≡ self.old.table) × (told.event_number ≡ self.old.event_number)) }
+        ensures told { IfOk result (λ told. (told.knows ≡ newcomer self.old.knows.seen)
+            × (told.table ≡ self.old.table) × (told.event_number ≡ self.old.event_number)) }
         ensures same { self.new ≡ self.old }
     {
         let shared = Arc::try_clone(&self.shared)?;
@@ -187,8 +198,10 @@ impl<T> EventHand<T> {
         listener: &mut QueueListener<T, H, R>,
     )
         requires table { listener.old.table ≡ self.old.table }
-        ensures looks { Looks calls is_empty rests_on (both_views self.old.knows (newcomer listener.old.knows.seen)) self.new.knows }
-        ensures same { (self.new.event_number ≡ self.old.event_number) × (self.new.table ≡ self.old.table) }
+        ensures looks { Looks calls is_empty rests_on
+            (both_views self.old.knows (newcomer listener.old.knows.seen)) self.new.knows }
+        ensures same { (self.new.event_number ≡ self.old.event_number)
+            × (self.new.table ≡ self.old.table) }
         ensures listener { listener.new ≡ listener.old }
     {
         let told = listener.tell();
@@ -200,8 +213,10 @@ impl<T> EventHand<T> {
     where
         T: Drop,
         requires table { other.table ≡ self.old.table }
-        ensures looks { Looks calls is_empty rests_on (both_views self.old.knows other.knows) self.new.knows }
-        ensures same { (self.new.event_number ≡ self.old.event_number) × (self.new.table ≡ self.old.table) }
+        ensures looks { Looks calls is_empty rests_on
+            (both_views self.old.knows other.knows) self.new.knows }
+        ensures same { (self.new.event_number ≡ self.old.event_number)
+            × (self.new.table ≡ self.old.table) }
     {
         self.shared.absorb(&mut self.hand, other.into_hand());
     }

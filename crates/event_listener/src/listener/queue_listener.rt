@@ -76,7 +76,11 @@ impl<T, H: Hold<T>, R: Wait + Clock + Clone> Model for QueueListener<T, H, R> {
       knows = known_of listener.hand.rest.badge.views;
     } };
 
-    ghost invariant = { λ listener. (listener.hand.rest.badge.table_id ≡ (H.lock listener.held).table) × ((knows : Known T) × (listener.hand.rest.badge.views ≡ knows ∷ []) × (listener.membership.is_finished ≡ false → OwnsListener listener.membership.key knows.mine)) };
+    ghost invariant = { λ listener. (listener.hand.rest.badge.table_id
+        ≡ (H.lock listener.held).table)
+        × ((knows : Known T) × (listener.hand.rest.badge.views ≡ knows ∷ [])
+        × (listener.membership.is_finished ≡ false
+        → OwnsListener listener.membership.key knows.mine)) };
 }
 
 impl<T, H: Hold<T>, R: Wait + Clock + Clone> QueueListener<T, H, R> {
@@ -117,7 +121,8 @@ impl<T, H: Hold<T>, R: Wait + Clock + Clone> QueueListener<T, H, R> {
     where
         T: Drop,
         requires table { other.table ≡ self.old.table }
-        ensures looks { Looks calls is_empty rests_on (both_views self.old.knows other.knows) self.new.knows }
+        ensures looks { Looks calls is_empty rests_on
+            (both_views self.old.knows other.knows) self.new.knows }
         ensures same { (self.new.standing ≡ self.old.standing) × (self.new.table ≡ self.old.table) }
     {
         let mut hand = self.hand.take();
@@ -130,11 +135,13 @@ impl<T, H: Hold<T>, R: Wait + Clock + Clone> QueueListener<T, H, R> {
     pub(crate) fn wait_in_queue(&mut self, limit: Limit) -> Result<Option<T>, WaitReason>
     where
         T: Drop,
-        ensures finished { self.old.standing.is_finished ≡ true → result ≡ Err because.NeverInserted }
+        ensures finished { self.old.standing.is_finished ≡ true
+            → result ≡ Err because.NeverInserted }
         ensures memory { result ≡ Err because.Memory → self.new.standing ≡ self.old.standing }
         ensures left { result ≢ Err because.Memory → self.new.standing.is_finished ≡ true }
         ensures unlimited { limit ≡ Never → IfOk result IsSome }
-        ensures waits { self.old.standing.is_finished ≡ false → WaitsBy self.old.standing.key (limit ≢ Never) self.old.knows result self.new.knows }
+        ensures waits { self.old.standing.is_finished ≡ false
+            → WaitsBy self.old.standing.key (limit ≢ Never) self.old.knows result self.new.knows }
         ensures table { self.new.table ≡ self.old.table }
     {
         if self.membership.is_finished() {
@@ -173,7 +180,8 @@ impl<T, H: Hold<T>, R: Wait + Clock + Clone> QueueListener<T, H, R> {
 
     // A hand that knows what the listener's hand knows.
     pub(crate) fn tell(&mut self) -> QueueHand<T>
-        ensures told { (result.seat.table_id ≡ self.old.table) × (result.seat.me.0 ≡ newcomer self.old.knows.seen) }
+        ensures told { (result.seat.table_id ≡ self.old.table)
+            × (result.seat.me.0 ≡ newcomer self.old.knows.seen) }
         ensures same { self.new ≡ self.old }
     {
         let mut hand = self.hand.take();
@@ -294,7 +302,8 @@ impl<T: Drop, H: Hold<T> + Drop, R: Wait + Clock + Clone> Listener<T> for QueueL
         ensures unchanged { self.old.standing.is_finished ≡ true → self.new ≡ self.old }
         ensures call { self.old.standing.is_finished ≡ false → PollsBy self.old result self.new }
         ensures table { self.new.table ≡ self.old.table }
-        ensures registered { IfOk result (λ polled. OnPending polled (Covers cx.new (λ s. s ≡ self.new.standing.source))) }
+        ensures registered { IfOk result (λ polled.
+            OnPending polled (Covers cx.new (λ s. s ≡ self.new.standing.source))) }
         ensures kept { Keeps cx.old cx.new }
     {
         if self.membership.is_finished() {
@@ -318,7 +327,9 @@ impl<T: Drop, H: Hold<T> + Drop, R: Wait + Clock + Clone> Listener<T> for QueueL
         ensures finished { self.standing.is_finished ≡ true → IsErr result }
         ensures memory { IfErr result (HandsBack (λ listener. listener.standing) self) }
         ensures unlimited { limit ≡ Never → IfOk result IsSome }
-        ensures waits { self.standing.is_finished ≡ false → (after : Known T) × WaitsBy self.standing.key (limit ≢ Never) self.knows (answered result) after × IfErr result (λ error. IfBack error (λ back. back.knows ≡ after)) }
+        ensures waits { self.standing.is_finished ≡ false → (after : Known T)
+            × WaitsBy self.standing.key (limit ≢ Never) self.knows (answered result) after
+            × IfErr result (λ error. IfBack error (λ back. back.knows ≡ after)) }
         ensures table { IfErr result (λ error. IfBack error (λ back. back.table ≡ self.table)) }
     {
         let mut listener = self;
@@ -331,7 +342,9 @@ impl<T: Drop, H: Hold<T> + Drop, R: Wait + Clock + Clone> Listener<T> for QueueL
     fn wait(self) -> Result<T, WaitError<Self>>
         ensures finished { self.standing.is_finished ≡ true → IsErr result }
         ensures memory { IfErr result (HandsBack (λ listener. listener.standing) self) }
-        ensures told { self.standing.is_finished ≡ false → IfOk result (λ tag. (after : Known T) × Finds self.standing.key self.knows (register.Notified tag) after) }
+        ensures told { self.standing.is_finished ≡ false
+            → IfOk result (λ tag. (after : Known T)
+            × Finds self.standing.key self.knows (register.Notified tag) after) }
     {
         match self.wait_until(Limit::Never)? {
             Some(tag) => Ok(tag),
@@ -342,7 +355,8 @@ impl<T: Drop, H: Hold<T> + Drop, R: Wait + Clock + Clone> Listener<T> for QueueL
     fn wait_timeout(self, timeout: Duration) -> Result<Option<T>, WaitError<Self>>
         ensures finished { self.standing.is_finished ≡ true → IsErr result }
         ensures memory { IfErr result (HandsBack (λ listener. listener.standing) self) }
-        ensures waits { self.standing.is_finished ≡ false → (after : Known T) × WaitsBy self.standing.key ⊤ self.knows (answered result) after }
+        ensures waits { self.standing.is_finished ≡ false → (after : Known T)
+            × WaitsBy self.standing.key ⊤ self.knows (answered result) after }
     {
         let limit = Limit::after(&self.runtime, timeout);
         self.wait_until(limit)
@@ -351,7 +365,8 @@ impl<T: Drop, H: Hold<T> + Drop, R: Wait + Clock + Clone> Listener<T> for QueueL
     fn wait_deadline(self, deadline: Instant) -> Result<Option<T>, WaitError<Self>>
         ensures finished { self.standing.is_finished ≡ true → IsErr result }
         ensures memory { IfErr result (HandsBack (λ listener. listener.standing) self) }
-        ensures waits { self.standing.is_finished ≡ false → (after : Known T) × WaitsBy self.standing.key ⊤ self.knows (answered result) after }
+        ensures waits { self.standing.is_finished ≡ false → (after : Known T)
+            × WaitsBy self.standing.key ⊤ self.knows (answered result) after }
     {
         self.wait_until(Limit::At(deadline))
     }
@@ -392,7 +407,8 @@ impl<T: Drop, H: Hold<T> + Drop, R: Wait + Clock + Clone> Future for QueueListen
 impl<T: Drop, H: Hold<T> + Drop, R: Wait + Clock + Clone> Drop for QueueListener<T, H, R> {
     #[inline(always)]
     fn drop(self)
-        ensures removed { self.standing.is_finished ≡ false → (told : Bool) × RemovesBy true self told }
+        ensures removed { self.standing.is_finished ≡ false → (told : Bool)
+            × RemovesBy true self told }
     {
         let _ = self.remove(true);
     }

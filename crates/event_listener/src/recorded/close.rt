@@ -59,7 +59,8 @@ pub(super) fn are_hands_below<T>(entries: &[Entry<T>], count: usize) -> bool
 
 // Whether the note is of the same call and reply as the entry.
 fn is_note_of<T: Eq>(entry: &Entry<T>, note: &Note<T>) -> bool
-    ensures { result ≡ (same_call T.eq entry.now.call note.now.call && same_reply T.eq entry.now.reply note.now.reply) }
+    ensures { result ≡ (same_call T.eq entry.now.call note.now.call && same_reply T.eq
+        entry.now.reply note.now.reply) }
 {
     entry.call == note.call && entry.reply == note.reply
 }

@@ -204,11 +204,15 @@ impl<T: Copy + Eq> RecordedEvent<T> {
     /// hand for each number, and at each entry for each hand: its time grows with the hands times the entries.
     pub fn close(self, hands: Vec<Hand<T>>) -> Result<Record<T>, CloseError>
         requires { All (λ hand. Owns self hand) hands.items }
-        ensures missing { ¬ AreAllHands self.hands hands.items → IsErrAnd result (λ error. error ≡ CloseError.HandsMissing) }
-        ensures differ { AreAllHands self.hands hands.items → IfErr result (λ error. error ≡ CloseError.Differs) }
-        ensures notes { IfOk result (λ entries. IsTrue (are_notes_of_all T.eq entries hands.items)) }
+        ensures missing { ¬ AreAllHands self.hands hands.items
+            → IsErrAnd result (λ error. error ≡ CloseError.HandsMissing) }
+        ensures differ { AreAllHands self.hands hands.items
+            → IfErr result (λ error. error ≡ CloseError.Differs) }
+        ensures notes { IfOk result (λ entries.
+            IsTrue (are_notes_of_all T.eq entries hands.items)) }
         ensures hands { IfOk result (λ entries. IsTrue (are_hands_below self.hands entries)) }
-        ensures as_many { IfOk result (λ entries. length (entries_of_hands entries) ≡ notes_of_all hands.items) }
+        ensures as_many { IfOk result (λ entries.
+            length (entries_of_hands entries) ≡ notes_of_all hands.items) }
         ensures ends { IfOk result (λ entries. HandlessAreEnds entries) }
         ensures replays { IfOk result (λ entries. IsTrue (replays T.eq entries)) }
     {

@@ -141,7 +141,8 @@ impl<T: Copy + Eq> Hand<T> {
     ) -> Result<RecordedReply<T>, RecordError>
         ensures noted { IfOk result (λ reply. self.new ≡ noted self.old (P.call step) reply) }
         ensures kind { IfOk result (λ reply. IsReplyTo (P.call step) reply) }
-        ensures step { IfOk result (λ reply. StepsOfSome (P.steps step) beside.old reply beside.new) }
+        ensures step { IfOk result (λ reply.
+            StepsOfSome (P.steps step) beside.old reply beside.new) }
         ensures unchanged { OnErr result (self.new ≡ self.old) }
         ensures beside_unchanged { OnErr result (beside.new ≡ beside.old) }
         ensures memory { IfErr result (λ error. error ≡ RecordError.Memory) }

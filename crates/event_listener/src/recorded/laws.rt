@@ -14,18 +14,22 @@ use super::reply::RecordedReply;
 /// Two replies are equal by `==` exactly if they are by `same_reply`: of one kind, with equal parts, and tags compared by
 /// the equality of `T`.
 pub fn equal_replies<T: Eq>()
-    ensures { (reply other : RecordedReply T) → ⟦<RecordedReply<T> as PartialEq>⟧.eq reply other ≡ same_reply T.eq reply other }
+    ensures { (reply other : RecordedReply T)
+        → ⟦<RecordedReply<T> as PartialEq>⟧.eq reply other ≡ same_reply T.eq reply other }
 {}
 
 /// Two calls are equal by `==` exactly if they are by `same_call`: of one kind, with equal parts, and tags compared by
 /// the equality of `T`.
 pub fn equal_calls<T: Eq>()
-    ensures { (call other : RecordedCall T) → ⟦<RecordedCall<T> as PartialEq>⟧.eq call other ≡ same_call T.eq call other }
+    ensures { (call other : RecordedCall T)
+        → ⟦<RecordedCall<T> as PartialEq>⟧.eq call other ≡ same_call T.eq call other }
 {}
 
 /// A record replays exactly if it is a run of a queue that was empty, whatever its tasks are: then each of its entries
 /// is a step of that queue, and it replays to the queue that the run leaves.
 pub fn replays_exactly_the_runs<T: Eq, W>()
-    ensures run_replays { (entries : List (Entry T)) (queue : Queue T W) → IsRun T.eq empty_queue entries queue → ReplaysTo T.eq entries queue }
-    ensures replayed_is_run { (task : W) (entries : List (Entry T)) → IsTrue (replays T.eq entries) → (queue : Queue T W) × IsRun T.eq empty_queue entries queue }
+    ensures run_replays { (entries : List (Entry T)) (queue : Queue T W)
+        → IsRun T.eq empty_queue entries queue → ReplaysTo T.eq entries queue }
+    ensures replayed_is_run { (task : W) (entries : List (Entry T)) → IsTrue (replays T.eq entries)
+        → (queue : Queue T W) × IsRun T.eq empty_queue entries queue }
 {}

@@ -25,7 +25,8 @@ impl<T: Copy + Eq> Model for Record<T> {
 
     ghost view = { λ kept. kept.entries.items };
 
-    ghost invariant = { λ kept. IsTrue (replays T.eq kept.entries.items) × HandlessAreEnds kept.entries.items };
+    ghost invariant = { λ kept. IsTrue (replays T.eq kept.entries.items)
+        × HandlessAreEnds kept.entries.items };
 }
 
 impl<T: Copy + Eq> Record<T> {

@@ -37,9 +37,13 @@ impl<T: Copy + Eq> Model for RecordedState<T> {
 
     ghost Value = { Recording T };
 
-    ghost view = { λ state. record { entries = state.entries.items; queue = record state.list { spare = 0 } } };
+    ghost view = { λ state. record {
+      entries = state.entries.items;
+      queue = record state.list { spare = 0 };
+    } };
 
-    ghost invariant = { λ state. IsRecording T.eq state.entries.items (record state.list { spare = 0 }) (vec_len state.entries) (vec_capacity state.entries) };
+    ghost invariant = { λ state. IsRecording T.eq state.entries.items
+        (record state.list { spare = 0 }) (vec_len state.entries) (vec_capacity state.entries) };
 }
 
 // Makes room for this many new entries, and for one more for each listener.
@@ -63,7 +67,10 @@ fn make_room<T>(
 impl<T: Copy + Eq> RecordedState<T> {
     /// An empty queue, whose first listener gets the serial 0, and an empty record. The call allocates nothing.
     pub fn new(alloc: Global) -> Self
-        ensures empty { result ≡ record { entries = []; queue = record { told = []; waiting = []; next_serial = 0; spare = 0 } } }
+        ensures empty { result ≡ record {
+          entries = [];
+          queue = record { told = []; waiting = []; next_serial = 0; spare = 0 };
+        } }
     {
         RecordedState {
             list: List::new(alloc),
@@ -86,9 +93,16 @@ impl<T: Copy + Eq> RecordedState<T> {
     ) -> Result<RecordedReply<T>, RecordError>
         // The queue made this one step, the sink was handed the tasks that it woke, and the step is the record's last
         // entry.
-        ensures step { IfOk result (λ reply. StepsAnySpare self.old.queue (without_task call) (task_of call) reply self.new.queue) }
-        ensures wakes { OnOk result (FoldsTo S.woke sink.old (woken_by_call (without_task call) self.old.queue) sink.new) }
-        ensures recorded { IfOk result (λ reply. self.new.entries ≡ self.old.entries ++ record { hand = Some hand; call = without_task call; reply = reply } ∷ []) }
+        ensures step { IfOk result (λ reply.
+            StepsAnySpare self.old.queue (without_task call) (task_of call) reply self.new.queue) }
+        ensures wakes { OnOk result (FoldsTo S.woke sink.old
+            (woken_by_call (without_task call) self.old.queue) sink.new) }
+        ensures recorded { IfOk result (λ reply.
+            self.new.entries ≡ self.old.entries ++ record {
+              hand = Some hand;
+              call = without_task call;
+              reply = reply;
+            } ∷ []) }
         ensures kind { IfOk result (λ reply. IsReplyTo (without_task call) reply) }
 
         // A refusal changes nothing.
@@ -107,9 +121,16 @@ impl<T: Copy + Eq> RecordedState<T> {
         step: P,
         beside: &mut C,
     ) -> Result<Entry<T>, RecordError>
-        ensures step { IfOk result (λ entry. StepsBeside (P.steps step) self.old.queue beside.old entry.reply self.new.queue beside.new) }
-        ensures recorded { IfOk result (λ entry. self.new.entries ≡ self.old.entries ++ entry ∷ []) }
-        ensures entry { IfOk result (λ entry. entry ≡ record { hand = Some hand; call = P.call step; reply = entry.reply }) }
+        ensures step { IfOk result (λ entry.
+            StepsBeside (P.steps step) self.old.queue beside.old entry.reply
+            self.new.queue beside.new) }
+        ensures recorded { IfOk result (λ entry.
+            self.new.entries ≡ self.old.entries ++ entry ∷ []) }
+        ensures entry { IfOk result (λ entry. entry ≡ record {
+          hand = Some hand;
+          call = P.call step;
+          reply = entry.reply;
+        }) }
         ensures kind { IfOk result (λ entry. IsReplyTo (P.call step) entry.reply) }
         ensures memory { IfErr result (λ error. error ≡ RecordError.Memory) }
         ensures unchanged { OnErr result (self.new ≡ self.old) }
@@ -130,7 +151,8 @@ impl<T: Copy + Eq> RecordedState<T> {
     /// recorded without a hand. If no listener has that key, nothing changes. The call allocates nothing.
     pub fn apply_end<S: WakeSink<Task>>(&mut self, key: Key, sink: &mut S)
         ensures ends { ¬ IsAbsent key self.old.queue → Ends self.old key self.new }
-        ensures wakes { FoldsTo S.woke sink.old (woken_by_removal key true self.old.queue) sink.new }
+        ensures wakes { FoldsTo S.woke sink.old
+            (woken_by_removal key true self.old.queue) sink.new }
 
         // A key that no listener has changes nothing.
         ensures unchanged { IsAbsent key self.old.queue → self.new ≡ self.old }

@@ -42,7 +42,9 @@ pub(super) trait MakesStep<T: Copy, C>: Drop {
 impl<T: Copy, S: WakeSink<Task>> MakesStep<T, S> for StepCall<T> {
     ghost call = { λ call. without_task call };
 
-    ghost steps = { λ call before reply after. Steps before.0 (without_task call) (task_of call) reply after.0 × FoldsTo S.woke before.1 (woken_by_call (without_task call) before.0) after.1 };
+    ghost steps = { λ call before reply after.
+        Steps before.0 (without_task call) (task_of call) reply after.0
+        × FoldsTo S.woke before.1 (woken_by_call (without_task call) before.0) after.1 };
 
     #[inline(always)]
     fn recorded(&self) -> RecordedCall<T> {
@@ -87,7 +89,8 @@ pub(super) struct PollStep<'x, X> {
 impl<T: Copy, C, X: TaskExchange<Task, C>> MakesStep<T, C> for PollStep<'_, X> {
     ghost call = { λ step. Register step.key };
 
-    ghost steps = { λ step before reply after. ExchangesIfWaiting (X.exchanged step.exchange.now) before.1 reply after.1 };
+    ghost steps = { λ step before reply after.
+        ExchangesIfWaiting (X.exchanged step.exchange.now) before.1 reply after.1 };
 
     fn recorded(&self) -> RecordedCall<T> {
         RecordedCall::Register { key: self.key }
@@ -107,7 +110,8 @@ pub(super) fn perform_removal<T: Copy, S: WakeSink<Task>>(
     sink: &mut S,
 ) -> Option<Former<T>>
     ensures step { RemovesAs list.old key propagate result list.new }
-    ensures wakes { FoldsTo S.woke sink.old (woken_by_removal key propagate (unspared list.old)) sink.new }
+    ensures wakes { FoldsTo S.woke sink.old
+        (woken_by_removal key propagate (unspared list.old)) sink.new }
     ensures queue { IsQueue list.new }
 {
     Some(Former::of(list.remove_uncounted(key, propagate, sink)?))
@@ -124,7 +128,8 @@ fn perform_removal_apart<T: Copy, S: WakeSink<Task>>(
     sink: &mut S,
 ) -> Option<Former<T>>
     ensures step { RemovesAs list.old key propagate result list.new }
-    ensures wakes { FoldsTo S.woke sink.old (woken_by_removal key propagate (unspared list.old)) sink.new }
+    ensures wakes { FoldsTo S.woke sink.old
+        (woken_by_removal key propagate (unspared list.old)) sink.new }
     ensures queue { IsQueue list.new }
 {
     perform_removal(list, key, propagate, sink)
@@ -137,7 +142,8 @@ fn perform_notification<T: Copy, S: WakeSink<Task>>(
     sink: &mut S,
 ) -> usize
     ensures told { result ≡ how_many source.count source.additional list.old }
-    ensures queue_after { list.new ≡ after_telling source.additional (replicate result source.tag) list.old }
+    ensures queue_after { list.new ≡ after_telling source.additional
+        (replicate result source.tag) list.old }
     ensures wakes { FoldsTo S.woke sink.old (tasks_of result list.old) sink.new }
     ensures queue { IsQueue list.new }
 {

@@ -54,11 +54,14 @@ impl<T: Copy + Eq> Request<RecordedState<T>> for RecordedPlace<T> {
 
     type Refusal = RecordError;
 
-    ghost succeeds = { λ before output after. (after.key ≡ before.key) × NotesAttempt before.key before.hand output after.hand };
+    ghost succeeds = { λ before output after. (after.key ≡ before.key)
+        × NotesAttempt before.key before.hand output after.hand };
 
-    ghost waits = { λ before after. (after.key ≡ before.key) × NotesRound before.key before.hand after.hand };
+    ghost waits = { λ before after. (after.key ≡ before.key)
+        × NotesRound before.key before.hand after.hand };
 
-    ghost leaves = { λ before answer after. (after.key ≡ before.key) × NotesRemoval before.key before.hand answer after.hand };
+    ghost leaves = { λ before answer after. (after.key ≡ before.key)
+        × NotesRemoval before.key before.hand answer after.hand };
 
     fn attempt_or_wait<C, X: TaskExchange<Task, C>, K: WakeSink<Task>>(
         &mut self,

@@ -53,7 +53,8 @@ impl<W> Model for Rounds<W> {
 
     ghost view = { λ s. record { parties = s.parties; arrived = s.arrived; line = s.line } };
 
-    ghost invariant = { λ s. NobodyWaitsInVain (record { parties = s.parties; arrived = s.arrived; line = s.line }) };
+    ghost invariant = { λ s. NobodyWaitsInVain
+        (record { parties = s.parties; arrived = s.arrived; line = s.line }) };
 }
 
 impl<W> Rounds<W> {
@@ -71,8 +72,12 @@ impl<W> Rounds<W> {
 
     /// Ends the round if all others have arrived, and wakes them.
     pub fn try_end<S: WakeSink<W>>(&mut self, sink: &mut S) -> Option<Ended>
-        ensures ends { IfSome result (λ is_leader. (is_leader ≡ true) × (self.old.parties ≤ self.old.arrived + 1) × (self.new.arrived ≡ 0) × HandsOut S.woke (length self.old.line.waiting) self.old.line self.new.line sink.old sink.new) }
-        ensures early { result ≡ None → (self.old.arrived + 1 < self.old.parties) × (self.new ≡ self.old) × (sink.new ≡ sink.old) }
+        ensures ends { IfSome result (λ is_leader. (is_leader ≡ true)
+            × (self.old.parties ≤ self.old.arrived + 1) × (self.new.arrived ≡ 0)
+            × HandsOut S.woke (length self.old.line.waiting) self.old.line self.new.line
+            sink.old sink.new) }
+        ensures early { result ≡ None → (self.old.arrived + 1 < self.old.parties)
+            × (self.new ≡ self.old) × (sink.new ≡ sink.old) }
         ensures parties { self.new.parties ≡ self.old.parties }
     {
         if self.arrived + 1 < self.parties {
@@ -90,12 +95,18 @@ impl<W> Rounds<W> {
         on: &mut C,
         sink: &mut S,
     ) -> Attempted<Ended, LockError>
-        ensures ends { OnDone result (λ is_leader. (is_leader ≡ true) × (self.old.parties ≤ self.old.arrived + 1) × (self.new.arrived ≡ 0) × HandsOut S.woke (length self.old.line.waiting) self.old.line self.new.line sink.old sink.new) }
-        ensures joins { Comes (X.exchanged exchange.now) self.old.line on.old result self.new.line on.new }
-        ensures arrives { OnWaits result ((self.new.arrived ≡ self.old.arrived + 1) × (sink.new ≡ sink.old)) }
+        ensures ends { OnDone result (λ is_leader. (is_leader ≡ true)
+            × (self.old.parties ≤ self.old.arrived + 1) × (self.new.arrived ≡ 0)
+            × HandsOut S.woke (length self.old.line.waiting) self.old.line self.new.line
+            sink.old sink.new) }
+        ensures joins { Comes (X.exchanged exchange.now) self.old.line on.old result
+            self.new.line on.new }
+        ensures arrives { OnWaits result ((self.new.arrived ≡ self.old.arrived + 1)
+            × (sink.new ≡ sink.old)) }
         ensures parties { self.new.parties ≡ self.old.parties }
         ensures refused { OnRefused result ((self.new ≡ self.old) × (sink.new ≡ sink.old)) }
-        ensures reason { IfRefused result (λ error. CannotJoin error self.old.line self.new.line × (self.old.arrived + 1 < self.old.parties)) }
+        ensures reason { IfRefused result (λ error. CannotJoin error self.old.line self.new.line
+            × (self.old.arrived + 1 < self.old.parties)) }
     {
         if let Some(ended) = self.try_end(sink) {
             return Attempted::Done(ended);
@@ -121,7 +132,8 @@ impl<W> Rounds<W> {
         ensures arrived { self.new.arrived ≡ self.old.arrived }
         ensures told { length self.new.line.told + left_by result ≡ length self.old.line.told }
         ensures follows { OnGranted result (λ is_leader. is_leader ≡ false) }
-        ensures step { RegistersWith (X.exchanged exchange.now) self.old.line key on.old (as_told result) self.new.line on.new }
+        ensures step { RegistersWith (X.exchanged exchange.now) self.old.line key on.old
+            (as_told result) self.new.line on.new }
     {
         match look_for(&mut self.line, key, exchange, on) {
             RegisterResult::Notified(()) => RegisterResult::Notified(Ended { is_leader: false }),
@@ -134,7 +146,9 @@ impl<W> Rounds<W> {
     pub fn leave_round(&mut self, key: Key) -> Option<Ended>
     where
         W: Drop,
-        ensures ended { IfSome result (λ is_leader. (is_leader ≡ false) × (length self.new.line.told + 1 ≡ length self.old.line.told) × (self.new.arrived ≡ self.old.arrived)) }
+        ensures ended { IfSome result (λ is_leader. (is_leader ≡ false)
+            × (length self.new.line.told + 1 ≡ length self.old.line.told)
+            × (self.new.arrived ≡ self.old.arrived)) }
         ensures early { result ≡ None → length self.new.line.told ≡ length self.old.line.told }
         ensures untold { self.old.arrived ≤ self.new.arrived + 1 }
         ensures parties { self.new.parties ≡ self.old.parties }

@@ -49,7 +49,8 @@ impl<L: Tries<Q, Refusal = LockError>, Q: Drop, H: Hold<L> + Drop> Obtaining<L, 
 
     /// Blocks the thread until it is granted, or so long. With no time left it only attempts.
     pub fn wait_timeout(self, timeout: Duration) -> Result<Option<(H, L::Output)>, LockError>
-        ensures obtained { IfOk result (λ answer. IfSome answer (λ got. Obtained L.succeeds L.leaves (H.held got.0) got.1)) }
+        ensures obtained { IfOk result (λ answer.
+            IfSome answer (λ got. Obtained L.succeeds L.leaves (H.held got.0) got.1)) }
     {
         let limit = match &self.hold {
             // No time at all has passed already, and no clock is read.
@@ -61,7 +62,8 @@ impl<L: Tries<Q, Refusal = LockError>, Q: Drop, H: Hold<L> + Drop> Obtaining<L, 
 
     /// Blocks the thread until it is granted, or until this moment. At one that has passed it only attempts.
     pub fn wait_deadline(self, deadline: Instant) -> Result<Option<(H, L::Output)>, LockError>
-        ensures obtained { IfOk result (λ answer. IfSome answer (λ got. Obtained L.succeeds L.leaves (H.held got.0) got.1)) }
+        ensures obtained { IfOk result (λ answer.
+            IfSome answer (λ got. Obtained L.succeeds L.leaves (H.held got.0) got.1)) }
     {
         self.wait_until(Limit::At(deadline))
     }
@@ -69,7 +71,8 @@ impl<L: Tries<Q, Refusal = LockError>, Q: Drop, H: Hold<L> + Drop> Obtaining<L, 
     #[inline(always)]
     fn wait_until(self, limit: Limit) -> Result<Option<(H, L::Output)>, LockError>
         ensures never { limit ≡ Never → IfOk result IsSome }
-        ensures obtained { IfOk result (λ answer. IfSome answer (λ got. Obtained L.succeeds L.leaves (H.held got.0) got.1)) }
+        ensures obtained { IfOk result (λ answer.
+            IfSome answer (λ got. Obtained L.succeeds L.leaves (H.held got.0) got.1)) }
     {
         let Obtaining {
             hold,
@@ -96,8 +99,10 @@ impl<L: Tries<Q, Refusal = LockError>, Q: Drop, H: Hold<L> + Drop> Obtaining<L, 
     /// Attempts, and registers the task that polls if it waits on. After an output or an error it is
     /// [`LockError::Finished`].
     pub fn poll(&mut self, cx: &mut Context<'_>) -> Poll<Result<(H, L::Output), LockError>>
-        ensures obtained { IfReady result (λ answer. IfOk answer (λ got. Obtained L.succeeds L.leaves (H.held got.0) got.1)) }
-        ensures registered { OnPending result (Covers cx.new (λ s. IsSomeAnd self.new.hold (λ hold. s ≡ L.source (H.held hold)))) }
+        ensures obtained { IfReady result
+            (λ answer. IfOk answer (λ got. Obtained L.succeeds L.leaves (H.held got.0) got.1)) }
+        ensures registered { OnPending result
+            (Covers cx.new (λ s. IsSomeAnd self.new.hold (λ hold. s ≡ L.source (H.held hold)))) }
         ensures kept { Keeps cx.old cx.new }
     {
         let Some(hold) = self.hold.take() else {

@@ -89,7 +89,8 @@ impl<V, C: Condition<V> + Copy, W: Drop> Watched<V, C, W> {
 
     /// One attempt. If it gives something, which may change the value, all that wait are notified.
     pub fn attempt<K: WakeSink<W>>(&mut self, condition: C, sink: &mut K) -> Option<C::Output>
-        ensures gave { IfSome result (λ output. C.gives condition self.old.value output self.new.value) }
+        ensures gave { IfSome result (λ output.
+            C.gives condition self.old.value output self.new.value) }
         ensures told { IfSome result (λ _. TellsAll self.old.line self.new.line) }
         ensures only_then { IsSome result → ¬ C.fails condition self.old.value }
         ensures failed { result ≡ None → C.fails condition self.old.value }
@@ -111,8 +112,10 @@ impl<V, C: Condition<V> + Copy, W: Drop> Watched<V, C, W> {
         on: &mut O,
         sink: &mut K,
     ) -> Attempted<C::Output, LockError>
-        ensures obtains { Obtains C.gives C.fails (X.exchanged exchange.now) condition key self.old on.old result self.new on.new }
-        ensures wakes { FoldsTo K.woke sink.old (woken_by_attempting key self.old.line result) sink.new }
+        ensures obtains { Obtains C.gives C.fails (X.exchanged exchange.now) condition key self.old
+            on.old result self.new on.new }
+        ensures wakes { FoldsTo K.woke sink.old
+            (woken_by_attempting key self.old.line result) sink.new }
     {
         match condition.attempt(&mut self.value) {
             Some(output) => {
@@ -167,10 +170,12 @@ struct Tasks<'s, K> {
 }
 
 impl<'s, C: Copy, W, K: WakeSink<W>> WakeSink<Waiter<C, W>> for Tasks<'s, K> {
-    ghost woke = { λ before waiter after. (after.sink.ghost_name ≡ before.sink.ghost_name) × K.woke before.sink.now waiter.task after.sink.now };
+    ghost woke = { λ before waiter after. (after.sink.ghost_name ≡ before.sink.ghost_name)
+        × K.woke before.sink.now waiter.task after.sink.now };
 
     fn wake(&mut self, waiter: Waiter<C, W>)
-        ensures { (self.new.sink.ghost_name ≡ self.old.sink.ghost_name) × K.woke self.old.sink.now waiter.task self.new.sink.now }
+        ensures { (self.new.sink.ghost_name ≡ self.old.sink.ghost_name)
+            × K.woke self.old.sink.now waiter.task self.new.sink.now }
     {
         let Waiter { condition: _, task } = waiter;
         self.sink.wake(task);
@@ -185,7 +190,9 @@ fn watch_in_line<C: Copy, W, O, X: TaskExchange<W, O>>(
     exchange: &X,
     on: &mut O,
 ) -> Result<Key, ListenError>
-    ensures waits { IfOk result (λ waits. WaitsBy (Watches (X.exchanged exchange.now) condition) key line.old on.old waits line.new on.new) }
+    ensures waits { IfOk result (λ waits.
+        WaitsBy (Watches (X.exchanged exchange.now) condition) key line.old on.old waits
+        line.new on.new) }
     ensures refused { IfErr result (λ error. CannotWait key error line.old line.new) }
     ensures kept { OnErr result (on.new ≡ on.old) }
 {
@@ -209,10 +216,12 @@ struct Watching<'x, C, X> {
 
 impl<'x, C: Copy, W, O, X: TaskExchange<W, O>> TaskExchange<Waiter<C, W>, O>
     for Watching<'x, C, X> {
-    ghost exchanged = { λ watching before stored waiter after. Watches (X.exchanged watching.tasks.now) watching.condition before stored waiter after };
+    ghost exchanged = { λ watching before stored waiter after.
+        Watches (X.exchanged watching.tasks.now) watching.condition before stored waiter after };
 
     fn exchange(&self, on: &mut O, stored: Option<Waiter<C, W>>) -> Waiter<C, W>
-        ensures { Watches (X.exchanged self.now.tasks.now) self.now.condition on.old stored result on.new }
+        ensures { Watches (X.exchanged self.now.tasks.now) self.now.condition on.old
+            stored result on.new }
     {
         Waiter {
             condition: self.condition,

@@ -46,9 +46,15 @@ impl<W> Model for Once<W> {
 
     ghost Value = { State W };
 
-    ghost view = { λ s. record { making = s.making; is_set = s.is_set; makers = s.makers; readers = s.readers } };
+    ghost view = { λ s. record {
+      making = s.making;
+      is_set = s.is_set;
+      makers = s.makers;
+      readers = s.readers;
+    } };
 
-    ghost invariant = { λ s. NobodyWaitsInVain (record { making = s.making; is_set = s.is_set; makers = s.makers; readers = s.readers }) };
+    ghost invariant = { λ s. NobodyWaitsInVain
+        (record { making = s.making; is_set = s.is_set; makers = s.makers; readers = s.readers }) };
 }
 
 impl<W> Once<W> {
@@ -70,8 +76,10 @@ impl<W> Once<W> {
         ensures kept { self.new.is_set ≡ self.old.is_set }
         ensures turn { IfSome result (λ turn. turn ≡ turn_at self.old) }
         ensures takes { IfSome result (λ _. self.new.making ≡ making_at self.old) }
-        ensures none { result ≡ None → (self.new ≡ self.old) × (self.old.is_set ≡ false) × (0 < turns self.old) }
-        ensures queues { (self.new.makers ≡ self.old.makers) × (self.new.readers ≡ self.old.readers) }
+        ensures none { result ≡ None → (self.new ≡ self.old) × (self.old.is_set ≡ false)
+            × (0 < turns self.old) }
+        ensures queues { (self.new.makers ≡ self.old.makers)
+            × (self.new.readers ≡ self.old.readers) }
     {
         if self.is_set {
             return Some(Turn::Use);
@@ -102,11 +110,15 @@ impl<W> Once<W> {
     ) -> Attempted<Turn, LockError>
         ensures kept { self.new.is_set ≡ self.old.is_set }
         ensures turn { OnDone result (λ turn. turn ≡ turn_at self.old) }
-        ensures takes { OnDone result (λ _. (self.new.making ≡ making_at self.old) × (self.new.makers ≡ self.old.makers)) }
-        ensures joins { Comes (X.exchanged exchange.now) self.old.makers on.old result self.new.makers on.new }
-        ensures waits { OnWaits result ((self.new.making ≡ self.old.making) × (0 < turns self.old)) }
+        ensures takes { OnDone result (λ _. (self.new.making ≡ making_at self.old)
+            × (self.new.makers ≡ self.old.makers)) }
+        ensures joins { Comes (X.exchanged exchange.now) self.old.makers on.old result
+            self.new.makers on.new }
+        ensures waits { OnWaits result ((self.new.making ≡ self.old.making)
+            × (0 < turns self.old)) }
         ensures refused { OnRefused result (self.new ≡ self.old) }
-        ensures reason { IfRefused result (λ error. CannotJoin error self.old.makers self.new.makers × (0 < turns self.old)) }
+        ensures reason { IfRefused result (λ error. CannotJoin error self.old.makers self.new.makers
+            × (0 < turns self.old)) }
         ensures readers { self.new.readers ≡ self.old.readers }
     {
         if let Some(turn) = self.try_make() {
@@ -124,10 +136,12 @@ impl<W> Once<W> {
     ) -> Attempted<IsSet, LockError>
         ensures kept { self.new.is_set ≡ self.old.is_set }
         ensures set { OnDone result (λ _. (self.old.is_set ≡ true) × (self.new ≡ self.old)) }
-        ensures joins { Comes (X.exchanged exchange.now) self.old.readers on.old result self.new.readers on.new }
+        ensures joins { Comes (X.exchanged exchange.now) self.old.readers on.old result
+            self.new.readers on.new }
         ensures waits { OnWaits result (self.old.is_set ≡ false) }
         ensures refused { OnRefused result (self.new ≡ self.old) }
-        ensures reason { IfRefused result (λ error. CannotJoin error self.old.readers self.new.readers × (self.old.is_set ≡ false)) }
+        ensures reason { IfRefused result (λ error.
+            CannotJoin error self.old.readers self.new.readers × (self.old.is_set ≡ false)) }
         ensures makers { MakersStay self.old self.new }
     {
         if self.is_set {
@@ -143,7 +157,8 @@ impl<W> Once<W> {
         exchange: &X,
         on: &mut C,
     ) -> RegisterResult<Turn>
-        ensures step { RegistersWith (X.exchanged exchange.now) self.old.makers key on.old (as_told result) self.new.makers on.new }
+        ensures step { RegistersWith (X.exchanged exchange.now) self.old.makers key on.old
+            (as_told result) self.new.makers on.new }
         ensures looked { Looked (X.exchanged exchange.now) on.old result on.new }
         ensures turn { OnGranted result (λ turn. turn ≡ turn_at self.old) }
         ensures making { self.new.making ≡ making_by (is_granted result) self.old }
@@ -170,7 +185,8 @@ impl<W> Once<W> {
         exchange: &X,
         on: &mut C,
     ) -> RegisterResult<IsSet>
-        ensures step { RegistersWith (X.exchanged exchange.now) self.old.readers key on.old (as_told result) self.new.readers on.new }
+        ensures step { RegistersWith (X.exchanged exchange.now) self.old.readers key on.old
+            (as_told result) self.new.readers on.new }
         ensures looked { Looked (X.exchanged exchange.now) on.old result on.new }
         ensures kept { self.new.is_set ≡ self.old.is_set }
         ensures makers { MakersStay self.old self.new }
@@ -186,7 +202,8 @@ impl<W> Once<W> {
     pub fn leave_making(&mut self, key: Key) -> Option<Turn>
     where
         W: Drop,
-        ensures has { MatchOption result (length self.new.makers.told ≡ length self.old.makers.told) (λ _. length self.new.makers.told + 1 ≡ length self.old.makers.told) }
+        ensures has { MatchOption result (length self.new.makers.told ≡ length self.old.makers.told)
+            (λ _. length self.new.makers.told + 1 ≡ length self.old.makers.told) }
         ensures turn { IfSome result (λ turn. turn ≡ turn_at self.old) }
         ensures making { self.new.making ≡ making_by (is_some result) self.old }
         ensures kept { self.new.is_set ≡ self.old.is_set }
@@ -207,7 +224,9 @@ impl<W> Once<W> {
     pub fn leave_using(&mut self, key: Key) -> Option<IsSet>
     where
         W: Drop,
-        ensures has { MatchOption result (length self.new.readers.told ≡ length self.old.readers.told) (λ _. length self.new.readers.told + 1 ≡ length self.old.readers.told) }
+        ensures has { MatchOption result
+            (length self.new.readers.told ≡ length self.old.readers.told)
+            (λ _. length self.new.readers.told + 1 ≡ length self.old.readers.told) }
         ensures kept { self.new.is_set ≡ self.old.is_set }
         ensures others { order_of self.new.readers ≡ without key (order_of self.old.readers) }
         ensures makers { MakersStay self.old self.new }
@@ -221,7 +240,8 @@ impl<W> Once<W> {
     /// Whoever gives its turn up hands it to the next.
     pub fn give_up<S: WakeSink<W>>(&mut self, sink: &mut S)
         ensures kept { self.new.is_set ≡ self.old.is_set }
-        ensures next { 0 < self.old.making → (self.new.making ≡ 0) × HandsOut S.woke 1 self.old.makers self.new.makers sink.old sink.new }
+        ensures next { 0 < self.old.making → (self.new.making ≡ 0)
+            × HandsOut S.woke 1 self.old.makers self.new.makers sink.old sink.new }
         ensures others { self.new.readers ≡ self.old.readers }
         ensures unchanged { self.old.making ≡ 0 → (self.new ≡ self.old) × (sink.new ≡ sink.old) }
     {
@@ -237,7 +257,9 @@ impl<W> Once<W> {
         ensures set { (self.new.is_set ≡ true) × (self.new.making ≡ 0) }
         ensures makers { TellsAll self.old.makers self.new.makers }
         ensures readers { TellsAll self.old.readers self.new.readers }
-        ensures wakes { FoldsTo S.woke sink.old (tasks_of (length self.old.makers.waiting) self.old.makers ++ tasks_of (length self.old.readers.waiting) self.old.readers) sink.new }
+        ensures wakes { FoldsTo S.woke sink.old
+            (tasks_of (length self.old.makers.waiting) self.old.makers ++ tasks_of
+            (length self.old.readers.waiting) self.old.readers) sink.new }
     {
         self.making = 0;
         self.is_set = true;

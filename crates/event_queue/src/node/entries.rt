@@ -1,5 +1,5 @@
 //! The entries of a chain in order, each on a node of one ring, and the cursor.
-ghost use Rattle.std.specs.Prelude.{◌≡◌, ◌+◌, [], ◌∷◌, ◌++◌, cond, ◌↔◌, eqb, IsTrue, IsSome, IfOk};
+ghost use Rattle.std.specs.Prelude.{◌≡◌, ◌+◌, [], ◌∷◌, ◌++◌, if◌then◌else◌, ◌↔◌, eqb, IsTrue, IsSome, IfOk};
 ghost use Rattle.event_queue.specs.Ring.{placed, first_place, IsAt, AtNode};
 ghost use Rattle.event_queue.specs.Nodes.{value_before, value_after, held_after, spare_entry, IsSpareAt, IsBeforeAt, IsAfterAt, HandsOut, HandsIn, TakesOut, Advances};
 
@@ -132,7 +132,8 @@ impl<A, B> Entries<A, B> {
     #[inline(always)]
     pub(super) fn is_before(&self, own: &NodeRef<Entry<A, B>>) -> bool
         requires { IsAt self.now.ring.nodes own.now.ptr }
-        ensures { AtNode self.now.ring.nodes own.now.ptr (λ _ n _. IsTrue result ↔ IsSome (value_before n.entry.held)) }
+        ensures { AtNode self.now.ring.nodes own.now.ptr (λ _ n _. IsTrue result
+            ↔ IsSome (value_before n.entry.held)) }
     {
         let (entry, _) = self.ring.look(own);
         matches!(entry.held, Held::Before(_))
@@ -142,7 +143,8 @@ impl<A, B> Entries<A, B> {
     #[inline(always)]
     pub(super) fn is_after(&self, own: &NodeRef<Entry<A, B>>) -> bool
         requires { IsAt self.now.ring.nodes own.now.ptr }
-        ensures { AtNode self.now.ring.nodes own.now.ptr (λ _ n _. IsTrue result ↔ IsSome (value_after n.entry.held)) }
+        ensures { AtNode self.now.ring.nodes own.now.ptr (λ _ n _. IsTrue result
+            ↔ IsSome (value_after n.entry.held)) }
     {
         let (entry, _) = self.ring.look(own);
         matches!(entry.held, Held::After(_) | Held::AfterWithout)
@@ -165,8 +167,13 @@ impl<A, B> Entries<A, B> {
         ensures slot { result.0 ≡ node.entry.slot }
         ensures place { result.1.ptr ≡ node.at }
         ensures root { self.new.ring.at ≡ self.old.ring.at }
-        ensures nodes { self.new.ring.nodes ≡ self.old.ring.nodes ++ placed node.at (record { slot = node.entry.slot; serial = record { number = serial }; held = held_after value }) ∷ [] }
-        ensures cursor { self.new.cursor.ptr ≡ cond is_first node.at self.old.cursor.ptr }
+        ensures nodes { self.new.ring.nodes
+            ≡ self.old.ring.nodes ++ placed node.at (record {
+              slot = node.entry.slot;
+              serial = record { number = serial };
+              held = held_after value;
+            }) ∷ [] }
+        ensures cursor { self.new.cursor.ptr ≡ if is_first then node.at else self.old.cursor.ptr }
         ensures visits { steps.new.visits ≡ steps.old.visits + 1 }
         ensures looks { steps.new.looks ≡ steps.old.looks }
     {
@@ -220,7 +227,8 @@ impl<A, B> Entries<A, B> {
     ) -> (A, Room<Entry<A, B>>)
         requires { IsBeforeAt self.old.ring.nodes own.ptr }
         ensures taken { TakesOut self.old own.ptr self.new }
-        ensures value { AtNode self.old.ring.nodes own.ptr (λ _ n _. n.entry.held ≡ Held.Before result.0) }
+        ensures value { AtNode self.old.ring.nodes own.ptr
+            (λ _ n _. n.entry.held ≡ Held.Before result.0) }
         ensures cursor { self.new.cursor ≡ self.old.cursor }
         ensures visits { steps.new.visits ≡ steps.old.visits + 2 }
         ensures looks { steps.new.looks ≡ steps.old.looks }
@@ -240,9 +248,13 @@ impl<A, B> Entries<A, B> {
         requires node { IsAfterAt self.old.ring.nodes own.ptr }
         requires cursor { IsAt self.old.ring.nodes self.old.cursor.ptr }
         ensures taken { TakesOut self.old own.ptr self.new }
-        ensures value { AtNode self.old.ring.nodes own.ptr (λ _ n _. n.entry.held ≡ held_after result.0) }
-        ensures cursor { AtNode self.old.ring.nodes own.ptr (λ _ n ys. AtNode self.old.ring.nodes self.old.cursor.ptr (λ _ first _.
-            self.new.cursor.ptr ≡ cond (eqb first.entry.slot n.entry.slot) (first_place ys self.old.ring.at) self.old.cursor.ptr)) }
+        ensures value { AtNode self.old.ring.nodes own.ptr
+            (λ _ n _. n.entry.held ≡ held_after result.0) }
+        ensures cursor { AtNode self.old.ring.nodes own.ptr (λ _ n ys.
+            AtNode self.old.ring.nodes self.old.cursor.ptr (λ _ first _.
+            self.new.cursor.ptr ≡ if eqb first.entry.slot n.entry.slot
+            then first_place ys self.old.ring.at
+            else self.old.cursor.ptr)) }
         ensures visits { steps.new.visits ≡ steps.old.visits + 3 }
         ensures looks { steps.new.looks ≡ steps.old.looks }
     {
@@ -262,7 +274,8 @@ impl<A, B> Entries<A, B> {
     pub(super) fn first<L: Ledger>(&self, steps: &mut Steps<L>) -> (NodeRef<Entry<A, B>>, usize)
         requires { IsAt self.now.ring.nodes self.now.cursor.ptr }
         ensures place { result.0.ptr ≡ self.now.cursor.ptr }
-        ensures slot { AtNode self.now.ring.nodes self.now.cursor.ptr (λ _ n _. result.1 ≡ n.entry.slot) }
+        ensures slot { AtNode self.now.ring.nodes self.now.cursor.ptr
+            (λ _ n _. result.1 ≡ n.entry.slot) }
         ensures visits { steps.new.visits ≡ steps.old.visits + 1 }
         ensures looks { steps.new.looks ≡ steps.old.looks }
     {

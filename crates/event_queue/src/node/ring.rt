@@ -30,7 +30,8 @@ impl<E> NodeRef<E> {
         place: Option<NodePtr<E>>,
         steps: &mut Steps<L>,
     ) -> Option<Self>
-        ensures node { MatchOption result (place ≡ None) (λ node. place ≡ Some (record { ptr = node.ptr })) }
+        ensures node { MatchOption result (place ≡ None)
+            (λ node. place ≡ Some (record { ptr = node.ptr })) }
         ensures visits { steps.new.visits ≡ steps.old.visits }
         ensures looks { steps.new.looks ≡ counted_on steps.old.looks 1 }
     {
@@ -67,7 +68,8 @@ impl<E> Ring<E> {
     pub(super) fn look(&self, node: &NodeRef<E>) -> (&E, NodePtr<E>)
         requires { IsAt self.now.nodes node.now.ptr }
         ensures entry { AtNode self.now.nodes node.now.ptr (λ _ n _. result.0.now ≡ n.entry) }
-        ensures next { AtNode self.now.nodes node.now.ptr (λ _ _ ys. result.1.ptr ≡ first_place ys self.now.at) }
+        ensures next { AtNode self.now.nodes node.now.ptr
+            (λ _ _ ys. result.1.ptr ≡ first_place ys self.now.at) }
     {
         self.look_at(NodePtr { ptr: node.ptr })
     }
@@ -77,7 +79,8 @@ impl<E> Ring<E> {
     pub(super) fn replace(&mut self, node: &NodeRef<E>, entry: E) -> E
         requires { IsAt self.old.nodes node.now.ptr }
         ensures root { (self.new.at ≡ self.old.at) × (self.new.entry ≡ self.old.entry) }
-        ensures nodes { AtNode self.old.nodes node.now.ptr (λ xs n ys. (self.new.nodes ≡ xs ++ placed n.at entry ∷ ys) × (result ≡ n.entry)) }
+        ensures nodes { AtNode self.old.nodes node.now.ptr
+            (λ xs n ys. (self.new.nodes ≡ xs ++ placed n.at entry ∷ ys) × (result ≡ n.entry)) }
     {
         self.replace_at(NodePtr { ptr: node.ptr }, entry)
     }
@@ -103,7 +106,8 @@ impl<E> Ring<E> {
         requires { IsAt self.old.nodes node.ptr }
         ensures root { (self.new.at ≡ self.old.at) × (self.new.entry ≡ self.old.entry) }
         ensures place { result.1.ptr ≡ node.ptr }
-        ensures nodes { AtNode self.old.nodes node.ptr (λ xs n ys. (self.new.nodes ≡ xs ++ ys) × (result.0 ≡ n.entry)) }
+        ensures nodes { AtNode self.old.nodes node.ptr (λ xs n ys. (self.new.nodes ≡ xs ++ ys)
+            × (result.0 ≡ n.entry)) }
         ensures visits { steps.new.visits ≡ steps.old.visits + 2 }
         ensures looks { steps.new.looks ≡ steps.old.looks }
     {

@@ -77,7 +77,10 @@ impl<A, B> Table<A, B> {
         key: Key,
         steps: &mut Steps<L>,
     ) -> Option<NodeRef<Entry<A, B>>>
-        ensures node { MatchOption result (node_at (shown_in self.now.slots.items) key ≡ Option.None) (λ node. node_at (shown_in self.now.slots.items) key ≡ Option.Some (record { ptr = node.ptr })) }
+        ensures node { MatchOption result
+            (node_at (shown_in self.now.slots.items) key ≡ Option.None)
+            (λ node. node_at (shown_in self.now.slots.items) key
+            ≡ Option.Some (record { ptr = node.ptr })) }
         ensures visits { steps.new.visits ≡ steps.old.visits }
         ensures looks { steps.new.looks ≡ counted_on steps.old.looks 1 }
     {
@@ -99,7 +102,8 @@ impl<A, B> Table<A, B> {
     #[inline(always)]
     pub(super) fn serial_in(&self, slot: usize) -> u64
         requires { slot < length (shown_in self.now.slots.items) }
-        ensures { option_map (λ found. found.serial) (slice_get self.now.slots.items slot) ≡ Option.Some result }
+        ensures { option_map (λ found. found.serial) (slice_get self.now.slots.items slot)
+            ≡ Option.Some result }
     {
         self.slots[slot].serial
     }
@@ -109,7 +113,8 @@ impl<A, B> Table<A, B> {
     pub(super) fn take_spare(&mut self) -> Option<Ring<Entry<A, B>>>
         ensures slots { self.new.slots ≡ self.old.slots }
         ensures alone { IfSome result (λ node. node.nodes ≡ []) }
-        ensures spares { MatchOption result (self.old.spares ≡ []) (λ node. self.old.spares ≡ self.new.spares ++ placed node.at node.entry ∷ []) }
+        ensures spares { MatchOption result (self.old.spares ≡ [])
+            (λ node. self.old.spares ≡ self.new.spares ++ placed node.at node.entry ∷ []) }
     {
         self.spares.pop()
     }
@@ -119,7 +124,8 @@ impl<A, B> Table<A, B> {
     pub(super) fn fill(&mut self, key: Key, node: &NodeRef<Entry<A, B>>)
         requires slot { key.slot < length (shown_in self.old.slots.items) }
         requires serial { key.serial < 2 ^ 64 - 1 }
-        ensures slots { shown_in self.new.slots.items ≡ slice_set (shown_in self.old.slots.items) key.slot (Option.Some (key.serial, record { ptr = node.now.ptr })) }
+        ensures slots { shown_in self.new.slots.items ≡ slice_set (shown_in self.old.slots.items)
+            key.slot (Option.Some (key.serial, record { ptr = node.now.ptr })) }
         ensures spares { self.new.spares ≡ self.old.spares }
     {
         self.slots[key.slot] = Slot {
@@ -133,8 +139,10 @@ impl<A, B> Table<A, B> {
     pub(super) fn recycle(&mut self, slot: usize, room: Room<Entry<A, B>>)
         requires slot { slot < length (shown_in self.old.slots.items) }
         requires room { length self.old.spares < length (shown_in self.old.slots.items) }
-        ensures slots { shown_in self.new.slots.items ≡ slice_set (shown_in self.old.slots.items) slot Option.None }
-        ensures spares { self.new.spares ≡ self.old.spares ++ placed room.ptr (spare_entry slot) ∷ [] }
+        ensures slots { shown_in self.new.slots.items
+            ≡ slice_set (shown_in self.old.slots.items) slot Option.None }
+        ensures spares { self.new.spares
+            ≡ self.old.spares ++ placed room.ptr (spare_entry slot) ∷ [] }
     {
         self.slots[slot].serial = u64::MAX;
         self.spares.push(room, Entry::spare(slot));
@@ -142,7 +150,8 @@ impl<A, B> Table<A, B> {
 
     /// Makes `n` more spare nodes. If it fails it keeps those that it made.
     pub(super) fn grow(&mut self, n: usize) -> Result<(), AllocError>
-        ensures grows { GrowsTo (shown_in self.old.slots.items) self.old.spares (shown_in self.new.slots.items) self.new.spares }
+        ensures grows { GrowsTo (shown_in self.old.slots.items) self.old.spares
+            (shown_in self.new.slots.items) self.new.spares }
         ensures kept { length self.old.spares ≤ length self.new.spares }
         ensures ok { OnOk result (length self.new.spares ≡ length self.old.spares + n) }
         ensures err { OnErr result (length self.new.spares < length self.old.spares + n) }
@@ -157,7 +166,8 @@ impl<A, B> Table<A, B> {
     // Makes one more spare node, with a slot of its own at the end of the table.
     fn make_spare(&mut self) -> Result<(), AllocError>
         requires slots_room { vec_len self.old.slots < vec_capacity self.old.slots }
-        ensures grows { GrowsTo (shown_in self.old.slots.items) self.old.spares (shown_in self.new.slots.items) self.new.spares }
+        ensures grows { GrowsTo (shown_in self.old.slots.items) self.old.spares
+            (shown_in self.new.slots.items) self.new.spares }
         ensures slots { OnOk result (vec_len self.new.slots ≡ vec_len self.old.slots + 1) }
         ensures spares { OnOk result (length self.new.spares ≡ length self.old.spares + 1) }
         ensures err { OnErr result (self.new ≡ self.old) }

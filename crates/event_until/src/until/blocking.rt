@@ -23,7 +23,8 @@ pub(super) fn attempt_again<A: Attempt, R: Wait + Clock + Clone>(
     limit: Limit,
 ) -> Result<Option<A::Output>, UntilError>
     ensures succeeded { Succeeded A.fails A.succeeds attempt.old result attempt.new }
-    ensures timed_out { IfOk result (λ answer. IfNone answer (FailsAtLeast A.fails 2 attempt.old attempt.new)) }
+    ensures timed_out { IfOk result (λ answer.
+        IfNone answer (FailsAtLeast A.fails 2 attempt.old attempt.new)) }
     ensures failed { OnErr result (SomeFail A.fails attempt.old attempt.new) }
     ensures unlimited { limit ≡ Limit.Never → IfOk result IsSome }
 {

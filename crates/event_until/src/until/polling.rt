@@ -23,18 +23,25 @@ impl<'a, A: Attempt, R: Wait + Clock + Clone> Until<'a, A, R> {
     /// if listening does. It may wait for the lock of the event.
     #[must_use = "it may be the output"]
     pub fn poll_in(&mut self, cx: &mut Context<'_>) -> Poll<Result<A::Output, UntilError>>
-        ensures ready { IfReady result (λ output. SucceedsOrFails A.fails A.succeeds self.old.attempt output self.new.attempt) }
+        ensures ready { IfReady result (λ output.
+            SucceedsOrFails A.fails A.succeeds self.old.attempt output self.new.attempt) }
         ensures pending { OnPending result (SomeFail A.fails self.old.attempt self.new.attempt) }
 
         // If no listener was left, a pending poll has attempted before it listened, and again after that.
-        ensures attempted { self.old.listener ≡ None → OnPending result (FailsAtLeast A.fails 2 self.old.attempt self.new.attempt) }
+        ensures attempted { self.old.listener ≡ None
+            → OnPending result (FailsAtLeast A.fails 2 self.old.attempt self.new.attempt) }
 
         // A pending poll leaves all as it was, with the listener in its place, or has attempted twice at least.
-        ensures stays { OnPending result (((self.new.attempt ≡ self.old.attempt) × (self.new.listener ≡ self.old.listener)) ⊎ FailsAtLeast A.fails 2 self.old.attempt self.new.attempt) }
+        ensures stays { OnPending result (((self.new.attempt ≡ self.old.attempt)
+            × (self.new.listener ≡ self.old.listener))
+            ⊎ FailsAtLeast A.fails 2 self.old.attempt self.new.attempt) }
 
         // A pending poll has left a listener of the event, and registered at its source.
-        ensures listens { OnPending result (IsSomeAnd self.new.listener (λ listener. listener.event_number ≡ self.new.event_number)) }
-        ensures registered { OnPending result (IsSomeAnd self.new.listener (λ listener. Covers cx.new (λ s. s ≡ listener.source))) }
+        ensures listens { OnPending result
+            (IsSomeAnd self.new.listener
+            (λ listener. listener.event_number ≡ self.new.event_number)) }
+        ensures registered { OnPending result
+            (IsSomeAnd self.new.listener (λ listener. Covers cx.new (λ s. s ≡ listener.source))) }
         ensures unlistened { IfReady result (λ _. self.new.listener ≡ None) }
         ensures event { self.new.event_number ≡ self.old.event_number }
         ensures kept { Keeps cx.old cx.new }
@@ -64,7 +71,8 @@ impl<'a, A: Attempt + Drop, R: Wait + Clock + Clone> Future for Until<'a, A, R> 
 
     ghost needs = { λ until s. IsSomeAnd until.listener (λ listener. s ≡ listener.source) };
 
-    ghost gives = { λ until output. (after : A) × SucceedsOrFails A.fails A.succeeds until.attempt output after };
+    ghost gives = { λ until output. (after : A)
+        × SucceedsOrFails A.fails A.succeeds until.attempt output after };
 
     fn poll(&mut self, cx: &mut Context<'_>) -> Poll<Result<A::Output, UntilError>> {
         self.poll_in(cx)

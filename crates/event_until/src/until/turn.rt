@@ -33,9 +33,11 @@ pub(super) fn listen_and_attempt<'a, A, R>(
 where
     A: Attempt,
     R: Wait + Clock + Clone,
-    ensures attempted { IfOk result (λ turn. Attempted A.fails A.succeeds attempt.old turn attempt.new) }
+    ensures attempted { IfOk result (λ turn.
+        Attempted A.fails A.succeeds attempt.old turn attempt.new) }
     ensures refused { OnErr result (attempt.new ≡ attempt.old) }
-    ensures event { IfOk result (λ turn. IfListens turn (λ listener. listener.standing.event_number ≡ event.now)) }
+    ensures event { IfOk result (λ turn.
+        IfListens turn (λ listener. listener.standing.event_number ≡ event.now)) }
 {
     let slot = StackSlot::new(rt, alloc, event)?;
     let listener = slot.listen(rt)?;
@@ -62,15 +64,26 @@ pub(super) fn poll_turns<'a, A, R>(
 where
     A: Attempt,
     R: Wait + Clock + Clone,
-    ensures ready { IfOk result (λ polled. IfReady polled (λ output. SucceedsAfter A.fails A.succeeds attempt.old output attempt.new)) }
-    ensures pending { IfOk result (λ polled. OnPending polled (SomeFail A.fails attempt.old attempt.new)) }
+    ensures ready { IfOk result (λ polled.
+        IfReady polled
+        (λ output. SucceedsAfter A.fails A.succeeds attempt.old output attempt.new)) }
+    ensures pending { IfOk result (λ polled.
+        OnPending polled (SomeFail A.fails attempt.old attempt.new)) }
     ensures failed { OnErr result (SomeFail A.fails attempt.old attempt.new) }
-    ensures attempted { left.old ≡ None → IfOk result (λ polled. OnPending polled (FailsAtLeast A.fails 2 attempt.old attempt.new)) }
-    ensures stays { IfOk result (λ polled. OnPending polled (((attempt.new ≡ attempt.old) × (standing_of left.new ≡ standing_of left.old)) ⊎ FailsAtLeast A.fails 2 attempt.old attempt.new)) }
+    ensures attempted { left.old ≡ None
+        → IfOk result (λ polled.
+        OnPending polled (FailsAtLeast A.fails 2 attempt.old attempt.new)) }
+    ensures stays { IfOk result (λ polled.
+        OnPending polled (((attempt.new ≡ attempt.old)
+        × (standing_of left.new ≡ standing_of left.old))
+        ⊎ FailsAtLeast A.fails 2 attempt.old attempt.new)) }
     ensures listens { IfOk result (λ polled. OnPending polled (IsSome left.new)) }
-    ensures registered { IfOk result (λ polled. OnPending polled (IsSomeAnd left.new (λ listener. Covers cx.new (λ s. s ≡ listener.standing.source)))) }
+    ensures registered { IfOk result (λ polled.
+        OnPending polled
+        (IsSomeAnd left.new (λ listener. Covers cx.new (λ s. s ≡ listener.standing.source)))) }
     ensures unlistened { IfOk result (λ polled. IfReady polled (λ _. left.new ≡ None)) }
-    ensures event { IfSome left.old (λ listener. listener.standing.event_number ≡ event.now) → IfSome left.new (λ listener. listener.standing.event_number ≡ event.now) }
+    ensures event { IfSome left.old (λ listener. listener.standing.event_number ≡ event.now)
+        → IfSome left.new (λ listener. listener.standing.event_number ≡ event.now) }
     ensures kept { Keeps cx.old cx.new }
 {
     for _ in rt.forever() {

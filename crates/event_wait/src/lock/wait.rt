@@ -41,7 +41,8 @@ pub fn obtain<L: Tries<Q>, Q, R: Wait + Clock>(
     limit: Limit,
 ) -> Result<Option<L::Output>, Refused<L::Refusal>>
     ensures never { limit ≡ Never → IfOk result IsSome }
-    ensures obtains { Obtains L.waits (L.succeeds lock.now) (L.leaves lock.now) (limit ≢ Never) request.old result request.new }
+    ensures obtains { Obtains L.waits (L.succeeds lock.now) (L.leaves lock.now) (limit ≢ Never)
+        request.old result request.new }
 {
     if !lock.is_waiting(request) {
         if let Some(output) = lock.attempt(rt, request) {
@@ -65,7 +66,8 @@ pub fn wait<L: Serves<Q>, Q, R: Wait + Clock>(
     limit: Limit,
 ) -> Result<Option<L::Output>, Refused<L::Refusal>>
     ensures never { limit ≡ Never → IfOk result IsSome }
-    ensures waits { Waits L.waits (L.succeeds lock.now) (L.leaves lock.now) (limit ≢ Never) request.old result request.new }
+    ensures waits { Waits L.waits (L.succeeds lock.now) (L.leaves lock.now) (limit ≢ Never)
+        request.old result request.new }
 {
     let Ok(parker) = Arc::new(alloc, Parker::new()) else {
         return Err(Refused::Memory);
@@ -101,7 +103,8 @@ pub fn poll_in<L: Serves<Q>, Q, R: Wait>(
     request: &mut Q,
     cx: &mut Context<'_>,
 ) -> Poll<Result<L::Output, L::Refusal>>
-    ensures succeeded { IfReady result (λ answer. IfOk answer (λ output. L.succeeds lock.now request.old output request.new)) }
+    ensures succeeded { IfReady result
+        (λ answer. IfOk answer (λ output. L.succeeds lock.now request.old output request.new)) }
     ensures refused { IfReady result (λ answer. OnErr answer (request.new ≡ request.old)) }
     ensures pending { OnPending result (L.waits request.old request.new) }
     ensures registered { OnPending result (Covers cx.new (λ s. s ≡ L.source lock.now)) }
@@ -148,7 +151,8 @@ pub fn try_then_wait<L: Tries<Q>, Q, R: Wait + Clock>(
     limit: Limit,
 ) -> Result<Option<L::Output>, Refused<L::Refusal>>
     ensures never { limit ≡ Never → IfOk result IsSome }
-    ensures obtains { Obtains L.waits (L.succeeds lock.now) (L.leaves lock.now) (limit ≢ Never) request.old result request.new }
+    ensures obtains { Obtains L.waits (L.succeeds lock.now) (L.leaves lock.now) (limit ≢ Never)
+        request.old result request.new }
 {
     let answer = try_or_wait(lock, rt, alloc, request, limit);
     if answer.is_err() {
@@ -167,7 +171,8 @@ fn try_or_wait<L: Tries<Q>, Q, R: Wait + Clock>(
     limit: Limit,
 ) -> Result<Option<L::Output>, Refused<L::Refusal>>
     ensures never { limit ≡ Never → IfOk result IsSome }
-    ensures obtains { Obtains L.waits (L.succeeds lock.now) (L.leaves lock.now) (limit ≢ Never) request.old result request.new }
+    ensures obtains { Obtains L.waits (L.succeeds lock.now) (L.leaves lock.now) (limit ≢ Never)
+        request.old result request.new }
 {
     if limit.has_passed(rt) {
         return leave_late(lock, rt, request);
@@ -184,7 +189,8 @@ fn try_or_wait<L: Tries<Q>, Q, R: Wait + Clock>(
 
 // Whoever has a place in the queue tries nothing: its place is where it attempts.
 fn try_a_while<L: Tries<Q>, Q, R: Wait>(lock: &L, rt: &R, request: &mut Q) -> Option<L::Output>
-    ensures succeeded { IfSome result (λ output. L.succeeds lock.now request.old output request.new) }
+    ensures succeeded { IfSome result (λ output.
+        L.succeeds lock.now request.old output request.new) }
     ensures kept { result ≡ None → request.new ≡ request.old }
 {
     for _ in 0..L::TRIES {
@@ -205,7 +211,8 @@ fn take_if_notified<L: Tries<Q>, Q, R: Wait>(
     rt: &R,
     request: &mut Q,
 ) -> Result<Option<L::Output>, L::Refusal>
-    ensures succeeded { IfOk result (λ answer. IfSome answer (λ output. L.succeeds lock.now request.old output request.new)) }
+    ensures succeeded { IfOk result (λ answer.
+        IfSome answer (λ output. L.succeeds lock.now request.old output request.new)) }
     ensures waited { result ≡ Ok None → SomeRounds L.waits request.old request.new }
     ensures kept { OnErr result (request.new ≡ request.old) }
 {

@@ -20,15 +20,22 @@ impl Model for Buffer {
 
     ghost Value = { Buffer };
 
-    ghost view = { λ buffer. record { capacity = buffer.capacity; messages = buffer.messages.items } };
+    ghost view = { λ buffer. record {
+      capacity = buffer.capacity;
+      messages = buffer.messages.items;
+    } };
 
-    ghost invariant = { λ buffer. (length buffer.messages.items ≤ buffer.capacity) × (buffer.capacity ≤ deque_capacity buffer.messages) };
+    ghost invariant = { λ buffer. (length buffer.messages.items ≤ buffer.capacity)
+        × (buffer.capacity ≤ deque_capacity buffer.messages) };
 }
 
 impl Buffer {
     /// An empty buffer with room for `capacity` messages.
     pub(super) fn new(alloc: Global, capacity: usize) -> Result<Self, AllocError>
-        ensures empty { IfOk result (λ buffer. buffer ≡ record { capacity = capacity; messages = [] }) }
+        ensures empty { IfOk result (λ buffer. buffer ≡ record {
+          capacity = capacity;
+          messages = [];
+        }) }
     {
         Ok(Buffer {
             capacity,
@@ -60,8 +67,12 @@ impl Buffer {
 
     /// Puts a message, if there is one, behind all others.
     pub(super) fn push(&mut self, message: Option<usize>)
-        requires fits { length self.old.messages + length (option_to_list message) ≤ self.old.capacity }
-        ensures pushed { self.new ≡ record { capacity = self.old.capacity; messages = self.old.messages ++ option_to_list message } }
+        requires fits { length self.old.messages + length (option_to_list message)
+            ≤ self.old.capacity }
+        ensures pushed { self.new ≡ record {
+          capacity = self.old.capacity;
+          messages = self.old.messages ++ option_to_list message;
+        } }
     {
         if let Some(message) = message {
             self.messages.push_back_reserved(message);
@@ -70,7 +81,10 @@ impl Buffer {
 
     /// Takes the first message out, if there is one and a message was received.
     pub(super) fn pop(&mut self, received: Option<usize>)
-        ensures popped { self.new ≡ record { capacity = self.old.capacity; messages = drop (length (option_to_list received)) self.old.messages } }
+        ensures popped { self.new ≡ record {
+          capacity = self.old.capacity;
+          messages = drop (length (option_to_list received)) self.old.messages;
+        } }
     {
         if received.is_some() {
             let _first = self.messages.pop_front();

@@ -82,9 +82,12 @@ impl Model for ChannelWorld {
 
     ghost Value = { ChannelState };
 
-    ghost view = { λ world. channel_of world.buffer world.closer world.senders.items world.sender_line world.receivers.items world.receiver_line };
+    ghost view = { λ world. channel_of world.buffer world.closer world.senders.items
+        world.sender_line world.receivers.items world.receiver_line };
 
-    ghost invariant = { λ world. IsSound (channel_of world.buffer world.closer world.senders.items world.sender_line world.receivers.items world.receiver_line) };
+    ghost invariant = { λ world. IsSound
+        (channel_of world.buffer world.closer world.senders.items world.sender_line
+        world.receivers.items world.receiver_line) };
 }
 
 impl ChannelWorld {
@@ -132,7 +135,8 @@ impl ChannelWorld {
     pub fn step(&mut self, actor: ChannelActor, act: ChannelAct) -> bool
         ensures step { self.new ≡ after actor act self.old }
         ensures answer { result ≡ is_some (next actor act self.old) }
-        ensures in_order { InOrder (received_by actor act self.old) (sent_by actor act self.old) self.old self.new }
+        ensures in_order { InOrder (received_by actor act self.old) (sent_by actor act self.old)
+            self.old self.new }
         ensures safe { IsSafe self.new }
         ensures messages_fit { MessagesFit self.new }
         ensures notifies_additional { NotifiesAdditional self.new }
@@ -233,7 +237,8 @@ impl ChannelWorld {
     pub fn run(&mut self, steps: &[ChannelStep]) -> usize
         ensures state { self.new ≡ after_all steps.now self.old }
         ensures taken { result ≡ taken steps.now self.old }
-        ensures in_order { InOrder (received steps.now self.old) (sent steps.now self.old) self.old self.new }
+        ensures in_order { InOrder (received steps.now self.old) (sent steps.now self.old)
+            self.old self.new }
         ensures safe { IsSafe self.new }
         ensures messages_fit { MessagesFit self.new }
         ensures notifies_additional { NotifiesAdditional self.new }
@@ -366,7 +371,9 @@ fn has_closed(closer: CloserPlace) -> bool
 
 // What a sender with this message finds.
 fn look_for_room(message: usize, closer: CloserPlace, buffer: &Buffer) -> Found
-    ensures { result ≡ (if is_closed closer then Over else (if nat_lt (length buffer.now.messages) buffer.now.capacity then One message else Nothing)) }
+    ensures { result ≡ (if is_closed closer then Over else
+        (if nat_lt (length buffer.now.messages) buffer.now.capacity then One
+        message else Nothing)) }
 {
     if has_closed(closer) {
         Found::Over
@@ -416,7 +423,8 @@ fn moves(
 ) -> Option<ChannelClient>
     requires client { client < length line.old.awake }
     requires may_be_at { MayBeAt own.place client line.old }
-    ensures moves { Moves (from act own.place sends client own found line.old other.old) line.old other.old result line.new other.new }
+    ensures moves { Moves (from act own.place sends client own found line.old other.old) line.old
+        other.old result line.new other.new }
 {
     let place = match act {
         ChannelAct::Go => return go(sends, own, found, client, line, other),
@@ -438,7 +446,8 @@ fn go(
 ) -> Option<ChannelClient>
     requires client { client < length line.old.awake }
     requires may_be_at { MayBeAt own.place client line.old }
-    ensures moves { Moves (from Go own.place sends client own found line.old other.old) line.old other.old result line.new other.new }
+    ensures moves { Moves (from Go own.place sends client own found line.old other.old) line.old
+        other.old result line.new other.new }
 {
     match own.place {
         Place::First { .. } | Place::Second => Some(look(own, found)),
@@ -477,7 +486,8 @@ fn pay(own: ChannelClient, place: Place, other: &mut ClientLine) -> ChannelClien
 fn look(own: ChannelClient, found: Found) -> ChannelClient
     requires may_get { IsSome (place_after own.place Got) }
     requires may_be_busy { IsSome (place_after own.place Busy) }
-    ensures { result ≡ looked (unwrap_or (place_after own.place Got) own.place) (unwrap_or (place_after own.place Busy) own.place) own found }
+    ensures { result ≡ looked (unwrap_or (place_after own.place Got) own.place)
+        (unwrap_or (place_after own.place Busy) own.place) own found }
 {
     match found {
         Found::One(message) => ChannelClient {
@@ -498,7 +508,9 @@ fn look(own: ChannelClient, found: Found) -> ChannelClient
 
 // A sender begins to send this message.
 fn begin(sends: bool, own: ChannelClient, message: usize) -> Option<ChannelClient>
-    ensures moves { (found : Found) (client : ℕ) (line other : Line) → Moves (from (Send message) own.place sends client own found line other) line other result line other }
+    ensures moves { (found : Found) (client : ℕ) (line other : Line)
+        → Moves (from (Send message) own.place sends client own found line other) line other
+        result line other }
 {
     match own.place {
         Place::Idle if sends => Some(ChannelClient {

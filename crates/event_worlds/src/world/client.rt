@@ -81,7 +81,8 @@ fn listen(client: usize, line: &mut ClientLine) -> Place
     requires client { client < length line.old.awake }
     requires absent { IsFalse (is_in_line client line.old) }
     ensures place { result ≡ (if has_serial_left line.old then Second else Idle) }
-    ensures line { line.new ≡ (if has_serial_left line.old then joined client line.old else line.old) }
+    ensures line { line.new ≡ (if has_serial_left line.old then joined client
+        line.old else line.old) }
 {
     if line.join(client) {
         next_place(Place::ToListen, News::Listening)
@@ -94,7 +95,8 @@ fn listen(client: usize, line: &mut ClientLine) -> Place
 fn register(client: usize, line: &mut ClientLine) -> Place
     requires client { client < length line.old.awake }
     ensures place { result ≡ (if is_told client line.old then First true else Parked) }
-    ensures line { line.new ≡ (if is_told client line.old then told_left client line.old else registered client line.old) }
+    ensures line { line.new ≡ (if is_told client line.old then told_left client line.old else
+        registered client line.old) }
 {
     if line.register(client) {
         next_place(Place::ToRegister, News::Told)
@@ -117,7 +119,8 @@ fn poll(client: usize, line: &mut ClientLine) -> Place
 fn time_out(client: usize, line: &mut ClientLine) -> Place
     requires client { client < length line.old.awake }
     ensures place { result ≡ (if is_told client line.old then First true else Idle) }
-    ensures line { line.new ≡ (if is_told client line.old then told_left client line.old else waiting_left client line.old) }
+    ensures line { line.new ≡ (if is_told client line.old then told_left client line.old else
+        waiting_left client line.old) }
 {
     if line.leave(client) {
         next_place(Place::Parked, News::Told)

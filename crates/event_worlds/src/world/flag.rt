@@ -93,9 +93,19 @@ impl Model for FlagWorld {
 
     ghost Value = { FlagState };
 
-    ghost view = { λ world. record { flag = world.flag; places = world.places.items; setters = world.setters.items; line = world.line } };
+    ghost view = { λ world. record {
+      flag = world.flag;
+      places = world.places.items;
+      setters = world.setters.items;
+      line = world.line;
+    } };
 
-    ghost invariant = { λ world. IsSound (record { flag = world.flag; places = world.places.items; setters = world.setters.items; line = world.line }) };
+    ghost invariant = { λ world. IsSound (record {
+      flag = world.flag;
+      places = world.places.items;
+      setters = world.setters.items;
+      line = world.line;
+    }) };
 }
 
 // Where a setter goes, and whether the flag is set then.

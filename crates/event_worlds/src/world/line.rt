@@ -73,7 +73,9 @@ impl ClientLine {
     pub(super) fn join(&mut self, client: usize) -> bool
         requires client { client < length self.old.awake }
         requires absent { IsFalse (is_in_line client self.old) }
-        ensures leaves { Leaves (has_serial_left self.old) (if has_serial_left self.old then joined client self.old else self.old) result self.new }
+        ensures leaves { Leaves (has_serial_left self.old)
+            (if has_serial_left self.old then joined client self.old else
+            self.old) result self.new }
     {
         let Ok(key) = self.list.insert_uncounted() else {
             return false;
@@ -86,7 +88,9 @@ impl ClientLine {
     /// A client that is notified leaves the line, and one that waits is registered. Returns whether it was notified.
     pub(super) fn register(&mut self, client: usize) -> bool
         requires client { client < length self.old.awake }
-        ensures leaves { Leaves (is_told client self.old) (if is_told client self.old then told_left client self.old else registered client self.old) result self.new }
+        ensures leaves { Leaves (is_told client self.old)
+            (if is_told client self.old then told_left client self.old else registered client
+            self.old) result self.new }
     {
         let Some(key) = self.keys[client] else {
             return false;
@@ -104,7 +108,9 @@ impl ClientLine {
     /// The client leaves the line, and propagates nothing. Returns whether it was notified.
     pub(super) fn leave(&mut self, client: usize) -> bool
         requires client { client < length self.old.awake }
-        ensures leaves { Leaves (is_told client self.old) (if is_told client self.old then told_left client self.old else waiting_left client self.old) result self.new }
+        ensures leaves { Leaves (is_told client self.old)
+            (if is_told client self.old then told_left client self.old else waiting_left client
+            self.old) result self.new }
     {
         let Some(key) = self.keys[client] else {
             return false;

@@ -32,9 +32,14 @@ impl Model for MutexWorld {
 
     ghost Value = { MutexState };
 
-    ghost view = { λ world. record { holder = world.holder; places = world.places.items; line = world.line } };
+    ghost view = { λ world. record {
+      holder = world.holder;
+      places = world.places.items;
+      line = world.line;
+    } };
 
-    ghost invariant = { λ world. IsSound (record { holder = world.holder; places = world.places.items; line = world.line }) };
+    ghost invariant = { λ world. IsSound
+        (record { holder = world.holder; places = world.places.items; line = world.line }) };
 }
 
 // Who has the lock after a step, and where the client is.
@@ -230,7 +235,8 @@ fn go(holder: Option<usize>, place: Place, client: usize, line: &mut ClientLine)
 fn try_lock(holder: Option<usize>, place: Place, client: usize) -> Move
     requires may_get { IsSome (place_after place Got) }
     requires may_be_busy { IsSome (place_after place Busy) }
-    ensures { result ≡ tried (unwrap_or (place_after place Got) place) (unwrap_or (place_after place Busy) place) client holder }
+    ensures { result ≡ tried (unwrap_or (place_after place Got) place)
+        (unwrap_or (place_after place Busy) place) client holder }
 {
     match holder {
         None => Move {

@@ -43,9 +43,19 @@ impl Model for SemaphoreWorld {
 
     ghost Value = { SemaphoreState };
 
-    ghost view = { λ world. record { permits = world.permits; free = world.free; clients = world.clients.items; line = world.line } };
+    ghost view = { λ world. record {
+      permits = world.permits;
+      free = world.free;
+      clients = world.clients.items;
+      line = world.line;
+    } };
 
-    ghost invariant = { λ world. IsSound (record { permits = world.permits; free = world.free; clients = world.clients.items; line = world.line }) };
+    ghost invariant = { λ world. IsSound (record {
+      permits = world.permits;
+      free = world.free;
+      clients = world.clients.items;
+      line = world.line;
+    }) };
 }
 
 // A client and the free permits after a step.
@@ -258,7 +268,8 @@ fn go(
 fn try_acquire(own: SemaphoreClient, free: usize) -> SemaphoreMove
     requires may_get { IsSome (place_after own.place Got) }
     requires may_be_busy { IsSome (place_after own.place Busy) }
-    ensures { result ≡ tried (unwrap_or (place_after own.place Got) own.place) (unwrap_or (place_after own.place Busy) own.place) own free }
+    ensures { result ≡ tried (unwrap_or (place_after own.place Got) own.place)
+        (unwrap_or (place_after own.place Busy) own.place) own free }
 {
     if free > 0 {
         SemaphoreMove {
@@ -316,7 +327,8 @@ fn notify(own: SemaphoreClient, free: usize, line: &mut ClientLine) -> Semaphore
 // A client that holds a permit takes one more, if one is free.
 fn take_more(own: SemaphoreClient, free: usize) -> Option<SemaphoreMove>
     requires fits { free + own.held < 2 ^ 64 }
-    ensures moves { (client : ℕ) (line : Line) → Moves (from More own.place client own free line) line result line }
+    ensures moves { (client : ℕ) (line : Line)
+        → Moves (from More own.place client own free line) line result line }
 {
     match own.place {
         Place::Holding if free > 0 => Some(SemaphoreMove {

@@ -27,10 +27,15 @@ impl<T> Model for ReplayedQueue<T> {
 
     ghost Value = { Shape T };
 
-    ghost view = { λ queue. record { told = queue.told.items; waiting = queue.waiting.items; next_serial = queue.next_serial } };
+    ghost view = { λ queue. record {
+      told = queue.told.items;
+      waiting = queue.waiting.items;
+      next_serial = queue.next_serial;
+    } };
 
     // So a `usize` holds the number of listeners.
-    ghost invariant = { λ queue. length queue.told.items + length queue.waiting.items ≤ queue.next_serial };
+    ghost invariant = { λ queue. length queue.told.items + length queue.waiting.items
+        ≤ queue.next_serial };
 }
 
 impl<T: Copy> ReplayedQueue<T> {
@@ -102,8 +107,11 @@ impl<T: Copy> ReplayedQueue<T> {
     }
 
     fn remove(&mut self, key: Key, propagate: bool) -> Result<Option<Former<T>>, AllocError>
-        ensures answer { IfOk result (λ answer. answer ≡ removed key propagate (told_at key self.old) (waiting_at key self.old) self.old) }
-        ensures shape { OnOk result (self.new ≡ after_removal key propagate (told_at key self.old) self.old) }
+        ensures answer { IfOk result (λ answer.
+            answer ≡ removed key propagate (told_at key self.old)
+            (waiting_at key self.old) self.old) }
+        ensures shape { OnOk result (self.new
+            ≡ after_removal key propagate (told_at key self.old) self.old) }
     {
         if let Some(notice) = take_entry(&mut self.told, key) {
             let Notice { additional, tag } = notice;
@@ -121,8 +129,11 @@ impl<T: Copy> ReplayedQueue<T> {
 
     // Propagates a notification, and returns where it went.
     fn pass_on(&mut self, additional: bool, tag: T) -> Result<Former<T>, AllocError>
-        ensures answer { IfOk result (λ former. former ≡ passed (record { additional = additional; tag = tag }) (told_by_passing_at (record { additional = additional; tag = tag }) self.old)) }
-        ensures shape { OnOk result (self.new ≡ after_notice (tells 1 additional self.old) (record { additional = additional; tag = tag }) self.old) }
+        ensures answer { IfOk result (λ former.
+            former ≡ passed (record { additional = additional; tag = tag })
+            (told_by_passing_at (record { additional = additional; tag = tag }) self.old)) }
+        ensures shape { OnOk result (self.new ≡ after_notice (tells 1 additional self.old)
+            (record { additional = additional; tag = tag }) self.old) }
     {
         let first = self.waiting.first().copied();
         let told = self.notify(1, additional, tag)?;
@@ -135,7 +146,8 @@ impl<T: Copy> ReplayedQueue<T> {
     // Notifies the first of the waiting, as many as the notification is for, and returns how many.
     fn notify(&mut self, count: usize, additional: bool, tag: T) -> Result<usize, AllocError>
         ensures answer { IfOk result (λ told. told ≡ tells count additional self.old) }
-        ensures shape { OnOk result (self.new ≡ after_notice (tells count additional self.old) (record { additional = additional; tag = tag }) self.old) }
+        ensures shape { OnOk result (self.new ≡ after_notice (tells count additional self.old)
+            (record { additional = additional; tag = tag }) self.old) }
     {
         let wanted = if additional {
             count
@@ -165,7 +177,9 @@ fn tell_first<T: Copy>(
 )
     requires within { count ≤ vec_len waiting.old }
     requires room { vec_len told.old + count ≤ vec_capacity told.old }
-    ensures told { told.new.items ≡ told.old.items ++ map (λ entry. (entry.0, record { additional = additional; tag = tag })) (take count waiting.old.items) }
+    ensures told { told.new.items
+        ≡ told.old.items ++ map (λ entry. (entry.0, record { additional = additional; tag = tag }))
+        (take count waiting.old.items) }
     ensures waiting { waiting.new.items ≡ drop count waiting.old.items }
 {
     for (key, _) in &waiting.as_slice()[..count] {

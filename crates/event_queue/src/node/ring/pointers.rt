@@ -69,7 +69,8 @@ impl<E> Ring<E> {
     pub(super) fn look_at(&self, node: NodePtr<E>) -> (&E, NodePtr<E>)
         requires { IsAt self.now.nodes node.ptr }
         ensures entry { AtNode self.now.nodes node.ptr (λ _ n _. result.0.now ≡ n.entry) }
-        ensures next { AtNode self.now.nodes node.ptr (λ _ _ ys. result.1.ptr ≡ first_place ys self.now.at) }
+        ensures next { AtNode self.now.nodes node.ptr
+            (λ _ _ ys. result.1.ptr ≡ first_place ys self.now.at) }
     {
         unsafe {
             (
@@ -86,7 +87,8 @@ impl<E> Ring<E> {
     pub(super) fn replace_at(&mut self, node: NodePtr<E>, entry: E) -> E
         requires { IsAt self.old.nodes node.ptr }
         ensures root { (self.new.at ≡ self.old.at) × (self.new.entry ≡ self.old.entry) }
-        ensures nodes { AtNode self.old.nodes node.ptr (λ xs n ys. (self.new.nodes ≡ xs ++ placed n.at entry ∷ ys) × (result ≡ n.entry)) }
+        ensures nodes { AtNode self.old.nodes node.ptr
+            (λ xs n ys. (self.new.nodes ≡ xs ++ placed n.at entry ∷ ys) × (result ≡ n.entry)) }
     {
         unsafe {
             let place = &raw mut (*node.ptr).entry;
@@ -121,7 +123,8 @@ impl<E> Ring<E> {
         requires { IsAt self.old.nodes node.ptr }
         ensures place { result.1.ptr ≡ node.ptr }
         ensures root { (self.new.at ≡ self.old.at) × (self.new.entry ≡ self.old.entry) }
-        ensures nodes { AtNode self.old.nodes node.ptr (λ xs n ys. (self.new.nodes ≡ xs ++ ys) × (result.0 ≡ n.entry)) }
+        ensures nodes { AtNode self.old.nodes node.ptr (λ xs n ys. (self.new.nodes ≡ xs ++ ys)
+            × (result.0 ≡ n.entry)) }
     {
         let node = node.ptr;
         unsafe {

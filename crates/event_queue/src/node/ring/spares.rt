@@ -48,7 +48,8 @@ impl<E> Spares<E> {
     /// Takes the node that became spare last.
     #[inline(always)]
     pub fn pop(&mut self) -> Option<Ring<E>>
-        ensures { MatchOption result ((self.old ≡ []) × (self.new ≡ [])) (λ node. (node.nodes ≡ []) × (self.old ≡ self.new ++ placed node.at node.entry ∷ [])) }
+        ensures { MatchOption result ((self.old ≡ []) × (self.new ≡ [])) (λ node. (node.nodes ≡ [])
+            × (self.old ≡ self.new ++ placed node.at node.entry ∷ [])) }
     {
         if self.len == 0 {
             return None;

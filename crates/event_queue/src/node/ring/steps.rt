@@ -27,7 +27,8 @@ impl<L: Ledger> Model for Steps<L> {
 
     ghost view = { λ steps. record { visits = steps.book.total; looks = steps.looks } };
 
-    ghost invariant = { λ steps. (0 < steps.share.parts) × (steps.visits ≡ min steps.book.total (2 ^ 64 - 1)) };
+    ghost invariant = { λ steps. (0 < steps.share.parts)
+        × (steps.visits ≡ min steps.book.total (2 ^ 64 - 1)) };
 }
 
 impl<L: Ledger> Steps<L> {
