@@ -38,6 +38,13 @@ module _ {G : Type 0} where
   IsSettled Absent = ⊥
   IsSettled (Refused error) = Unit {0}
 
+  -- what holds of one that does not wait
+  abbrev pub UnlessWaits : {E : Type 0} → Attempted G E → Type 0 → Type 0
+  UnlessWaits (Done grant) P = P
+  UnlessWaits (Waits key) P = Unit {0}
+  UnlessWaits Absent P = P
+  UnlessWaits (Refused error) P = P
+
   -- what holds of why one can't wait
   abbrev pub IfRefused : {E : Type 0} → Attempted G E → (E → Type 0) → Type 0
   IfRefused (Done grant) P = Unit {0}

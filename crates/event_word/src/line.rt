@@ -44,7 +44,11 @@ impl<W> Model for Line<W> {
 
     ghost view = { λ l. record { queue = l.queue; starving = l.starving.items; came = l.came } };
 
-    ghost invariant = { λ l. IsLine (record { queue = l.queue; starving = l.starving.items; came = l.came }) };
+    ghost invariant = { λ l. IsLine (record {
+      queue = l.queue;
+      starving = l.starving.items;
+      came = l.came;
+    }) };
 }
 
 impl<W> Line<W> {
@@ -101,7 +105,8 @@ impl<W> Line<W> {
         exchange: &X,
         on: &mut C,
     ) -> RegisterResult<()>
-        ensures looks { Looks (X.exchanged exchange.now) key self.old on.old result self.new on.new }
+        ensures looks { Looks (X.exchanged exchange.now) key self.old on.old
+            result self.new on.new }
         ensures turns { KeepsTurns self.old self.new }
     {
         let turn = turn_at_end(&self.queue, self.came);
@@ -125,7 +130,8 @@ impl<W> Line<W> {
         on: &mut C,
         starves: bool,
     ) -> Result<Key, ListenError>
-        ensures joins { IfOk result (λ key. Joins (X.exchanged exchange.now) starves key self.old on.old self.new on.new) }
+        ensures joins { IfOk result (λ key.
+            Joins (X.exchanged exchange.now) starves key self.old on.old self.new on.new) }
         ensures turn { IfOk result (λ key. HasJoined key self.old self.new) }
         ensures turns { KeepsTurns self.old self.new }
         ensures kept { OnErr result (self.new ≡ self.old) }
@@ -144,7 +150,8 @@ impl<W> Line<W> {
     pub fn leave(&mut self, key: Key) -> bool
     where
         W: Drop,
-        ensures notified { result ≡ true → length self.new.queue.told + 1 ≡ length self.old.queue.told }
+        ensures notified { result ≡ true → length self.new.queue.told + 1
+            ≡ length self.old.queue.told }
         ensures left { HasLeft key self.old.queue self.new.queue }
         ensures starving { self.new.starving ≡ without key self.old.starving }
         ensures came { self.new.came ≡ self.old.came }
@@ -173,7 +180,8 @@ impl<W> Line<W> {
 
 /// What keeps the turns, and then keeps them again, keeps them: so turns are kept along all calls.
 pub fn turns_are_kept_along<W>()
-    ensures { (first between last : State W) → KeepsTurns first between → KeepsTurns between last → KeepsTurns first last }
+    ensures { (first between last : State W) → KeepsTurns first between → KeepsTurns between last
+        → KeepsTurns first last }
 {}
 
 // The turn of one that is put at the end of the queue now.
@@ -210,7 +218,8 @@ fn make_room(starving: &mut Vec<Key, Global>, starves: bool) -> Result<(), Liste
 // Counts this one among those that starve, if it does.
 fn count_in(starving: &mut Vec<Key, Global>, starves: bool, key: Key)
     requires { starves ≡ true → vec_len starving.old < vec_capacity starving.old }
-    ensures { starving.new.items ≡ (if starves then starving.old.items ++ key ∷ [] else starving.old.items) }
+    ensures { starving.new.items
+        ≡ (if starves then starving.old.items ++ key ∷ [] else starving.old.items) }
 {
     if starves {
         starving.push_reserved(key);
@@ -221,7 +230,8 @@ fn count_in(starving: &mut Vec<Key, Global>, starves: bool, key: Key)
 fn tell_up_to<W, S: WakeSink<W>>(queue: &mut List<(), Queued<W>>, n: usize, sink: &mut S)
     ensures queue { IsQueue queue.old }
     ensures step { TellsUpTo n queue.old queue.new }
-    ensures wakes { FoldsTo S.woke sink.old (map (λ waiter. waiter.task) (woken_up_to n queue.old)) sink.new }
+    ensures wakes { FoldsTo S.woke sink.old
+        (map (λ waiter. waiter.task) (woken_up_to n queue.old)) sink.new }
 {
     let mut tasks = Tasks { sink };
     waiters::tell(queue, n, &mut tasks);
@@ -235,10 +245,12 @@ struct Tasks<'s, K> {
 }
 
 impl<'s, W, K: WakeSink<W>> WakeSink<Queued<W>> for Tasks<'s, K> {
-    ghost woke = { λ before waiter after. (after.sink.ghost_name ≡ before.sink.ghost_name) × K.woke before.sink.now waiter.task after.sink.now };
+    ghost woke = { λ before waiter after. (after.sink.ghost_name ≡ before.sink.ghost_name)
+        × K.woke before.sink.now waiter.task after.sink.now };
 
     fn wake(&mut self, waiter: Queued<W>)
-        ensures { (self.new.sink.ghost_name ≡ self.old.sink.ghost_name) × K.woke self.old.sink.now waiter.task self.new.sink.now }
+        ensures { (self.new.sink.ghost_name ≡ self.old.sink.ghost_name)
+            × K.woke self.old.sink.now waiter.task self.new.sink.now }
     {
         let Queued { task, turn: _ } = waiter;
         self.sink.wake(task);
@@ -253,7 +265,9 @@ fn look_in_turn<W, C, X: TaskExchange<W, C>>(
     exchange: &X,
     on: &mut C,
 ) -> RegisterResult<()>
-    ensures { IsRegistration (RegistersWith (StoresInTurn (X.exchanged exchange.now) turn) queue.old key on.old result queue.new on.new) queue.old key result queue.new }
+    ensures { IsRegistration
+        (RegistersWith (StoresInTurn (X.exchanged exchange.now) turn) queue.old key on.old result
+        queue.new on.new) queue.old key result queue.new }
 {
     let in_turn = InTurn {
         turn,
@@ -269,7 +283,8 @@ fn join_in_turn<W, C, X: TaskExchange<W, C>>(
     exchange: &X,
     on: &mut C,
 ) -> Result<Key, ListenError>
-    ensures { IsInsertionBy (InsertsWith (StoresInTurn (X.exchanged exchange.now) turn) queue.old on.old result queue.new on.new) queue.old result queue.new }
+    ensures { IsInsertionBy (InsertsWith (StoresInTurn (X.exchanged exchange.now) turn) queue.old
+        on.old result queue.new on.new) queue.old result queue.new }
 {
     let in_turn = InTurn {
         turn,
@@ -286,10 +301,12 @@ struct InTurn<'x, X> {
 }
 
 impl<'x, W, C, X: TaskExchange<W, C>> TaskExchange<Queued<W>, C> for InTurn<'x, X> {
-    ghost exchanged = { λ in_turn before stored waiter after. StoresInTurn (X.exchanged in_turn.tasks.now) in_turn.turn before stored waiter after };
+    ghost exchanged = { λ in_turn before stored waiter after.
+        StoresInTurn (X.exchanged in_turn.tasks.now) in_turn.turn before stored waiter after };
 
     fn exchange(&self, on: &mut C, stored: Option<Queued<W>>) -> Queued<W>
-        ensures { StoresInTurn (X.exchanged self.now.tasks.now) self.now.turn on.old stored result on.new }
+        ensures { StoresInTurn (X.exchanged self.now.tasks.now) self.now.turn on.old
+            stored result on.new }
     {
         let (stored, turn) = parted(stored, self.turn);
         Queued {

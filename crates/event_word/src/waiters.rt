@@ -53,7 +53,8 @@ pub fn tell<W, S: WakeSink<W>>(line: &mut List<(), W>, n: usize, sink: &mut S)
 #[inline(always)]
 pub fn tell_more<W, S: WakeSink<W>>(line: &mut List<(), W>, n: usize, more: usize, sink: &mut S)
     ensures step { TellsUpTo (or_more n more line.old) line.old line.new }
-    ensures wakes { FoldsTo S.woke sink.old (woken_up_to (or_more n more line.old) line.old) sink.new }
+    ensures wakes { FoldsTo S.woke sink.old
+        (woken_up_to (or_more n more line.old) line.old) sink.new }
 {
     let told = line.listeners_notified();
     let waiting = line.total_listeners() - told;
@@ -128,7 +129,8 @@ pub fn wait_in_line<W, C, X: TaskExchange<W, C>>(
     exchange: &X,
     on: &mut C,
 ) -> Result<Key, ListenError>
-    ensures waits { IfOk result (λ waits. WaitsBy (X.exchanged exchange.now) key line.old on.old waits line.new on.new) }
+    ensures waits { IfOk result (λ waits.
+        WaitsBy (X.exchanged exchange.now) key line.old on.old waits line.new on.new) }
     ensures refused { IfErr result (λ error. CannotWait key error line.old line.new) }
     ensures kept { OnErr result (on.new ≡ on.old) }
 {
@@ -145,7 +147,8 @@ fn wait_on<W, C, X: TaskExchange<W, C>>(
     exchange: &X,
     on: &mut C,
 ) -> Result<Key, ListenError>
-    ensures waits { IfOk result (λ waits. WaitsBy (X.exchanged exchange.now) (Some key) line.old on.old waits line.new on.new) }
+    ensures waits { IfOk result (λ waits.
+        WaitsBy (X.exchanged exchange.now) (Some key) line.old on.old waits line.new on.new) }
     ensures refused { IfErr result (λ error. CannotWait (Some key) error line.old line.new) }
     ensures kept { OnErr result (on.new ≡ on.old) }
 {
@@ -163,7 +166,8 @@ pub fn join_line<W, C, X: TaskExchange<W, C>>(
     on: &mut C,
 ) -> Result<Key, ListenError>
     ensures step { InsertsWith (X.exchanged exchange.now) line.old on.old result line.new on.new }
-    ensures waits { IfOk result (λ waits. WaitsBy (X.exchanged exchange.now) None line.old on.old waits line.new on.new) }
+    ensures waits { IfOk result (λ waits.
+        WaitsBy (X.exchanged exchange.now) None line.old on.old waits line.new on.new) }
     ensures joined { IfOk result (λ _. length line.new.waiting ≡ length line.old.waiting + 1) }
     ensures told { line.new.told ≡ line.old.told }
     ensures refused { OnErr result (line.new ≡ line.old) }
@@ -223,7 +227,8 @@ pub fn look_for<W, C, X: TaskExchange<W, C>>(
     exchange: &X,
     on: &mut C,
 ) -> RegisterResult<()>
-    ensures step { RegistersWith (X.exchanged exchange.now) line.old key on.old result line.new on.new }
+    ensures step { RegistersWith (X.exchanged exchange.now) line.old key on.old
+        result line.new on.new }
     ensures looked { Looked (X.exchanged exchange.now) on.old result on.new }
     ensures told { length line.new.told + left_by result ≡ length line.old.told }
     ensures waiting { length line.new.waiting ≡ length line.old.waiting }

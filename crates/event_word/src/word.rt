@@ -73,7 +73,8 @@ impl<S: Kept, V> Word<S, V> {
     /// The word, and a new seat. It is one load.
     #[inline(always)]
     pub fn look(&self) -> (u64, Seat<S, V>)
-        ensures seat { (result.1.table_id ≡ self.now.table.shared.table_id) × HasNothing result.1.me }
+        ensures seat { (result.1.table_id ≡ self.now.table.shared.table_id)
+            × HasNothing result.1.me }
         ensures fits { S.rules.fits (number_of result.0) }
     {
         self.table.shared.load_new_seat::<Enter<S>>(0)
@@ -105,7 +106,8 @@ impl<S: Kept, V> Word<S, V> {
     /// The same, and takes the value out.
     #[inline(always)]
     pub fn lend(&self, seat: &mut Seat<S, V>, seen: u64, new: u64) -> bool
-        requires seat { (seat.old.table_id ≡ self.now.table.shared.table_id) × HasNothing seat.old.me }
+        requires seat { (seat.old.table_id ≡ self.now.table.shared.table_id)
+            × HasNothing seat.old.me }
         requires changes { Changes S.rules seen new × Lends S.rules seen new }
         ensures seat { seat.new.table_id ≡ seat.old.table_id }
         ensures lends { MatchBool result (HasValue seat.new.me) (seat.new.me ≡ seat.old.me) }
@@ -119,7 +121,8 @@ impl<S: Kept, V> Word<S, V> {
     /// The same, and gives the value back.
     #[inline(always)]
     pub fn give_back(&self, seat: &mut Seat<S, V>, seen: u64, new: u64) -> bool
-        requires seat { (seat.old.table_id ≡ self.now.table.shared.table_id) × HasValue seat.old.me }
+        requires seat { (seat.old.table_id ≡ self.now.table.shared.table_id)
+            × HasValue seat.old.me }
         requires changes { Changes S.rules seen new × GivesBack S.rules seen new }
         ensures seat { seat.new.table_id ≡ seat.old.table_id }
         ensures gives { MatchBool result (HasNothing seat.new.me) (seat.new.me ≡ seat.old.me) }

@@ -81,8 +81,10 @@ impl<C> Competing<C> {
         exchange: &X,
         on: &mut O,
     ) -> Coming
-        ensures comes { Comes (X.exchanged exchange.now) place.old on.old result self.new.line place.new on.new }
-        ensures serves { (n : ℕ) → ServesTheStarving n self.old.line → ServesWith (count_of result) n self.new.line }
+        ensures comes { Comes (X.exchanged exchange.now) place.old on.old result self.new.line
+            place.new on.new }
+        ensures serves { (n : ℕ) → ServesTheStarving n self.old.line
+            → ServesWith (count_of result) n self.new.line }
     {
         let Some(key) = *place else {
             return Coming::New;
@@ -113,10 +115,14 @@ impl<C> Competing<C> {
         ensures place { IfOk result (λ key. place.new ≡ Some key) }
         ensures losses { IfOk result (λ _. losses.new ≡ losses_after losses.old coming) }
         ensures rises { losses.old ≤ losses.new }
-        ensures loses { IfOk result (λ key. Loses (X.exchanged exchange.now) losses.new key self.old.line on.old self.new.line on.new) }
+        ensures loses { IfOk result (λ key.
+            Loses (X.exchanged exchange.now) losses.new key self.old.line on.old
+            self.new.line on.new) }
         ensures stores { IfOk result (λ _. Stores (X.exchanged exchange.now) on.old on.new) }
-        ensures serves { (n : ℕ) → ServesTheStarving n self.old.line → ServesTheStarving n self.new.line }
-        ensures refused { OnErr result ((place.new ≡ place.old) × (losses.new ≡ losses.old) × (self.new.line ≡ self.old.line) × (on.new ≡ on.old)) }
+        ensures serves { (n : ℕ) → ServesTheStarving n self.old.line
+            → ServesTheStarving n self.new.line }
+        ensures refused { OnErr result ((place.new ≡ place.old) × (losses.new ≡ losses.old)
+            × (self.new.line ≡ self.old.line) × (on.new ≡ on.old)) }
     {
         let lost = if coming.is_notified() {
             losses.saturating_add(1)
@@ -137,7 +143,8 @@ impl<C> Competing<C> {
     pub fn leave(&mut self, place: &mut Option<Key>) -> Coming
         ensures left { NobodyIsBy place.old self.new.line }
         ensures place { place.new ≡ None }
-        ensures serves { (n : ℕ) → ServesTheStarving n self.old.line → ServesWith (count_of result) n self.new.line }
+        ensures serves { (n : ℕ) → ServesTheStarving n self.old.line
+            → ServesWith (count_of result) n self.new.line }
     {
         let Some(key) = place.take() else {
             return Coming::New;
@@ -171,5 +178,6 @@ impl<C: Counted> Kept for Competing<C> {
 
 /// Whoever starves and is notified finds one free, while the state is at home.
 pub fn the_starving_find_one<W>()
-    ensures { (number : ℕ) (line : State W) → Stands number line → one_starving_is_told line ≡ true → 0 < free_of number }
+    ensures { (number : ℕ) (line : State W) → Stands number line → one_starving_is_told line ≡ true
+        → 0 < free_of number }
 {}

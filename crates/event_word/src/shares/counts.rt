@@ -32,11 +32,15 @@ impl Word<Queues<Task>, ()> {
     pub fn counted(&self, held: &mut Out, number: u64) -> RwLockCounts
         requires seat { held.old.seat.table_id ≡ self.now.table.shared.table_id }
         requires stands { HasState (λ n q. (n ≡ number) × NobodyWaitsInVain n q) held.old.seat.me }
-        ensures seat { (held.new.seat.table_id ≡ held.old.seat.table_id) × (held.new.seat.me ≡ held.old.seat.me) }
+        ensures seat { (held.new.seat.table_id ≡ held.old.seat.table_id)
+            × (held.new.seat.me ≡ held.old.seat.me) }
         ensures alone { HasState IsExclusive held.new.seat.me }
-        ensures reader_waits { 0 < result.readers_waiting → 0 < result.writers + result.writers_let_in + result.writers_waiting }
-        ensures writer_waits { 0 < result.writers_waiting → 0 < result.readers + result.readers_let_in + result.writers + result.writers_let_in }
-        ensures exclusive { 0 < result.readers + result.readers_let_in → result.writers + result.writers_let_in ≡ 0 }
+        ensures reader_waits { 0 < result.readers_waiting
+            → 0 < result.writers + result.writers_let_in + result.writers_waiting }
+        ensures writer_waits { 0 < result.writers_waiting
+            → 0 < result.readers + result.readers_let_in + result.writers + result.writers_let_in }
+        ensures exclusive { 0 < result.readers + result.readers_let_in
+            → result.writers + result.writers_let_in ≡ 0 }
         ensures one { result.writers + result.writers_let_in ≤ 1 }
     {
         state!(held.seat, self).counts(number)

@@ -51,7 +51,8 @@ pub(crate) fn reader_in(word: u64) -> Option<u64>
     ensures step { IfSome result (Recounts word) }
     ensures counts { IfSome result (λ new. number_of new ≡ number_of word + 2) }
     ensures open { IfSome result (λ _. (word % 4 ≡ 0) × (writers_of (number_of word) ≡ 0)) }
-    ensures refused { result ≡ None → word % 4 ≡ 0 → writers_of (number_of word) ≡ 0 → 2 ^ 60 ≤ readers_of (number_of word) + 1 }
+    ensures refused { result ≡ None → word % 4 ≡ 0 → writers_of (number_of word) ≡ 0
+        → 2 ^ 60 ≤ readers_of (number_of word) + 1 }
 {
     if word % READER > 0 || word >= FULL {
         return None;
@@ -78,8 +79,10 @@ pub(crate) fn reader_out(word: u64) -> Leaving
     requires { IsCount (number_of word) }
     ensures going { IfGoing result (Recounts word) }
     ensures taking { IfTaking result (RecountsAndTakes word) }
-    ensures readers { IfGoing result (λ new. readers_of (number_of new) ≡ readers_of (number_of word) - 1) }
-    ensures writers { IfGoing result (λ new. writers_of (number_of new) ≡ writers_of (number_of word)) }
+    ensures readers { IfGoing result
+        (λ new. readers_of (number_of new) ≡ readers_of (number_of word) - 1) }
+    ensures writers { IfGoing result
+        (λ new. writers_of (number_of new) ≡ writers_of (number_of word)) }
     ensures last { IfTaking result (λ new. (number_of word ≡ 2) × (number_of new ≡ 0)) }
 {
     if word < READER {
@@ -98,7 +101,8 @@ pub(crate) fn writer_out(word: u64) -> Leaving
     ensures going { IfGoing result (Recounts word) }
     ensures taking { IfTaking result (RecountsAndTakes word) }
     ensures writers { IfGoing result (λ new. writers_of (number_of new) ≡ 0) }
-    ensures readers { IfGoing result (λ new. readers_of (number_of new) ≡ readers_of (number_of word)) }
+    ensures readers { IfGoing result
+        (λ new. readers_of (number_of new) ≡ readers_of (number_of word)) }
     ensures alone { IfTaking result (λ new. (number_of word ≡ 1) × (number_of new ≡ 0)) }
 {
     if word % READER < WRITER {

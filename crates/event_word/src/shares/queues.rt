@@ -78,9 +78,12 @@ impl<W> Queues<W> {
 
     /// How it stands by this number.
     pub fn counts(&self, number: u64) -> RwLockCounts
-        ensures readers { (result.readers ≡ readers_of number) × (result.writers ≡ writers_of number) }
-        ensures let_in { (result.readers_let_in ≡ length self.now.read_line.told) × (result.writers_let_in ≡ length self.now.write_line.told) }
-        ensures waiting { (result.readers_waiting ≡ length self.now.read_line.waiting) × (result.writers_waiting ≡ length self.now.write_line.waiting) }
+        ensures readers { (result.readers ≡ readers_of number)
+            × (result.writers ≡ writers_of number) }
+        ensures let_in { (result.readers_let_in ≡ length self.now.read_line.told)
+            × (result.writers_let_in ≡ length self.now.write_line.told) }
+        ensures waiting { (result.readers_waiting ≡ length self.now.read_line.waiting)
+            × (result.writers_waiting ≡ length self.now.write_line.waiting) }
     {
         RwLockCounts {
             readers: number::readers(number),
@@ -94,7 +97,8 @@ impl<W> Queues<W> {
 
     // Whether one reader more can be counted.
     fn has_room(&self, number: u64) -> bool
-        ensures room { IsTrue result → reading number self.now + length self.now.read_line.waiting + 2 < 2 ^ 60 }
+        ensures room { IsTrue result
+            → reading number self.now + length self.now.read_line.waiting + 2 < 2 ^ 60 }
         ensures none { IsFalse result → HasNoRoom number self.now }
     {
         let waiting = self.read_line.total_listeners() as u64;
@@ -135,7 +139,8 @@ impl<W> Queues<W> {
     /// Whether a newcomer may read: no writer writes, was let in or waits, and one reader more can be counted.
     pub fn may_read(&self, number: u64) -> bool
         ensures yes { IsTrue result → NoWriterIsThere number self.now }
-        ensures counted { IsTrue result → IsExclusive number self.now → IsExclusive (number + 2) self.now }
+        ensures counted { IsTrue result → IsExclusive number self.now
+            → IsExclusive (number + 2) self.now }
         ensures no { IsFalse result → NoWriterIsThere number self.now → HasNoRoom number self.now }
     {
         self.has_room(number) && !self.is_wanted(number)
@@ -144,7 +149,8 @@ impl<W> Queues<W> {
     /// Whether a newcomer may write: nobody has the value, was let in or waits.
     pub fn may_write(&self, number: u64) -> bool
         ensures yes { IsTrue result ↔ ((number ≡ 0) × IsQuiet self.now) }
-        ensures counted { IsTrue result → IsExclusive number self.now → IsExclusive (number + 1) self.now }
+        ensures counted { IsTrue result → IsExclusive number self.now
+            → IsExclusive (number + 1) self.now }
     {
         number == 0 && self.is_quiet()
     }
@@ -165,7 +171,9 @@ impl<W> Queues<W> {
         exchange: &X,
         on: &mut C,
     ) -> Result<Key, LockError>
-        ensures joins { IfOk result (λ key. JoinsWithTask (X.exchanged exchange.now) self.old.read_line on.old key self.new.read_line on.new) }
+        ensures joins { IfOk result (λ key.
+            JoinsWithTask (X.exchanged exchange.now) self.old.read_line on.old key
+            self.new.read_line on.new) }
         ensures others { WritersStay self.old self.new }
         ensures refused { OnErr result ((self.new ≡ self.old) × (on.new ≡ on.old)) }
         ensures reason { IfErr result (λ error. RefusesReader error number self.old self.new) }
@@ -184,10 +192,13 @@ impl<W> Queues<W> {
         exchange: &X,
         on: &mut C,
     ) -> Result<Key, LockError>
-        ensures joins { IfOk result (λ key. JoinsWithTask (X.exchanged exchange.now) self.old.write_line on.old key self.new.write_line on.new) }
+        ensures joins { IfOk result (λ key.
+            JoinsWithTask (X.exchanged exchange.now) self.old.write_line on.old key
+            self.new.write_line on.new) }
         ensures others { ReadersStay self.old self.new }
         ensures refused { OnErr result ((self.new ≡ self.old) × (on.new ≡ on.old)) }
-        ensures reason { IfErr result (λ error. CannotJoin error self.old.write_line self.new.write_line) }
+        ensures reason { IfErr result (λ error.
+            CannotJoin error self.old.write_line self.new.write_line) }
         ensures alone { (n : ℕ) → IsExclusive n self.old → IsExclusive n self.new }
     {
         joined(join_line(&mut self.write_line, exchange, on))
@@ -201,12 +212,15 @@ impl<W> Queues<W> {
         on: &mut C,
     ) -> RegisterResult<()>
         ensures looked { Looked (X.exchanged exchange.now) on.old result on.new }
-        ensures step { RegistersWith (X.exchanged exchange.now) self.old.read_line key on.old result self.new.read_line on.new }
-        ensures told { length self.new.read_line.told + left_by result ≡ length self.old.read_line.told }
+        ensures step { RegistersWith (X.exchanged exchange.now) self.old.read_line key on.old result
+            self.new.read_line on.new }
+        ensures told { length self.new.read_line.told + left_by result
+            ≡ length self.old.read_line.told }
         ensures waiting { length self.new.read_line.waiting ≡ length self.old.read_line.waiting }
         ensures gone { IsNotInUnlessWaits result key self.new.read_line }
         ensures others { WritersStay self.old self.new }
-        ensures counted { (n : ℕ) → IsExclusive n self.old → IsExclusive (n + 2 * left_by result) self.new }
+        ensures counted { (n : ℕ) → IsExclusive n self.old
+            → IsExclusive (n + 2 * left_by result) self.new }
     {
         look_for(&mut self.read_line, key, exchange, on)
     }
@@ -219,12 +233,15 @@ impl<W> Queues<W> {
         on: &mut C,
     ) -> RegisterResult<()>
         ensures looked { Looked (X.exchanged exchange.now) on.old result on.new }
-        ensures step { RegistersWith (X.exchanged exchange.now) self.old.write_line key on.old result self.new.write_line on.new }
-        ensures told { length self.new.write_line.told + left_by result ≡ length self.old.write_line.told }
+        ensures step { RegistersWith (X.exchanged exchange.now) self.old.write_line key on.old
+            result self.new.write_line on.new }
+        ensures told { length self.new.write_line.told + left_by result
+            ≡ length self.old.write_line.told }
         ensures waiting { length self.new.write_line.waiting ≡ length self.old.write_line.waiting }
         ensures gone { IsNotInUnlessWaits result key self.new.write_line }
         ensures others { ReadersStay self.old self.new }
-        ensures counted { (n : ℕ) → IsExclusive n self.old → IsExclusive (n + left_by result) self.new }
+        ensures counted { (n : ℕ) → IsExclusive n self.old
+            → IsExclusive (n + left_by result) self.new }
     {
         look_for(&mut self.write_line, key, exchange, on)
     }
@@ -233,14 +250,17 @@ impl<W> Queues<W> {
     pub fn leave_read(&mut self, key: Key) -> bool
     where
         W: Drop,
-        ensures let_in { IsTrue result → length self.new.read_line.told + 1 ≡ length self.old.read_line.told }
-        ensures not_yet { IsFalse result → length self.new.read_line.told ≡ length self.old.read_line.told }
+        ensures let_in { IsTrue result → length self.new.read_line.told + 1
+            ≡ length self.old.read_line.told }
+        ensures not_yet { IsFalse result
+            → length self.new.read_line.told ≡ length self.old.read_line.told }
         ensures waiting { length self.new.read_line.waiting ≤ length self.old.read_line.waiting }
         ensures left { HasLeft key self.old.read_line self.new.read_line }
         ensures gone { IsNotIn key self.new.read_line }
         ensures writers { WritersStay self.old self.new }
         ensures alone { (n : ℕ) → IsExclusive n self.old → IsExclusive n self.new }
-        ensures counted { IsTrue result → (n : ℕ) → IsExclusive n self.old → IsExclusive (n + 2) self.new }
+        ensures counted { IsTrue result → (n : ℕ) → IsExclusive n self.old
+            → IsExclusive (n + 2) self.new }
     {
         leave_line(&mut self.read_line, key).was_told()
     }
@@ -250,14 +270,17 @@ impl<W> Queues<W> {
     pub fn leave_write(&mut self, key: Key) -> bool
     where
         W: Drop,
-        ensures let_in { IsTrue result → length self.new.write_line.told + 1 ≡ length self.old.write_line.told }
-        ensures not_yet { IsFalse result → length self.new.write_line.told ≡ length self.old.write_line.told }
+        ensures let_in { IsTrue result → length self.new.write_line.told + 1
+            ≡ length self.old.write_line.told }
+        ensures not_yet { IsFalse result
+            → length self.new.write_line.told ≡ length self.old.write_line.told }
         ensures waiting { length self.new.write_line.waiting ≤ length self.old.write_line.waiting }
         ensures left { HasLeft key self.old.write_line self.new.write_line }
         ensures gone { IsNotIn key self.new.write_line }
         ensures readers { ReadersStay self.old self.new }
         ensures alone { (n : ℕ) → IsExclusive n self.old → IsExclusive n self.new }
-        ensures counted { IsTrue result → (n : ℕ) → IsExclusive n self.old → IsExclusive (n + 1) self.new }
+        ensures counted { IsTrue result → (n : ℕ) → IsExclusive n self.old
+            → IsExclusive (n + 1) self.new }
     {
         leave_line(&mut self.write_line, key).was_told()
     }
@@ -266,7 +289,8 @@ impl<W> Queues<W> {
     pub fn downgrade<S: WakeSink<W>>(&mut self, sink: &mut S)
         ensures step { LetsReadersIn S.woke self.old self.new sink.old sink.new }
         ensures nobody_waits { length self.new.read_line.waiting ≡ 0 }
-        ensures told { length self.new.read_line.told ≡ length self.old.read_line.told + length self.old.read_line.waiting }
+        ensures told { length self.new.read_line.told
+            ≡ length self.old.read_line.told + length self.old.read_line.waiting }
         ensures turn { self.new.readers_first ≡ self.old.readers_first }
         ensures counted { IsExclusive 1 self.old → IsExclusive 2 self.new }
     {
@@ -312,8 +336,10 @@ impl<W> Queues<W> {
     fn let_next_in<S: WakeSink<W>>(&mut self, number: u64, sink: &mut S)
         requires { IsExclusive number self.old }
         ensures alone { IsExclusive number self.new }
-        ensures reader_waits { 0 < length self.new.read_line.waiting → IsAWriterThere number self.new }
-        ensures writer_waits { 0 < length self.new.write_line.waiting → 0 < reading number self.new + writing number self.new }
+        ensures reader_waits { 0 < length self.new.read_line.waiting
+            → IsAWriterThere number self.new }
+        ensures writer_waits { 0 < length self.new.write_line.waiting
+            → 0 < reading number self.new + writing number self.new }
         ensures step { LetsNextIn S.woke number self.old self.new sink.old sink.new }
     {
         match self.next(number) {

@@ -1,7 +1,7 @@
 //! What readers and writers do with the queues out.
 ghost use Rattle.std.specs.Prelude.{◌≡◌, ◌*◌, IfOk, IsTrue, OnErr};
 ghost use Rattle.atomic_table.specs.Table.{rest};
-ghost use Rattle.event_word.specs.Attempted.{IsSettled, gained};
+ghost use Rattle.event_word.specs.Attempted.{IsSettled, UnlessWaits, gained};
 ghost use Rattle.event_word.specs.Line.{IsNotIn, IsNotInUnlessWaits, Looked, left_by};
 ghost use Rattle.event_word.specs.Queues.{Admits, CountsMore, IsExclusive, given};
 ghost use Rattle.event_word.specs.Word.{HasState, number_of};
@@ -27,10 +27,12 @@ impl Word<Queues<Task>, ()> {
     ) -> RegisterResult<()>
         requires seat { held.old.seat.table_id ≡ self.now.table.shared.table_id }
         requires alone { HasState IsExclusive held.old.seat.me }
-        ensures seat { (held.new.seat.table_id ≡ held.old.seat.table_id) × (rest held.new.seat.me.1 ≡ rest held.old.seat.me.1) }
+        ensures seat { (held.new.seat.table_id ≡ held.old.seat.table_id)
+            × (rest held.new.seat.me.1 ≡ rest held.old.seat.me.1) }
         ensures number { held.new.seat.me.0 ≡ held.old.seat.me.0 }
         ensures admits { HasState (Admits (2 * left_by result)) held.new.seat.me }
-        ensures gone { HasState (λ _ q. IsNotInUnlessWaits result key q.read_line) held.new.seat.me }
+        ensures gone { HasState (λ _ q. IsNotInUnlessWaits result key q.read_line)
+            held.new.seat.me }
         ensures looked { Looked (X.exchanged exchange.now) on.old result on.new }
     {
         state!(held.seat, self).look_read(key, exchange, on)
@@ -46,10 +48,12 @@ impl Word<Queues<Task>, ()> {
     ) -> RegisterResult<()>
         requires seat { held.old.seat.table_id ≡ self.now.table.shared.table_id }
         requires alone { HasState IsExclusive held.old.seat.me }
-        ensures seat { (held.new.seat.table_id ≡ held.old.seat.table_id) × (rest held.new.seat.me.1 ≡ rest held.old.seat.me.1) }
+        ensures seat { (held.new.seat.table_id ≡ held.old.seat.table_id)
+            × (rest held.new.seat.me.1 ≡ rest held.old.seat.me.1) }
         ensures number { held.new.seat.me.0 ≡ held.old.seat.me.0 }
         ensures admits { HasState (Admits (left_by result)) held.new.seat.me }
-        ensures gone { HasState (λ _ q. IsNotInUnlessWaits result key q.write_line) held.new.seat.me }
+        ensures gone { HasState (λ _ q. IsNotInUnlessWaits result key q.write_line)
+            held.new.seat.me }
         ensures looked { Looked (X.exchanged exchange.now) on.old result on.new }
     {
         state!(held.seat, self).look_write(key, exchange, on)
@@ -67,11 +71,14 @@ impl Word<Queues<Task>, ()> {
     ) -> Attempted<ReadShare, LockError>
         requires seat { held.old.seat.table_id ≡ self.now.table.shared.table_id }
         requires alone { HasState IsExclusive held.old.seat.me }
-        ensures seat { (held.new.seat.table_id ≡ held.old.seat.table_id) × (rest held.new.seat.me.1 ≡ rest held.old.seat.me.1) }
+        ensures seat { (held.new.seat.table_id ≡ held.old.seat.table_id)
+            × (rest held.new.seat.me.1 ≡ rest held.old.seat.me.1) }
         ensures alone { HasState IsExclusive held.new.seat.me }
         ensures counts { CountsMore (2 * gained result) held.old.seat.me.0 held.new.seat.me.0 }
         ensures exchanged { Attempts (X.exchanged exchange.now) on.old result on.new }
         ensures settled { IsSettled result }
+        ensures gone { UnlessWaits result
+            (HasState (λ _ q. IsNotIn key q.read_line) held.new.seat.me) }
     {
         match self.look_reading(held, key, exchange, on) {
             RegisterResult::Notified(()) => Attempted::Done(self.let_reader_in(rt, held)),
@@ -91,11 +98,14 @@ impl Word<Queues<Task>, ()> {
     ) -> Attempted<WriteShare, LockError>
         requires seat { held.old.seat.table_id ≡ self.now.table.shared.table_id }
         requires alone { HasState IsExclusive held.old.seat.me }
-        ensures seat { (held.new.seat.table_id ≡ held.old.seat.table_id) × (rest held.new.seat.me.1 ≡ rest held.old.seat.me.1) }
+        ensures seat { (held.new.seat.table_id ≡ held.old.seat.table_id)
+            × (rest held.new.seat.me.1 ≡ rest held.old.seat.me.1) }
         ensures alone { HasState IsExclusive held.new.seat.me }
         ensures counts { CountsMore (gained result) held.old.seat.me.0 held.new.seat.me.0 }
         ensures exchanged { Attempts (X.exchanged exchange.now) on.old result on.new }
         ensures settled { IsSettled result }
+        ensures gone { UnlessWaits result
+            (HasState (λ _ q. IsNotIn key q.write_line) held.new.seat.me) }
     {
         match self.look_writing(held, key, exchange, on) {
             RegisterResult::Notified(()) => Attempted::Done(self.let_writer_in(rt, held)),
@@ -114,11 +124,13 @@ impl Word<Queues<Task>, ()> {
     ) -> Attempted<ReadShare, LockError>
         requires seat { held.old.seat.table_id ≡ self.now.table.shared.table_id }
         requires alone { HasState IsExclusive held.old.seat.me }
-        ensures seat { (held.new.seat.table_id ≡ held.old.seat.table_id) × (rest held.new.seat.me.1 ≡ rest held.old.seat.me.1) }
+        ensures seat { (held.new.seat.table_id ≡ held.old.seat.table_id)
+            × (rest held.new.seat.me.1 ≡ rest held.old.seat.me.1) }
         ensures alone { HasState IsExclusive held.new.seat.me }
         ensures counts { CountsMore (2 * gained result) held.old.seat.me.0 held.new.seat.me.0 }
         ensures exchanged { Attempts (X.exchanged exchange.now) on.old result on.new }
         ensures settled { IsSettled result }
+        ensures stays { UnlessWaits result (held.new.seat.me.1 ≡ held.old.seat.me.1) }
     {
         if let Some(share) = self.count_reader(rt, held) {
             return Attempted::Done(share);
@@ -139,11 +151,13 @@ impl Word<Queues<Task>, ()> {
     ) -> Attempted<WriteShare, LockError>
         requires seat { held.old.seat.table_id ≡ self.now.table.shared.table_id }
         requires alone { HasState IsExclusive held.old.seat.me }
-        ensures seat { (held.new.seat.table_id ≡ held.old.seat.table_id) × (rest held.new.seat.me.1 ≡ rest held.old.seat.me.1) }
+        ensures seat { (held.new.seat.table_id ≡ held.old.seat.table_id)
+            × (rest held.new.seat.me.1 ≡ rest held.old.seat.me.1) }
         ensures alone { HasState IsExclusive held.new.seat.me }
         ensures counts { CountsMore (gained result) held.old.seat.me.0 held.new.seat.me.0 }
         ensures exchanged { Attempts (X.exchanged exchange.now) on.old result on.new }
         ensures settled { IsSettled result }
+        ensures stays { UnlessWaits result (held.new.seat.me.1 ≡ held.old.seat.me.1) }
     {
         if let Some(share) = self.count_writer(rt, held) {
             return Attempted::Done(share);
@@ -162,11 +176,13 @@ impl Word<Queues<Task>, ()> {
     ) -> Result<Key, LockError>
         requires seat { held.old.seat.table_id ≡ self.now.table.shared.table_id }
         requires alone { HasState IsExclusive held.old.seat.me }
-        ensures seat { (held.new.seat.table_id ≡ held.old.seat.table_id) × (rest held.new.seat.me.1 ≡ rest held.old.seat.me.1) }
+        ensures seat { (held.new.seat.table_id ≡ held.old.seat.table_id)
+            × (rest held.new.seat.me.1 ≡ rest held.old.seat.me.1) }
         ensures alone { HasState IsExclusive held.new.seat.me }
         ensures counts { CountsMore 0 held.old.seat.me.0 held.new.seat.me.0 }
         ensures waits { IfOk result (λ _. Stores (X.exchanged exchange.now) on.old on.new) }
-        ensures refused { OnErr result (on.new ≡ on.old) }
+        ensures refused { OnErr result ((on.new ≡ on.old)
+            × (held.new.seat.me.1 ≡ held.old.seat.me.1)) }
     {
         let seen = self.look_alone(held);
         self.join_readers(held, seen, exchange, on)
@@ -182,11 +198,13 @@ impl Word<Queues<Task>, ()> {
     ) -> Result<Key, LockError>
         requires seat { held.old.seat.table_id ≡ self.now.table.shared.table_id }
         requires alone { HasState (λ n q. (n ≡ number_of seen) × IsExclusive n q) held.old.seat.me }
-        ensures seat { (held.new.seat.table_id ≡ held.old.seat.table_id) × (rest held.new.seat.me.1 ≡ rest held.old.seat.me.1) }
+        ensures seat { (held.new.seat.table_id ≡ held.old.seat.table_id)
+            × (rest held.new.seat.me.1 ≡ rest held.old.seat.me.1) }
         ensures number { held.new.seat.me.0 ≡ held.old.seat.me.0 }
         ensures alone { HasState IsExclusive held.new.seat.me }
         ensures waits { IfOk result (λ _. Stores (X.exchanged exchange.now) on.old on.new) }
-        ensures refused { OnErr result (on.new ≡ on.old) }
+        ensures refused { OnErr result ((on.new ≡ on.old)
+            × (held.new.seat.me.1 ≡ held.old.seat.me.1)) }
     {
         state!(held.seat, self).wait_to_read(seen / ONE, exchange, on)
     }
@@ -199,11 +217,13 @@ impl Word<Queues<Task>, ()> {
     ) -> Result<Key, LockError>
         requires seat { held.old.seat.table_id ≡ self.now.table.shared.table_id }
         requires alone { HasState IsExclusive held.old.seat.me }
-        ensures seat { (held.new.seat.table_id ≡ held.old.seat.table_id) × (rest held.new.seat.me.1 ≡ rest held.old.seat.me.1) }
+        ensures seat { (held.new.seat.table_id ≡ held.old.seat.table_id)
+            × (rest held.new.seat.me.1 ≡ rest held.old.seat.me.1) }
         ensures number { held.new.seat.me.0 ≡ held.old.seat.me.0 }
         ensures alone { HasState IsExclusive held.new.seat.me }
         ensures waits { IfOk result (λ _. Stores (X.exchanged exchange.now) on.old on.new) }
-        ensures refused { OnErr result (on.new ≡ on.old) }
+        ensures refused { OnErr result ((on.new ≡ on.old)
+            × (held.new.seat.me.1 ≡ held.old.seat.me.1)) }
     {
         state!(held.seat, self).wait_to_write(exchange, on)
     }
@@ -212,7 +232,8 @@ impl Word<Queues<Task>, ()> {
     pub fn leave_reading(&self, held: &mut Out, key: Key) -> bool
         requires seat { held.old.seat.table_id ≡ self.now.table.shared.table_id }
         requires alone { HasState IsExclusive held.old.seat.me }
-        ensures seat { (held.new.seat.table_id ≡ held.old.seat.table_id) × (rest held.new.seat.me.1 ≡ rest held.old.seat.me.1) }
+        ensures seat { (held.new.seat.table_id ≡ held.old.seat.table_id)
+            × (rest held.new.seat.me.1 ≡ rest held.old.seat.me.1) }
         ensures number { held.new.seat.me.0 ≡ held.old.seat.me.0 }
         ensures alone { HasState IsExclusive held.new.seat.me }
         ensures let_in { IsTrue result → HasState (Admits 2) held.new.seat.me }
@@ -225,7 +246,8 @@ impl Word<Queues<Task>, ()> {
     pub fn leave_writing(&self, held: &mut Out, key: Key) -> bool
         requires seat { held.old.seat.table_id ≡ self.now.table.shared.table_id }
         requires alone { HasState IsExclusive held.old.seat.me }
-        ensures seat { (held.new.seat.table_id ≡ held.old.seat.table_id) × (rest held.new.seat.me.1 ≡ rest held.old.seat.me.1) }
+        ensures seat { (held.new.seat.table_id ≡ held.old.seat.table_id)
+            × (rest held.new.seat.me.1 ≡ rest held.old.seat.me.1) }
         ensures number { held.new.seat.me.0 ≡ held.old.seat.me.0 }
         ensures alone { HasState IsExclusive held.new.seat.me }
         ensures let_in { IsTrue result → HasState (Admits 1) held.new.seat.me }
@@ -238,9 +260,11 @@ impl Word<Queues<Task>, ()> {
     pub fn read_or_leave<R: Wait>(&self, rt: &R, held: &mut Out, key: Key) -> Option<ReadShare>
         requires seat { held.old.seat.table_id ≡ self.now.table.shared.table_id }
         requires alone { HasState IsExclusive held.old.seat.me }
-        ensures seat { (held.new.seat.table_id ≡ held.old.seat.table_id) × (rest held.new.seat.me.1 ≡ rest held.old.seat.me.1) }
+        ensures seat { (held.new.seat.table_id ≡ held.old.seat.table_id)
+            × (rest held.new.seat.me.1 ≡ rest held.old.seat.me.1) }
         ensures alone { HasState IsExclusive held.new.seat.me }
         ensures counts { CountsMore (2 * given result) held.old.seat.me.0 held.new.seat.me.0 }
+        ensures gone { HasState (λ _ q. IsNotIn key q.read_line) held.new.seat.me }
     {
         if self.leave_reading(held, key) {
             return Some(self.let_reader_in(rt, held));
@@ -252,9 +276,11 @@ impl Word<Queues<Task>, ()> {
     pub fn write_or_leave<R: Wait>(&self, rt: &R, held: &mut Out, key: Key) -> Option<WriteShare>
         requires seat { held.old.seat.table_id ≡ self.now.table.shared.table_id }
         requires alone { HasState IsExclusive held.old.seat.me }
-        ensures seat { (held.new.seat.table_id ≡ held.old.seat.table_id) × (rest held.new.seat.me.1 ≡ rest held.old.seat.me.1) }
+        ensures seat { (held.new.seat.table_id ≡ held.old.seat.table_id)
+            × (rest held.new.seat.me.1 ≡ rest held.old.seat.me.1) }
         ensures alone { HasState IsExclusive held.new.seat.me }
         ensures counts { CountsMore (given result) held.old.seat.me.0 held.new.seat.me.0 }
+        ensures gone { HasState (λ _ q. IsNotIn key q.write_line) held.new.seat.me }
     {
         if self.leave_writing(held, key) {
             return Some(self.let_writer_in(rt, held));

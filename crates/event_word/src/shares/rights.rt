@@ -104,8 +104,10 @@ impl Word<Queues<Task>, ()> {
         requires seat { held.old.seat.table_id ≡ self.now.table.shared.table_id }
         requires out { new % 2 ≡ 1 }
         requires alone { HasState (λ n q. IsExclusive (number_of new) q) held.old.seat.me }
-        ensures seat { (held.new.seat.table_id ≡ held.old.seat.table_id) × (held.new.seat.me.1 ≡ held.old.seat.me.1) }
-        ensures counts { MatchOption result (held.new.seat.me.0 ≡ held.old.seat.me.0) (λ made. held.new.seat.me.0 ≡ Some (number_of new)) }
+        ensures seat { (held.new.seat.table_id ≡ held.old.seat.table_id)
+            × (held.new.seat.me.1 ≡ held.old.seat.me.1) }
+        ensures counts { MatchOption result (held.new.seat.me.0 ≡ held.old.seat.me.0)
+            (λ made. held.new.seat.me.0 ≡ Some (number_of new)) }
         ensures step { IfSome result (λ made. (made.from ≡ seen) × (made.to ≡ new)) }
     {
         if held.change(self, seen, new) {

@@ -139,8 +139,10 @@ impl Word<Queues<Task>, ()> {
     fn go<R: Wait>(&self, rt: &R, mut seat: At, seen: u64, leaving: Leaving) -> Option<At>
         requires seat { (seat.table_id ≡ self.now.table.shared.table_id) × HasNothing seat.me }
         requires going { IfGoing leaving (Recounts seen) }
-        requires taking { IfTaking leaving (λ new. RecountsAndTakes seen new × (number_of new ≡ 0)) }
-        ensures again { IfSome result (λ again. (again.table_id ≡ seat.table_id) × HasNothing again.me) }
+        requires taking { IfTaking leaving (λ new. RecountsAndTakes seen new
+            × (number_of new ≡ 0)) }
+        ensures again { IfSome result (λ again. (again.table_id ≡ seat.table_id)
+            × HasNothing again.me) }
     {
         match leaving {
             Leaving::Going(new) => {
@@ -163,10 +165,12 @@ impl Word<Queues<Task>, ()> {
     pub fn look_alone(&self, held: &mut Out) -> u64
         requires seat { held.old.seat.table_id ≡ self.now.table.shared.table_id }
         requires alone { HasState IsExclusive held.old.seat.me }
-        ensures seat { (held.new.seat.table_id ≡ held.old.seat.table_id) × (held.new.seat.me.1 ≡ held.old.seat.me.1) }
+        ensures seat { (held.new.seat.table_id ≡ held.old.seat.table_id)
+            × (held.new.seat.me.1 ≡ held.old.seat.me.1) }
         ensures out { result % 2 ≡ 1 }
         ensures number { held.new.seat.me.0 ≡ Some (number_of result) }
-        ensures alone { HasState (λ n q. (n ≡ number_of result) × IsExclusive n q) held.new.seat.me }
+        ensures alone { HasState (λ n q. (n ≡ number_of result)
+            × IsExclusive n q) held.new.seat.me }
         ensures eases { EasesFrom (lock_rules {W = Task}) held.old.seat.me.0 (number_of result) }
     {
         held.look(self)
@@ -176,9 +180,12 @@ impl Word<Queues<Task>, ()> {
     fn may_read(&self, held: &mut Out, seen: u64) -> bool
         requires seat { held.old.seat.table_id ≡ self.now.table.shared.table_id }
         requires alone { HasState (λ n q. (n ≡ number_of seen) × IsExclusive n q) held.old.seat.me }
-        ensures seat { (held.new.seat.table_id ≡ held.old.seat.table_id) × (held.new.seat.me ≡ held.old.seat.me) }
-        ensures yes { IsTrue result → HasState (λ n q. NoWriterIsThere n q × IsExclusive (number_of seen + 2) q) held.new.seat.me }
-        ensures no { IsFalse result → HasState (λ n q. NoWriterIsThere n q → HasNoRoom n q) held.new.seat.me }
+        ensures seat { (held.new.seat.table_id ≡ held.old.seat.table_id)
+            × (held.new.seat.me ≡ held.old.seat.me) }
+        ensures yes { IsTrue result → HasState (λ n q. NoWriterIsThere n q
+            × IsExclusive (number_of seen + 2) q) held.new.seat.me }
+        ensures no { IsFalse result
+            → HasState (λ n q. NoWriterIsThere n q → HasNoRoom n q) held.new.seat.me }
     {
         state!(held.seat, self).may_read(seen / ONE)
     }
@@ -187,8 +194,10 @@ impl Word<Queues<Task>, ()> {
     fn may_write(&self, held: &mut Out, seen: u64) -> bool
         requires seat { held.old.seat.table_id ≡ self.now.table.shared.table_id }
         requires alone { HasState (λ n q. (n ≡ number_of seen) × IsExclusive n q) held.old.seat.me }
-        ensures seat { (held.new.seat.table_id ≡ held.old.seat.table_id) × (held.new.seat.me ≡ held.old.seat.me) }
-        ensures yes { IsTrue result → HasState (λ n q. (n ≡ 0) × IsQuiet q × IsExclusive (number_of seen + 1) q) held.new.seat.me }
+        ensures seat { (held.new.seat.table_id ≡ held.old.seat.table_id)
+            × (held.new.seat.me ≡ held.old.seat.me) }
+        ensures yes { IsTrue result → HasState (λ n q. (n ≡ 0) × IsQuiet q
+            × IsExclusive (number_of seen + 1) q) held.new.seat.me }
         ensures no { IsFalse result → HasState (λ n q. (n ≡ 0) → IsQuiet q → ⊥) held.new.seat.me }
     {
         state!(held.seat, self).may_write(seen / ONE)
@@ -198,9 +207,12 @@ impl Word<Queues<Task>, ()> {
     fn may_upgrade(&self, held: &mut Out, seen: u64) -> bool
         requires seat { held.old.seat.table_id ≡ self.now.table.shared.table_id }
         requires alone { HasState (λ n q. (n ≡ number_of seen) × IsExclusive n q) held.old.seat.me }
-        ensures seat { (held.new.seat.table_id ≡ held.old.seat.table_id) × (held.new.seat.me ≡ held.old.seat.me) }
-        ensures yes { IsTrue result → HasState (λ n q. (n ≡ 2) × (number_of seen ≡ 2) × IsExclusive 1 q) held.new.seat.me }
-        ensures no { IsFalse result → HasState (λ n q. n ≡ 2 → 0 < length q.read_line.told) held.new.seat.me }
+        ensures seat { (held.new.seat.table_id ≡ held.old.seat.table_id)
+            × (held.new.seat.me ≡ held.old.seat.me) }
+        ensures yes { IsTrue result → HasState (λ n q. (n ≡ 2) × (number_of seen ≡ 2)
+            × IsExclusive 1 q) held.new.seat.me }
+        ensures no { IsFalse result
+            → HasState (λ n q. n ≡ 2 → 0 < length q.read_line.told) held.new.seat.me }
     {
         state!(held.seat, self).may_upgrade(seen / ONE)
     }
@@ -209,10 +221,12 @@ impl Word<Queues<Task>, ()> {
     pub fn count_reader<R: Wait>(&self, rt: &R, held: &mut Out) -> Option<ReadShare>
         requires seat { held.old.seat.table_id ≡ self.now.table.shared.table_id }
         requires alone { HasState IsExclusive held.old.seat.me }
-        ensures seat { (held.new.seat.table_id ≡ held.old.seat.table_id) × (held.new.seat.me.1 ≡ held.old.seat.me.1) }
+        ensures seat { (held.new.seat.table_id ≡ held.old.seat.table_id)
+            × (held.new.seat.me.1 ≡ held.old.seat.me.1) }
         ensures alone { HasState IsExclusive held.new.seat.me }
         ensures counts { CountsMore (2 * given result) held.old.seat.me.0 held.new.seat.me.0 }
-        ensures refused { result ≡ None → HasState (λ n q. NoWriterIsThere n q → HasNoRoom n q) held.new.seat.me }
+        ensures refused { result ≡ None → HasState (λ n q. NoWriterIsThere n q
+            → HasNoRoom n q) held.new.seat.me }
     {
         for _ in rt.forever() {
             let seen = self.look_alone(held);
@@ -230,10 +244,12 @@ impl Word<Queues<Task>, ()> {
     pub fn count_writer<R: Wait>(&self, rt: &R, held: &mut Out) -> Option<WriteShare>
         requires seat { held.old.seat.table_id ≡ self.now.table.shared.table_id }
         requires alone { HasState IsExclusive held.old.seat.me }
-        ensures seat { (held.new.seat.table_id ≡ held.old.seat.table_id) × (held.new.seat.me.1 ≡ held.old.seat.me.1) }
+        ensures seat { (held.new.seat.table_id ≡ held.old.seat.table_id)
+            × (held.new.seat.me.1 ≡ held.old.seat.me.1) }
         ensures alone { HasState IsExclusive held.new.seat.me }
         ensures counts { CountsMore (given result) held.old.seat.me.0 held.new.seat.me.0 }
-        ensures refused { result ≡ None → HasState (λ n q. (n ≡ 0) → IsQuiet q → ⊥) held.new.seat.me }
+        ensures refused { result ≡ None → HasState (λ n q. (n ≡ 0) → IsQuiet q
+            → ⊥) held.new.seat.me }
     {
         for _ in rt.forever() {
             let seen = self.look_alone(held);
@@ -251,10 +267,12 @@ impl Word<Queues<Task>, ()> {
     fn look_letting_in(&self, held: &mut Out, one: u64) -> u64
         requires seat { held.old.seat.table_id ≡ self.now.table.shared.table_id }
         requires admits { HasState (Admits (number_of one)) held.old.seat.me }
-        ensures seat { (held.new.seat.table_id ≡ held.old.seat.table_id) × (held.new.seat.me.1 ≡ held.old.seat.me.1) }
+        ensures seat { (held.new.seat.table_id ≡ held.old.seat.table_id)
+            × (held.new.seat.me.1 ≡ held.old.seat.me.1) }
         ensures out { result % 2 ≡ 1 }
         ensures number { held.new.seat.me.0 ≡ Some (number_of result) }
-        ensures admits { HasState (λ n q. (n ≡ number_of result) × Admits (number_of one) (number_of result) q) held.new.seat.me }
+        ensures admits { HasState (λ n q. (n ≡ number_of result)
+            × Admits (number_of one) (number_of result) q) held.new.seat.me }
         ensures eases { EasesFrom (lock_rules {W = Task}) held.old.seat.me.0 (number_of result) }
     {
         let _one = one;
@@ -266,7 +284,8 @@ impl Word<Queues<Task>, ()> {
         requires seat { held.old.seat.table_id ≡ self.now.table.shared.table_id }
         requires one { one % 4 ≡ 0 }
         requires admits { HasState (Admits (number_of one)) held.old.seat.me }
-        ensures seat { (held.new.seat.table_id ≡ held.old.seat.table_id) × (held.new.seat.me.1 ≡ held.old.seat.me.1) }
+        ensures seat { (held.new.seat.table_id ≡ held.old.seat.table_id)
+            × (held.new.seat.me.1 ≡ held.old.seat.me.1) }
         ensures alone { HasState IsExclusive held.new.seat.me }
         ensures counts { CountsMore (number_of one) held.old.seat.me.0 held.new.seat.me.0 }
         ensures step { number_of result.to ≡ number_of result.from + number_of one }
@@ -284,7 +303,8 @@ impl Word<Queues<Task>, ()> {
     pub fn let_reader_in<R: Wait>(&self, rt: &R, held: &mut Out) -> ReadShare
         requires seat { held.old.seat.table_id ≡ self.now.table.shared.table_id }
         requires admits { HasState (Admits 2) held.old.seat.me }
-        ensures seat { (held.new.seat.table_id ≡ held.old.seat.table_id) × (held.new.seat.me.1 ≡ held.old.seat.me.1) }
+        ensures seat { (held.new.seat.table_id ≡ held.old.seat.table_id)
+            × (held.new.seat.me.1 ≡ held.old.seat.me.1) }
         ensures alone { HasState IsExclusive held.new.seat.me }
         ensures counts { CountsMore 2 held.old.seat.me.0 held.new.seat.me.0 }
     {
@@ -295,7 +315,8 @@ impl Word<Queues<Task>, ()> {
     pub fn let_writer_in<R: Wait>(&self, rt: &R, held: &mut Out) -> WriteShare
         requires seat { held.old.seat.table_id ≡ self.now.table.shared.table_id }
         requires admits { HasState (Admits 1) held.old.seat.me }
-        ensures seat { (held.new.seat.table_id ≡ held.old.seat.table_id) × (held.new.seat.me.1 ≡ held.old.seat.me.1) }
+        ensures seat { (held.new.seat.table_id ≡ held.old.seat.table_id)
+            × (held.new.seat.me.1 ≡ held.old.seat.me.1) }
         ensures alone { HasState IsExclusive held.new.seat.me }
         ensures counts { CountsMore 1 held.old.seat.me.0 held.new.seat.me.0 }
     {
@@ -325,10 +346,14 @@ impl Word<Queues<Task>, ()> {
     ) -> Result<WriteShare, ReadShare>
         requires seat { held.old.seat.table_id ≡ self.now.table.shared.table_id }
         requires alone { HasState IsExclusive held.old.seat.me }
-        ensures seat { (held.new.seat.table_id ≡ held.old.seat.table_id) × (held.new.seat.me.1 ≡ held.old.seat.me.1) }
+        ensures seat { (held.new.seat.table_id ≡ held.old.seat.table_id)
+            × (held.new.seat.me.1 ≡ held.old.seat.me.1) }
         ensures alone { HasState IsExclusive held.new.seat.me }
-        ensures counts { MatchResult result (λ _. CountsAsWriter held.old.seat.me.0 held.new.seat.me.0) (λ _. CountsMore 0 held.old.seat.me.0 held.new.seat.me.0) }
-        ensures refused { IfErr result (λ _. HasState (λ n q. n ≡ 2 → 0 < length q.read_line.told) held.new.seat.me) }
+        ensures counts { MatchResult result
+            (λ _. CountsAsWriter held.old.seat.me.0 held.new.seat.me.0)
+            (λ _. CountsMore 0 held.old.seat.me.0 held.new.seat.me.0) }
+        ensures refused { IfErr result (λ _. HasState (λ n q. n ≡ 2
+            → 0 < length q.read_line.told) held.new.seat.me) }
     {
         for _ in rt.forever() {
             let seen = self.look_alone(held);
@@ -362,10 +387,12 @@ impl Word<Queues<Task>, ()> {
     fn let_readers_in<R: Wait>(&self, rt: &R, held: &mut Out, waking: &mut Waking) -> Option<Step>
         requires seat { held.old.seat.table_id ≡ self.now.table.shared.table_id }
         requires alone { HasState IsExclusive held.old.seat.me }
-        ensures seat { (held.new.seat.table_id ≡ held.old.seat.table_id) × (rest held.new.seat.me.1 ≡ rest held.old.seat.me.1) }
+        ensures seat { (held.new.seat.table_id ≡ held.old.seat.table_id)
+            × (rest held.new.seat.me.1 ≡ rest held.old.seat.me.1) }
         ensures alone { HasState IsExclusive held.new.seat.me }
         ensures counts { CountsAsReader held.old.seat.me.0 held.new.seat.me.0 }
-        ensures lets_in { IfSome result (λ _. HasState (λ n q. (n ≡ 2) × (length q.read_line.waiting ≡ 0)) held.new.seat.me) }
+        ensures lets_in { IfSome result (λ _. HasState (λ n q. (n ≡ 2)
+            × (length q.read_line.waiting ≡ 0)) held.new.seat.me) }
         ensures step { IfSome result (λ made. (number_of made.from ≡ 1) × (number_of made.to ≡ 2)) }
     {
         let step = self.count_as_reader(rt, held)?;
@@ -377,10 +404,12 @@ impl Word<Queues<Task>, ()> {
     fn count_as_reader<R: Wait>(&self, rt: &R, held: &mut Out) -> Option<Step>
         requires seat { held.old.seat.table_id ≡ self.now.table.shared.table_id }
         requires alone { HasState IsExclusive held.old.seat.me }
-        ensures seat { (held.new.seat.table_id ≡ held.old.seat.table_id) × (held.new.seat.me.1 ≡ held.old.seat.me.1) }
+        ensures seat { (held.new.seat.table_id ≡ held.old.seat.table_id)
+            × (held.new.seat.me.1 ≡ held.old.seat.me.1) }
         ensures alone { HasState IsExclusive held.new.seat.me }
         ensures counts { CountsAsReader held.old.seat.me.0 held.new.seat.me.0 }
-        ensures was { IfSome result (λ _. HasState (λ n q. (n ≡ 2) × IsExclusive 1 q) held.new.seat.me) }
+        ensures was { IfSome result (λ _. HasState (λ n q. (n ≡ 2)
+            × IsExclusive 1 q) held.new.seat.me) }
         ensures step { IfSome result (λ made. (number_of made.from ≡ 1) × (number_of made.to ≡ 2)) }
     {
         for _ in rt.forever() {
@@ -399,9 +428,11 @@ impl Word<Queues<Task>, ()> {
     fn hand_to_readers(&self, held: &mut Out, waking: &mut Waking)
         requires seat { held.old.seat.table_id ≡ self.now.table.shared.table_id }
         requires reads { HasState (λ n q. (n ≡ 2) × IsExclusive 1 q) held.old.seat.me }
-        ensures seat { (held.new.seat.table_id ≡ held.old.seat.table_id) × (rest held.new.seat.me.1 ≡ rest held.old.seat.me.1) }
+        ensures seat { (held.new.seat.table_id ≡ held.old.seat.table_id)
+            × (rest held.new.seat.me.1 ≡ rest held.old.seat.me.1) }
         ensures number { held.new.seat.me.0 ≡ held.old.seat.me.0 }
-        ensures lets_in { HasState (λ n q. (n ≡ 2) × IsExclusive n q × (length q.read_line.waiting ≡ 0)) held.new.seat.me }
+        ensures lets_in { HasState (λ n q. (n ≡ 2) × IsExclusive n q
+            × (length q.read_line.waiting ≡ 0)) held.new.seat.me }
     {
         state!(held.seat, self).downgrade(waking)
     }

@@ -1,7 +1,7 @@
 //! What those that compete for a lock do with its state out.
 ghost use Rattle.std.specs.Prelude.{◌≡◌, ◌<◌, ◌≤◌, true, None, IfOk, OnErr};
 ghost use Rattle.atomic_table.specs.Table.{rest};
-ghost use Rattle.event_word.specs.Competitor.{Comes, NobodyIsBy, count_of};
+ghost use Rattle.event_word.specs.Competitor.{Comes, NobodyIsBy, count_of, losses_after};
 ghost use Rattle.event_word.specs.Free.{ServesTheStarving, ServesWith, Stands, free_of, IsShut};
 ghost use Rattle.event_word.specs.Word.{HasState};
 ghost use Rattle.event_wait.specs.Attempted.{Stores};
@@ -27,7 +27,8 @@ impl<C: Counted, V> Word<Competing<C>, V> {
     /// How it stands at some moment of this call.
     pub fn counts<R: Wait>(&self, rt: &R) -> Counts
         ensures nobody { result.notified < result.free → result.waiting ≡ 0 }
-        ensures shuts { (0 < result.starving → result.is_shut ≡ true) × (result.is_shut ≡ true → 0 < result.starving) }
+        ensures shuts { (0 < result.starving → result.is_shut ≡ true)
+            × (result.is_shut ≡ true → 0 < result.starving) }
     {
         let (number, mut held) = self.take(rt);
         let counts = self.counted(&mut held, number);
@@ -38,10 +39,12 @@ impl<C: Counted, V> Word<Competing<C>, V> {
     fn counted(&self, held: &mut Held<Competing<C>, V>, number: u64) -> Counts
         requires seat { held.old.seat.table_id ≡ self.now.table.shared.table_id }
         requires stands { HasState (λ n q. (n ≡ number) × Stands n q.line) held.old.seat.me }
-        ensures seat { (held.new.seat.table_id ≡ held.old.seat.table_id) × (rest held.new.seat.me.1 ≡ rest held.old.seat.me.1) }
+        ensures seat { (held.new.seat.table_id ≡ held.old.seat.table_id)
+            × (rest held.new.seat.me.1 ≡ rest held.old.seat.me.1) }
         ensures serves { HasState (λ n q. ServesTheStarving n q.line) held.new.seat.me }
         ensures nobody { result.notified < result.free → result.waiting ≡ 0 }
-        ensures shuts { (0 < result.starving → result.is_shut ≡ true) × (result.is_shut ≡ true → 0 < result.starving) }
+        ensures shuts { (0 < result.starving → result.is_shut ≡ true)
+            × (result.is_shut ≡ true → 0 < result.starving) }
     {
         let line = &state!(held.seat, self).line;
         Counts {
@@ -63,9 +66,12 @@ impl<C: Counted, V> Word<Competing<C>, V> {
     ) -> Coming
         requires seat { held.old.seat.table_id ≡ self.now.table.shared.table_id }
         requires stands { HasState (λ n q. Stands n q.line) held.old.seat.me }
-        ensures seat { (held.new.seat.table_id ≡ held.old.seat.table_id) × (rest held.new.seat.me.1 ≡ rest held.old.seat.me.1) }
+        ensures seat { (held.new.seat.table_id ≡ held.old.seat.table_id)
+            × (rest held.new.seat.me.1 ≡ rest held.old.seat.me.1) }
         ensures serves { HasState (λ n q. ServesWith (count_of result) n q.line) held.new.seat.me }
-        ensures comes { HasState (λ _ q. Comes (X.exchanged exchange.now) place.old on.old result q.line place.new on.new) held.new.seat.me }
+        ensures comes { HasState (λ _ q.
+            Comes (X.exchanged exchange.now) place.old on.old result q.line place.new on.new)
+            held.new.seat.me }
     {
         state!(held.seat, self).come(place, exchange, on)
     }
@@ -81,9 +87,11 @@ impl<C: Counted, V> Word<Competing<C>, V> {
     ) -> Result<Key, LockError>
         requires seat { held.old.seat.table_id ≡ self.now.table.shared.table_id }
         requires serves { HasState (λ n q. ServesTheStarving n q.line) held.old.seat.me }
-        ensures seat { (held.new.seat.table_id ≡ held.old.seat.table_id) × (rest held.new.seat.me.1 ≡ rest held.old.seat.me.1) }
+        ensures seat { (held.new.seat.table_id ≡ held.old.seat.table_id)
+            × (rest held.new.seat.me.1 ≡ rest held.old.seat.me.1) }
         ensures serves { HasState (λ n q. ServesTheStarving n q.line) held.new.seat.me }
-        ensures waits { IfOk result (λ _. (request.old ≤ request.new) × Stores (X.exchanged exchange.now) on.old on.new) }
+        ensures losses { IfOk result (λ _. request.new ≡ losses_after request.old coming) }
+        ensures waits { IfOk result (λ _. Stores (X.exchanged exchange.now) on.old on.new) }
         ensures refused { OnErr result ((request.new ≡ request.old) × (on.new ≡ on.old)) }
     {
         state!(held.seat, self).lose(
@@ -99,7 +107,8 @@ impl<C: Counted, V> Word<Competing<C>, V> {
     pub fn leave(&self, held: &mut Held<Competing<C>, V>, place: &mut Option<Key>) -> Coming
         requires seat { held.old.seat.table_id ≡ self.now.table.shared.table_id }
         requires stands { HasState (λ n q. Stands n q.line) held.old.seat.me }
-        ensures seat { (held.new.seat.table_id ≡ held.old.seat.table_id) × (rest held.new.seat.me.1 ≡ rest held.old.seat.me.1) }
+        ensures seat { (held.new.seat.table_id ≡ held.old.seat.table_id)
+            × (rest held.new.seat.me.1 ≡ rest held.old.seat.me.1) }
         ensures serves { HasState (λ n q. ServesWith (count_of result) n q.line) held.new.seat.me }
         ensures left { HasState (λ _ q. NobodyIsBy place.old q.line) held.new.seat.me }
         ensures place { place.new ≡ None }

@@ -29,8 +29,10 @@ impl<S: Kept, V> Held<S, V> {
     /// remembered is so at the number now.
     #[inline(always)]
     pub fn look(&mut self, word: &Word<S, V>) -> u64
-        requires seat { (self.old.seat.table_id ≡ word.now.table.shared.table_id) × (n : ℕ) × (self.old.seat.me.0 ≡ Some n) }
-        ensures seat { (self.new.seat.table_id ≡ self.old.seat.table_id) × (self.new.seat.me ≡ (Some (number_of result), self.old.seat.me.1)) }
+        requires seat { (self.old.seat.table_id ≡ word.now.table.shared.table_id) × (n : ℕ)
+            × (self.old.seat.me.0 ≡ Some n) }
+        ensures seat { (self.new.seat.table_id ≡ self.old.seat.table_id)
+            × (self.new.seat.me ≡ (Some (number_of result), self.old.seat.me.1)) }
         ensures word { (result % 2 ≡ 1) × S.rules.fits (number_of result) }
         ensures eases { EasesFrom S.rules self.old.seat.me.0 (number_of result) }
     {
@@ -41,10 +43,13 @@ impl<S: Kept, V> Held<S, V> {
     /// out notifies of it later.
     #[inline(always)]
     pub fn change(&mut self, word: &Word<S, V>, seen: u64, new: u64) -> bool
-        requires seat { (self.old.seat.table_id ≡ word.now.table.shared.table_id) × (n : ℕ) × (self.old.seat.me.0 ≡ Some n) }
+        requires seat { (self.old.seat.table_id ≡ word.now.table.shared.table_id) × (n : ℕ)
+            × (self.old.seat.me.0 ≡ Some n) }
         requires takes { Takes S.rules seen new × Stays S.rules seen new }
         ensures seat { self.new.seat.table_id ≡ self.old.seat.table_id }
-        ensures changes { MatchBool result (self.new.seat.me ≡ (Some (number_of new), self.old.seat.me.1)) (self.new.seat.me ≡ self.old.seat.me) }
+        ensures changes { MatchBool result
+            (self.new.seat.me ≡ (Some (number_of new), self.old.seat.me.1))
+            (self.new.seat.me ≡ self.old.seat.me) }
     {
         word.table
             .shared
@@ -53,10 +58,13 @@ impl<S: Kept, V> Held<S, V> {
     }
 
     fn lend_step(&mut self, word: &Word<S, V>, seen: u64, new: u64) -> bool
-        requires seat { (self.old.seat.table_id ≡ word.now.table.shared.table_id) × (n : ℕ) × (self.old.seat.me.0 ≡ Some n) }
+        requires seat { (self.old.seat.table_id ≡ word.now.table.shared.table_id) × (n : ℕ)
+            × (self.old.seat.me.0 ≡ Some n) }
         requires takes { Takes S.rules seen new × Lends S.rules seen new }
         ensures seat { self.new.seat.table_id ≡ self.old.seat.table_id }
-        ensures lends { MatchBool result ((x : V) × (self.new.seat.me ≡ (Some (number_of new), (1, Value (Some x)) ∷ self.old.seat.me.1))) (self.new.seat.me ≡ self.old.seat.me) }
+        ensures lends { MatchBool result ((x : V)
+            × (self.new.seat.me ≡ (Some (number_of new), (1, Value (Some x)) ∷ self.old.seat.me.1)))
+            (self.new.seat.me ≡ self.old.seat.me) }
     {
         word.table
             .shared
@@ -67,10 +75,14 @@ impl<S: Kept, V> Held<S, V> {
     /// The same, and takes the value out, which the seat has once the state is put back.
     #[inline(always)]
     pub fn lend(&mut self, word: &Word<S, V>, seen: u64, new: u64) -> bool
-        requires seat { (self.old.seat.table_id ≡ word.now.table.shared.table_id) × (n : ℕ) × (self.old.seat.me.0 ≡ Some n) }
+        requires seat { (self.old.seat.table_id ≡ word.now.table.shared.table_id) × (n : ℕ)
+            × (self.old.seat.me.0 ≡ Some n) }
         requires takes { Takes S.rules seen new × Lends S.rules seen new }
         ensures seat { self.new.seat.table_id ≡ self.old.seat.table_id }
-        ensures lends { MatchBool result ((x : V) × (self.new.seat.me ≡ (Some (number_of new), self.old.seat.me.1 ++ (1, Value (Some x)) ∷ []))) (self.new.seat.me ≡ self.old.seat.me) }
+        ensures lends { MatchBool result ((x : V)
+            × (self.new.seat.me
+            ≡ (Some (number_of new), self.old.seat.me.1 ++ (1, Value (Some x)) ∷ [])))
+            (self.new.seat.me ≡ self.old.seat.me) }
     {
         let lends = self.lend_step(word, seen, new);
         if lends {

@@ -101,7 +101,8 @@ impl Word<Competing<Permits>, ()> {
     ) -> Option<Permit>
         requires seat { held.old.seat.table_id ≡ self.now.table.shared.table_id }
         requires serves { HasState (λ n q. ServesWith (count notified) n q.line) held.old.seat.me }
-        ensures seat { (held.new.seat.table_id ≡ held.old.seat.table_id) × (held.new.seat.me.1 ≡ held.old.seat.me.1) }
+        ensures seat { (held.new.seat.table_id ≡ held.old.seat.table_id)
+            × (held.new.seat.me.1 ≡ held.old.seat.me.1) }
         ensures serves { HasState (λ n q. ServesTheStarving n q.line) held.new.seat.me }
         ensures none { result ≡ None → HasState (λ n _. NoneFor notified n) held.new.seat.me }
     {

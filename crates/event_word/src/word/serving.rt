@@ -24,9 +24,11 @@ impl<C: Counted, V> Word<Competing<C>, V> {
     pub(crate) fn look_serving(&self, held: &mut Held<Competing<C>, V>, notified: bool) -> u64
         requires seat { held.old.seat.table_id ≡ self.now.table.shared.table_id }
         requires serves { HasState (λ n q. ServesWith (count notified) n q.line) held.old.seat.me }
-        ensures seat { (held.new.seat.table_id ≡ held.old.seat.table_id) × (held.new.seat.me.1 ≡ held.old.seat.me.1) }
+        ensures seat { (held.new.seat.table_id ≡ held.old.seat.table_id)
+            × (held.new.seat.me.1 ≡ held.old.seat.me.1) }
         ensures word { (result % 2 ≡ 1) × C.fits (free_of (number_of result)) }
-        ensures serves { HasState (λ n q. (n ≡ number_of result) × ServesWith (count notified) n q.line) held.new.seat.me }
+        ensures serves { HasState (λ n q. (n ≡ number_of result)
+            × ServesWith (count notified) n q.line) held.new.seat.me }
     {
         held.look(self)
     }

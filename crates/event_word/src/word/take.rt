@@ -20,11 +20,14 @@ const PARKED_BITS: u64 = 0x1_0000_0000;
 
 impl<S: Kept, V> Word<S, V> {
     fn take_step(&self, seat: &mut Seat<S, V>, seen: u64, new: u64) -> bool
-        requires seat { (seat.old.table_id ≡ self.now.table.shared.table_id) × HasNothing seat.old.me }
+        requires seat { (seat.old.table_id ≡ self.now.table.shared.table_id)
+            × HasNothing seat.old.me }
         requires home { seen % 2 ≡ 0 }
         requires takes { Takes S.rules seen new × Stays S.rules seen new }
         ensures seat { seat.new.table_id ≡ seat.old.table_id }
-        ensures taken { MatchBool result (HasState (λ n q. (n ≡ number_of new) × S.rules.stands (number_of seen) q) seat.new.me × (rest seat.new.me.1 ≡ [])) (seat.new.me ≡ seat.old.me) }
+        ensures taken { MatchBool result (HasState (λ n q. (n ≡ number_of new)
+            × S.rules.stands (number_of seen) q) seat.new.me
+            × (rest seat.new.me.1 ≡ [])) (seat.new.me ≡ seat.old.me) }
     {
         self.table
             .shared
@@ -33,11 +36,14 @@ impl<S: Kept, V> Word<S, V> {
     }
 
     fn swap_step(&self, seat: &mut Seat<S, V>, seen: u64, new: u64) -> bool
-        requires seat { (seat.old.table_id ≡ self.now.table.shared.table_id) × HasValue seat.old.me }
+        requires seat { (seat.old.table_id ≡ self.now.table.shared.table_id)
+            × HasValue seat.old.me }
         requires home { seen % 2 ≡ 0 }
         requires takes { Takes S.rules seen new × GivesBack S.rules seen new }
         ensures seat { seat.new.table_id ≡ seat.old.table_id }
-        ensures taken { MatchBool result (HasState (λ n q. (n ≡ number_of new) × S.rules.stands (number_of seen) q) seat.new.me × (rest seat.new.me.1 ≡ [])) (seat.new.me ≡ seat.old.me) }
+        ensures taken { MatchBool result (HasState (λ n q. (n ≡ number_of new)
+            × S.rules.stands (number_of seen) q) seat.new.me
+            × (rest seat.new.me.1 ≡ [])) (seat.new.me ≡ seat.old.me) }
     {
         self.table
             .shared
@@ -56,8 +62,11 @@ impl<S: Kept, V> Word<S, V> {
         requires seat { (seat.table_id ≡ self.now.table.shared.table_id) × HasNothing seat.me }
         requires home { seen % 2 ≡ 0 }
         requires takes { Takes S.rules seen new × Stays S.rules seen new }
-        ensures ok { IfOk result (λ held. (held.seat.table_id ≡ self.now.table.shared.table_id) × HasState (λ n q. (n ≡ number_of new) × S.rules.stands (number_of seen) q) held.seat.me × (rest held.seat.me.1 ≡ [])) }
-        ensures err { IfErr result (λ again. (again.table_id ≡ seat.table_id) × (again.me ≡ seat.me)) }
+        ensures ok { IfOk result (λ held. (held.seat.table_id ≡ self.now.table.shared.table_id)
+            × HasState (λ n q. (n ≡ number_of new) × S.rules.stands (number_of seen) q) held.seat.me
+            × (rest held.seat.me.1 ≡ [])) }
+        ensures err { IfErr result (λ again. (again.table_id ≡ seat.table_id)
+            × (again.me ≡ seat.me)) }
     {
         if self.take_step(&mut seat, seen, new) {
             Ok(Held { seat })
@@ -76,8 +85,11 @@ impl<S: Kept, V> Word<S, V> {
         requires seat { (seat.table_id ≡ self.now.table.shared.table_id) × HasValue seat.me }
         requires home { seen % 2 ≡ 0 }
         requires takes { Takes S.rules seen new × GivesBack S.rules seen new }
-        ensures ok { IfOk result (λ held. (held.seat.table_id ≡ self.now.table.shared.table_id) × HasState (λ n q. (n ≡ number_of new) × S.rules.stands (number_of seen) q) held.seat.me × (rest held.seat.me.1 ≡ [])) }
-        ensures err { IfErr result (λ again. (again.table_id ≡ seat.table_id) × (again.me ≡ seat.me)) }
+        ensures ok { IfOk result (λ held. (held.seat.table_id ≡ self.now.table.shared.table_id)
+            × HasState (λ n q. (n ≡ number_of new) × S.rules.stands (number_of seen) q) held.seat.me
+            × (rest held.seat.me.1 ≡ [])) }
+        ensures err { IfErr result (λ again. (again.table_id ≡ seat.table_id)
+            × (again.me ≡ seat.me)) }
     {
         if self.swap_step(&mut seat, seen, new) {
             Ok(Held { seat })
@@ -91,8 +103,10 @@ impl<S: Kept, V> Word<S, V> {
     #[cold]
     #[inline(never)]
     pub fn take<R: Wait>(&self, rt: &R) -> (u64, Held<S, V>)
-        ensures held { (result.1.seat.table_id ≡ self.now.table.shared.table_id) × (rest result.1.seat.me.1 ≡ []) }
-        ensures stands { S.rules.fits result.0 × HasState (λ n q. (n ≡ result.0) × S.rules.stands n q) result.1.seat.me }
+        ensures held { (result.1.seat.table_id ≡ self.now.table.shared.table_id)
+            × (rest result.1.seat.me.1 ≡ []) }
+        ensures stands { S.rules.fits result.0
+            × HasState (λ n q. (n ≡ result.0) × S.rules.stands n q) result.1.seat.me }
     {
         let (mut seen, mut seat) = self.look();
         for pauses in PAUSES {
@@ -108,8 +122,10 @@ impl<S: Kept, V> Word<S, V> {
     // Whoever slept can't know whether others sleep still.
     fn sleep_to_take<R: Wait>(&self, rt: &R, mut seat: Seat<S, V>) -> (u64, Held<S, V>)
         requires seat { (seat.table_id ≡ self.now.table.shared.table_id) × HasNothing seat.me }
-        ensures held { (result.1.seat.table_id ≡ self.now.table.shared.table_id) × (rest result.1.seat.me.1 ≡ []) }
-        ensures stands { S.rules.fits result.0 × HasState (λ n q. (n ≡ result.0) × S.rules.stands n q) result.1.seat.me }
+        ensures held { (result.1.seat.table_id ≡ self.now.table.shared.table_id)
+            × (rest result.1.seat.me.1 ≡ []) }
+        ensures stands { S.rules.fits result.0
+            × HasState (λ n q. (n ≡ result.0) × S.rules.stands n q) result.1.seat.me }
     {
         for _ in rt.forever() {
             let seen = self.look_again(&mut seat);
@@ -146,7 +162,8 @@ impl<S: Kept, V> Word<S, V> {
     pub fn put_back<R: Wait>(&self, rt: &R, held: Held<S, V>) -> Seat<S, V>
         requires seat { held.seat.table_id ≡ self.now.table.shared.table_id }
         requires promised { HasState S.rules.promised held.seat.me }
-        ensures { (result.table_id ≡ held.seat.table_id) × (result.me ≡ (None, rest held.seat.me.1)) }
+        ensures { (result.table_id ≡ held.seat.table_id)
+            × (result.me ≡ (None, rest held.seat.me.1)) }
     {
         let Held { mut seat } = held;
         let mut waking = Waking::new();
@@ -163,7 +180,8 @@ impl<S: Kept, V> Word<S, V> {
         requires seat { seat.old.table_id ≡ self.now.table.shared.table_id }
         requires promised { HasState S.rules.promised seat.old.me }
         ensures seat { seat.new.table_id ≡ seat.old.table_id }
-        ensures put { MatchBool result (seat.new.me ≡ (None, rest seat.old.me.1)) (HasState S.rules.promised seat.new.me × (rest seat.new.me.1 ≡ rest seat.old.me.1)) }
+        ensures put { MatchBool result (seat.new.me ≡ (None, rest seat.old.me.1))
+            (HasState S.rules.promised seat.new.me × (rest seat.new.me.1 ≡ rest seat.old.me.1)) }
     {
         let seen = self.see(seat);
         let number = seen / ONE;
@@ -196,7 +214,8 @@ impl<S: Kept, V> Word<S, V> {
         requires promised { HasState S.rules.promised seat.old.me }
         ensures seat { (seat.new.table_id ≡ seat.old.table_id) × (seat.new.me.1 ≡ seat.old.me.1) }
         ensures word { (result % 2 ≡ 1) × S.rules.fits (number_of result) }
-        ensures promised { HasState (λ n q. (n ≡ number_of result) × S.rules.promised n q) seat.new.me }
+        ensures promised { HasState (λ n q. (n ≡ number_of result)
+            × S.rules.promised n q) seat.new.me }
     {
         self.table.shared.load::<LookAgain<S>>(seat, 0)
     }
@@ -206,9 +225,12 @@ impl<S: Kept, V> Word<S, V> {
         requires seat { seat.old.table_id ≡ self.now.table.shared.table_id }
         requires number { (number < 2 ^ 62) × S.rules.fits number }
         requires promised { HasState (λ n q. (n ≡ number) × S.rules.promised n q) seat.old.me }
-        ensures seat { (seat.new.table_id ≡ seat.old.table_id) × (rest seat.new.me.1 ≡ rest seat.old.me.1) }
-        ensures number { (result < 2 ^ 62) × S.rules.fits result × Stays S.rules (number * 4) (result * 4) }
-        ensures promised { HasState (λ n q. (n ≡ number) × S.rules.promised number q × S.rules.promised result q × S.rules.tells result q) seat.new.me }
+        ensures seat { (seat.new.table_id ≡ seat.old.table_id)
+            × (rest seat.new.me.1 ≡ rest seat.old.me.1) }
+        ensures number { (result < 2 ^ 62) × S.rules.fits result
+            × Stays S.rules (number * 4) (result * 4) }
+        ensures promised { HasState (λ n q. (n ≡ number) × S.rules.promised number q
+            × S.rules.promised result q × S.rules.tells result q) seat.new.me }
     {
         state!(seat, self).number(number)
     }
@@ -217,9 +239,12 @@ impl<S: Kept, V> Word<S, V> {
     fn settle(&self, seat: &mut Seat<S, V>, number: u64, waking: &mut Waking) -> bool
         requires seat { seat.old.table_id ≡ self.now.table.shared.table_id }
         requires number { (number < 2 ^ 62) × S.rules.fits number }
-        requires promised { HasState (λ n q. (n ≡ number) × S.rules.promised number q × S.rules.tells number q) seat.old.me }
-        ensures seat { (seat.new.table_id ≡ seat.old.table_id) × (rest seat.new.me.1 ≡ rest seat.old.me.1) }
-        ensures stands { HasState (λ n q. (n ≡ number) × S.rules.stands number q × (result ≡ false → S.rules.quiet q)) seat.new.me }
+        requires promised { HasState (λ n q. (n ≡ number) × S.rules.promised number q
+            × S.rules.tells number q) seat.old.me }
+        ensures seat { (seat.new.table_id ≡ seat.old.table_id)
+            × (rest seat.new.me.1 ≡ rest seat.old.me.1) }
+        ensures stands { HasState (λ n q. (n ≡ number) × S.rules.stands number q
+            × (result ≡ false → S.rules.quiet q)) seat.new.me }
     {
         state!(seat, self).settle(number, waking)
     }

@@ -16,7 +16,8 @@ impl<V> Word<Competing<OneValue>, V> {
     /// between.
     #[inline(always)]
     pub fn try_value(&self) -> Option<Seat<Competing<OneValue>, V>>
-        ensures { IfSome result (λ seat. (seat.table_id ≡ self.now.table.shared.table_id) × HasValue seat.me) }
+        ensures { IfSome result (λ seat. (seat.table_id ≡ self.now.table.shared.table_id)
+            × HasValue seat.me) }
     {
         let (seen, mut seat) = self.look();
         if seen < ONE || seen >= SHUT * ONE {
@@ -31,7 +32,8 @@ impl<V> Word<Competing<OneValue>, V> {
     #[cold]
     #[inline(never)]
     fn try_value_again(&self) -> Option<Seat<Competing<OneValue>, V>>
-        ensures { IfSome result (λ seat. (seat.table_id ≡ self.now.table.shared.table_id) × HasValue seat.me) }
+        ensures { IfSome result (λ seat. (seat.table_id ≡ self.now.table.shared.table_id)
+            × HasValue seat.me) }
     {
         let (mut seen, mut seat) = self.look();
         for _ in 0..u64::MAX {
@@ -93,10 +95,12 @@ impl<V> Word<Competing<OneValue>, V> {
         held: &mut Held<Competing<OneValue>, V>,
         notified: bool,
     ) -> bool
-        requires seat { (held.old.seat.table_id ≡ self.now.table.shared.table_id) × (rest held.old.seat.me.1 ≡ []) }
+        requires seat { (held.old.seat.table_id ≡ self.now.table.shared.table_id)
+            × (rest held.old.seat.me.1 ≡ []) }
         requires serves { HasState (λ n q. ServesWith (count notified) n q.line) held.old.seat.me }
         ensures seat { held.new.seat.table_id ≡ held.old.seat.table_id }
-        ensures value { MatchBool result (HasValueToo held.new.seat.me) (rest held.new.seat.me.1 ≡ []) }
+        ensures value { MatchBool result (HasValueToo held.new.seat.me)
+            (rest held.new.seat.me.1 ≡ []) }
         ensures serves { HasState (λ n q. ServesTheStarving n q.line) held.new.seat.me }
         ensures none { result ≡ false → HasState (λ n _. NoneFor notified n) held.new.seat.me }
     {
