@@ -1,7 +1,8 @@
 //! A mutex.
-ghost use Rattle.std.specs.Prelude.{◌≡◌, ◌<◌, ◌≤◌, [], IfSome, true};
+ghost use Rattle.std.specs.Prelude.{◌≡◌, ◌<◌, [], IfSome, true};
 ghost use Rattle.atomic_table.specs.Table.{rest};
 ghost use Rattle.event_wait.specs.Attempted.{Attempts, OnDone, OnRefused, OnUndone};
+ghost use Rattle.event_locks.specs.Losses.{LosesAsItCame};
 ghost use Rattle.event_word.specs.Free.{ServesTheStarving, Stands};
 ghost use Rattle.event_word.specs.Word.{HasPlace, HasState, HasValue, HasValueToo};
 
@@ -51,7 +52,8 @@ impl<T: Drop> Mutex<T> {
     /// How it stands at some moment of this call: one is free while nobody has the value. It may wait for the queue.
     pub fn counts<R: Wait>(&self, rt: &R) -> Counts
         ensures nobody_waits_in_vain { result.notified < result.free → result.waiting ≡ 0 }
-        ensures shuts { (0 < result.starving → result.is_shut ≡ true) × (result.is_shut ≡ true → 0 < result.starving) }
+        ensures shuts { (0 < result.starving → result.is_shut ≡ true)
+            × (result.is_shut ≡ true → 0 < result.starving) }
     {
         self.word.counts(rt)
     }
@@ -111,6 +113,7 @@ impl<T: Drop> Mutex<T> {
         self.word.give_value(rt, lent);
     }
 
+    #[tactic(auto, using(crate::proofs::LossLemmas::loses_as_before))]
     fn attempt_held<C, X: TaskExchange<Task, C>, R: Wait>(
         &self,
         rt: &R,
@@ -119,13 +122,14 @@ impl<T: Drop> Mutex<T> {
         exchange: &X,
         on: &mut C,
     ) -> Attempted<(), LockError>
-        requires seat { (held.old.seat.table_id ≡ self.now.word.table.shared.table_id) × (rest held.old.seat.me.1 ≡ []) }
+        requires seat { (held.old.seat.table_id ≡ self.now.word.table.shared.table_id)
+            × (rest held.old.seat.me.1 ≡ []) }
         requires stands { HasState (λ n q. Stands n q.line) held.old.seat.me }
         ensures seat { held.new.seat.table_id ≡ held.old.seat.table_id }
         ensures value { OnDone result (λ _. HasValueToo held.new.seat.me) }
         ensures serves { HasState (λ n q. ServesTheStarving n q.line) held.new.seat.me }
         ensures done { OnDone result (λ _. request.new ≡ request.old) }
-        ensures waits { OnUndone result (request.old ≤ request.new) }
+        ensures waits { OnUndone result (LosesAsItCame request.old request.new) }
         ensures refused { OnRefused result (request.new ≡ request.old) }
         ensures exchanged { Attempts (X.exchanged exchange.now) on.old result on.new }
     {
@@ -148,11 +152,14 @@ impl<T: Drop> Serves<Competitor> for Mutex<T> {
 
     type Refusal = LockError;
 
-    ghost succeeds = { λ mutex before lent after. (after ≡ before) × (lent.table_id ≡ mutex.word.table.shared.table_id) × HasValue lent.me };
+    ghost succeeds = { λ mutex before lent after. (after ≡ before)
+        × (lent.table_id ≡ mutex.word.table.shared.table_id) × HasValue lent.me };
 
-    ghost waits = { λ before after. before ≤ after };
+    ghost waits = { LosesAsItCame };
 
-    ghost leaves = { λ mutex before answer after. (after ≡ before) × IfSome answer (λ lent. (lent.table_id ≡ mutex.word.table.shared.table_id) × HasValue lent.me) };
+    ghost leaves = { λ mutex before answer after. (after ≡ before)
+        × IfSome answer (λ lent. (lent.table_id ≡ mutex.word.table.shared.table_id)
+        × HasValue lent.me) };
 
     ghost source = { λ mutex. mutex.source };
 

@@ -142,9 +142,12 @@ impl<T> RwLock<T> {
     /// How it stands at some moment of this call: who waits is next only once those have gone that have the value. It takes no
     /// memory. It may wait for the queues.
     pub fn counts<R: Wait>(&self, rt: &R) -> RwLockCounts
-        ensures reader_waits { 0 < result.readers_waiting → 0 < result.writers + result.writers_let_in + result.writers_waiting }
-        ensures writer_waits { 0 < result.writers_waiting → 0 < result.readers + result.readers_let_in + result.writers + result.writers_let_in }
-        ensures exclusive { 0 < result.readers + result.readers_let_in → result.writers + result.writers_let_in ≡ 0 }
+        ensures reader_waits { 0 < result.readers_waiting
+            → 0 < result.writers + result.writers_let_in + result.writers_waiting }
+        ensures writer_waits { 0 < result.writers_waiting
+            → 0 < result.readers + result.readers_let_in + result.writers + result.writers_let_in }
+        ensures exclusive { 0 < result.readers + result.readers_let_in
+            → result.writers + result.writers_let_in ≡ 0 }
         ensures one_writer { result.writers + result.writers_let_in ≤ 1 }
     {
         let (number, mut held) = self.word.take(rt);

@@ -1,6 +1,7 @@
 //! A semaphore.
-ghost use Rattle.std.specs.Prelude.{◌≡◌, ◌<◌, ◌≤◌, true};
+ghost use Rattle.std.specs.Prelude.{◌≡◌, ◌<◌, true};
 ghost use Rattle.event_wait.specs.Attempted.{Attempts, OnDone, OnRefused, OnUndone};
+ghost use Rattle.event_locks.specs.Losses.{LosesAsItCame};
 ghost use Rattle.event_word.specs.Free.{ServesTheStarving, Stands};
 ghost use Rattle.event_word.specs.Word.{HasState};
 
@@ -51,7 +52,8 @@ impl Semaphore {
     /// How it stands at some moment of this call. It may wait for the queue.
     pub fn counts<R: Wait>(&self, rt: &R) -> Counts
         ensures nobody_waits_in_vain { result.notified < result.free → result.waiting ≡ 0 }
-        ensures shuts { (0 < result.starving → result.is_shut ≡ true) × (result.is_shut ≡ true → 0 < result.starving) }
+        ensures shuts { (0 < result.starving → result.is_shut ≡ true)
+            × (result.is_shut ≡ true → 0 < result.starving) }
     {
         self.word.counts(rt)
     }
@@ -105,6 +107,7 @@ impl Semaphore {
         self.word.give_permit(rt, permit);
     }
 
+    #[tactic(auto, using(crate::proofs::LossLemmas::loses_as_before))]
     fn attempt_held<C, X: TaskExchange<Task, C>, R: Wait>(
         &self,
         rt: &R,
@@ -118,7 +121,7 @@ impl Semaphore {
         ensures seat { held.new.seat.table_id ≡ held.old.seat.table_id }
         ensures serves { HasState (λ n q. ServesTheStarving n q.line) held.new.seat.me }
         ensures done { OnDone result (λ _. request.new ≡ request.old) }
-        ensures waits { OnUndone result (request.old ≤ request.new) }
+        ensures waits { OnUndone result (LosesAsItCame request.old request.new) }
         ensures refused { OnRefused result (request.new ≡ request.old) }
         ensures exchanged { Attempts (X.exchanged exchange.now) on.old result on.new }
     {
@@ -143,7 +146,7 @@ impl Serves<Competitor> for Semaphore {
 
     ghost succeeds = { λ _ before _ after. after ≡ before };
 
-    ghost waits = { λ before after. before ≤ after };
+    ghost waits = { LosesAsItCame };
 
     ghost leaves = { λ _ before _ after. after ≡ before };
 

@@ -78,7 +78,8 @@ impl<'a, T: Drop, R: Wait + Clock> MutexGuard<'a, T, R> {
 
 impl<T: Drop, R: Wait + Clock + Drop> MutexGuardArc<T, R> {
     pub(crate) fn new(hold: Shared<Mutex<T>, R>, lent: Lent<T>) -> Self
-        requires { (lent.table_id ≡ (arc_value hold.lock).word.table.shared.table_id) × HasValue lent.me }
+        requires { (lent.table_id ≡ (arc_value hold.lock).word.table.shared.table_id)
+            × HasValue lent.me }
     {
         let mut lent = lent;
         let value = hold.lock.word.take_out(&mut lent);
@@ -124,7 +125,9 @@ impl<T: Drop, R: Wait + Clock> DerefMut for MutexGuard<'_, T, R> {
 
     #[inline(always)]
     fn deref_mut(&mut self) -> &mut T
-        ensures* writes_back { sem 𝓛 (Lends (the_row (record { mir = named 1; lft = [] }) T.row R.row) T.row self.entry result (λ w. w)) }
+        ensures* writes_back { sem 𝓛
+            (Lends (the_row (record { mir = named 1; lft = [] }) T.row R.row) T.row self.entry
+            result (λ w. w)) }
         ensures shows { result.now ≡ self.old }
     {
         &mut self.value
@@ -139,7 +142,8 @@ impl<T: Drop, R: Wait + Clock + Drop> DerefMut for MutexGuardArc<T, R> {
 
     #[inline(always)]
     fn deref_mut(&mut self) -> &mut T
-        ensures* writes_back { sem 𝓛 (Lends (the_row T.row R.row) T.row self.entry result (λ w. w)) }
+        ensures* writes_back { sem 𝓛 (Lends (the_row T.row R.row) T.row self.entry
+            result (λ w. w)) }
         ensures shows { result.now ≡ self.old }
     {
         &mut self.value

@@ -126,7 +126,8 @@ impl<'a, T: Drop, R: Wait + Clock> Future for Lock<'a, T, R> {
 impl<T: Drop, R: Wait + Clock + Drop> Future for LockArc<T, R> {
     type Output = Result<MutexGuardArc<T, R>, LockError>;
 
-    ghost needs = { λ lock s. IsSomeAnd lock.obtaining.hold (λ hold. s ≡ (arc_value hold.lock).source) };
+    ghost needs = { λ lock s. IsSomeAnd lock.obtaining.hold
+        (λ hold. s ≡ (arc_value hold.lock).source) };
 
     fn poll(&mut self, cx: &mut Context<'_>) -> Poll<Result<MutexGuardArc<T, R>, LockError>> {
         match self.obtaining.poll(cx) {

@@ -115,7 +115,8 @@ impl<R: Wait + Clock + Drop> AcquireArc<R> {
 impl<'a, R: Wait + Clock> Future for Acquire<'a, R> {
     type Output = Result<SemaphoreGuard<'a, R>, LockError>;
 
-    ghost needs = { λ acquire s. IsSomeAnd acquire.obtaining.hold (λ hold. s ≡ hold.lock.now.source) };
+    ghost needs = { λ acquire s. IsSomeAnd acquire.obtaining.hold
+        (λ hold. s ≡ hold.lock.now.source) };
 
     fn poll(&mut self, cx: &mut Context<'_>) -> Poll<Result<SemaphoreGuard<'a, R>, LockError>> {
         match self.obtaining.poll(cx) {
@@ -129,7 +130,8 @@ impl<'a, R: Wait + Clock> Future for Acquire<'a, R> {
 impl<R: Wait + Clock + Drop> Future for AcquireArc<R> {
     type Output = Result<SemaphoreGuardArc<R>, LockError>;
 
-    ghost needs = { λ acquire s. IsSomeAnd acquire.obtaining.hold (λ hold. s ≡ (arc_value hold.lock).source) };
+    ghost needs = { λ acquire s. IsSomeAnd acquire.obtaining.hold
+        (λ hold. s ≡ (arc_value hold.lock).source) };
 
     fn poll(&mut self, cx: &mut Context<'_>) -> Poll<Result<SemaphoreGuardArc<R>, LockError>> {
         match self.obtaining.poll(cx) {
