@@ -1,22 +1,26 @@
 //! What both sides share.
-ghost use Rattle.std.specs.Prelude.{◌≡◌, IfErr, IfOk};
+ghost use Rattle.std.specs.Prelude.{◌≡◌, Some, IfErr, IfOk, IsSome};
 ghost use Rattle.event_channel.specs.Calls.{answer_of, calls, is_new, rests_on_none};
 ghost use Rattle.event_channel.specs.Errors.{IsUnsent, IsUnsentAtOnce};
+ghost use Rattle.event_channel.specs.Hands.{SendsWaiting};
+ghost use Rattle.event_channel.specs.Waits.{Empties, Gets};
 ghost use Rattle.event_channel.specs.declared.call.ChannelCall.TheVariants as call;
 ghost use Rattle.event_history.specs.History.{Extends};
 
 use crate::call::ChannelHand;
-use crate::error::SendError;
+use crate::error::{SendError, SendReason};
 use crate::messages::Messages;
+use crate::sending::Sending;
 use crate::steps::{Close, IsClosed, IsFull, Len, Push, PushForced};
 use event_history::{Lock, perform};
 use event_queue::ListenError;
-use event_wait::{Refused, Task, Waking};
+use event_wait::{Limit, Refused, Task, Waking};
 use event_word::LockError;
 use std::alloc::{AllocError, Global};
 use std::marker::Model;
 use std::sync::atomic::{AtomicUsize, Ordering};
 use std::sync::{Arc, Wait};
+use std::time::Clock;
 use thiserror::Error;
 
 /// Why no channel was made.
@@ -53,7 +57,10 @@ impl<T, R> Model for Link<T, R> {
 
     ghost Value = { Handle };
 
-    ghost view = { λ link. record { channel = (arc_value link.channel).lock; capacity = (arc_value link.channel).capacity } };
+    ghost view = { λ link. record {
+      channel = (arc_value link.channel).lock;
+      capacity = (arc_value link.channel).capacity;
+    } };
 }
 
 impl<T: Drop, R: Clone + Drop> Link<T, R> {
@@ -107,7 +114,8 @@ impl<T: Drop> Channel<T> {
     ) -> Result<(), SendError<T>>
         requires { hand.old.seat.table_id ≡ self.now.lock.table }
         ensures hand { hand.new.seat.table_id ≡ hand.old.seat.table_id }
-        ensures call { Extends calls is_new rests_on_none hand.old.seat.me.0 (call.Send message (answer_of result)) hand.new.seat.me.0 }
+        ensures call { Extends calls is_new rests_on_none hand.old.seat.me.0
+            (call.Send message (answer_of result)) hand.new.seat.me.0 }
         ensures returned { IfErr result (λ error. error.message ≡ message) }
         ensures reason { IfErr result (λ error. IsUnsentAtOnce error.reason) }
     {
@@ -126,7 +134,8 @@ impl<T: Drop> Channel<T> {
     ) -> Result<Option<T>, SendError<T>>
         requires { hand.old.seat.table_id ≡ self.now.lock.table }
         ensures hand { hand.new.seat.table_id ≡ hand.old.seat.table_id }
-        ensures call { Extends calls is_new rests_on_none hand.old.seat.me.0 (call.ForceSend message (answer_of result)) hand.new.seat.me.0 }
+        ensures call { Extends calls is_new rests_on_none hand.old.seat.me.0
+            (call.ForceSend message (answer_of result)) hand.new.seat.me.0 }
         ensures returned { IfErr result (λ error. error.message ≡ message) }
         ensures reason { IfErr result (λ error. IsUnsent error.reason) }
     {
@@ -136,11 +145,32 @@ impl<T: Drop> Channel<T> {
         answer
     }
 
+    /// Attempts to send, and waits until then. A message that is not sent is where it was.
+    #[inline(always)]
+    pub(crate) fn wait_to_send<R: Wait + Clock>(
+        &self,
+        rt: &R,
+        alloc: Global,
+        hand: &mut ChannelHand<T>,
+        sending: &mut Sending<T>,
+        limit: Limit,
+    ) -> Result<Option<Result<(), SendReason>>, Refused<ListenError>>
+        requires { hand.old.seat.table_id ≡ self.now.lock.table }
+        ensures hand { hand.new.seat.table_id ≡ hand.old.seat.table_id }
+        ensures calls { (message : T) → sending.old.asked ≡ Some message → limit ≡ Limit.Never
+            → SendsWaiting message hand.old.seat.me.0 result hand.new.seat.me.0 }
+        ensures never { limit ≡ Limit.Never → IfOk result IsSome }
+        ensures gets { Gets Empties sending.old.asked result sending.new.asked }
+    {
+        self.lock.obtain(rt, alloc, hand, sending, limit)
+    }
+
     /// Closes the channel and wakes all that wait, or returns `false` if it is closed already.
     pub(crate) fn close<R: Wait>(&self, rt: &R, hand: &mut ChannelHand<T>) -> bool
         requires { hand.old.seat.table_id ≡ self.now.lock.table }
         ensures hand { hand.new.seat.table_id ≡ hand.old.seat.table_id }
-        ensures call { Extends calls is_new rests_on_none hand.old.seat.me.0 (call.Close result) hand.new.seat.me.0 }
+        ensures call { Extends calls is_new rests_on_none hand.old.seat.me.0 (call.Close result)
+            hand.new.seat.me.0 }
     {
         self.lock.call(rt, hand, Close)
     }

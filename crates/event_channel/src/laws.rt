@@ -12,8 +12,15 @@ ghost use Rattle.event_history.specs.declared.history.View.{View};
 /// wait. From any state on, those that waited there come first. Where no forced send found the channel full, all that went
 /// out were received. So it is of the history that a hand has seen after a call.
 pub fn sent_is_received_in_order<T, W>()
-    ensures in_order { (log : ChannelLog T) (q : State T W) → LeadsTo calls is_new log q → all_of sent_by log ≡ all_of out_by log ++ q.messages }
-    ensures from_any_state { (log : ChannelLog T) (q r : State T W) → Runs calls q log r → q.messages ++ all_of sent_by log ≡ all_of out_by log ++ r.messages }
-    ensures all_received { (log : ChannelLog T) (q : State T W) → LeadsTo calls is_new log q → all_of forced_out_by log ≡ [] → all_of sent_by log ≡ all_of received_by log ++ q.messages }
-    ensures as_seen { (v w : View (State T W) (ChannelCall T)) (call : ChannelCall T) → Extends calls is_new rests_on_none v call w → (q : State T W) × LeadsTo calls is_new w.seen q × (all_of sent_by w.seen ≡ all_of out_by w.seen ++ q.messages) }
+    ensures in_order { (log : ChannelLog T) (q : State T W) → LeadsTo calls is_new log q
+        → all_of sent_by log ≡ all_of out_by log ++ q.messages }
+    ensures from_any_state { (log : ChannelLog T) (q r : State T W) → Runs calls q log r
+        → q.messages ++ all_of sent_by log ≡ all_of out_by log ++ r.messages }
+    ensures all_received { (log : ChannelLog T) (q : State T W) → LeadsTo calls is_new log q
+        → all_of forced_out_by log ≡ []
+        → all_of sent_by log ≡ all_of received_by log ++ q.messages }
+    ensures as_seen { (v w : View (State T W) (ChannelCall T)) (call : ChannelCall T)
+        → Extends calls is_new rests_on_none v call w → (q : State T W)
+        × LeadsTo calls is_new w.seen q
+        × (all_of sent_by w.seen ≡ all_of out_by w.seen ++ q.messages) }
 {}

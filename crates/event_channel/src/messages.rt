@@ -40,9 +40,23 @@ impl<T, W> Model for Messages<T, W> {
 
     ghost Value = { State T W };
 
-    ghost view = { λ m. record { messages = m.items.items; capacity = m.capacity; is_closed = m.is_closed; senders = m.senders; receivers = m.receivers; streams = m.streams } };
+    ghost view = { λ m. record {
+      messages = m.items.items;
+      capacity = m.capacity;
+      is_closed = m.is_closed;
+      senders = m.senders;
+      receivers = m.receivers;
+      streams = m.streams;
+    } };
 
-    ghost invariant = { λ m. IsKept (record { messages = m.items.items; capacity = m.capacity; is_closed = m.is_closed; senders = m.senders; receivers = m.receivers; streams = m.streams }) (deque_capacity m.items) };
+    ghost invariant = { λ m. IsKept (record {
+      messages = m.items.items;
+      capacity = m.capacity;
+      is_closed = m.is_closed;
+      senders = m.senders;
+      receivers = m.receivers;
+      streams = m.streams;
+    }) (deque_capacity m.items) };
 }
 
 // Puts this message behind all others, and takes the first, if there is one, out: of none it is the first itself.
@@ -86,7 +100,9 @@ fn tell_of<W, S: WakeSink<W>>(
 )
     ensures receivers { TellsUpTo (or_more messages 1 receivers.old) receivers.old receivers.new }
     ensures streams { TellsAll streams.old streams.new }
-    ensures wakes { FoldsTo S.woke sink.old (woken_up_to (or_more messages 1 receivers.old) receivers.old ++ woken_at_once streams.old) sink.new }
+    ensures wakes { FoldsTo S.woke sink.old
+        (woken_up_to (or_more messages 1 receivers.old) receivers.old ++ woken_at_once
+        streams.old) sink.new }
 {
     tell_more(receivers, messages, 1, sink);
     tell_all(streams, sink);
@@ -116,7 +132,8 @@ impl<T, W> Messages<T, W> {
     /// allocates only where there is no limit.
     pub fn push<S: WakeSink<W>>(&mut self, message: T, sink: &mut S) -> Result<(), SendError<T>>
         ensures pushed { IfOk result (λ _. Pushes message self.old self.new) }
-        ensures wakes { IfOk result (λ _. FoldsTo S.woke sink.old (woken_by_pushing self.old self.new) sink.new) }
+        ensures wakes { IfOk result (λ _.
+            FoldsTo S.woke sink.old (woken_by_pushing self.old self.new) sink.new) }
         ensures returned { IfErr result (λ error. error.message ≡ message) }
         ensures refused { OnErr result ((self.new ≡ self.old) × (sink.new ≡ sink.old)) }
         ensures reason { IfErr result (λ error. Refuses self.old error.reason) }
@@ -146,7 +163,8 @@ impl<T, W> Messages<T, W> {
         sink: &mut S,
     ) -> Result<Option<T>, SendError<T>>
         ensures forced { IfOk result (λ out. Forces message out self.old self.new) }
-        ensures wakes { IfOk result (λ out. FoldsTo S.woke sink.old (woken_by_forcing out self.old self.new) sink.new) }
+        ensures wakes { IfOk result (λ out.
+            FoldsTo S.woke sink.old (woken_by_forcing out self.old self.new) sink.new) }
         ensures returned { IfErr result (λ error. error.message ≡ message) }
         ensures refused { OnErr result ((self.new ≡ self.old) × (sink.new ≡ sink.old)) }
         ensures reason { IfErr result (λ error. Refuses self.old error.reason) }
@@ -162,7 +180,8 @@ impl<T, W> Messages<T, W> {
     /// Takes the first message, and wakes a sender.
     pub fn pop<S: WakeSink<W>>(&mut self, sink: &mut S) -> Result<T, TryRecvError>
         ensures popped { IfOk result (λ message. Takes (message ∷ []) self.old self.new) }
-        ensures wakes { IfOk result (λ _. FoldsTo S.woke sink.old (woken_by_taking 1 self.old self.new) sink.new) }
+        ensures wakes { IfOk result (λ _.
+            FoldsTo S.woke sink.old (woken_by_taking 1 self.old self.new) sink.new) }
         ensures empty { OnErr result ((self.new ≡ self.old) × (sink.new ≡ sink.old)) }
         ensures reason { IfErr result (IsEmptyFor self.old) }
     {
@@ -185,10 +204,12 @@ impl<T, W> Messages<T, W> {
         limit: usize,
         sink: &mut S,
     ) -> usize
-        ensures count { result ≡ min limit (min (vec_capacity into.old - vec_len into.old) (length self.old.messages)) }
+        ensures count { result ≡ min limit
+            (min (vec_capacity into.old - vec_len into.old) (length self.old.messages)) }
         ensures popped { Takes (take result self.old.messages) self.old self.new }
         ensures appended { into.new.items ≡ into.old.items ++ take result self.old.messages }
-        ensures wakes { FoldsTo S.woke sink.old (woken_by_taking result self.old self.new) sink.new }
+        ensures wakes { FoldsTo S.woke sink.old
+            (woken_by_taking result self.old self.new) sink.new }
     {
         let room = into.capacity() - into.len();
         let count = limit.min(room).min(self.items.len());
@@ -202,7 +223,10 @@ impl<T, W> Messages<T, W> {
     pub fn close<S: WakeSink<W>>(&mut self, sink: &mut S) -> bool
         ensures once { IsTrue result ↔ (self.old.is_closed ≡ false) }
         ensures closed { IsTrue result → Closes self.old self.new }
-        ensures wakes { IsTrue result → FoldsTo S.woke sink.old (woken_at_once self.old.senders ++ woken_at_once self.old.receivers ++ woken_at_once self.old.streams) sink.new }
+        ensures wakes { IsTrue result
+            → FoldsTo S.woke sink.old
+            (woken_at_once self.old.senders ++ woken_at_once self.old.receivers ++ woken_at_once
+            self.old.streams) sink.new }
         ensures again { IsFalse result → (self.new ≡ self.old) × (sink.new ≡ sink.old) }
     {
         if self.is_closed {

@@ -1,7 +1,7 @@
 //! The side that receives.
 ghost use Rattle.std.specs.Prelude.{◌≡◌, ◌<◌, ◌≤◌, Ok, Some, IfOk, IfSome, IsSome, OnErr};
 ghost use Rattle.event_channel.specs.Calls.{calls, is_new, rests_on_none};
-ghost use Rattle.event_channel.specs.Hands.{ReceivesBlocking, ReceivesWaiting, Says};
+ghost use Rattle.event_channel.specs.Hands.{ReceivesBlocking, ReceivesWaiting};
 ghost use Rattle.event_channel.specs.Many.{Appends, Collects};
 ghost use Rattle.event_channel.specs.Waits.{Gets};
 ghost use Rattle.event_channel.specs.declared.call.ChannelCall.TheVariants as call;
@@ -11,7 +11,7 @@ use crate::call::{ChannelHand, RestingHand};
 use crate::channel::{Link, wait_error};
 use crate::error::{RecvError, RecvTimeoutError, TryRecvError};
 use crate::receiving::{Receiving, ReceivingMany};
-use crate::recv::Recv;
+use crate::recv::{Recv, received};
 use event_queue::ListenError;
 use event_wait::{Limit, Refused};
 use event_word::LockError;
@@ -44,20 +44,8 @@ impl<T: Drop, R: Wait + Clock + Clone> Model for Receiver<T, R> {
 
     ghost view = { λ receiver. receiver.link };
 
-    ghost invariant = { λ receiver. IsOneHand receiver.link.channel.table receiver.hand.rest.badge.table_id receiver.hand.rest.badge.views };
-}
-
-// What a wait without a limit received.
-fn received<T>(waited: Result<Option<Option<T>>, Refused<ListenError>>) -> Result<T, RecvError>
-    requires { IfOk waited IsSome }
-    ensures { Says waited result }
-{
-    match waited {
-        Ok(Some(Some(message))) => Ok(message),
-        Ok(Some(None)) => Err(RecvError::Closed),
-        Ok(None) => unreachable!(),
-        Err(error) => Err(RecvError::WaitFailed(wait_error(error))),
-    }
+    ghost invariant = { λ receiver. IsOneHand receiver.link.channel.table
+        receiver.hand.rest.badge.table_id receiver.hand.rest.badge.views };
 }
 
 // What a wait with a limit received.
@@ -92,7 +80,8 @@ impl<T: Drop, R: Wait + Clock + Clone> Receiver<T, R> {
     /// load. It does not wait.
     #[inline(always)]
     pub fn hand(&self) -> ChannelHand<T>
-        ensures { (result.seat.table_id ≡ self.now.channel.table) × (result.seat.me.0 ≡ newcomer result.seat.me.0.seen) }
+        ensures { (result.seat.table_id ≡ self.now.channel.table)
+            × (result.seat.me.0 ≡ newcomer result.seat.me.0.seen) }
     {
         self.link.channel.lock.hand()
     }
@@ -100,8 +89,10 @@ impl<T: Drop, R: Wait + Clock + Clone> Receiver<T, R> {
     /// A new hand, which has seen as much of the history of this channel as that one. It is one load.
     pub fn tell(&self, hand: &mut ChannelHand<T>) -> ChannelHand<T>
         requires { hand.old.seat.table_id ≡ self.now.channel.table }
-        ensures hand { (hand.new.seat.table_id ≡ hand.old.seat.table_id) × (hand.new.seat.me.0 ≡ hand.old.seat.me.0) }
-        ensures told { (result.seat.table_id ≡ hand.old.seat.table_id) × (result.seat.me.0 ≡ newcomer hand.old.seat.me.0.seen) }
+        ensures hand { (hand.new.seat.table_id ≡ hand.old.seat.table_id)
+            × (hand.new.seat.me.0 ≡ hand.old.seat.me.0) }
+        ensures told { (result.seat.table_id ≡ hand.old.seat.table_id)
+            × (result.seat.me.0 ≡ newcomer hand.old.seat.me.0.seen) }
     {
         self.link.channel.lock.tell(hand)
     }
@@ -112,7 +103,8 @@ impl<T: Drop, R: Wait + Clock + Clone> Receiver<T, R> {
         requires here { hand.old.seat.table_id ≡ self.now.channel.table }
         requires there { other.seat.table_id ≡ self.now.channel.table }
         ensures hand { hand.new.seat.table_id ≡ hand.old.seat.table_id }
-        ensures looks { Looks calls is_new rests_on_none (both_views hand.old.seat.me.0 other.seat.me.0) hand.new.seat.me.0 }
+        ensures looks { Looks calls is_new rests_on_none
+            (both_views hand.old.seat.me.0 other.seat.me.0) hand.new.seat.me.0 }
     {
         self.link.channel.lock.absorb(hand, other);
     }
@@ -130,7 +122,8 @@ impl<T: Drop, R: Wait + Clock + Clone> Receiver<T, R> {
     pub fn try_recv_as(&self, hand: &mut ChannelHand<T>) -> Result<T, TryRecvError>
         requires { hand.old.seat.table_id ≡ self.now.channel.table }
         ensures hand { hand.new.seat.table_id ≡ hand.old.seat.table_id }
-        ensures call { Extends calls is_new rests_on_none hand.old.seat.me.0 (call.Receive result) hand.new.seat.me.0 }
+        ensures call { Extends calls is_new rests_on_none hand.old.seat.me.0 (call.Receive result)
+            hand.new.seat.me.0 }
     {
         match self
             .link
@@ -149,7 +142,7 @@ impl<T: Drop, R: Wait + Clock + Clone> Receiver<T, R> {
     pub fn recv(&self) -> Recv<'_, T, R>
         ensures { result ≡ self.now.channel }
     {
-        Recv::new(&self.link.channel, &self.link.rt)
+        Recv::new(&self.link.channel, &self.link.rt, self.link.alloc)
     }
 
     /// Receives a message once there is one, and blocks the calling thread until then.
@@ -252,7 +245,8 @@ impl<T: Drop, R: Wait + Clock + Clone> Receiver<T, R> {
         requires { hand.old.seat.table_id ≡ self.now.channel.table }
         ensures hand { hand.new.seat.table_id ≡ hand.old.seat.table_id }
         ensures never { limit ≡ Limit.Never → IfOk result IsSome }
-        ensures calls { limit ≡ Limit.Never → ReceivesWaiting hand.old.seat.me.0 result hand.new.seat.me.0 }
+        ensures calls { limit ≡ Limit.Never
+            → ReceivesWaiting hand.old.seat.me.0 result hand.new.seat.me.0 }
     {
         let mut receiving = Receiving::one();
         self.link.channel.lock.obtain(&self.link.rt, self.link.alloc, hand, &mut receiving, limit)
@@ -270,7 +264,8 @@ impl<T: Drop, R: Wait + Clock + Clone> Receiver<T, R> {
     pub fn close_as(&self, hand: &mut ChannelHand<T>) -> bool
         requires { hand.old.seat.table_id ≡ self.now.channel.table }
         ensures hand { hand.new.seat.table_id ≡ hand.old.seat.table_id }
-        ensures call { Extends calls is_new rests_on_none hand.old.seat.me.0 (call.Close result) hand.new.seat.me.0 }
+        ensures call { Extends calls is_new rests_on_none hand.old.seat.me.0 (call.Close result)
+            hand.new.seat.me.0 }
     {
         self.link.channel.close(&self.link.rt, hand)
     }

@@ -58,7 +58,8 @@ fn receive_or_wait<T, W: Drop, C, X: TaskExchange<W, C>, K: WakeSink<W>>(
     on: &mut C,
     sink: &mut K,
 ) -> Attempted<Option<T>, ListenError>
-    ensures receives { (call : ChannelCall T) × ReceivesOrWaits is_stream result call × calls state.old call state.new }
+    ensures receives { (call : ChannelCall T) × ReceivesOrWaits is_stream result call
+        × calls state.old call state.new }
     ensures exchanges { Attempts (X.exchanged exchange.now) on.old result on.new }
 {
     if is_stream {
@@ -171,7 +172,10 @@ impl<T> Model for ReceivingMany<T> {
 
     ghost Value = { Asking (Many T) };
 
-    ghost view = { λ many. record { asked = record { into = many.into.items; more = many.more }; key = many.key } };
+    ghost view = { λ many. record {
+      asked = record { into = many.into.items; more = many.more };
+      key = many.key;
+    } };
 }
 
 impl<T> ReceivingMany<T> {

@@ -1,18 +1,22 @@
 //! The future of a receive.
-ghost use Rattle.std.specs.Prelude.{◌≡◌};
+ghost use Rattle.std.specs.Prelude.{◌≡◌, IfOk, IsSome};
+ghost use Rattle.event_channel.specs.Hands.{Says};
 
 use crate::call::RestingHand;
-use crate::channel::Channel;
+use crate::channel::{Channel, wait_error};
 use crate::error::RecvError;
 use crate::receiving::Receiving;
+use event_queue::ListenError;
+use event_wait::{Limit, Refused};
 use event_word::LockError;
 use futures::Future;
 use futures::task::{Context, Poll};
+use std::alloc::Global;
 use std::fmt;
 use std::fmt::{Debug, Formatter};
 use std::marker::Model;
 use std::sync::Wait;
-use std::time::Clock;
+use std::time::{Clock, Duration, Instant};
 
 /// A message that is received once there is one: the future of [`recv`](crate::Receiver::recv).
 ///
@@ -22,9 +26,37 @@ use std::time::Clock;
 pub struct Recv<'a, T: Drop, R: Wait + Clock + Clone> {
     channel: &'a Channel<T>,
     rt: &'a R,
+    alloc: Global,
     receiving: Receiving,
     // All its calls are of one hand.
     hand: RestingHand<T>,
+}
+
+// What a wait without a limit received.
+pub(crate) fn received<T>(
+    waited: Result<Option<Option<T>>, Refused<ListenError>>,
+) -> Result<T, RecvError>
+    requires { IfOk waited IsSome }
+    ensures { Says waited result }
+{
+    match waited {
+        Ok(Some(Some(message))) => Ok(message),
+        Ok(Some(None)) => Err(RecvError::Closed),
+        Ok(None) => unreachable!(),
+        Err(error) => Err(RecvError::WaitFailed(wait_error(error))),
+    }
+}
+
+// The same of a wait with a limit: nothing, if that has passed.
+fn received_in_time<T>(
+    waited: Result<Option<Option<T>>, Refused<ListenError>>,
+) -> Result<Option<T>, RecvError> {
+    match waited {
+        Ok(None) => Ok(None),
+        Ok(Some(Some(message))) => Ok(Some(message)),
+        Ok(Some(None)) => Err(RecvError::Closed),
+        Err(error) => Err(RecvError::WaitFailed(wait_error(error))),
+    }
 }
 
 impl<'a, T: Drop, R: Wait + Clock + Clone> Model for Recv<'a, T, R> {
@@ -35,19 +67,55 @@ impl<'a, T: Drop, R: Wait + Clock + Clone> Model for Recv<'a, T, R> {
 
     ghost view = { λ recv. recv.channel.now.lock };
 
-    ghost invariant = { λ recv. IsOneHand recv.channel.now.lock.table recv.hand.rest.badge.table_id recv.hand.rest.badge.views };
+    ghost invariant = { λ recv. IsOneHand recv.channel.now.lock.table recv.hand.rest.badge.table_id
+        recv.hand.rest.badge.views };
 }
 
 impl<'a, T: Drop, R: Wait + Clock + Clone> Recv<'a, T, R> {
-    pub(crate) fn new(channel: &'a Channel<T>, rt: &'a R) -> Self
+    pub(crate) fn new(channel: &'a Channel<T>, rt: &'a R, alloc: Global) -> Self
         ensures { result ≡ channel.now.lock }
     {
         Recv {
             channel,
             rt,
+            alloc,
             receiving: Receiving::one(),
             hand: channel.lock.hand().rest(),
         }
+    }
+
+    /// Blocks the calling thread until a message is received, or none will come. If it was polled it goes on at its place in
+    /// the queue.
+    ///
+    /// The call allocates where it has to wait.
+    pub fn wait(self) -> Result<T, RecvError> {
+        received(self.end(Limit::Never))
+    }
+
+    /// Blocks the calling thread until then, or until so much time has passed: then it is `None`. With a timeout of zero, too,
+    /// it is attempted.
+    pub fn wait_timeout(self, timeout: Duration) -> Result<Option<T>, RecvError> {
+        let limit = Limit::after(self.rt, timeout);
+        received_in_time(self.end(limit))
+    }
+
+    /// Blocks the calling thread until then, or until this moment: then it is `None`. With one that has passed, too, it is
+    /// attempted.
+    pub fn wait_deadline(self, deadline: Instant) -> Result<Option<T>, RecvError> {
+        received_in_time(self.end(Limit::At(deadline)))
+    }
+
+    fn end(self, limit: Limit) -> Result<Option<Option<T>>, Refused<ListenError>>
+        ensures { limit ≡ Limit.Never → IfOk result IsSome }
+    {
+        let mut recv = self;
+        let mut hand = recv.hand.take();
+        let ended = recv
+            .channel
+            .lock
+            .obtain(recv.rt, recv.alloc, &mut hand, &mut recv.receiving, limit);
+        recv.hand.put(hand);
+        ended
     }
 }
 
@@ -56,6 +124,7 @@ impl<'a, T: Drop, R: Wait + Clock + Clone> Drop for Recv<'a, T, R> {
         let Recv {
             channel,
             rt,
+            alloc: _,
             receiving,
             hand,
         } = self;

@@ -1,19 +1,22 @@
 //! The future of a send.
-ghost use Rattle.std.specs.Prelude.{◌≡◌, Some};
+ghost use Rattle.std.specs.Prelude.{◌≡◌, Some, IfErr};
+ghost use Rattle.event_channel.specs.Errors.{IsUnsentByWaiting, IsUnsentInTime};
 ghost use Rattle.event_channel.specs.Handle.{Carries};
 
 use crate::call::RestingHand;
-use crate::channel::Channel;
+use crate::channel::{Channel, wait_error};
 use crate::error::{SendError, SendReason};
 use crate::sending::Sending;
+use event_wait::Limit;
 use event_word::LockError;
 use futures::Future;
 use futures::task::{Context, Poll};
+use std::alloc::Global;
 use std::fmt;
 use std::fmt::{Debug, Formatter};
 use std::marker::Model;
 use std::sync::Wait;
-use std::time::Clock;
+use std::time::{Clock, Duration, Instant};
 
 /// A message that is sent once there is room: the future of [`send`](crate::Sender::send).
 ///
@@ -22,6 +25,7 @@ use std::time::Clock;
 pub struct Send<'a, T: Drop, R: Wait + Clock + Clone> {
     channel: &'a Channel<T>,
     rt: &'a R,
+    alloc: Global,
     sending: Sending<T>,
     // All its calls are of one hand.
     hand: RestingHand<T>,
@@ -33,21 +37,82 @@ impl<'a, T: Drop, R: Wait + Clock + Clone> Model for Send<'a, T, R> {
 
     ghost Value = { Pending T };
 
-    ghost view = { λ send. record { message = send.sending.asked; channel = send.channel.now.lock } };
+    ghost view = { λ send. record {
+      message = send.sending.asked;
+      channel = send.channel.now.lock;
+    } };
 
-    ghost invariant = { λ send. IsOneHand send.channel.now.lock.table send.hand.rest.badge.table_id send.hand.rest.badge.views };
+    ghost invariant = { λ send. IsOneHand send.channel.now.lock.table send.hand.rest.badge.table_id
+        send.hand.rest.badge.views };
 }
 
 impl<'a, T: Drop, R: Wait + Clock + Clone> Send<'a, T, R> {
-    pub(crate) fn new(channel: &'a Channel<T>, rt: &'a R, message: T) -> Self
+    pub(crate) fn new(channel: &'a Channel<T>, rt: &'a R, alloc: Global, message: T) -> Self
         ensures carries { Carries message result }
         ensures channel { result.channel ≡ channel.now.lock }
     {
         Send {
             channel,
             rt,
+            alloc,
             sending: Sending::new(message),
             hand: channel.lock.hand().rest(),
+        }
+    }
+
+    /// Blocks the calling thread until the message is sent, or can't be. If it was polled it goes on at its place in the queue.
+    ///
+    /// An error hands the message back. The call allocates where it has to wait.
+    pub fn wait(self) -> Result<(), SendError<T>>
+        requires { (message : T) × Carries message self }
+        ensures returned { IfErr result (λ error. Carries error.message self.entry) }
+        ensures reason { IfErr result (λ error. IsUnsentByWaiting error.reason) }
+    {
+        self.end(Limit::Never)
+    }
+
+    /// Blocks the calling thread until then, or until so much time has passed: then it is an error, which hands the message
+    /// back. With a timeout of zero, too, it is attempted.
+    pub fn wait_timeout(self, timeout: Duration) -> Result<(), SendError<T>>
+        requires { (message : T) × Carries message self }
+        ensures returned { IfErr result (λ error. Carries error.message self.entry) }
+        ensures reason { IfErr result (λ error. IsUnsentInTime error.reason) }
+    {
+        let limit = Limit::after(self.rt, timeout);
+        self.end(limit)
+    }
+
+    /// Blocks the calling thread until then, or until this moment, with the same error. With one that has passed, too, it is
+    /// attempted.
+    pub fn wait_deadline(self, deadline: Instant) -> Result<(), SendError<T>>
+        requires { (message : T) × Carries message self }
+        ensures returned { IfErr result (λ error. Carries error.message self.entry) }
+        ensures reason { IfErr result (λ error. IsUnsentInTime error.reason) }
+    {
+        self.end(Limit::At(deadline))
+    }
+
+    fn end(self, limit: Limit) -> Result<(), SendError<T>>
+        requires { (message : T) × Carries message self }
+        ensures returned { IfErr result (λ error. Carries error.message self.entry) }
+        ensures reason { IfErr result (λ error. IsUnsentInTime error.reason) }
+        ensures never { limit ≡ Limit.Never
+            → IfErr result (λ error. IsUnsentByWaiting error.reason) }
+    {
+        let mut send = self;
+        let mut hand = send.hand.take();
+        let waited = send
+            .channel
+            .wait_to_send(send.rt, send.alloc, &mut hand, &mut send.sending, limit);
+        send.hand.put(hand);
+        match waited {
+            Ok(Some(Ok(()))) => Ok(()),
+            Ok(Some(Err(reason))) => Err(send.sending.refuse(reason)),
+            Ok(None) => Err(send.sending.refuse(SendReason::TimedOut)),
+            Err(error) => Err(
+                send.sending
+                    .refuse(SendReason::WaitFailed(wait_error(error))),
+            ),
         }
     }
 }
@@ -57,6 +122,7 @@ impl<'a, T: Drop, R: Wait + Clock + Clone> Drop for Send<'a, T, R> {
         let Send {
             channel,
             rt,
+            alloc: _,
             sending,
             hand,
         } = self;
@@ -78,7 +144,8 @@ impl<'a, T: Drop, R: Wait + Clock + Clone> Future for Send<'a, T, R> {
 
     ghost needs = { λ send s. s ≡ send.channel.source };
 
-    ghost gives = { λ send output. IfErr output (λ error. Carries error.message send × IsUnsentByWaiting error.reason) };
+    ghost gives = { λ send output. IfErr output (λ error. Carries error.message send
+        × IsUnsentByWaiting error.reason) };
 
     fn poll(&mut self, cx: &mut Context<'_>) -> Poll<Result<(), SendError<T>>> {
         let mut hand = self.hand.take();

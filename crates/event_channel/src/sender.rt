@@ -1,10 +1,9 @@
 //! The side that sends.
-ghost use Rattle.std.specs.Prelude.{◌≡◌, ◌≢◌, ◌↔◌, Some, None, Err, IfOk, IfErr, IfSome, IsSome};
+ghost use Rattle.std.specs.Prelude.{◌≡◌, ◌≢◌, ◌↔◌, Some, None, Err, IfOk, IfErr, IfSome};
 ghost use Rattle.event_channel.specs.Calls.{answer_of, calls, is_new, rests_on_none};
 ghost use Rattle.event_channel.specs.Errors.{IsUnsent, IsUnsentAtOnce, IsUnsentByWaiting, IsUnsentInTime};
 ghost use Rattle.event_channel.specs.Handle.{Carries};
-ghost use Rattle.event_channel.specs.Hands.{SendsBlocking, SendsWaiting};
-ghost use Rattle.event_channel.specs.Waits.{Empties, Gets};
+ghost use Rattle.event_channel.specs.Hands.{SendsBlocking};
 ghost use Rattle.event_channel.specs.declared.call.ChannelCall.TheVariants as call;
 ghost use Rattle.event_channel.specs.declared.channel.ChannelError.TheVariants.{ZeroCapacity};
 ghost use Rattle.event_history.specs.History.{Extends, Looks, both_views, newcomer};
@@ -16,8 +15,7 @@ use crate::error::{SendError, SendReason};
 use crate::receiver::Receiver;
 use crate::send::Send;
 use crate::sending::Sending;
-use event_queue::ListenError;
-use event_wait::{Limit, Refused};
+use event_wait::Limit;
 use std::alloc::{AllocError, Global};
 use std::fmt;
 use std::fmt::{Debug, Formatter};
@@ -111,7 +109,8 @@ impl<T: Drop, R: Wait + Clock + Clone> Sender<T, R> {
     /// load. It does not wait.
     #[inline(always)]
     pub fn hand(&self) -> ChannelHand<T>
-        ensures { (result.seat.table_id ≡ self.now.channel.table) × (result.seat.me.0 ≡ newcomer result.seat.me.0.seen) }
+        ensures { (result.seat.table_id ≡ self.now.channel.table)
+            × (result.seat.me.0 ≡ newcomer result.seat.me.0.seen) }
     {
         self.link.channel.lock.hand()
     }
@@ -119,8 +118,10 @@ impl<T: Drop, R: Wait + Clock + Clone> Sender<T, R> {
     /// A new hand, which has seen as much of the history of this channel as that one. It is one load.
     pub fn tell(&self, hand: &mut ChannelHand<T>) -> ChannelHand<T>
         requires { hand.old.seat.table_id ≡ self.now.channel.table }
-        ensures hand { (hand.new.seat.table_id ≡ hand.old.seat.table_id) × (hand.new.seat.me.0 ≡ hand.old.seat.me.0) }
-        ensures told { (result.seat.table_id ≡ hand.old.seat.table_id) × (result.seat.me.0 ≡ newcomer hand.old.seat.me.0.seen) }
+        ensures hand { (hand.new.seat.table_id ≡ hand.old.seat.table_id)
+            × (hand.new.seat.me.0 ≡ hand.old.seat.me.0) }
+        ensures told { (result.seat.table_id ≡ hand.old.seat.table_id)
+            × (result.seat.me.0 ≡ newcomer hand.old.seat.me.0.seen) }
     {
         self.link.channel.lock.tell(hand)
     }
@@ -131,7 +132,8 @@ impl<T: Drop, R: Wait + Clock + Clone> Sender<T, R> {
         requires here { hand.old.seat.table_id ≡ self.now.channel.table }
         requires there { other.seat.table_id ≡ self.now.channel.table }
         ensures hand { hand.new.seat.table_id ≡ hand.old.seat.table_id }
-        ensures looks { Looks calls is_new rests_on_none (both_views hand.old.seat.me.0 other.seat.me.0) hand.new.seat.me.0 }
+        ensures looks { Looks calls is_new rests_on_none
+            (both_views hand.old.seat.me.0 other.seat.me.0) hand.new.seat.me.0 }
     {
         self.link.channel.lock.absorb(hand, other);
     }
@@ -154,7 +156,8 @@ impl<T: Drop, R: Wait + Clock + Clone> Sender<T, R> {
     pub fn try_send_as(&self, hand: &mut ChannelHand<T>, message: T) -> Result<(), SendError<T>>
         requires { hand.old.seat.table_id ≡ self.now.channel.table }
         ensures hand { hand.new.seat.table_id ≡ hand.old.seat.table_id }
-        ensures call { Extends calls is_new rests_on_none hand.old.seat.me.0 (call.Send message (answer_of result)) hand.new.seat.me.0 }
+        ensures call { Extends calls is_new rests_on_none hand.old.seat.me.0
+            (call.Send message (answer_of result)) hand.new.seat.me.0 }
         ensures returned { IfErr result (λ error. error.message ≡ message) }
         ensures reason { IfErr result (λ error. IsUnsentAtOnce error.reason) }
     {
@@ -180,7 +183,8 @@ impl<T: Drop, R: Wait + Clock + Clone> Sender<T, R> {
     ) -> Result<Option<T>, SendError<T>>
         requires { hand.old.seat.table_id ≡ self.now.channel.table }
         ensures hand { hand.new.seat.table_id ≡ hand.old.seat.table_id }
-        ensures call { Extends calls is_new rests_on_none hand.old.seat.me.0 (call.ForceSend message (answer_of result)) hand.new.seat.me.0 }
+        ensures call { Extends calls is_new rests_on_none hand.old.seat.me.0
+            (call.ForceSend message (answer_of result)) hand.new.seat.me.0 }
         ensures returned { IfErr result (λ error. error.message ≡ message) }
         ensures reason { IfErr result (λ error. IsUnsent error.reason) }
     {
@@ -194,7 +198,7 @@ impl<T: Drop, R: Wait + Clock + Clone> Sender<T, R> {
         ensures carries { Carries message result }
         ensures channel { result.channel ≡ self.now.channel }
     {
-        Send::new(&self.link.channel, &self.link.rt, message)
+        Send::new(&self.link.channel, &self.link.rt, self.link.alloc, message)
     }
 
     /// Sends a message once there is room, and blocks the calling thread until then.
@@ -261,37 +265,23 @@ impl<T: Drop, R: Wait + Clock + Clone> Sender<T, R> {
     ) -> Result<(), SendError<T>>
         requires { hand.old.seat.table_id ≡ self.now.channel.table }
         ensures hand { hand.new.seat.table_id ≡ hand.old.seat.table_id }
-        ensures calls { limit ≡ Never → SendsBlocking message hand.old.seat.me.0 result hand.new.seat.me.0 }
+        ensures calls { limit ≡ Never
+            → SendsBlocking message hand.old.seat.me.0 result hand.new.seat.me.0 }
         ensures returned { IfErr result (λ error. error.message ≡ message) }
         ensures reason { IfErr result (λ error. IsUnsentInTime error.reason) }
         ensures never { limit ≡ Never → IfErr result (λ error. IsUnsentByWaiting error.reason) }
     {
         let mut sending = Sending::new(message);
-        match self.wait(hand, &mut sending, limit) {
+        let link = &self.link;
+        match link
+            .channel
+            .wait_to_send(&link.rt, link.alloc, hand, &mut sending, limit)
+        {
             Ok(Some(Ok(()))) => Ok(()),
             Ok(Some(Err(reason))) => Err(sending.refuse(reason)),
             Ok(None) => Err(sending.refuse(SendReason::TimedOut)),
             Err(error) => Err(sending.refuse(SendReason::WaitFailed(wait_error(error)))),
         }
-    }
-
-    #[inline(always)]
-    fn wait(
-        &self,
-        hand: &mut ChannelHand<T>,
-        sending: &mut Sending<T>,
-        limit: Limit,
-    ) -> Result<Option<Result<(), SendReason>>, Refused<ListenError>>
-        requires { hand.old.seat.table_id ≡ self.now.channel.table }
-        ensures hand { hand.new.seat.table_id ≡ hand.old.seat.table_id }
-        ensures calls { (message : T) → sending.old.asked ≡ Some message → limit ≡ Never → SendsWaiting message hand.old.seat.me.0 result hand.new.seat.me.0 }
-        ensures never { limit ≡ Never → IfOk result IsSome }
-        ensures gets { Gets Empties sending.old.asked result sending.new.asked }
-    {
-        self.link
-            .channel
-            .lock
-            .obtain(&self.link.rt, self.link.alloc, hand, sending, limit)
     }
 
     /// Closes the channel, and wakes all that wait, under its lock but for the last. Returns `false` if it is closed already.
@@ -306,7 +296,8 @@ impl<T: Drop, R: Wait + Clock + Clone> Sender<T, R> {
     pub fn close_as(&self, hand: &mut ChannelHand<T>) -> bool
         requires { hand.old.seat.table_id ≡ self.now.channel.table }
         ensures hand { hand.new.seat.table_id ≡ hand.old.seat.table_id }
-        ensures call { Extends calls is_new rests_on_none hand.old.seat.me.0 (call.Close result) hand.new.seat.me.0 }
+        ensures call { Extends calls is_new rests_on_none hand.old.seat.me.0 (call.Close result)
+            hand.new.seat.me.0 }
     {
         self.link.channel.close(&self.link.rt, hand)
     }

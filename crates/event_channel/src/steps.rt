@@ -19,7 +19,8 @@ impl<T: Drop, W, K: WakeSink<W>> Step<Messages<T, W>, K> for Push<T> {
 
     ghost call = { λ step reply. call.Send step.message (answer_of reply) };
 
-    ghost does = { λ step _ _ reply _ _. IfErr reply (λ error. (error.message ≡ step.message) × IsUnsentAtOnce error.reason) };
+    ghost does = { λ step _ _ reply _ _. IfErr reply (λ error. (error.message ≡ step.message)
+        × IsUnsentAtOnce error.reason) };
 
     #[inline(always)]
     fn make(self, messages: &mut Messages<T, W>, sink: &mut K) -> Result<(), SendError<T>> {
@@ -38,7 +39,8 @@ impl<T, W, K: WakeSink<W>> Step<Messages<T, W>, K> for PushForced<T> {
 
     ghost call = { λ step reply. call.ForceSend step.message (answer_of reply) };
 
-    ghost does = { λ step _ _ reply _ _. IfErr reply (λ error. (error.message ≡ step.message) × IsUnsent error.reason) };
+    ghost does = { λ step _ _ reply _ _. IfErr reply (λ error. (error.message ≡ step.message)
+        × IsUnsent error.reason) };
 
     fn make(self, messages: &mut Messages<T, W>, sink: &mut K) -> Result<Option<T>, SendError<T>> {
         let PushForced { message } = self;

@@ -1,7 +1,7 @@
 //! What calls answer and whom they wake: that each way of a call reaches the state of the channel, whose clauses say the
 //! rest. A send and a receive that are polled attempt each time, and a stream keeps no message from a receive.
 use crate::script::{Call, run};
-use test_channel_support::{Answer, WAYS, Way};
+use crate::ways::{Answer, WAYS, Way};
 
 #[test]
 fn a_send_wakes_one_receive_and_all_streams(rt: HostRuntime) {
@@ -188,7 +188,13 @@ fn a_close_wakes_all_and_leaves_the_messages(rt: HostRuntime) {
 // A deadline of now is past once it is looked at.
 #[test]
 fn calls_without_time_attempt_and_wake_nobody(rt: HostRuntime) {
-    for way in [Way::Timed, Way::Due, Way::GivenUp] {
+    for way in [
+        Way::Timed,
+        Way::Due,
+        Way::WaitedTimed,
+        Way::WaitedDue,
+        Way::GivenUp,
+    ] {
         let steps = [
             (Call::AwaitReceive, Answer::Waits, [0, 0, 0]),
             (Call::Receive(way), Answer::Late(None), [0, 0, 0]),

@@ -1,8 +1,9 @@
 //! Handles: clones, weak ones, the last of a side, and what makes no channel.
 use crate::support::{Runtime, Sides, check, receives, sends, sides};
+use crate::waiting::Waiting;
+use crate::ways::{Answer, Way};
 use event_channel::{ChannelError, Receiver, Sender, bounded};
 use std::alloc::AllocGlobal;
-use test_channel_support::{Answer, Waiting, Way};
 use test_support::Unshared;
 
 // Both sides say that there are so many of each.
@@ -58,7 +59,7 @@ fn handles_are_counted(rt: HostRuntime) {
 fn the_last_sender_closes(rt: HostRuntime) {
     let (sender, receiver) = sides(&rt, Some(3));
     let weak = sender.downgrade().expect(&rt, "a weak handle");
-    let mut stream = Waiting::stream(&rt, &receiver).expect(&rt, "a stream");
+    let mut stream = Waiting::stream(&rt, &receiver);
     check(&rt, "a poll", stream.poll(), Answer::Waits);
     sends(&rt, Way::AtOnce, &sender, 7, Answer::Sent);
     check(&rt, "a poll", stream.poll(), Answer::Received(7));
@@ -77,7 +78,7 @@ fn the_last_receiver_closes(rt: HostRuntime) {
     let (sender, receiver) = sides(&rt, Some(1));
     let weak = receiver.downgrade().expect(&rt, "a weak handle");
     sends(&rt, Way::AtOnce, &sender, 7, Answer::Sent);
-    let mut send = Waiting::send(&rt, &sender, 8).expect(&rt, "a send");
+    let mut send = Waiting::send(&rt, &sender, 8);
     check(&rt, "a poll", send.poll(), Answer::Waits);
     drop(receiver);
     check(&rt, "whether it was woken", send.is_woken(), true);

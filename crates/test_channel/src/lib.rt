@@ -12,8 +12,9 @@
 //! | `races` | the last two handles of a side dropped at once, a last message as another thread receives, and many received at once as another takes one |
 //! | `threads` | 8 threads that send and 8 that receive, each in a way of its own, or many at once; handles made anew by weak ones; a close among them; calls that are given up |
 //!
-//! What is said of every way to send or to receive is written once, and run with each (`test_channel_support`). Refused
-//! memory is tested in `test_memory`.
+//! What is said of every way to send or to receive is written once, and run with each: `ways` has them, with what they
+//! answer, `waiting` futures and streams, each with a task of its own; `script` makes the calls of a table. Refused memory is
+//! tested in `test_memory`.
 #![tactic(auto)]
 
 #[cfg(test)]
@@ -35,4 +36,8 @@ mod support;
 #[cfg(test)]
 mod threads;
 #[cfg(test)]
+mod waiting;
+#[cfg(test)]
 mod wakes;
+#[cfg(test)]
+mod ways;

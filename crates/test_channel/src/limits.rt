@@ -1,5 +1,6 @@
 //! Calls that wait until a limit.
 use crate::support::{Runtime, SharedRuntime, check, sends, sides, until};
+use crate::ways::{Answer, Way};
 use event_channel::bounded;
 use std::alloc::AllocGlobal;
 use std::marker::Send;
@@ -7,7 +8,6 @@ use std::sync::Wait;
 use std::sync::atomic::{AtomicUsize, Ordering};
 use std::time::{Clock, Duration, Instant};
 use std::{io, thread};
-use test_channel_support::{Answer, Way};
 use test_support::{NoClock, OwnClock, WithClock};
 
 const MILLISECONDS: u64 = 20;
@@ -20,7 +20,7 @@ fn now<R: Runtime>(rt: &R) -> Instant {
 fn a_call_that_has_time_waits_so_long(rt: HostRuntime) {
     let limit = Duration::from_millis(MILLISECONDS);
     let (sender, receiver) = sides(&rt, Some(1));
-    for way in [Way::Timed, Way::Due] {
+    for way in [Way::Timed, Way::Due, Way::WaitedTimed, Way::WaitedDue] {
         let before = now(&rt);
         let received = way.receive(&rt, &receiver, limit);
         check(&rt, way, received, Answer::Late(None));

@@ -1,8 +1,8 @@
 //! Messages in order, and what a channel says of itself.
 use crate::support::{Runtime, check, receives, sends, sides};
+use crate::ways::{Answer, WAYS, Way};
 use event_channel::{Receiver, Sender};
 use std::alloc::AllocGlobal;
-use test_channel_support::{Answer, WAYS, Way};
 
 // Both sides say that so many messages wait, and whether more fit.
 fn says<R: Runtime>(

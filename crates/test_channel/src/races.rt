@@ -1,11 +1,11 @@
 //! Two threads that make their calls at the same time, on one channel after another, until time is up.
 use crate::support::{Runtime, SharedRuntime, check, sides};
+use crate::ways::{Answer, Way};
 use event_channel::{Receiver, Sender};
 use std::alloc::AllocGlobal;
 use std::sync::atomic::{AtomicUsize, Ordering};
 use std::thread;
 use std::time::{Duration, Instant};
-use test_channel_support::{Answer, Way};
 use test_support::deadline_after;
 
 // A thread makes its call so many looks later at most.
@@ -23,6 +23,19 @@ fn end_of_races<R: Runtime>(rt: &R) -> Instant {
 
 fn is_over<R: Runtime>(rt: &R, end: Instant) -> bool {
     Instant::now(rt).expect(rt, "the time") >= end
+}
+
+// Makes this race again and again, until time is up.
+fn again<R: Runtime, F: Fn()>(rt: &R, race: F)
+    requires { F.IsAlwaysCallable race }
+{
+    let end = end_of_races(rt);
+    for _ in rt.forever() {
+        race();
+        if is_over(rt, end) {
+            break;
+        }
+    }
 }
 
 // Waits until both threads have come to this channel, and a few looks longer.
@@ -100,19 +113,9 @@ fn drop_last_two<R: SharedRuntime>(rt: &R) {
     check(rt, "channels left open", open, 0);
 }
 
-fn drop_again<R: SharedRuntime>(rt: &R) {
-    let end = end_of_races(rt);
-    for _ in rt.forever() {
-        drop_last_two(rt);
-        if is_over(rt, end) {
-            break;
-        }
-    }
-}
-
 #[test]
 fn the_last_two_of_a_side_close_at_once(rt: HostRuntime) {
-    drop_again(&rt);
+    again(&rt, || drop_last_two(&rt));
 }
 
 // Each sends the last message of its channel.
@@ -162,19 +165,9 @@ fn end_as_others_receive<R: SharedRuntime>(rt: &R) {
     check(rt, "messages received", received, CHANNELS);
 }
 
-fn end_again<R: SharedRuntime>(rt: &R) {
-    let end = end_of_races(rt);
-    for _ in rt.forever() {
-        end_as_others_receive(rt);
-        if is_over(rt, end) {
-            break;
-        }
-    }
-}
-
 #[test]
 fn no_receive_answers_closed_before_the_last_message(rt: HostRuntime) {
-    end_again(&rt);
+    again(&rt, || end_as_others_receive(&rt));
 }
 
 // Sends messages by twos, and takes one back, until time is up. Then it closes the channel.

@@ -1,8 +1,9 @@
 //! Makes the calls of a test that is written as a table, by one thread, on a new channel.
 use crate::support::{Runtime, check, sides};
+use crate::waiting::Waiting;
+use crate::ways::{Answer, Way, of_force};
 use event_channel::{Receiver, Sender};
 use std::time::Duration;
-use test_channel_support::{Answer, Waiting, Way, of_force};
 
 /// A call of a test. Those that wait go by their numbers, in the order in which they are made.
 #[derive(Clone, Copy)]
@@ -42,8 +43,8 @@ struct Desk<'a, R: Runtime> {
 }
 
 impl<'a, R: Runtime> Desk<'a, R> {
-    fn await_first(&mut self, waiting: Option<Waiting<'a, R>>) -> Answer {
-        let mut waiting = waiting.expect(self.rt, "one that waits");
+    fn await_first(&mut self, waiting: Waiting<'a, R>) -> Answer {
+        let mut waiting = waiting;
         let answer = waiting.poll();
         self.waiting.push(waiting).expect(self.rt, "room");
         answer

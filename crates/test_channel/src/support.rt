@@ -1,12 +1,12 @@
 //! What the tests share.
-use event_channel::{Receiver, Sender};
+use crate::ways::{Answer, Way};
+use event_channel::{Receiver, Sender, bounded, unbounded};
 use std::fmt::Debug;
 use std::marker::Send;
 use std::process::Abort;
 use std::sync::atomic::{AtomicUsize, Ordering};
 use std::thread::{self, Threads};
 use std::time::Duration;
-use test_channel_support::{Answer, Way, new_channel};
 pub use test_support::Runtime;
 
 /// What tests with threads ask of a runtime value.
@@ -30,7 +30,11 @@ pub type Sides<R> = (Sender<usize, R>, Receiver<usize, R>);
 
 /// A new channel with this capacity or without a limit.
 pub fn sides<R: Runtime>(rt: &R, capacity: Option<usize>) -> Sides<R> {
-    new_channel(rt, capacity).expect(rt, "a channel")
+    let made = match capacity {
+        Some(capacity) => bounded(rt, rt.alloc(), capacity),
+        None => unbounded(rt, rt.alloc()),
+    };
+    made.expect(rt, "a channel")
 }
 
 /// A send in this way, without time, answers so.

@@ -1,10 +1,10 @@
 //! Many threads and tasks at once: each message that is sent is received once, and those of one sender in order.
 use crate::support::{Runtime, SharedRuntime, check, sides};
+use crate::ways::{Answer, Way};
 use event_channel::{Receiver, RecvError, Sender};
 use std::alloc::AllocGlobal;
 use std::thread;
 use std::time::{Duration, Instant};
-use test_channel_support::{Answer, Way};
 use test_support::deadline_after;
 
 // Threads of each side.

@@ -1,11 +1,13 @@
 //! Threads that are blocked: each that is notified is woken, and no other one. A thread that is not blocked yet needs nobody
 //! to wake it, so each test is made with longer and longer pauses before the call that wakes.
 use crate::support::{SharedRuntime, check, sends, sides, until};
+use crate::waiting::Waiting;
+use crate::ways::{Answer, Way, of_recv_in_time};
+use futures::test::MockTask;
 use std::alloc::AllocGlobal;
 use std::sync::atomic::{AtomicUsize, Ordering};
 use std::thread;
 use std::time::Duration;
-use test_channel_support::{Answer, Waiting, Way};
 
 // In milliseconds.
 const PAUSES: [u64; 6] = [1, 3, 10, 30, 60, 100];
@@ -70,7 +72,7 @@ fn wakes_the_task<R: SharedRuntime>(rt: &R, way: Way, pause: u64) -> bool {
     let blocked = || way.receive(rt, receiver, limit());
     let wakes = || {
         thread::sleep(rt, Duration::from_millis(pause));
-        let mut waiting = Waiting::receive(rt, receiver).expect(rt, "a receive");
+        let mut waiting = Waiting::receive(rt, receiver);
         check(rt, "a poll", waiting.poll(), Answer::Waits);
         sends(rt, Way::AtOnce, sender, 7, Answer::Sent);
         waiting.is_woken()
@@ -82,8 +84,33 @@ fn wakes_the_task<R: SharedRuntime>(rt: &R, way: Way, pause: u64) -> bool {
 
 #[test]
 fn a_message_for_a_blocked_thread_wakes_no_other_receive(rt: HostRuntime) {
-    for way in [Way::Blocking, Way::Timed, Way::Due] {
+    for way in [Way::Blocking, Way::Timed, Way::Due, Way::Waited] {
         let is_spared = PAUSES.iter().any(|pause| !wakes_the_task(&rt, way, *pause));
         check(&rt, way, is_spared, true);
+    }
+}
+
+// A receive is polled, and then blocks a thread. It is woken at the place that it has: a new one would be the last.
+fn waits_at_its_place<R: SharedRuntime>(rt: &R, pause: u64) {
+    let (sender, receiver) = &sides(rt, None);
+    let task = MockTask::new(rt).expect(rt, "a task");
+    let mut first = receiver.recv();
+    check(rt, "a poll", task.poll(&mut first).is_pending(), true);
+    let mut second = Waiting::receive(rt, receiver);
+    check(rt, "a poll", second.poll(), Answer::Waits);
+    let blocked = || of_recv_in_time(first.wait_timeout(limit()));
+    let wakes = || {
+        thread::sleep(rt, Duration::from_millis(pause));
+        sends(rt, Way::AtOnce, sender, 7, Answer::Sent);
+    };
+    let (received, ()) = thread::join(rt, blocked, wakes);
+    check(rt, "a wait", received, Answer::Received(7));
+    check(rt, "another receive", second.is_woken(), false);
+}
+
+#[test]
+fn one_that_was_polled_waits_at_its_place(rt: HostRuntime) {
+    for pause in PAUSES {
+        waits_at_its_place(&rt, pause);
     }
 }

@@ -48,13 +48,15 @@ impl<T, W: Drop> Messages<T, W> {
         on: &mut C,
         sink: &mut S,
     ) -> Attempted<Result<(), SendReason>, ListenError>
-        ensures sends { Sends (X.exchanged exchange.now) message.old key self.old on.old result (record self.new { senders = self.old.senders }) self.new.senders on.new }
+        ensures sends { Sends (X.exchanged exchange.now) message.old key self.old on.old result
+            (record self.new { senders = self.old.senders }) self.new.senders on.new }
         ensures absent { message.old ≡ None → result ≡ Attempted.Absent }
         ensures ends { OnDone result (λ sent. Empties message.old sent message.new) }
         ensures waits { OnUndone result (message.new ≡ message.old) }
         ensures refused { OnRefused result (message.new ≡ message.old) }
         ensures exchanges { Attempts (X.exchanged exchange.now) on.old result on.new }
-        ensures wakes { FoldsTo S.woke sink.old (woken_by_sending key self.old result self.new) sink.new }
+        ensures wakes { FoldsTo S.woke sink.old
+            (woken_by_sending key self.old result self.new) sink.new }
     {
         let Some(unsent) = message.take() else {
             self.cancel_sender(key, sink);
@@ -91,9 +93,12 @@ impl<T, W: Drop> Messages<T, W> {
         on: &mut C,
         sink: &mut S,
     ) -> Attempted<Option<T>, ListenError>
-        ensures receives { Receives (X.exchanged exchange.now) key self.old self.old.receivers on.old result (record self.new { receivers = self.old.receivers }) self.new.receivers on.new }
+        ensures receives { Receives (X.exchanged exchange.now) key self.old self.old.receivers
+            on.old result (record self.new { receivers = self.old.receivers })
+            self.new.receivers on.new }
         ensures exchanges { Attempts (X.exchanged exchange.now) on.old result on.new }
-        ensures wakes { FoldsTo S.woke sink.old (woken_by_receiving key self.old self.old.receivers result self.new) sink.new }
+        ensures wakes { FoldsTo S.woke sink.old
+            (woken_by_receiving key self.old self.old.receivers result self.new) sink.new }
     {
         match self.pop(sink) {
             Ok(message) => {
@@ -121,9 +126,11 @@ impl<T, W: Drop> Messages<T, W> {
         on: &mut C,
         sink: &mut S,
     ) -> Attempted<Option<T>, ListenError>
-        ensures receives { Receives (X.exchanged exchange.now) key self.old self.old.streams on.old result (record self.new { streams = self.old.streams }) self.new.streams on.new }
+        ensures receives { Receives (X.exchanged exchange.now) key self.old self.old.streams on.old
+            result (record self.new { streams = self.old.streams }) self.new.streams on.new }
         ensures exchanges { Attempts (X.exchanged exchange.now) on.old result on.new }
-        ensures wakes { FoldsTo S.woke sink.old (woken_by_receiving key self.old self.old.streams result self.new) sink.new }
+        ensures wakes { FoldsTo S.woke sink.old
+            (woken_by_receiving key self.old self.old.streams result self.new) sink.new }
     {
         match self.pop(sink) {
             Ok(message) => {
@@ -148,7 +155,8 @@ impl<T, W: Drop> Messages<T, W> {
     #[inline(always)]
     pub fn cancel_sender<S: WakeSink<W>>(&mut self, key: Option<Key>, sink: &mut S)
         ensures left { LeavesThenTells key (room_in self.new) self.old.senders self.new.senders }
-        ensures wakes { FoldsTo S.woke sink.old (woken_by_leaving key (room_in self.new) self.old.senders) sink.new }
+        ensures wakes { FoldsTo S.woke sink.old
+            (woken_by_leaving key (room_in self.new) self.old.senders) sink.new }
         ensures others { KeepsAllButSenders self.old self.new }
     {
         let room = self.capacity - self.items.len();
@@ -159,8 +167,10 @@ impl<T, W: Drop> Messages<T, W> {
     /// and are woken.
     #[inline(always)]
     pub fn cancel_receiver<S: WakeSink<W>>(&mut self, key: Option<Key>, sink: &mut S)
-        ensures left { LeavesThenTells key (length self.new.messages) self.old.receivers self.new.receivers }
-        ensures wakes { FoldsTo S.woke sink.old (woken_by_leaving key (length self.new.messages) self.old.receivers) sink.new }
+        ensures left { LeavesThenTells key (length self.new.messages) self.old.receivers
+            self.new.receivers }
+        ensures wakes { FoldsTo S.woke sink.old
+            (woken_by_leaving key (length self.new.messages) self.old.receivers) sink.new }
         ensures others { KeepsAllButReceivers self.old self.new }
     {
         leave_then_tell(&mut self.receivers, key, self.items.len(), sink);
@@ -170,8 +180,10 @@ impl<T, W: Drop> Messages<T, W> {
     /// stream waits.
     #[inline(always)]
     pub fn cancel_stream<S: WakeSink<W>>(&mut self, key: Option<Key>, sink: &mut S)
-        ensures left { LeavesThenTells key (length self.new.messages) self.old.streams self.new.streams }
-        ensures wakes { FoldsTo S.woke sink.old (woken_by_leaving key (length self.new.messages) self.old.streams) sink.new }
+        ensures left { LeavesThenTells key (length self.new.messages) self.old.streams
+            self.new.streams }
+        ensures wakes { FoldsTo S.woke sink.old
+            (woken_by_leaving key (length self.new.messages) self.old.streams) sink.new }
         ensures others { KeepsAllButStreams self.old self.new }
     {
         leave_then_tell(&mut self.streams, key, self.items.len(), sink);

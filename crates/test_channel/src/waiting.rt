@@ -2,7 +2,7 @@
 ghost use Rattle.std.specs.Prelude.{IsSome};
 ghost use Rattle.std.proofs.Props.{props};
 
-use crate::channels::ChannelRuntime;
+use crate::support::Runtime;
 use crate::ways::{Answer, of_item, of_recv, of_send};
 use event_channel::{Receiver, Recv, Send, Sender};
 use futures::StreamExt;
@@ -35,10 +35,7 @@ pub struct Waiting<'a, R: Wait + Clock + Clone> {
 }
 
 // Polls a send. One that is not done comes back.
-fn poll_send<'a, R: ChannelRuntime>(
-    task: &MockTask,
-    unsent: Unsent<'a, R>,
-) -> (Awaited<'a, R>, Answer) {
+fn poll_send<'a, R: Runtime>(task: &MockTask, unsent: Unsent<'a, R>) -> (Awaited<'a, R>, Answer) {
     let Unsent { mut send } = unsent;
     match task.poll(&mut send) {
         Poll::Pending => (Awaited::Send(Unsent { send }), Answer::Waits),
@@ -46,28 +43,29 @@ fn poll_send<'a, R: ChannelRuntime>(
     }
 }
 
-impl<'a, R: ChannelRuntime> Waiting<'a, R> {
-    // There is none without memory for its task, which is not woken.
-    fn new(rt: &R, awaited: Awaited<'a, R>) -> Option<Self> {
-        let task = MockTask::new(rt).ok()?;
+impl<'a, R: Runtime> Waiting<'a, R> {
+    // Its task is not woken.
+    fn new(rt: &R, awaited: Awaited<'a, R>) -> Self {
+        let task = MockTask::new(rt).expect(rt, "a task");
         task.enter(|_| ());
-        Some(Waiting { task, awaited })
+        Waiting { task, awaited }
     }
 
     /// A send of this message, which was not polled yet.
-    pub fn send(rt: &R, sender: &'a Sender<usize, R>, message: usize) -> Option<Self> {
+    pub fn send(rt: &R, sender: &'a Sender<usize, R>, message: usize) -> Self {
         let send = sender.send(message);
         Waiting::new(rt, Awaited::Send(Unsent { send }))
     }
 
     /// A receive, which was not polled yet.
-    pub fn receive(rt: &R, receiver: &'a Receiver<usize, R>) -> Option<Self> {
+    pub fn receive(rt: &R, receiver: &'a Receiver<usize, R>) -> Self {
         Waiting::new(rt, Awaited::Receive(receiver.recv()))
     }
 
     /// A clone of this receiver as a stream, which was not polled yet.
-    pub fn stream(rt: &R, receiver: &Receiver<usize, R>) -> Option<Self> {
-        Waiting::new(rt, Awaited::Stream(receiver.clone().ok()?))
+    pub fn stream(rt: &R, receiver: &Receiver<usize, R>) -> Self {
+        let stream = receiver.clone().expect(rt, "a receiver");
+        Waiting::new(rt, Awaited::Stream(stream))
     }
 
     /// What a poll answers.

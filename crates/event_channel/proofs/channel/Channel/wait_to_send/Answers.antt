@@ -1,6 +1,6 @@
 use Rattle.event_channel.proofs.HandLemmas.{sends_waiting}
 use Rattle.event_channel.proofs.WaitLemmas.{sending_gets}
-use Rattle.event_channel.proofs.sender.Sender.wait.Goals as goal
+use Rattle.event_channel.proofs.channel.Channel.wait_to_send.Goals as goal
 
 pub returns-clause-gets : goal.returns-clause-gets
 returns-clause-gets g c = sending_gets _ _ _ _ c.obtain.ensures.obtains

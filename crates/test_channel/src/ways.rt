@@ -1,5 +1,5 @@
 //! The ways to send and to receive, and what they answer.
-use crate::channels::ChannelRuntime;
+use crate::support::Runtime;
 use crate::waiting::Waiting;
 use event_channel::{
     LockError, Receiver, RecvError, RecvTimeoutError, SendError, SendReason, Sender, TryRecvError,
@@ -7,7 +7,8 @@ use event_channel::{
 use futures::StreamExt;
 use futures::executor::block_on;
 use std::thread;
-use std::time::{Clock, Duration, Instant};
+use std::time::Duration;
+use test_support::deadline_after;
 
 /// What a call answered. A message in it came back, but for one that was received or went out by force.
 #[derive(Clone, Copy, Debug, PartialEq, Eq)]
@@ -20,7 +21,7 @@ pub enum Answer {
     /// The channel was full or empty: it did not wait, was out of time, or was given up.
     Late(Option<usize>),
     Closed(Option<usize>),
-    /// It was refused memory, an executor or the time, or was done before.
+    /// It was refused memory, or was done before.
     Failed,
 }
 
@@ -32,6 +33,10 @@ pub enum Way {
     Timed,
     /// With a deadline.
     Due,
+    /// By a future that is waited for: for as long as it takes, for some time, and until a moment.
+    Waited,
+    WaitedTimed,
+    WaitedDue,
     Awaited,
     /// By a stream of its own, which is dropped after one item. A send is awaited.
     Streamed,
@@ -42,24 +47,23 @@ pub enum Way {
 }
 
 /// All ways.
-pub const WAYS: [Way; 8] = [
+pub const WAYS: [Way; 11] = [
     Way::AtOnce,
     Way::Blocking,
     Way::Timed,
     Way::Due,
+    Way::Waited,
+    Way::WaitedTimed,
+    Way::WaitedDue,
     Way::Awaited,
     Way::Streamed,
     Way::GivenUp,
     Way::Iterated,
 ];
 
-fn moment<R: Clock>(rt: &R, limit: Duration) -> Option<Instant> {
-    Instant::now(rt).ok()?.checked_add(limit)
-}
-
 impl Way {
     /// Sends a message. One that has a limit waits so long for room.
-    pub fn send<R: ChannelRuntime>(
+    pub fn send<R: Runtime>(
         self,
         rt: &R,
         sender: &Sender<usize, R>,
@@ -70,23 +74,25 @@ impl Way {
             Way::AtOnce => of_send(sender.try_send(message)),
             Way::Blocking | Way::Iterated => of_send(sender.send_blocking(message)),
             Way::Timed => of_send(sender.send_timeout(message, limit)),
-            Way::Due => match moment(rt, limit) {
-                Some(moment) => of_send(sender.send_deadline(message, moment)),
-                None => Answer::Failed,
-            },
-            Way::Awaited | Way::Streamed => match block_on(rt, sender.send(message)) {
-                Ok(answer) => of_send(answer),
-                Err(_) => Answer::Failed,
-            },
-            Way::GivenUp => match Waiting::send(rt, sender, message) {
-                Some(waiting) => once(waiting, Some(message)),
-                None => Answer::Failed,
-            },
+            Way::Due => {
+                let moment = deadline_after(rt, limit).expect(rt, "a moment");
+                of_send(sender.send_deadline(message, moment))
+            }
+            Way::Waited => of_send(sender.send(message).wait()),
+            Way::WaitedTimed => of_send(sender.send(message).wait_timeout(limit)),
+            Way::WaitedDue => {
+                let moment = deadline_after(rt, limit).expect(rt, "a moment");
+                of_send(sender.send(message).wait_deadline(moment))
+            }
+            Way::Awaited | Way::Streamed => {
+                of_send(block_on(rt, sender.send(message)).expect(rt, "an executor"))
+            }
+            Way::GivenUp => once(Waiting::send(rt, sender, message), Some(message)),
         }
     }
 
     /// Receives a message. One that has a limit waits so long for it.
-    pub fn receive<R: ChannelRuntime>(
+    pub fn receive<R: Runtime>(
         self,
         rt: &R,
         receiver: &Receiver<usize, R>,
@@ -96,36 +102,29 @@ impl Way {
             Way::AtOnce => of_try_recv(receiver.try_recv()),
             Way::Blocking => of_recv(receiver.recv_blocking()),
             Way::Timed => of_timed_recv(receiver.recv_timeout(limit)),
-            Way::Due => match moment(rt, limit) {
-                Some(moment) => of_timed_recv(receiver.recv_deadline(moment)),
-                None => Answer::Failed,
-            },
-            Way::Awaited => match block_on(rt, receiver.recv()) {
-                Ok(answer) => of_recv(answer),
-                Err(_) => Answer::Failed,
-            },
-            Way::Streamed => first_of(rt, receiver),
+            Way::Due => {
+                let moment = deadline_after(rt, limit).expect(rt, "a moment");
+                of_timed_recv(receiver.recv_deadline(moment))
+            }
+            Way::Waited => of_recv(receiver.recv().wait()),
+            Way::WaitedTimed => of_recv_in_time(receiver.recv().wait_timeout(limit)),
+            Way::WaitedDue => {
+                let moment = deadline_after(rt, limit).expect(rt, "a moment");
+                of_recv_in_time(receiver.recv().wait_deadline(moment))
+            }
+            Way::Awaited => of_recv(block_on(rt, receiver.recv()).expect(rt, "an executor")),
+            Way::Streamed => {
+                let mut stream = receiver.clone().expect(rt, "a receiver");
+                of_item(block_on(rt, stream.next()).expect(rt, "an executor"))
+            }
             Way::Iterated => of_item(receiver.iter().next()),
-            Way::GivenUp => match Waiting::receive(rt, receiver) {
-                Some(waiting) => once(waiting, None),
-                None => Answer::Failed,
-            },
+            Way::GivenUp => once(Waiting::receive(rt, receiver), None),
         }
     }
 }
 
-fn first_of<R: ChannelRuntime>(rt: &R, receiver: &Receiver<usize, R>) -> Answer {
-    let Ok(mut stream) = receiver.clone() else {
-        return Answer::Failed;
-    };
-    match block_on(rt, stream.next()) {
-        Ok(item) => of_item(item),
-        Err(_) => Answer::Failed,
-    }
-}
-
 // Between the poll and the drop others may tell it.
-fn once<R: ChannelRuntime>(waiting: Waiting<'_, R>, message: Option<usize>) -> Answer {
+fn once<R: Runtime>(waiting: Waiting<'_, R>, message: Option<usize>) -> Answer {
     let mut waiting = waiting;
     match waiting.poll() {
         Answer::Waits => {
@@ -137,7 +136,7 @@ fn once<R: ChannelRuntime>(waiting: Waiting<'_, R>, message: Option<usize>) -> A
     }
 }
 
-pub(crate) fn of_send(answer: Result<(), SendError<usize>>) -> Answer {
+pub fn of_send(answer: Result<(), SendError<usize>>) -> Answer {
     of_force(answer.map(|()| None))
 }
 
@@ -162,7 +161,7 @@ fn of_try_recv(answer: Result<usize, TryRecvError>) -> Answer {
     }
 }
 
-pub(crate) fn of_recv(answer: Result<usize, RecvError>) -> Answer {
+pub fn of_recv(answer: Result<usize, RecvError>) -> Answer {
     match answer {
         Ok(message) => Answer::Received(message),
         Err(RecvError::Closed) => Answer::Closed(None),
@@ -170,7 +169,7 @@ pub(crate) fn of_recv(answer: Result<usize, RecvError>) -> Answer {
     }
 }
 
-pub(crate) fn of_item(item: Option<Result<usize, LockError>>) -> Answer {
+pub fn of_item(item: Option<Result<usize, LockError>>) -> Answer {
     match item {
         Some(Ok(message)) => Answer::Received(message),
         Some(Err(_)) => Answer::Failed,
@@ -184,5 +183,14 @@ fn of_timed_recv(answer: Result<usize, RecvTimeoutError>) -> Answer {
         Err(RecvTimeoutError::TimedOut) => Answer::Late(None),
         Err(RecvTimeoutError::Closed) => Answer::Closed(None),
         Err(RecvTimeoutError::WaitFailed(_)) => Answer::Failed,
+    }
+}
+
+/// What a receive answered that waited in time, or was late.
+pub fn of_recv_in_time(answer: Result<Option<usize>, RecvError>) -> Answer {
+    match answer {
+        Ok(Some(message)) => Answer::Received(message),
+        Ok(None) => Answer::Late(None),
+        Err(error) => of_recv(Err(error)),
     }
 }

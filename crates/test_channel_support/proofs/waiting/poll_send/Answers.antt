@@ -1,5 +1,0 @@
-use Rattle.test_channel_support.proofs.Carrying.{carried}
-use Rattle.test_channel_support.proofs.waiting.poll_send.Goals as goal
-
-pub poll-requires : goal.poll-requires
-poll-requires g c = carried _ c.args.unsent.carries
