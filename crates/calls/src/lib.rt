@@ -1,5 +1,5 @@
 //! Calls on queues and events and their answers, as text: one language for the worked rows, for tables of tests, and for
-//! the programs `replies` and `fuzz`.
+//! the programs `vectors` and `fuzz`.
 //!
 //! A row is a title, a head and lines, up to an empty line:
 //!

@@ -1,5 +1,5 @@
-//! Schedules of the worlds of [`event_worlds`] as text: one language for the worked rows ([`WORLDS`]), for the tables of
-//! `test_worlds`, and for the program `explore`.
+//! Schedules of the worlds of [`event_worlds`] as text: one language for the worked rows ([`WORLDS`]), and for the program
+//! `explore` and the tables of its tests.
 //!
 //! A row is a title, a head and lines up to an empty line, as in [`calls`]:
 //!

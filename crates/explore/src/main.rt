@@ -73,6 +73,8 @@ mod all;
 mod lines;
 mod safe;
 mod table;
+#[cfg(test)]
+mod tests;
 
 use anyhow::Result;
 use std::io::{self, BufReader, BufWriter, Write};

@@ -3,7 +3,7 @@ use crate::rows::Rows;
 use crate::steps::random_steps;
 use anyhow::Result;
 use calls_events::Runtime;
-use random_calls::{Comparison, Request, Shown, Started, shorten};
+use calls_records::random::{Comparison, Request, Shown, Started, shorten};
 use std::io::Print;
 
 // How many lists that differ are printed.

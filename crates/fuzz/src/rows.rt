@@ -3,8 +3,8 @@ use crate::steps::{Listeners, Step};
 use anyhow::Result;
 use calls::{Answer, Difference as RowDifference, Interpreter, Queues, Reply, Row, Undisturbed};
 use calls_events::{Runtime, run_on_events};
+use calls_records::random::{Comparison, Difference, Kinds};
 use calls_records::run_on_records;
-use random_calls::{Comparison, Difference, Kinds};
 
 /// The names of the kinds of answers of events, and of a woken task.
 const KINDS: [&str; 13] = [

@@ -1,6 +1,6 @@
 //! Random calls, and their texts.
 use anyhow::Result;
-use random_calls::{RandomNumbers, listener_at, take_listener};
+use calls_records::random::{RandomNumbers, listener_at, take_listener};
 use std::alloc::Global;
 
 const STEPS: u32 = 50;

@@ -34,7 +34,8 @@ impl Condition<u64> for Withdrawal {
     ghost fails = { λ withdrawal balance. balance < withdrawal.amount };
 
     // Just the amount is taken off.
-    ghost gives = { λ withdrawal balance receipt rest. (receipt.before ≡ balance) × (receipt.left ≡ rest) × (receipt.left + withdrawal.amount ≡ receipt.before) };
+    ghost gives = { λ withdrawal balance receipt rest. (receipt.before ≡ balance)
+        × (receipt.left ≡ rest) × (receipt.left + withdrawal.amount ≡ receipt.before) };
 
     fn attempt(&self, balance: &mut u64) -> Option<Receipt> {
         let before = *balance;
@@ -91,7 +92,8 @@ pub fn withdraw_within<R: Wait + Clock>(
     amount: u64,
     limit: Duration,
 ) -> Result<Option<Receipt>, LockError>
-    ensures { IfOk result (λ answer. IfSome answer (λ receipt. receipt.left + amount ≡ receipt.before)) }
+    ensures { IfOk result (λ answer.
+        IfSome answer (λ receipt. receipt.left + amount ≡ receipt.before)) }
 {
     let mut withdrawal = balance.until(rt, alloc, Withdrawal { amount });
     withdrawal.wait_timeout(limit)

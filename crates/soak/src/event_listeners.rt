@@ -2,9 +2,9 @@
 use crate::counts::Counts;
 use crate::fault::Fault;
 use crate::step::{Listeners, Runtime, Step, has_room};
+use calls_records::random::{listener_at, take_listener};
 use event_listener::{Event, IntoNotification, IntoTagged, Listener, NeverInserted, WaitError};
 use futures::task::Poll;
-use random_calls::{listener_at, take_listener};
 use std::marker::PhantomData;
 use std::sync::Wait;
 use std::sync::atomic::{AtomicU64, Ordering};

@@ -37,7 +37,7 @@ mod watch;
 mod worker;
 
 use anyhow::Result;
-use random_calls::Request;
+use calls_records::random::Request;
 use std::process::ExitCode;
 use watch::{Ended, watch};
 

@@ -4,8 +4,8 @@ use crate::fault::Fault;
 use crate::step::{Listeners, Runtime, Step, has_room};
 use calls::Reply;
 use calls_records::HandCalls;
+use calls_records::random::{listener_at, take_listener};
 use event_listener::Hand;
-use random_calls::{listener_at, take_listener};
 use std::time::Duration;
 use test_support::any_waker;
 

@@ -2,7 +2,7 @@
 use crate::counts::Counts;
 use crate::fault::Fault;
 use crate::round::{SharedRuntime, run_round};
-use random_calls::{Request, Started};
+use calls_records::random::{Request, Started};
 use std::io::Print;
 use std::sync::atomic::{AtomicU64, Ordering};
 

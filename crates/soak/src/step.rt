@@ -1,7 +1,7 @@
 //! What a worker does next, and with what.
 use crate::counts::Counts;
 use crate::fault::Fault;
-use random_calls::RandomNumbers;
+use calls_records::random::RandomNumbers;
 use std::alloc::AllocGlobal;
 use std::random::RandomSource;
 use std::sync::Wait;

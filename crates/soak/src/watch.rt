@@ -2,7 +2,7 @@
 use crate::round::SharedRuntime;
 use crate::rounds::{Tally, run_rounds};
 use anyhow::{Result, bail};
-use random_calls::Request;
+use calls_records::random::Request;
 use std::alloc::Global;
 use std::io::Print;
 use std::sync::Arc;

@@ -5,8 +5,8 @@ use crate::fault::Fault;
 use crate::recorded_listeners::RecordedListeners;
 use crate::step::{Listeners, Runtime, random_step};
 use calls_records::HandCalls;
+use calls_records::random::RandomNumbers;
 use event_listener::{Event, Hand};
-use random_calls::RandomNumbers;
 use std::sync::atomic::AtomicU64;
 use test_support::ListenerKind;
 

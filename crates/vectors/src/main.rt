@@ -1,6 +1,9 @@
 //! Runs the worked rows, and prints `row N ok` or `row N differs` for each, in order of number; with the argument `-v`, the
 //! text of each before that. The status is 0 if none differs.
 //!
+//! With the argument `replies` it answers the lists of operations on its input instead, as the Rust crate does ([`replies`]).
+//! With `rows` and `replies` it does both, the rows first: so it runs in `make test` and in the gate.
+//!
 //! A row is a short list of calls, each with the answer that it must give, as text in the language of `calls`. It ends at
 //! the first line that answers otherwise, or for which there is no memory: then the row differs, and the standard error
 //! says which line that is, what was wanted and what came. On events each row is made twice, with each kind of listener.
@@ -15,8 +18,8 @@
 //!
 //! - Write its title, which says what it shows, its head and its lines into the text of its family: [`queue`], [`events`],
 //!   [`records`] or [`calls_worlds`]. No two rows have one number. `calls` has the calls and the subjects.
-//! - Add its line to `crates/vectors/stdout`, and its calls to the counts of [`refused`]. `make run` shows whether its
-//!   answers are right.
+//! - Add its line to the rows of `crates/vectors/stdout`, and its calls to the counts of [`refused`]. `make run` shows
+//!   whether its answers are right.
 //!
 //! A call that no row has made yet is a variant of `Call` in `calls`, with an arm where its subject makes calls. Another
 //! subject is a type with `calls::Subject`, and an arm of [`rows`].
@@ -31,13 +34,51 @@ mod queue;
 mod records;
 #[cfg(test)]
 mod refused;
+mod replies;
 mod rows;
 
+use anyhow::Result;
 use calls::Undisturbed;
 use print::print_rows;
 use rows::TEXTS;
+use std::alloc::AllocGlobal;
+use std::env::{self, Env};
+use std::io::{self, BufReader, BufWriter, Write};
 use std::process::ExitCode;
-use std::{env, io};
+
+// What the words of the command line ask for.
+#[derive(Clone, Copy)]
+struct Asked {
+    rows: bool,
+    texts: bool,
+    replies: bool,
+}
+
+fn read_words<R: Env + AllocGlobal>(rt: &R) -> Asked {
+    let (mut rows, mut texts, mut replies) = (false, false, false);
+    // Without memory for the words there is none for the rows either.
+    if let Ok(words) = env::args(rt) {
+        for word in words {
+            rows |= word.as_str() == "rows";
+            texts |= word.as_str() == "-v";
+            replies |= word.as_str() == "replies";
+        }
+    }
+    Asked {
+        rows: rows || !replies,
+        texts,
+        replies,
+    }
+}
+
+fn answer_lists<R: Input + Print + AllocGlobal>(rt: &R) -> Result<()> {
+    let alloc = rt.alloc();
+    let input = BufReader::new(alloc, rt.reader())?;
+    let mut output = BufWriter::new(alloc, io::writer(rt))?;
+    replies::answer_all(alloc, input, &mut output)?;
+    output.flush()?;
+    Ok(())
+}
 
 // The status of the program, by whether no row differs. Where a line could not be printed, that goes to the standard
 // error.
@@ -55,12 +96,15 @@ fn status<R: Eprint>(rt: &R, none_differs: io::Result<bool>) -> ExitCode
     }
 }
 
-fn main(rt: HostRuntime) -> ExitCode {
-    // Without memory for the words of the command line there is none for the rows either.
-    let with_texts = match env::args(&rt) {
-        Ok(mut words) => words.any(|word| word.as_str() == "-v"),
-        Err(_) => false,
-    };
-    let none_differs = print_rows(&rt, TEXTS.as_slice(), with_texts, &mut Undisturbed);
-    status(&rt, none_differs)
+fn main(rt: HostRuntime) -> Result<ExitCode> {
+    let asked = read_words(&rt);
+    let mut ends = ExitCode::SUCCESS;
+    if asked.rows {
+        let none_differs = print_rows(&rt, TEXTS.as_slice(), asked.texts, &mut Undisturbed);
+        ends = status(&rt, none_differs);
+    }
+    if asked.replies {
+        answer_lists(&rt)?;
+    }
+    Ok(ends)
 }

@@ -1,5 +1,5 @@
 //! Runs the rows.
-use crate::tables::TABLES;
+use crate::tests::tables::TABLES;
 use calls::{Difference, Row, Undisturbed};
 use calls_worlds::{WORLDS, run_on_worlds};
 use std::alloc::AllocGlobal;

@@ -1,5 +1,5 @@
 //! Rows that are wrong, each in a way that has to be found, and where.
-use crate::texts::difference;
+use crate::tests::texts::difference;
 use calls::Row;
 use std::alloc::AllocGlobal;
 use std::process::Abort;

@@ -2,8 +2,6 @@
 //! gives the same ones again; listeners by a random place; lists of calls that are made on two things, and how a list
 //! that shows a difference is made shorter; which kinds of answers came up; and what the command line asks for,
 //! `seed SEED times N` or `seed SEED seconds N`.
-#![tactic(auto)]
-
 mod comparison;
 mod kinds;
 mod place;
