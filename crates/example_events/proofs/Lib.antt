@@ -1,2 +1,3 @@
+mod AttemptLemmas
 mod HeardLemmas
 mod TurnstileLemmas

@@ -1,4 +1,5 @@
-//! Short callers of `event_listener` and of `event_queue`, proved, and tested in `test_examples`. Pages quote them.
+//! Short callers of `event_listener`, `event_queue` and `event_until`, proved, and tested in `test_examples`, those of the
+//! last in `test_waits`. Pages quote them.
 //!
 //! - [`queue`]: lines of visitors over a queue as a plain value, and under a lock.
 //! - [`flag`]: a flag that threads wait for: look, listen, look again, wait; set, then notify all; a listener for
@@ -20,6 +21,7 @@
 //! - [`race`]: the thread of the first hand sets such a flag, and those of all others wait for it. Its record has
 //!   entries of these hands alone, and of none.
 //! - [`record_table`]: a record as a table of hand, call and reply.
+//! - [`until`]: over `event_until`, a gate, the latest value, and a baton.
 //!
 //! Only tested: which listener gets which tag; that setting a flag notifies all who listen; that waits end, and a
 //! second wait has the deadline of the first; that a flag is seen which is set between the first look and `listen`, and
@@ -41,3 +43,4 @@ pub mod recorded_flag;
 pub mod relayed;
 pub mod tagged;
 pub mod timed;
+pub mod until;

@@ -87,7 +87,8 @@ impl RecordedFlag {
     /// Ends the flag, and gives the record of its event.
     pub fn close(self, hands: Vec<Hand<()>>) -> Result<Record<()>, CloseError>
         requires { All (λ hand. Owns self hand) hands.items }
-        ensures notes { IfOk result (λ entries. IsTrue (are_notes_of_all ⟦<() as PartialEq>⟧.eq entries hands.items)) }
+        ensures notes { IfOk result (λ entries.
+            IsTrue (are_notes_of_all ⟦<() as PartialEq>⟧.eq entries hands.items)) }
         ensures hands { IfOk result (λ entries. IsTrue (are_hands_below self.hands entries)) }
     {
         let RecordedFlag { is_set: _, set } = self;

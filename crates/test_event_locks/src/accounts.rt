@@ -44,7 +44,8 @@ impl Condition<u64> for Withdrawal {
 
     ghost fails = { λ withdrawal balance. balance < withdrawal.amount };
 
-    ghost gives = { λ withdrawal balance left rest. (left ≡ rest) × (rest + withdrawal.amount ≡ balance) };
+    ghost gives = { λ withdrawal balance left rest. (left ≡ rest)
+        × (rest + withdrawal.amount ≡ balance) };
 
     fn attempt(&self, balance: &mut u64) -> Option<u64> {
         let left = balance.checked_sub(self.amount)?;

@@ -1,5 +1,5 @@
 //! Threads that race, for two seconds each time.
-use crate::support::{Host, check, for_two_seconds, new_id, new_task};
+use crate::support::{Host, check, new_id, new_task};
 use event_listener::{RecordedCall, RecordedReply, RegisterResult};
 use example_events::desk::Desk;
 use example_events::flag::Flag;
@@ -9,6 +9,7 @@ use example_locks::{count, count_with_permits};
 use futures::test::MockTask;
 use std::sync::atomic::{AtomicBool, Ordering};
 use std::thread;
+use test_support::{for_two_seconds, spin_until};
 
 // Worked row 21, under a lock and with three permits.
 #[test]
@@ -17,8 +18,9 @@ fn ten_threads_count_to_ten(rt: HostRuntime) {
     let by_permit = |n, permits| count_with_permits(rt, rt.alloc(), new_id(&rt), n, permits);
     check(&rt, "no threads, a lock", by_lock(0), Ok(0));
     check(&rt, "no threads, no permits", by_permit(0, 0), Ok(0));
-    for_two_seconds(&rt, || check(&rt, "a lock", by_lock(10), Ok(10)));
-    for_two_seconds(&rt, || check(&rt, "permits", by_permit(10, 3), Ok(10)));
+    for_two_seconds(&rt, || check(&rt, "a lock", by_lock(10), Ok(10))).expect(&rt, "the time");
+    let raced = for_two_seconds(&rt, || check(&rt, "permits", by_permit(10, 3), Ok(10)));
+    raced.expect(&rt, "the time");
 }
 
 // Whichever comes first, the wait ends and leaves no listener.
@@ -34,17 +36,8 @@ fn a_thread_waits_until_another_one_sets_the_flag(rt: HostRuntime) {
         check(&rt, "listeners", flag.total_listeners(&rt), 0);
         let waited = wait_for_setter(rt, rt.alloc(), new_id(&rt));
         check(&rt, "the program", waited, Ok(()));
-    });
-}
-
-fn spin_until<F: Fn() -> bool, R: Host>(rt: &R, holds: F)
-    requires { F.IsAlwaysCallable holds }
-{
-    for _ in rt.forever() {
-        if holds() {
-            break;
-        }
-    }
+    })
+    .expect(&rt, "the time");
 }
 
 // Another thread leaves the seat. The one who waits tries as soon as its task is woken, and needs no lock for that.
@@ -72,7 +65,8 @@ fn who_is_woken_sits<R: Host>(rt: &R, desk: &Desk, task: &MockTask) {
 #[test]
 fn who_is_woken_finds_the_seat_free(rt: HostRuntime) {
     let (desk, task) = (Desk::new(new_id(&rt)), new_task(&rt));
-    for_two_seconds(&rt, || who_is_woken_sits(&rt, &desk, &task));
+    let raced = for_two_seconds(&rt, || who_is_woken_sits(&rt, &desk, &task));
+    raced.expect(&rt, "the time");
 }
 
 // The record of a race has one notification, which is that of the first hand. Each who listened took it, or was dropped.
@@ -92,5 +86,5 @@ fn is_recorded_whole<R: Host>(rt: &R) {
 
 #[test]
 fn a_race_is_recorded_whole(rt: HostRuntime) {
-    for_two_seconds(&rt, || is_recorded_whole(&rt));
+    for_two_seconds(&rt, || is_recorded_whole(&rt)).expect(&rt, "the time");
 }

@@ -5,7 +5,7 @@ use std::fmt::{Debug, Display};
 use std::process::Abort;
 use std::sync::Wait;
 use std::thread::Threads;
-use std::time::{Clock, Duration, Instant};
+use std::time::{Clock, Instant};
 use test_support::Runtime;
 
 /// What a test asks of its runtime value that starts threads.
@@ -53,17 +53,4 @@ pub fn is_woken<R: Abort>(rt: &R, task: &MockTask, expected: bool) {
 /// The present moment.
 pub fn now<R: Abort + Clock>(rt: &R) -> Instant {
     Instant::now(rt).expect(rt, "the time")
-}
-
-/// Does this again and again, for two seconds.
-pub fn for_two_seconds<R: Abort + Wait + Clock, F: Fn()>(rt: &R, once: F)
-    requires { F.IsAlwaysCallable once }
-{
-    let end = now(rt).checked_add(Duration::from_secs(2));
-    for _ in rt.forever() {
-        once();
-        if Some(now(rt)) >= end {
-            break;
-        }
-    }
 }

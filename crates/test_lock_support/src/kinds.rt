@@ -32,8 +32,10 @@ pub trait Kind: Sync {
     /// What keeps those waiting that come. Dropping it ends that.
     type Held: Drop;
 
-    /// To how many it is granted.
-    fn sharing(&self) -> Sharing;
+    /// To how many it is granted. As written here, to one.
+    fn sharing(&self) -> Sharing {
+        Sharing::One
+    }
 
     /// Takes the lock, if it is free, so that those wait that come.
     fn hold(&self) -> Self::Held;
@@ -95,10 +97,6 @@ impl<'a, R: Wait + Clock + Sync> Kind for Of<'a, Semaphore, R> {
 
     type Held = Option<SemaphoreGuard<'a, R>>;
 
-    fn sharing(&self) -> Sharing {
-        Sharing::One
-    }
-
     fn hold(&self) -> Option<SemaphoreGuard<'a, R>> {
         self.lock.try_acquire(self.rt)
     }
@@ -116,10 +114,6 @@ impl<'a, R: Wait + Clock + Clone + Sync> Kind for Of<'a, Arc<Semaphore, Global>,
     type Waits = AcquireArc<R>;
 
     type Held = Result<Option<SemaphoreGuardArc<R>>, AllocError>;
-
-    fn sharing(&self) -> Sharing {
-        Sharing::One
-    }
 
     fn hold(&self) -> Result<Option<SemaphoreGuardArc<R>>, AllocError> {
         Semaphore::try_acquire_arc(self.lock, self.rt.clone()?)
@@ -139,10 +133,6 @@ impl<'a, R: Wait + Clock + Sync> Kind for Of<'a, Mutex<u64>, R> {
 
     type Held = Option<MutexGuard<'a, u64, R>>;
 
-    fn sharing(&self) -> Sharing {
-        Sharing::One
-    }
-
     fn hold(&self) -> Option<MutexGuard<'a, u64, R>> {
         self.lock.try_lock(self.rt)
     }
@@ -160,10 +150,6 @@ impl<'a, R: Wait + Clock + Clone + Sync> Kind for Of<'a, Arc<Mutex<u64>, Global>
     type Waits = LockArc<u64, R>;
 
     type Held = Result<Option<MutexGuardArc<u64, R>>, AllocError>;
-
-    fn sharing(&self) -> Sharing {
-        Sharing::One
-    }
 
     fn hold(&self) -> Result<Option<MutexGuardArc<u64, R>>, AllocError> {
         Mutex::try_lock_arc(self.lock, self.rt.clone()?)
@@ -219,10 +205,6 @@ impl<'a, R: Wait + Clock + Sync> Kind for Of<'a, RwLock<u64>, R, Write> {
 
     type Held = Option<RwLockReadGuard<'a, u64, R>>;
 
-    fn sharing(&self) -> Sharing {
-        Sharing::One
-    }
-
     fn hold(&self) -> Option<RwLockReadGuard<'a, u64, R>> {
         self.lock.try_read(self.rt)
     }
@@ -236,10 +218,6 @@ impl<'a, R: Wait + Clock + Clone + Sync> Kind for Of<'a, Arc<RwLock<u64>, Global
     type Waits = WriteArc<u64, R>;
 
     type Held = Result<Option<RwLockReadGuardArc<u64, R>>, AllocError>;
-
-    fn sharing(&self) -> Sharing {
-        Sharing::One
-    }
 
     fn hold(&self) -> Result<Option<RwLockReadGuardArc<u64, R>>, AllocError> {
         RwLock::try_read_arc(self.lock, self.rt.clone()?)
@@ -284,10 +262,6 @@ impl<'a, R: Wait + Clock + Sync> Kind for Of<'a, OnceCell<u64>, R> {
     type Waits = Claiming<'a, u64, R>;
 
     type Held = Result<Option<Claim<'a, u64, R>>, LockError>;
-
-    fn sharing(&self) -> Sharing {
-        Sharing::One
-    }
 
     fn hold(&self) -> Result<Option<Claim<'a, u64, R>>, LockError> {
         let claiming = self.lock.claim(self.rt, self.alloc);

@@ -33,15 +33,15 @@ impl<'a, R: Wait + Clock> Waits for Acquire<'a, R> {
 
     fn can_be_polled(&self) {}
 
-    fn wait(self) -> Result<SemaphoreGuard<'a, R>, LockError> {
+    fn wait(self) -> Result<Self::Granted, LockError> {
         self.wait()
     }
 
-    fn wait_timeout(self, timeout: Duration) -> Result<Option<SemaphoreGuard<'a, R>>, LockError> {
+    fn wait_timeout(self, timeout: Duration) -> Result<Option<Self::Granted>, LockError> {
         self.wait_timeout(timeout)
     }
 
-    fn wait_deadline(self, deadline: Instant) -> Result<Option<SemaphoreGuard<'a, R>>, LockError> {
+    fn wait_deadline(self, deadline: Instant) -> Result<Option<Self::Granted>, LockError> {
         self.wait_deadline(deadline)
     }
 }
@@ -51,15 +51,15 @@ impl<R: Wait + Clock + Drop> Waits for AcquireArc<R> {
 
     fn can_be_polled(&self) {}
 
-    fn wait(self) -> Result<SemaphoreGuardArc<R>, LockError> {
+    fn wait(self) -> Result<Self::Granted, LockError> {
         self.wait()
     }
 
-    fn wait_timeout(self, timeout: Duration) -> Result<Option<SemaphoreGuardArc<R>>, LockError> {
+    fn wait_timeout(self, timeout: Duration) -> Result<Option<Self::Granted>, LockError> {
         self.wait_timeout(timeout)
     }
 
-    fn wait_deadline(self, deadline: Instant) -> Result<Option<SemaphoreGuardArc<R>>, LockError> {
+    fn wait_deadline(self, deadline: Instant) -> Result<Option<Self::Granted>, LockError> {
         self.wait_deadline(deadline)
     }
 }
@@ -69,15 +69,15 @@ impl<'a, T: Drop, R: Wait + Clock> Waits for Lock<'a, T, R> {
 
     fn can_be_polled(&self) {}
 
-    fn wait(self) -> Result<MutexGuard<'a, T, R>, LockError> {
+    fn wait(self) -> Result<Self::Granted, LockError> {
         self.wait()
     }
 
-    fn wait_timeout(self, timeout: Duration) -> Result<Option<MutexGuard<'a, T, R>>, LockError> {
+    fn wait_timeout(self, timeout: Duration) -> Result<Option<Self::Granted>, LockError> {
         self.wait_timeout(timeout)
     }
 
-    fn wait_deadline(self, deadline: Instant) -> Result<Option<MutexGuard<'a, T, R>>, LockError> {
+    fn wait_deadline(self, deadline: Instant) -> Result<Option<Self::Granted>, LockError> {
         self.wait_deadline(deadline)
     }
 }
@@ -87,15 +87,15 @@ impl<T: Drop, R: Wait + Clock + Drop> Waits for LockArc<T, R> {
 
     fn can_be_polled(&self) {}
 
-    fn wait(self) -> Result<MutexGuardArc<T, R>, LockError> {
+    fn wait(self) -> Result<Self::Granted, LockError> {
         self.wait()
     }
 
-    fn wait_timeout(self, timeout: Duration) -> Result<Option<MutexGuardArc<T, R>>, LockError> {
+    fn wait_timeout(self, timeout: Duration) -> Result<Option<Self::Granted>, LockError> {
         self.wait_timeout(timeout)
     }
 
-    fn wait_deadline(self, deadline: Instant) -> Result<Option<MutexGuardArc<T, R>>, LockError> {
+    fn wait_deadline(self, deadline: Instant) -> Result<Option<Self::Granted>, LockError> {
         self.wait_deadline(deadline)
     }
 }
@@ -105,21 +105,15 @@ impl<'a, T, R: Wait + Clock> Waits for Read<'a, T, R> {
 
     fn can_be_polled(&self) {}
 
-    fn wait(self) -> Result<RwLockReadGuard<'a, T, R>, LockError> {
+    fn wait(self) -> Result<Self::Granted, LockError> {
         self.wait()
     }
 
-    fn wait_timeout(
-        self,
-        timeout: Duration,
-    ) -> Result<Option<RwLockReadGuard<'a, T, R>>, LockError> {
+    fn wait_timeout(self, timeout: Duration) -> Result<Option<Self::Granted>, LockError> {
         self.wait_timeout(timeout)
     }
 
-    fn wait_deadline(
-        self,
-        deadline: Instant,
-    ) -> Result<Option<RwLockReadGuard<'a, T, R>>, LockError> {
+    fn wait_deadline(self, deadline: Instant) -> Result<Option<Self::Granted>, LockError> {
         self.wait_deadline(deadline)
     }
 }
@@ -129,21 +123,15 @@ impl<T: Drop, R: Wait + Clock + Drop> Waits for ReadArc<T, R> {
 
     fn can_be_polled(&self) {}
 
-    fn wait(self) -> Result<RwLockReadGuardArc<T, R>, LockError> {
+    fn wait(self) -> Result<Self::Granted, LockError> {
         self.wait()
     }
 
-    fn wait_timeout(
-        self,
-        timeout: Duration,
-    ) -> Result<Option<RwLockReadGuardArc<T, R>>, LockError> {
+    fn wait_timeout(self, timeout: Duration) -> Result<Option<Self::Granted>, LockError> {
         self.wait_timeout(timeout)
     }
 
-    fn wait_deadline(
-        self,
-        deadline: Instant,
-    ) -> Result<Option<RwLockReadGuardArc<T, R>>, LockError> {
+    fn wait_deadline(self, deadline: Instant) -> Result<Option<Self::Granted>, LockError> {
         self.wait_deadline(deadline)
     }
 }
@@ -153,21 +141,15 @@ impl<'a, T, R: Wait + Clock> Waits for Write<'a, T, R> {
 
     fn can_be_polled(&self) {}
 
-    fn wait(self) -> Result<RwLockWriteGuard<'a, T, R>, LockError> {
+    fn wait(self) -> Result<Self::Granted, LockError> {
         self.wait()
     }
 
-    fn wait_timeout(
-        self,
-        timeout: Duration,
-    ) -> Result<Option<RwLockWriteGuard<'a, T, R>>, LockError> {
+    fn wait_timeout(self, timeout: Duration) -> Result<Option<Self::Granted>, LockError> {
         self.wait_timeout(timeout)
     }
 
-    fn wait_deadline(
-        self,
-        deadline: Instant,
-    ) -> Result<Option<RwLockWriteGuard<'a, T, R>>, LockError> {
+    fn wait_deadline(self, deadline: Instant) -> Result<Option<Self::Granted>, LockError> {
         self.wait_deadline(deadline)
     }
 }
@@ -177,21 +159,15 @@ impl<T: Drop, R: Wait + Clock + Drop> Waits for WriteArc<T, R> {
 
     fn can_be_polled(&self) {}
 
-    fn wait(self) -> Result<RwLockWriteGuardArc<T, R>, LockError> {
+    fn wait(self) -> Result<Self::Granted, LockError> {
         self.wait()
     }
 
-    fn wait_timeout(
-        self,
-        timeout: Duration,
-    ) -> Result<Option<RwLockWriteGuardArc<T, R>>, LockError> {
+    fn wait_timeout(self, timeout: Duration) -> Result<Option<Self::Granted>, LockError> {
         self.wait_timeout(timeout)
     }
 
-    fn wait_deadline(
-        self,
-        deadline: Instant,
-    ) -> Result<Option<RwLockWriteGuardArc<T, R>>, LockError> {
+    fn wait_deadline(self, deadline: Instant) -> Result<Option<Self::Granted>, LockError> {
         self.wait_deadline(deadline)
     }
 }
@@ -201,15 +177,15 @@ impl<R: Wait + Clock> Waits for BarrierWait<'_, R> {
 
     fn can_be_polled(&self) {}
 
-    fn wait(self) -> Result<BarrierWaitResult, LockError> {
+    fn wait(self) -> Result<Self::Granted, LockError> {
         self.wait()
     }
 
-    fn wait_timeout(self, timeout: Duration) -> Result<Option<BarrierWaitResult>, LockError> {
+    fn wait_timeout(self, timeout: Duration) -> Result<Option<Self::Granted>, LockError> {
         self.wait_timeout(timeout)
     }
 
-    fn wait_deadline(self, deadline: Instant) -> Result<Option<BarrierWaitResult>, LockError> {
+    fn wait_deadline(self, deadline: Instant) -> Result<Option<Self::Granted>, LockError> {
         self.wait_deadline(deadline)
     }
 }
@@ -219,15 +195,15 @@ impl<'a, T, R: Wait + Clock> Waits for Claiming<'a, T, R> {
 
     fn can_be_polled(&self) {}
 
-    fn wait(self) -> Result<Claim<'a, T, R>, LockError> {
+    fn wait(self) -> Result<Self::Granted, LockError> {
         self.wait()
     }
 
-    fn wait_timeout(self, timeout: Duration) -> Result<Option<Claim<'a, T, R>>, LockError> {
+    fn wait_timeout(self, timeout: Duration) -> Result<Option<Self::Granted>, LockError> {
         self.wait_timeout(timeout)
     }
 
-    fn wait_deadline(self, deadline: Instant) -> Result<Option<Claim<'a, T, R>>, LockError> {
+    fn wait_deadline(self, deadline: Instant) -> Result<Option<Self::Granted>, LockError> {
         self.wait_deadline(deadline)
     }
 }
@@ -237,15 +213,15 @@ impl<'a, T, R: Wait + Clock> Waits for Seeing<'a, T, R> {
 
     fn can_be_polled(&self) {}
 
-    fn wait(self) -> Result<&'a T, LockError> {
+    fn wait(self) -> Result<Self::Granted, LockError> {
         self.wait()
     }
 
-    fn wait_timeout(self, timeout: Duration) -> Result<Option<&'a T>, LockError> {
+    fn wait_timeout(self, timeout: Duration) -> Result<Option<Self::Granted>, LockError> {
         self.wait_timeout(timeout)
     }
 
-    fn wait_deadline(self, deadline: Instant) -> Result<Option<&'a T>, LockError> {
+    fn wait_deadline(self, deadline: Instant) -> Result<Option<Self::Granted>, LockError> {
         self.wait_deadline(deadline)
     }
 }

@@ -33,12 +33,8 @@ impl<R: Runtime> Case<R> for PassesOn {
 
     fn run<K: Kind>(&self, rt: &R, kind: &K) {
         let held = kind.hold();
-        passes_on(
-            rt,
-            kind.waits().expect(rt, "a share"),
-            kind.waits().expect(rt, "a share"),
-            held,
-        );
+        let first = kind.waits().expect(rt, "a share");
+        passes_on(rt, first, kind.waits().expect(rt, "a share"), held);
     }
 }
 

@@ -20,7 +20,14 @@ struct Tally {
 }
 
 impl Kept for Tally {
-    ghost rules = { record { fits = λ _. Unit {0}; stands = λ _ _. Unit {0}; quiet = λ _. Unit {0}; promised = λ _ _. Unit {0}; tells = λ _ _. Unit {0}; lends = λ _. ⊥ } };
+    ghost rules = { record {
+      fits = λ _. Unit {0};
+      stands = λ _ _. Unit {0};
+      quiet = λ _. Unit {0};
+      promised = λ _ _. Unit {0};
+      tells = λ _ _. Unit {0};
+      lends = λ _. ⊥;
+    } };
 
     fn number(&self, number: u64) -> u64 {
         number

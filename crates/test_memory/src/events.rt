@@ -6,13 +6,12 @@ use event_listener::{
 };
 use futures::task::Poll;
 use std::io;
-use std::sync::Wait;
 use std::sync::atomic::{AtomicBool, Ordering};
 use std::thread::{self, Threads};
 use std::time::{Clock, Duration, Instant};
 use test_support::{
     Borrowing, Case, ListenerKind, OwnClock, Sharing, Trial, Unshared, WithClock, answered,
-    any_waker, both, deadline_after, waker_of,
+    any_waker, both, deadline_after, spin_until, waker_of,
 };
 
 #[test]
@@ -177,15 +176,6 @@ impl<R: Clock> OwnClock for SeenClock<'_, R> {
     }
 }
 
-// Returns once the other thread has set the mark.
-fn await_mark<R: Wait>(rt: &R, mark: &AtomicBool) {
-    for _ in rt.forever() {
-        if mark.load(Ordering::SeqCst) {
-            return;
-        }
-    }
-}
-
 // Waits until the listener is told, and sets the mark.
 fn wait<L: Listener<u32> + Drop, R: SharedRuntime>(rt: &R, listener: L, is_over: &AtomicBool) {
     let deadline = deadline_after(rt, Duration::from_secs(20)).expect(rt, "a moment");
@@ -212,14 +202,14 @@ where
         rt,
         || wait(rt, listener, &is_over),
         || {
-            await_mark(rt, &clock.is_read);
+            spin_until(rt, || clock.is_read.load(Ordering::SeqCst));
             rt.sleep(Duration::from_millis(50));
             let hog = all_memory(rt);
             match told {
                 Some(told) => drop(told),
                 None => tell_one(rt, event),
             }
-            await_mark(rt, &is_over);
+            spin_until(rt, || is_over.load(Ordering::SeqCst));
             drop(hog);
         },
     );

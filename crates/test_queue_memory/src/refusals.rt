@@ -37,8 +37,7 @@ impl Calls for OnQueues<'_> {
     }
 }
 
-// Refused at least once are the first listener or reservation of each queue, the replies and the listeners of each run,
-// and the room of each sink.
+// Refused at least once are the first reservation of each queue, and the room of the sink.
 #[test]
 fn each_request_of_a_row_is_refused_in_its_turn(rt: HostRuntime) {
     let mut hook = Refusing::new(new_budget(&rt));
@@ -50,19 +49,13 @@ fn each_request_of_a_row_is_refused_in_its_turn(rt: HostRuntime) {
             panic!(&rt; "{}: {wrong:?}", row.title);
         }
     }
-    let least = [
-        (Request::Slot, 6),
-        (Request::SlotInRun, 5),
-        (Request::Replies, 5),
-        (Request::Sink, 3),
-    ];
-    for (request, least) in least {
+    for (request, least) in [(Request::Slot, 3), (Request::Sink, 1)] {
         let refusals = hook.refusals_of(request);
         check(&rt, (request, refusals), refusals >= least, true);
     }
 }
 
-// No call is left out: each has no memory, or may ask for some, as listeners, reservations, runs and sinks do.
+// No call is left out: each has no memory, or may ask for some, as reservations and sinks do.
 #[test]
 fn calls_that_take_no_memory_have_none(rt: HostRuntime) {
     let mut hook = Starving::new(new_budget(&rt));
@@ -79,7 +72,7 @@ fn calls_that_take_no_memory_have_none(rt: HostRuntime) {
     }
     let calls = hook.starved.wrapping_add(hook.served);
     check(&rt, "calls", calls, lines);
-    check(&rt, hook.starved, hook.starved >= 68, true);
+    check(&rt, hook.starved, hook.starved >= 38, true);
 }
 
 // A task that counts its drops.

@@ -8,6 +8,7 @@
 //!   read, [`NoClock`] can't be read, [`WithClock`] has an [`OwnClock`], which may do what the test wants done at a
 //!   reading, [`Unshared`] can't be cloned, and in [`Interrupted`] something happens when it is ([`InBetween`]): after
 //!   the first look of who listens, and before its listener is in the queue.
+//! - Threads: [`for_two_seconds`], as long as a race takes, and [`spin_until`].
 //!
 //! No clause says that anything is woken: the tests show it.
 #![tactic(auto)]
@@ -16,6 +17,7 @@ mod awaited;
 mod cases;
 mod clocks;
 mod interrupted;
+mod loops;
 mod runtimes;
 mod waits;
 mod wakers;
@@ -25,6 +27,7 @@ pub use calls_events::{Borrowing, ListenerKind, Sharing, waker_of};
 pub use cases::{Case, Trial, both};
 pub use clocks::{CountedClock, NoClock, OwnClock, WithClock};
 pub use interrupted::{InBetween, Interrupted};
+pub use loops::{for_two_seconds, spin_until};
 pub use runtimes::{Runtime, Unshared};
 pub use waits::{TIMED_WAITS, WaitCall, answered, deadline_after};
 pub use wakers::any_waker;

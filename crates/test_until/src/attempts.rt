@@ -6,68 +6,73 @@ use std::alloc::{AllocGlobal, Global};
 use std::cell::Cell;
 use std::sync::Wait;
 use std::time::{Clock, Duration};
-use test_support::{NoClock, deadline_after};
+use test_support::WaitCall::{self, Deadline, GreatestTimeout, Timeout, UntilTold};
+use test_support::{NoClock, Runtime, deadline_after};
+
+// A wait with this limit, by this clock, whose n-th attempt would succeed gives that output. It makes no more than three
+// attempts, with so many listeners at each, and leaves none.
+fn gives<R, C>(
+    rt: &R,
+    clock: &C,
+    n: usize,
+    (wait, limit): (WaitCall, Duration),
+    output: Option<usize>,
+    listeners: [usize; 3],
+)
+where
+    R: Runtime,
+    C: Wait + Clock + Clone,
+{
+    let (event, notes) = (Event::new(new_id(rt)), Notes::new());
+    let mut until = until_nth(rt, clock, &event, &notes, n);
+    let given = match wait {
+        Timeout => until.wait_timeout(limit),
+        Deadline => until.wait_deadline(deadline_after(rt, limit).expect(rt, "a deadline")),
+        UntilTold => until.wait().map(Some),
+        GreatestTimeout => until.wait_timeout(Duration::MAX),
+    };
+    check(rt, wait, given, Ok(output));
+    notes.check(rt, n.min(3), listeners);
+    check(rt, "listeners left", event.total_listeners(rt), 0);
+}
 
 #[test]
 fn the_first_attempt_needs_no_listener(rt: HostRuntime) {
-    let event = Event::new(new_id(&rt));
-    let notes = Notes::new();
-    let mut until = until_nth(&rt, &rt, &event, &notes, 1);
-    check(&rt, "the output", until.wait(), Ok(1));
-    notes.check(&rt, 1, [0, 9, 9]);
+    gives(&rt, &rt, 1, (UntilTold, Duration::ZERO), Some(1), [0, 9, 9]);
 }
 
 #[test]
 fn the_second_attempt_is_made_while_it_listens(rt: HostRuntime) {
-    let event = Event::new(new_id(&rt));
-    let notes = Notes::new();
-    let mut until = until_nth(&rt, &rt, &event, &notes, 2);
-    check(&rt, "the output", until.wait(), Ok(2));
-    notes.check(&rt, 2, [0, 1, 9]);
-    check(&rt, "listeners left", event.total_listeners(&rt), 0);
+    gives(&rt, &rt, 2, (UntilTold, Duration::ZERO), Some(2), [0, 1, 9]);
 }
 
 #[test]
 fn the_last_attempt_is_made_at_the_limit(rt: HostRuntime) {
-    let event = Event::new(new_id(&rt));
-    let notes = Notes::new();
-    let mut until = until_nth(&rt, &rt, &event, &notes, 3);
-    let output = until.wait_timeout(Duration::ZERO);
-    check(&rt, "the output", output, Ok(Some(3)));
-    notes.check(&rt, 3, [0, 1, 0]);
+    gives(&rt, &rt, 3, (Timeout, Duration::ZERO), Some(3), [0, 1, 0]);
 }
 
 #[test]
 fn three_attempts_fail_before_a_timeout(rt: HostRuntime) {
-    let event = Event::new(new_id(&rt));
-    let notes = Notes::new();
-    let mut until = until_nth(&rt, &rt, &event, &notes, 9);
-    let output = until.wait_timeout(Duration::from_millis(5));
-    check(&rt, "the output", output, Ok(None));
-    notes.check(&rt, 3, [0, 1, 0]);
+    let limit = Duration::from_millis(5);
+    gives(&rt, &rt, 9, (Timeout, limit), None, [0, 1, 0]);
 }
 
 #[test]
 fn three_attempts_fail_before_a_deadline(rt: HostRuntime) {
-    let event = Event::new(new_id(&rt));
-    let notes = Notes::new();
-    let mut until = until_nth(&rt, &rt, &event, &notes, 9);
-    let deadline = deadline_after(&rt, Duration::ZERO).expect(&rt, "a deadline");
-    let output = until.wait_deadline(deadline);
-    check(&rt, "the output", output, Ok(None));
-    notes.check(&rt, 3, [0, 1, 0]);
-    check(&rt, "listeners left", event.total_listeners(&rt), 0);
+    gives(&rt, &rt, 9, (Deadline, Duration::ZERO), None, [0, 1, 0]);
 }
 
 #[test]
 fn a_clock_that_cannot_be_read_is_past_the_deadline(rt: HostRuntime) {
-    let event = Event::new(new_id(&rt));
-    let notes = Notes::new();
     let blind = NoClock { rt: &rt };
-    let mut until = until_nth(&rt, &blind, &event, &notes, 9);
-    let output = until.wait_timeout(Duration::MAX);
-    check(&rt, "the output", output, Ok(None));
-    notes.check(&rt, 3, [0, 1, 0]);
+    gives(
+        &rt,
+        &blind,
+        9,
+        (GreatestTimeout, Duration::MAX),
+        None,
+        [0, 1, 0],
+    );
 }
 
 // An attempt whose second makes another one listen, tells the first listener, and succeeds.

@@ -1,7 +1,7 @@
 //! Clocks that notify when they are read, so that who waits is told at its deadline.
 use crate::support::{Notes, check, new_id, until_nth};
 use event_listener::Event;
-use example_until::Gate;
+use example_events::until::Gate;
 use std::cell::Cell;
 use std::io;
 use std::sync::Wait;

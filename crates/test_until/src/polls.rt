@@ -8,8 +8,7 @@ use test_support::{Runtime, deadline_after};
 
 #[test]
 fn a_poll_that_is_not_due_attempts_nothing(rt: HostRuntime) {
-    let event = Event::new(new_id(&rt));
-    let notes = Notes::new();
+    let (event, notes) = (Event::new(new_id(&rt)), Notes::new());
     let task = new_task(&rt);
     let mut until = until_nth(&rt, &rt, &event, &notes, 5);
     check(&rt, "the first", task.poll(&mut until), Poll::Pending);
@@ -24,10 +23,8 @@ fn a_poll_that_is_not_due_attempts_nothing(rt: HostRuntime) {
 
 #[test]
 fn a_poll_that_is_not_due_keeps_its_place(rt: HostRuntime) {
-    let event = Event::new(new_id(&rt));
-    let notes = Notes::new();
-    let first = new_task(&rt);
-    let second = new_task(&rt);
+    let (event, notes) = (Event::new(new_id(&rt)), Notes::new());
+    let (first, second) = (new_task(&rt), new_task(&rt));
     let mut one = until_nth(&rt, &rt, &event, &notes, 9);
     let mut other = until_nth(&rt, &rt, &event, &notes, 9);
     check(&rt, "the first", first.poll(&mut one), Poll::Pending);
@@ -40,8 +37,7 @@ fn a_poll_that_is_not_due_keeps_its_place(rt: HostRuntime) {
 
 #[test]
 fn who_is_told_and_fails_listens_anew(rt: HostRuntime) {
-    let event = Event::new(new_id(&rt));
-    let notes = Notes::new();
+    let (event, notes) = (Event::new(new_id(&rt)), Notes::new());
     let task = new_task(&rt);
     let mut until = until_nth(&rt, &rt, &event, &notes, 5);
     check(&rt, "the first", task.poll(&mut until), Poll::Pending);
@@ -119,17 +115,12 @@ fn who_is_told_and_then_blocks_passes_on(rt: HostRuntime) {
 
 #[test]
 fn who_is_not_told_and_dropped_wakes_nobody(rt: HostRuntime) {
-    let event = Event::new(new_id(&rt));
-    let notes = Notes::new();
+    let (event, notes) = (Event::new(new_id(&rt)), Notes::new());
     let task = new_task(&rt);
     let mut one = until_nth(&rt, &rt, &event, &notes, 9);
     let mut other = until_nth(&rt, &rt, &event, &notes, 9);
-    check(
-        &rt,
-        "the first",
-        new_task(&rt).poll(&mut one),
-        Poll::Pending,
-    );
+    let polled = new_task(&rt).poll(&mut one);
+    check(&rt, "the first", polled, Poll::Pending);
     check(&rt, "the second", task.poll(&mut other), Poll::Pending);
     drop(one);
     check_woken(&rt, &task, false);

@@ -1,6 +1,6 @@
-//! The gate, the watch and the baton of `example_until`, one call after another.
+//! The gate, the watch and the baton of `example_events`, one call after another.
 use crate::support::{check, check_woken, new_id, new_task};
-use example_until::{Baton, Gate, Version, Watch};
+use example_events::until::{Baton, Gate, Version, Watch};
 use futures::executor::block_on;
 use futures::task::Poll;
 use std::sync::Arc;
@@ -8,8 +8,7 @@ use std::sync::Arc;
 #[test]
 fn a_gate_lets_all_pass_once_it_is_open(rt: HostRuntime) {
     let gate = Gate::new(new_id(&rt));
-    let first = new_task(&rt);
-    let second = new_task(&rt);
+    let (first, second) = (new_task(&rt), new_task(&rt));
     let mut one = gate.pass(&rt, rt.alloc());
     let mut other = gate.pass(&rt, rt.alloc());
     check(&rt, "pending", first.poll(&mut one).is_pending(), true);
@@ -28,8 +27,7 @@ fn a_watch_gives_its_latest_value_to_all(rt: HostRuntime) {
     let initial = watch.wait_newer(&rt, rt.alloc(), 0);
     let (number, value) = (1, 'a');
     check(&rt, "the first", initial, Ok(Version { number, value }));
-    let first = new_task(&rt);
-    let second = new_task(&rt);
+    let (first, second) = (new_task(&rt), new_task(&rt));
     let mut one = watch.newer(&rt, rt.alloc(), 1);
     let mut other = watch.newer(&rt, rt.alloc(), 1);
     check(&rt, "pending", first.poll(&mut one), Poll::Pending);

@@ -1,4 +1,4 @@
-//! What the tests share: an attempt that notes what it sees, and the calls that have to succeed.
+//! What the tests of attempts share: an attempt that notes what it sees, and the calls that have to succeed.
 use event_listener::{Event, EventId, EventIds};
 use event_until::{Attempt, Until};
 use futures::test::MockTask;
@@ -12,12 +12,13 @@ use std::time::Clock;
 
 /// The answer is the expected one. Where it is not, the message has both, and what was asked. The assertion stands here
 /// once, in a generic function, and is proved once.
-pub fn check<V, R>(rt: &R, asked: &str, answer: V, expected: V)
+pub fn check<A, V, R>(rt: &R, asked: A, answer: V, expected: V)
 where
+    A: Debug + Drop,
     V: PartialEq + Debug + Drop,
     R: Abort,
 {
-    assert_eq!(rt; answer, expected, "{asked}");
+    assert_eq!(rt; answer, expected, "{asked:?}");
 }
 
 /// The first identity of a source.

@@ -3,17 +3,15 @@ ghost use Rattle.std.specs.Prelude.{◌≡◌};
 
 use crate::support::{check, new_id, new_task};
 use event_until::{Attempt, Until, UntilError};
-use example_until::{Baton, Gate, OwnedBaton, Watch};
+use example_events::until::{Baton, Gate, OwnedBaton, Watch};
 use futures::Future;
 use futures::executor::block_on;
 use futures::task::{Context, Poll};
 use futures::test::MockTask;
-use std::hint;
+use std::sync::Arc;
 use std::sync::atomic::{AtomicBool, AtomicUsize, Ordering};
-use std::sync::{Arc, Wait};
 use std::thread::{self, Threads};
-use std::time::Duration;
-use test_support::{Runtime, deadline_after};
+use test_support::{Runtime, for_two_seconds, spin_until};
 
 const THREADS: usize = 10;
 
@@ -98,40 +96,8 @@ fn one_at_a_time_has_the_baton_and_tasks_rest(rt: HostRuntime) {
     check(&rt, "at most so many polls", polls.max(most), most);
 }
 
-// Attempts as soon as the task is woken, and needs no lock of the event for that.
-fn succeeds_once_woken<A, R>(rt: &R, attempt: A, task: &MockTask, is_looking: &AtomicBool) -> bool
-where
-    A: Attempt<Output: Drop> + Drop,
-    R: Wait,
-{
-    let mut attempt = attempt;
-    is_looking.store(true, Ordering::SeqCst);
-    for _ in rt.forever() {
-        if task.is_woken() {
-            break;
-        }
-    }
-    attempt.attempt().is_some()
-}
-
-// Makes the change once the other thread looks.
-fn changes<C, R>(rt: &R, change: C, is_looking: &AtomicBool)
-where
-    C: FnOnce(),
-    R: Wait,
-    requires { C.pre change }
-{
-    for _ in rt.forever() {
-        if is_looking.load(Ordering::SeqCst) {
-            break;
-        }
-        hint::spin_loop();
-    }
-    change();
-}
-
-// A thread makes the change and notifies, and the task of one that waits is woken. Then an attempt succeeds, though others
-// may still have to be notified.
+// A thread makes the change and notifies, and the task of one that waits is woken. Then an attempt succeeds, which needs no
+// lock of the event, though others may still have to be notified.
 fn who_is_woken_succeeds<A, C, R>(rt: &R, task: &MockTask, attempt: A, change: C)
 where
     A: Attempt<Output: Drop> + Drop,
@@ -139,11 +105,18 @@ where
     R: Runtime + Threads + Sync,
     requires { C.pre change }
 {
-    let is_looking = AtomicBool::new(false);
+    let (mut attempt, is_looking) = (attempt, AtomicBool::new(false));
     let ((), has_succeeded) = thread::join(
         rt,
-        || changes(rt, change, &is_looking),
-        || succeeds_once_woken(rt, attempt, task, &is_looking),
+        || {
+            spin_until(rt, || is_looking.load(Ordering::SeqCst));
+            change();
+        },
+        || {
+            is_looking.store(true, Ordering::SeqCst);
+            spin_until(rt, || task.is_woken());
+            attempt.attempt().is_some()
+        },
     );
     check(rt, "whether it succeeds", has_succeeded, true);
 }
@@ -199,29 +172,17 @@ fn frees_and_then_wakes<R: Runtime + Threads + Sync + Send + Drop>(rt: &R) {
     who_is_woken_succeeds(rt, &task, take, || drop(held));
 }
 
-fn for_two_seconds<F: Fn(), R: Runtime>(rt: &R, once: F)
-    requires { F.IsAlwaysCallable once }
-{
-    let end = deadline_after(rt, Duration::from_secs(2)).expect(rt, "an end");
-    for _ in rt.forever() {
-        once();
-        if deadline_after(rt, Duration::ZERO).expect(rt, "the time") >= end {
-            break;
-        }
-    }
-}
-
 #[test]
 fn who_is_woken_finds_the_gate_open(rt: HostRuntime) {
-    for_two_seconds(&rt, || opens_and_then_wakes(&rt));
+    for_two_seconds(&rt, || opens_and_then_wakes(&rt)).expect(&rt, "the time");
 }
 
 #[test]
 fn who_is_woken_finds_a_newer_value(rt: HostRuntime) {
-    for_two_seconds(&rt, || replaces_and_then_wakes(&rt));
+    for_two_seconds(&rt, || replaces_and_then_wakes(&rt)).expect(&rt, "the time");
 }
 
 #[test]
 fn who_is_woken_finds_the_baton_free(rt: HostRuntime) {
-    for_two_seconds(&rt, || frees_and_then_wakes(&rt));
+    for_two_seconds(&rt, || frees_and_then_wakes(&rt)).expect(&rt, "the time");
 }

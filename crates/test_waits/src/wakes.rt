@@ -9,7 +9,7 @@ use std::sync::Wait;
 use std::sync::atomic::{AtomicBool, AtomicU32, Ordering};
 use std::thread;
 use std::time::{Clock, CpuClock, Duration};
-use test_support::{Borrowing, ListenerKind, Runtime, Sharing, WaitCall};
+use test_support::{Borrowing, ListenerKind, Runtime, Sharing, WaitCall, spin_until};
 
 // Long enough for other threads to park meanwhile. A thread that isn't parked yet needs nobody to wake it.
 fn a_while() -> Duration {
@@ -196,19 +196,11 @@ fn tell_again<S: Trial>(trial: &S, reached: &AtomicU32) {
     let end = end_of_race(rt);
     for round in 1..u32::MAX {
         let tag = if now(rt) < end { 7 } else { LAST };
-        for _ in rt.forever() {
-            if reached.load(Ordering::SeqCst) >= round {
-                break;
-            }
-        }
+        spin_until(rt, || reached.load(Ordering::SeqCst) >= round);
         for _ in 0..(round % 2) * (round % 1000) {
             reached.load(Ordering::SeqCst);
         }
-        for _ in rt.forever() {
-            if trial.stage().event.tell(rt, 1, tag) == 1 {
-                break;
-            }
-        }
+        spin_until(rt, || trial.stage().event.tell(rt, 1, tag) == 1);
         if tag == LAST {
             return;
         }

@@ -51,7 +51,8 @@ impl Turnstile {
 
     /// Puts a visitor at the end of the line, and gives its ticket.
     pub fn join(&mut self, visitor: u64) -> Result<Key, ListenError>
-        ensures last { IfOk result (λ ticket. self.new.waiting ≡ self.old.waiting ++ (ticket, Some visitor) ∷ []) }
+        ensures last { IfOk result (λ ticket.
+            self.new.waiting ≡ self.old.waiting ++ (ticket, Some visitor) ∷ []) }
         ensures told { self.new.told ≡ self.old.told }
         ensures refused { OnErr result (self.new ≡ self.old) }
     {
@@ -65,7 +66,8 @@ impl Turnstile {
     /// Room for the numbers is made first, so an error admits none.
     pub fn admit(&mut self, alloc: Global, n: usize) -> Result<Woken<u64>, AllocError>
         ensures numbers { IfOk result (λ admitted. admitted.tasks ≡ tasks_of n self.old) }
-        ensures told { OnOk result (length self.new.told ≡ length self.old.told + min n (length self.old.waiting)) }
+        ensures told { OnOk result (length self.new.told
+            ≡ length self.old.told + min n (length self.old.waiting)) }
         ensures order { order_of self.new ≡ order_of self.old }
         ensures refused { OnErr result (self.new ≡ self.old) }
     {

@@ -1,5 +1,5 @@
-use Rattle.example_until.proofs.AttemptLemmas.{IfOk-first}
-use Rattle.example_until.proofs.watch.Watch.wait_newer.Goals as goal
+use Rattle.example_events.proofs.AttemptLemmas.{IfOk-first}
+use Rattle.example_events.proofs.until.watch.Watch.wait_newer.Goals as goal
 
 pub returns : goal.returns
 returns g c =

@@ -94,7 +94,8 @@ impl<T: Copy, R: Wait> Attempt for Newer<'_, T, R> {
     ghost use Rattle.std.specs.Prelude.{◌≡◌, ◌<◌};
 
     // It gives a value with a number above the one seen before, which it has seen then.
-    ghost succeeds = { λ seen version now_seen. (seen < version.number) × (now_seen ≡ version.number) };
+    ghost succeeds = { λ seen version now_seen. (seen < version.number)
+        × (now_seen ≡ version.number) };
 
     fn attempt(&mut self) -> Option<Version<T>> {
         let latest = *self.watch.latest.lock(self.rt);
