@@ -1,5 +1,5 @@
-//! Four threads pay into one balance. Each waits a second at most for it, and prints nothing; the balance is printed at the
-//! end. An error is printed to standard error, with status 1.
+//! Four threads pay into one balance, for which each waits a second at most. The balance is printed once all have paid. An
+//! error is printed to standard error, with status 1.
 #![tactic(auto)]
 
 use anyhow::bail;
