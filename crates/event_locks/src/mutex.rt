@@ -2,7 +2,7 @@
 ghost use Rattle.std.specs.Prelude.{◌≡◌, ◌<◌, [], IfSome, true};
 ghost use Rattle.atomic_table.specs.Table.{rest};
 ghost use Rattle.event_wait.specs.Attempted.{Attempts, OnDone, OnRefused, OnUndone};
-ghost use Rattle.event_locks.specs.Losses.{LosesAsItCame};
+ghost use Rattle.event_locks.specs.Losses.{LosesOnceAtMost};
 ghost use Rattle.event_word.specs.Free.{ServesTheStarving, Stands};
 ghost use Rattle.event_word.specs.Word.{HasPlace, HasState, HasValue, HasValueToo};
 
@@ -129,18 +129,19 @@ impl<T: Drop> Mutex<T> {
         ensures value { OnDone result (λ _. HasValueToo held.new.seat.me) }
         ensures serves { HasState (λ n q. ServesTheStarving n q.line) held.new.seat.me }
         ensures done { OnDone result (λ _. request.new ≡ request.old) }
-        ensures waits { OnUndone result (LosesAsItCame request.old request.new) }
+        ensures waits { OnUndone result (LosesOnceAtMost request.old request.new) }
         ensures refused { OnRefused result (request.new ≡ request.old) }
         ensures exchanged { Attempts (X.exchanged exchange.now) on.old result on.new }
     {
-        let coming = self.word.come(held, &mut request.place, exchange, on);
+        let arrival = self.word.come(held, &mut request.place, exchange, on);
+        let coming = arrival.coming();
         if let Coming::Waits(key) = coming {
             return Attempted::Waits(key);
         }
         if self.word.take_value(rt, held, coming.is_notified()) {
             return Attempted::Done(());
         }
-        match self.word.lose(held, request, coming, exchange, on) {
+        match self.word.lose(held, request, arrival, exchange, on) {
             Ok(key) => Attempted::Waits(key),
             Err(error) => Attempted::Refused(error),
         }
@@ -155,7 +156,7 @@ impl<T: Drop> Serves<Competitor> for Mutex<T> {
     ghost succeeds = { λ mutex before lent after. (after ≡ before)
         × (lent.table_id ≡ mutex.word.table.shared.table_id) × HasValue lent.me };
 
-    ghost waits = { LosesAsItCame };
+    ghost waits = { LosesOnceAtMost };
 
     ghost leaves = { λ mutex before answer after. (after ≡ before)
         × IfSome answer (λ lent. (lent.table_id ≡ mutex.word.table.shared.table_id)
@@ -192,7 +193,7 @@ impl<T: Drop> Serves<Competitor> for Mutex<T> {
         request: &mut Competitor,
     ) -> Result<Option<Lent<T>>, LockError> {
         let (_, mut held) = self.word.take(rt);
-        let coming = self.word.leave(&mut held, &mut request.place);
+        let coming = self.word.leave(&mut held, &mut request.place).coming();
         let took = self.word.take_value(rt, &mut held, coming.is_notified());
         let lent = self.word.put_back(rt, held);
         Ok(if took { Some(lent) } else { None })

@@ -1,7 +1,7 @@
 //! A semaphore.
 ghost use Rattle.std.specs.Prelude.{◌≡◌, ◌<◌, true};
 ghost use Rattle.event_wait.specs.Attempted.{Attempts, OnDone, OnRefused, OnUndone};
-ghost use Rattle.event_locks.specs.Losses.{LosesAsItCame};
+ghost use Rattle.event_locks.specs.Losses.{LosesOnceAtMost};
 ghost use Rattle.event_word.specs.Free.{ServesTheStarving, Stands};
 ghost use Rattle.event_word.specs.Word.{HasState};
 
@@ -121,17 +121,18 @@ impl Semaphore {
         ensures seat { held.new.seat.table_id ≡ held.old.seat.table_id }
         ensures serves { HasState (λ n q. ServesTheStarving n q.line) held.new.seat.me }
         ensures done { OnDone result (λ _. request.new ≡ request.old) }
-        ensures waits { OnUndone result (LosesAsItCame request.old request.new) }
+        ensures waits { OnUndone result (LosesOnceAtMost request.old request.new) }
         ensures refused { OnRefused result (request.new ≡ request.old) }
         ensures exchanged { Attempts (X.exchanged exchange.now) on.old result on.new }
     {
-        let coming = self.word.come(held, &mut request.place, exchange, on);
+        let arrival = self.word.come(held, &mut request.place, exchange, on);
+        let coming = arrival.coming();
         if let Coming::Waits(key) = coming {
             return Attempted::Waits(key);
         }
         match self.word.take_permit(rt, held, coming.is_notified()) {
             Some(permit) => Attempted::Done(permit),
-            None => match self.word.lose(held, request, coming, exchange, on) {
+            None => match self.word.lose(held, request, arrival, exchange, on) {
                 Ok(key) => Attempted::Waits(key),
                 Err(error) => Attempted::Refused(error),
             },
@@ -146,7 +147,7 @@ impl Serves<Competitor> for Semaphore {
 
     ghost succeeds = { λ _ before _ after. after ≡ before };
 
-    ghost waits = { LosesAsItCame };
+    ghost waits = { LosesOnceAtMost };
 
     ghost leaves = { λ _ before _ after. after ≡ before };
 
@@ -176,7 +177,7 @@ impl Serves<Competitor> for Semaphore {
         request: &mut Competitor,
     ) -> Result<Option<Permit>, LockError> {
         let (_, mut held) = self.word.take(rt);
-        let coming = self.word.leave(&mut held, &mut request.place);
+        let coming = self.word.leave(&mut held, &mut request.place).coming();
         let permit = self.word.take_permit(rt, &mut held, coming.is_notified());
         drop(self.word.put_back(rt, held));
         Ok(permit)

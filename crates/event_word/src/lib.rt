@@ -19,7 +19,7 @@ mod word;
 
 pub use error::LockError;
 pub use line::competing::{Competing, Counted, OneValue, Permits, the_starving_find_one};
-pub use line::competitor::{Coming, Competitor};
+pub use line::competitor::{Arrival, Coming, Competitor};
 pub use line::counts::Counts;
 pub use line::{Line, Queued, turns_are_kept_along};
 pub use shares::counts::RwLockCounts;

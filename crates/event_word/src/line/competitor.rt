@@ -1,6 +1,7 @@
 //! One that competes.
 ghost use Rattle.std.specs.Prelude.{◌≡◌, ℕ, if◌then◌else◌};
 ghost use Rattle.event_word.specs.Competitor.{count_of};
+ghost use Rattle.event_word.specs.declared.line.competitor.Coming.{Coming};
 
 use event_queue::Key;
 use std::marker::Model;
@@ -45,6 +46,35 @@ impl Coming {
             Coming::Notified => true,
             Coming::Waits(_) => false,
         }
+    }
+}
+
+/// How one came to attempt, as its queue says. Nothing else makes one.
+#[derive(Drop)]
+pub struct Arrival {
+    coming: Coming,
+}
+
+impl Model for Arrival {
+    ghost Value = { Coming };
+
+    ghost view = { λ arrival. arrival.coming };
+}
+
+impl Arrival {
+    #[inline(always)]
+    pub(crate) fn new(coming: Coming) -> Self
+        ensures { result ≡ coming }
+    {
+        Arrival { coming }
+    }
+
+    /// How it came.
+    #[inline(always)]
+    pub fn coming(&self) -> Coming
+        ensures { result ≡ self.now }
+    {
+        self.coming
     }
 }
 

@@ -10,7 +10,7 @@ use super::Word;
 use super::held::Held;
 use crate::error::LockError;
 use crate::line::competing::{Competing, Counted, SHUT, free};
-use crate::line::competitor::{Coming, Competitor};
+use crate::line::competitor::{Arrival, Competitor};
 use crate::line::counts::Counts;
 use crate::state;
 use event_queue::{Key, TaskExchange};
@@ -63,7 +63,7 @@ impl<C: Counted, V> Word<Competing<C>, V> {
         place: &mut Option<Key>,
         exchange: &X,
         on: &mut O,
-    ) -> Coming
+    ) -> Arrival
         requires seat { held.old.seat.table_id ≡ self.now.table.shared.table_id }
         requires stands { HasState (λ n q. Stands n q.line) held.old.seat.me }
         ensures seat { (held.new.seat.table_id ≡ held.old.seat.table_id)
@@ -73,7 +73,7 @@ impl<C: Counted, V> Word<Competing<C>, V> {
             Comes (X.exchanged exchange.now) place.old on.old result q.line place.new on.new)
             held.new.seat.me }
     {
-        state!(held.seat, self).come(place, exchange, on)
+        Arrival::new(state!(held.seat, self).come(place, exchange, on))
     }
 
     /// One whose attempt found nothing waits at the end of the queue. It has lost so often then.
@@ -81,7 +81,7 @@ impl<C: Counted, V> Word<Competing<C>, V> {
         &self,
         held: &mut Held<Competing<C>, V>,
         request: &mut Competitor,
-        coming: Coming,
+        arrival: Arrival,
         exchange: &X,
         on: &mut O,
     ) -> Result<Key, LockError>
@@ -90,21 +90,21 @@ impl<C: Counted, V> Word<Competing<C>, V> {
         ensures seat { (held.new.seat.table_id ≡ held.old.seat.table_id)
             × (rest held.new.seat.me.1 ≡ rest held.old.seat.me.1) }
         ensures serves { HasState (λ n q. ServesTheStarving n q.line) held.new.seat.me }
-        ensures losses { IfOk result (λ _. request.new ≡ losses_after request.old coming) }
+        ensures losses { IfOk result (λ _. request.new ≡ losses_after request.old arrival) }
         ensures waits { IfOk result (λ _. Stores (X.exchanged exchange.now) on.old on.new) }
         ensures refused { OnErr result ((request.new ≡ request.old) × (on.new ≡ on.old)) }
     {
         state!(held.seat, self).lose(
             &mut request.place,
             &mut request.losses,
-            coming,
+            arrival.coming(),
             exchange,
             on,
         )
     }
 
     /// One that competes leaves the queue, if it is there. Returns how it would have come.
-    pub fn leave(&self, held: &mut Held<Competing<C>, V>, place: &mut Option<Key>) -> Coming
+    pub fn leave(&self, held: &mut Held<Competing<C>, V>, place: &mut Option<Key>) -> Arrival
         requires seat { held.old.seat.table_id ≡ self.now.table.shared.table_id }
         requires stands { HasState (λ n q. Stands n q.line) held.old.seat.me }
         ensures seat { (held.new.seat.table_id ≡ held.old.seat.table_id)
@@ -113,6 +113,6 @@ impl<C: Counted, V> Word<Competing<C>, V> {
         ensures left { HasState (λ _ q. NobodyIsBy place.old q.line) held.new.seat.me }
         ensures place { place.new ≡ None }
     {
-        state!(held.seat, self).leave(place)
+        Arrival::new(state!(held.seat, self).leave(place))
     }
 }
