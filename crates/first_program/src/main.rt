@@ -2,23 +2,17 @@
 //! error is printed to standard error, with status 1.
 #![tactic(auto)]
 
-use anyhow::bail;
+use anyhow::Context;
 use event_locks::Mutex;
 use std::alloc::Global;
-use std::process::ExitCode;
 use std::sync::{Arc, Wait};
 use std::thread::{self, Threads};
 use std::time::{Clock, Duration};
 
-fn main(rt: HostRuntime) -> ExitCode {
-    match pay_in(rt, rt.alloc()) {
-        Ok(balance) if println!(rt; "The balance is {balance}.").is_ok() => ExitCode::SUCCESS,
-        Ok(_) => ExitCode::FAILURE,
-        Err(error) => {
-            let _ = rt.eprintln(error);
-            ExitCode::FAILURE
-        }
-    }
+fn main(rt: HostRuntime) -> anyhow::Result<()> {
+    let balance = pay_in(rt, rt.alloc())?;
+    println!(rt; "The balance is {balance}.")?;
+    Ok(())
 }
 
 /// The balance once four threads have paid into it.
@@ -46,12 +40,10 @@ fn pay<R: Wait + Clock>(
     balance: &Mutex<u64>,
     amount: u64,
 ) -> anyhow::Result<()> {
-    match balance
+    let guard = balance
         .lock(rt, alloc)
-        .wait_timeout(Duration::from_secs(1))?
-    {
-        Some(mut balance) => *balance = balance.saturating_add(amount),
-        None => bail!("the balance was not free in time"),
-    }
+        .wait_timeout(Duration::from_secs(1))?;
+    let mut balance = guard.context("the balance was not free in time")?;
+    *balance = balance.saturating_add(amount);
     Ok(())
 }
