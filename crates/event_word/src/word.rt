@@ -6,16 +6,20 @@ mod competing;
 mod held;
 mod kept;
 mod lent;
-pub mod permits;
+mod permit;
+mod permits;
 mod rule;
 mod serving;
+mod step;
 mod take;
 mod value;
 
 pub use self::held::Held;
 pub use self::kept::Kept;
+pub use self::permit::Permit;
 pub use self::rule::Shelf;
-use self::rule::{Change, Enter, GiveBack, Lend, Look, Rule};
+use self::rule::{Enter, GiveBack, Lend, Look, Rule};
+pub use self::step::Step;
 use atomic_table::{Refused, Table};
 use std::alloc::{AllocError, Global};
 
@@ -90,20 +94,8 @@ impl<S: Kept, V> Word<S, V> {
         self.table.shared.load::<Look<S>>(seat, 0)
     }
 
-    /// Changes the number where nobody has to be notified, if the word is as it was seen. Returns whether it was.
-    #[inline(always)]
-    pub fn change(&self, seat: &mut Seat<S, V>, seen: u64, new: u64) -> bool
-        requires seat { seat.old.table_id ≡ self.now.table.shared.table_id }
-        requires changes { Changes S.rules seen new × Stays S.rules seen new }
-        ensures seat { (seat.new.table_id ≡ seat.old.table_id) × (seat.new.me ≡ seat.old.me) }
-    {
-        self.table
-            .shared
-            .compare_exchange::<Change>(seat, 0, seen, new)
-            == seen
-    }
-
-    /// The same, and takes the value out.
+    /// Changes the number where nobody has to be notified, and takes the value out, if the word is as it was seen. Returns whether
+    /// it was.
     #[inline(always)]
     pub fn lend(&self, seat: &mut Seat<S, V>, seen: u64, new: u64) -> bool
         requires seat { (seat.old.table_id ≡ self.now.table.shared.table_id)

@@ -1,10 +1,11 @@
 //! The rights to read and to write. Each is made of a step of the word that counts it, and only a call below makes such a step.
-ghost use Rattle.std.specs.Prelude.{◌≡◌, ◌+◌, ◌%◌, Some, IfSome, MatchOption};
+ghost use Rattle.std.specs.Prelude.{◌≡◌, ◌+◌, ◌-◌, ◌%◌, Some, IfSome, MatchOption, MatchResult};
+ghost use Rattle.event_word.specs.Count.{readers_of, writers_of};
 ghost use Rattle.event_word.specs.Queues.{IsExclusive, Recounts};
 ghost use Rattle.event_word.specs.Word.{HasState, number_of};
 
 use super::queues::Queues;
-use crate::word::{Held, Seat, Word};
+use crate::word::{Held, Seat, Step, Word};
 use event_wait::Task;
 
 /// The right to read, which the number counts. It is no `Drop`: whoever has it counts itself out.
@@ -12,13 +13,6 @@ pub struct ReadShare(());
 
 /// The right to write, as the right to read.
 pub struct WriteShare(());
-
-/// A step of the word that was made, from which word to which.
-#[derive(Drop)]
-pub(crate) struct Step {
-    from: u64,
-    to: u64,
-}
 
 /// A seat that has not the queues out.
 pub type At = Seat<Queues<Task>, ()>;
@@ -46,10 +40,14 @@ impl ReadShare {
         WriteShare(())
     }
 
-    /// The reader goes.
+    /// The reader goes: this step counts one less, if it counts one, as it does for each right.
     #[inline(always)]
-    pub(crate) fn end(self) {
+    pub(crate) fn end(self, step: Step)
+        requires readers { readers_of (number_of step.to) ≡ readers_of (number_of step.from) - 1 }
+        requires writers { writers_of (number_of step.to) ≡ writers_of (number_of step.from) }
+    {
         let ReadShare(()) = self;
+        drop(step);
     }
 }
 
@@ -63,21 +61,26 @@ impl WriteShare {
         WriteShare(())
     }
 
-    /// The writer reads from here on: this step counts a reader in its place. There is none where the number counted no writer,
-    /// as it does for each right.
+    /// The writer reads from here on: this step counts a reader in its place. An error counted no writer, which is so for no right.
     #[inline(always)]
-    pub(crate) fn downgraded(self, step: Option<Step>) -> ReadShare
-        requires { IfSome step (λ made. (number_of made.from ≡ 1) × (number_of made.to ≡ 2)) }
+    pub(crate) fn downgraded(self, step: Result<Step, Step>) -> ReadShare
+        requires { MatchResult step
+            (λ made. (number_of made.from ≡ 1) × (number_of made.to ≡ 2))
+            (λ made. writers_of (number_of made.to) ≡ 0) }
     {
         let WriteShare(()) = self;
         drop(step);
         ReadShare(())
     }
 
-    /// The writer goes.
+    /// The writer goes: this step counts none.
     #[inline(always)]
-    pub(crate) fn end(self) {
+    pub(crate) fn end(self, step: Step)
+        requires readers { readers_of (number_of step.to) ≡ readers_of (number_of step.from) }
+        requires writers { writers_of (number_of step.to) ≡ 0 }
+    {
         let WriteShare(()) = self;
+        drop(step);
     }
 }
 
@@ -90,13 +93,7 @@ impl Word<Queues<Task>, ()> {
         ensures seat { (seat.new.table_id ≡ seat.old.table_id) × (seat.new.me ≡ seat.old.me) }
         ensures step { IfSome result (λ made. (made.from ≡ seen) × (made.to ≡ new)) }
     {
-        if self.change(seat, seen, new) {
-            return Some(Step {
-                from: seen,
-                to: new,
-            });
-        }
-        None
+        self.change(seat, seen, new)
     }
 
     /// The same with the queues out: makes the number another with which who writes is alone.
@@ -110,12 +107,6 @@ impl Word<Queues<Task>, ()> {
             (λ made. held.new.seat.me.0 ≡ Some (number_of new)) }
         ensures step { IfSome result (λ made. (made.from ≡ seen) × (made.to ≡ new)) }
     {
-        if held.change(self, seen, new) {
-            return Some(Step {
-                from: seen,
-                to: new,
-            });
-        }
-        None
+        held.change(self, seen, new)
     }
 }

@@ -1,7 +1,7 @@
 //! How rights to read and to write are got and given back: the steps on the word.
-ghost use Rattle.std.specs.Prelude.{◌≡◌, ◌+◌, ◌*◌, ◌<◌, ◌≤◌, ◌%◌, None, Some, IfSome, IfErr, IfOk, IsTrue, IsFalse, MatchResult, length};
+ghost use Rattle.std.specs.Prelude.{◌≡◌, ◌+◌, ◌-◌, ◌*◌, ◌<◌, ◌≤◌, ◌%◌, None, Some, IfSome, IfErr, IfOk, IsTrue, IsFalse, MatchResult, length};
 ghost use Rattle.atomic_table.specs.Table.{rest};
-ghost use Rattle.event_word.specs.Count.{writers_of};
+ghost use Rattle.event_word.specs.Count.{readers_of, writers_of};
 ghost use Rattle.event_wait.specs.declared.lock.task.Task.{Task};
 ghost use Rattle.event_word.specs.Leaving.{IfGoing, IfTaking};
 ghost use Rattle.event_word.specs.Queues.{Admits, CountsAsReader, CountsAsWriter, CountsMore, HasNoRoom, IsExclusive, IsQuiet, NoWriterIsThere, Recounts, RecountsAndTakes, given, lock_rules};
@@ -9,9 +9,9 @@ ghost use Rattle.event_word.specs.Word.{EasesFrom, HasNothing, HasState, number_
 
 use super::number::{self, Leaving, READER, WRITER};
 use super::queues::Queues;
-use super::rights::{At, Out, ReadShare, Step, WriteShare};
+use super::rights::{At, Out, ReadShare, WriteShare};
 use crate::state;
-use crate::word::{ONE, Word};
+use crate::word::{ONE, Step, Word};
 use event_wait::{Task, Waking};
 use std::sync::Wait;
 
@@ -84,37 +84,42 @@ impl Word<Queues<Task>, ()> {
     /// One that read goes. The first writer is let in if it was the last.
     #[inline(always)]
     pub fn end_reading<R: Wait>(&self, rt: &R, share: ReadShare) {
-        share.end();
         let (seen, mut seat) = self.look();
         if let Leaving::Going(new) = number::reader_out(seen) {
-            if self.change(&mut seat, seen, new) {
+            if let Some(step) = self.make(&mut seat, seen, new) {
+                share.end(step);
                 return;
             }
         }
-        self.end_reading_slowly(rt);
+        let step = self.count_reader_out(rt);
+        share.end(step);
     }
 
     /// The writer goes. All readers are let in that wait, or else the first writer.
     #[inline(always)]
     pub fn end_writing<R: Wait>(&self, rt: &R, share: WriteShare) {
-        share.end();
         let (seen, mut seat) = self.look();
         if let Leaving::Going(new) = number::writer_out(seen) {
-            if self.change(&mut seat, seen, new) {
+            if let Some(step) = self.make(&mut seat, seen, new) {
+                share.end(step);
                 return;
             }
         }
-        self.end_writing_slowly(rt);
+        let step = self.count_writer_out(rt);
+        share.end(step);
     }
 
     #[cold]
     #[inline(never)]
-    fn end_reading_slowly<R: Wait>(&self, rt: &R) {
+    fn count_reader_out<R: Wait>(&self, rt: &R) -> Step
+        ensures readers { readers_of (number_of result.to) ≡ readers_of (number_of result.from) - 1 }
+        ensures writers { writers_of (number_of result.to) ≡ writers_of (number_of result.from) }
+    {
         let (mut seen, mut seat) = self.look();
         for _ in rt.forever() {
             match self.go(rt, seat, seen, number::reader_out(seen)) {
-                Some(again) => seat = again,
-                None => return,
+                Ok(step) => return step,
+                Err(again) => seat = again,
             }
             seen = self.look_again(&mut seat);
         }
@@ -123,41 +128,43 @@ impl Word<Queues<Task>, ()> {
 
     #[cold]
     #[inline(never)]
-    fn end_writing_slowly<R: Wait>(&self, rt: &R) {
+    fn count_writer_out<R: Wait>(&self, rt: &R) -> Step
+        ensures readers { readers_of (number_of result.to) ≡ readers_of (number_of result.from) }
+        ensures writers { writers_of (number_of result.to) ≡ 0 }
+    {
         let (mut seen, mut seat) = self.look();
         for _ in rt.forever() {
             match self.go(rt, seat, seen, number::writer_out(seen)) {
-                Some(again) => seat = again,
-                None => return,
+                Ok(step) => return step,
+                Err(again) => seat = again,
             }
             seen = self.look_again(&mut seat);
         }
         unreachable!()
     }
 
-    // Makes this step, and lets in who is next if it takes the queues out. Returns the seat where the word is another.
-    fn go<R: Wait>(&self, rt: &R, mut seat: At, seen: u64, leaving: Leaving) -> Option<At>
+    // Makes this step, and lets in who is next if it takes the queues out. An error has the seat where the word is another.
+    fn go<R: Wait>(&self, rt: &R, mut seat: At, seen: u64, leaving: Leaving) -> Result<Step, At>
         requires seat { (seat.table_id ≡ self.now.table.shared.table_id) × HasNothing seat.me }
         requires going { IfGoing leaving (Recounts seen) }
         requires taking { IfTaking leaving (λ new. RecountsAndTakes seen new
             × (number_of new ≡ 0)) }
-        ensures again { IfSome result (λ again. (again.table_id ≡ seat.table_id)
+        ensures from { IfOk result (λ made. made.from ≡ seen) }
+        ensures goes { IfOk result (λ made. IfGoing leaving (λ new. made.to ≡ new)) }
+        ensures takes { IfOk result (λ made. IfTaking leaving (λ new. made.to ≡ new)) }
+        ensures again { IfErr result (λ again. (again.table_id ≡ seat.table_id)
             × HasNothing again.me) }
     {
         match leaving {
-            Leaving::Going(new) => {
-                if self.change(&mut seat, seen, new) {
-                    return None;
-                }
-                Some(seat)
-            }
-            Leaving::Taking(new) => match self.try_take(seat, seen, new) {
-                Ok(held) => {
-                    drop(self.put_back(rt, held));
-                    None
-                }
-                Err(again) => Some(again),
+            Leaving::Going(new) => match self.make(&mut seat, seen, new) {
+                Some(step) => Ok(step),
+                None => Err(seat),
             },
+            Leaving::Taking(new) => {
+                let (step, held) = self.try_take(seat, seen, new)?;
+                drop(self.put_back(rt, held));
+                Ok(step)
+            }
         }
     }
 
@@ -372,7 +379,7 @@ impl Word<Queues<Task>, ()> {
         let (seen, mut seat) = self.look();
         if let Some(new) = number::writer_reads(seen) {
             if let Some(step) = self.make(&mut seat, seen, new) {
-                return share.downgraded(Some(step));
+                return share.downgraded(Ok(step));
             }
         }
         let (_, mut held) = self.take(rt);
@@ -383,42 +390,52 @@ impl Word<Queues<Task>, ()> {
         share.downgraded(step)
     }
 
-    // The same with the queues out. It makes no step if no writer was counted.
-    fn let_readers_in<R: Wait>(&self, rt: &R, held: &mut Out, waking: &mut Waking) -> Option<Step>
+    // The same with the queues out. An error is a step that changes nothing, at a word that counts no writer.
+    fn let_readers_in<R: Wait>(
+        &self,
+        rt: &R,
+        held: &mut Out,
+        waking: &mut Waking,
+    ) -> Result<Step, Step>
         requires seat { held.old.seat.table_id ≡ self.now.table.shared.table_id }
         requires alone { HasState IsExclusive held.old.seat.me }
         ensures seat { (held.new.seat.table_id ≡ held.old.seat.table_id)
             × (rest held.new.seat.me.1 ≡ rest held.old.seat.me.1) }
         ensures alone { HasState IsExclusive held.new.seat.me }
         ensures counts { CountsAsReader held.old.seat.me.0 held.new.seat.me.0 }
-        ensures lets_in { IfSome result (λ _. HasState (λ n q. (n ≡ 2)
+        ensures lets_in { IfOk result (λ _. HasState (λ n q. (n ≡ 2)
             × (length q.read_line.waiting ≡ 0)) held.new.seat.me) }
-        ensures step { IfSome result (λ made. (number_of made.from ≡ 1) × (number_of made.to ≡ 2)) }
+        ensures step { MatchResult result
+            (λ made. (number_of made.from ≡ 1) × (number_of made.to ≡ 2))
+            (λ made. writers_of (number_of made.to) ≡ 0) }
     {
         let step = self.count_as_reader(rt, held)?;
         self.hand_to_readers(held, waking);
-        Some(step)
+        Ok(step)
     }
 
     // Counts the writer as a reader, if it is counted.
-    fn count_as_reader<R: Wait>(&self, rt: &R, held: &mut Out) -> Option<Step>
+    fn count_as_reader<R: Wait>(&self, rt: &R, held: &mut Out) -> Result<Step, Step>
         requires seat { held.old.seat.table_id ≡ self.now.table.shared.table_id }
         requires alone { HasState IsExclusive held.old.seat.me }
         ensures seat { (held.new.seat.table_id ≡ held.old.seat.table_id)
             × (held.new.seat.me.1 ≡ held.old.seat.me.1) }
         ensures alone { HasState IsExclusive held.new.seat.me }
         ensures counts { CountsAsReader held.old.seat.me.0 held.new.seat.me.0 }
-        ensures was { IfSome result (λ _. HasState (λ n q. (n ≡ 2)
+        ensures was { IfOk result (λ _. HasState (λ n q. (n ≡ 2)
             × IsExclusive 1 q) held.new.seat.me) }
-        ensures step { IfSome result (λ made. (number_of made.from ≡ 1) × (number_of made.to ≡ 2)) }
+        ensures step { MatchResult result
+            (λ made. (number_of made.from ≡ 1) × (number_of made.to ≡ 2))
+            (λ made. writers_of (number_of made.to) ≡ 0) }
     {
         for _ in rt.forever() {
             let seen = self.look_alone(held);
             if seen % READER < WRITER {
-                return None;
-            }
-            if let Some(step) = self.recount(held, seen, seen - WRITER + READER) {
-                return Some(step);
+                if let Some(step) = self.recount(held, seen, seen) {
+                    return Err(step);
+                }
+            } else if let Some(step) = self.recount(held, seen, seen - WRITER + READER) {
+                return Ok(step);
             }
         }
         unreachable!()

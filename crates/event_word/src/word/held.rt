@@ -4,7 +4,7 @@ ghost use Rattle.event_word.specs.declared.word.rule.Shelf.TheVariants.{Value};
 ghost use Rattle.event_word.specs.Word.{EasesFrom, Lends, Stays, Takes, number_of};
 
 use super::kept::Kept;
-use super::rule::{LookAgain, Move, MoveLend};
+use super::rule::{LookAgain, MoveLend};
 use super::{Seat, Word};
 
 /// The state, taken out from behind its word. It is no `Drop`: whoever has it puts it back.
@@ -37,24 +37,6 @@ impl<S: Kept, V> Held<S, V> {
         ensures eases { EasesFrom S.rules self.old.seat.me.0 (number_of result) }
     {
         word.table.shared.load::<LookAgain<S>>(&mut self.seat, 0)
-    }
-
-    /// Changes the number while the state is out, if the word is as it was seen. Returns whether it was. Whoever has the state
-    /// out notifies of it later.
-    #[inline(always)]
-    pub fn change(&mut self, word: &Word<S, V>, seen: u64, new: u64) -> bool
-        requires seat { (self.old.seat.table_id ≡ word.now.table.shared.table_id) × (n : ℕ)
-            × (self.old.seat.me.0 ≡ Some n) }
-        requires takes { Takes S.rules seen new × Stays S.rules seen new }
-        ensures seat { self.new.seat.table_id ≡ self.old.seat.table_id }
-        ensures changes { MatchBool result
-            (self.new.seat.me ≡ (Some (number_of new), self.old.seat.me.1))
-            (self.new.seat.me ≡ self.old.seat.me) }
-    {
-        word.table
-            .shared
-            .compare_exchange::<Move>(&mut self.seat, 0, seen, new)
-            == seen
     }
 
     fn lend_step(&mut self, word: &Word<S, V>, seen: u64, new: u64) -> bool

@@ -1,12 +1,13 @@
 //! The steps of a semaphore on its word.
-ghost use Rattle.std.specs.Prelude.{◌≡◌, [], Some, None};
+ghost use Rattle.std.specs.Prelude.{◌≡◌, ◌+◌, ◌-◌, ◌^◌, [], Some, None, min};
 ghost use Rattle.atomic_table.specs.Table.{rest};
-ghost use Rattle.event_word.specs.Free.{NoneFor, ServesTheStarving, ServesWith};
-ghost use Rattle.event_word.specs.Word.{HasState, count};
+ghost use Rattle.event_word.specs.Free.{NoneFor, ServesTheStarving, ServesWith, free_of};
+ghost use Rattle.event_word.specs.Word.{HasState, count, number_of};
 
 use super::held::Held;
+use super::permit::Permit;
 use super::serving::may_take;
-use super::{CROWDED, ONE, Word};
+use super::{CROWDED, ONE, Step, Word};
 use crate::line::competing::{Competing, Permits, SHUT, free};
 use std::sync::Wait;
 
@@ -16,16 +17,6 @@ const MOST: u64 = SHUT - 1;
 // A word below it is open to newcomers, and has room for one more permit.
 const FULL: u64 = MOST * ONE;
 
-/// One permit. It is no `Drop`, and only a step below makes one.
-pub struct Permit(());
-
-impl Permit {
-    /// Lets it go for ever.
-    pub fn forget(self) {
-        let Permit(()) = self;
-    }
-}
-
 impl Word<Competing<Permits>, ()> {
     /// Takes a permit, if one is free for newcomers. It is one load and one compare-exchange where no other thread comes between.
     #[inline(always)]
@@ -34,8 +25,8 @@ impl Word<Competing<Permits>, ()> {
         if seen < ONE || seen >= SHUT * ONE {
             return None;
         }
-        if self.change(&mut seat, seen, seen - ONE) {
-            return Some(Permit(()));
+        if let Some(step) = self.change(&mut seat, seen, seen - ONE) {
+            return Some(Permit::taken(step));
         }
         self.try_permit_again()
     }
@@ -48,8 +39,8 @@ impl Word<Competing<Permits>, ()> {
             if seen >= SHUT * ONE || seen < ONE {
                 return None;
             }
-            if self.change(&mut seat, seen, seen - ONE) {
-                return Some(Permit(()));
+            if let Some(step) = self.change(&mut seat, seen, seen - ONE) {
+                return Some(Permit::taken(step));
             }
             seen = self.look_again(&mut seat);
         }
@@ -60,31 +51,41 @@ impl Word<Competing<Permits>, ()> {
     /// notifies. It is one load and one compare-exchange where nobody waits.
     #[inline(always)]
     pub fn give_permit<R: Wait>(&self, rt: &R, permit: Permit) {
-        let Permit(()) = permit;
         let (seen, mut seat) = self.look();
-        if seen % 4 != CROWDED && seen < FULL && self.change(&mut seat, seen, seen + ONE) {
-            return;
+        if seen % 4 != CROWDED && seen < FULL {
+            if let Some(step) = self.change(&mut seat, seen, seen + ONE) {
+                permit.given(step);
+                return;
+            }
         }
-        self.add(rt, 1);
+        let step = self.added(rt, 1);
+        permit.given(step);
     }
 
     /// Adds so many permits, and notifies as many of those that wait. As many as the number holds are free at most.
+    pub fn add<R: Wait>(&self, rt: &R, permits: u64) {
+        drop(self.added(rt, permits));
+    }
+
     #[cold]
     #[inline(never)]
-    pub fn add<R: Wait>(&self, rt: &R, permits: u64) {
+    fn added<R: Wait>(&self, rt: &R, permits: u64) -> Step
+        ensures { free_of (number_of result.to)
+            ≡ min (free_of (number_of result.from) + permits) (2 ^ 61 - 1) }
+    {
         let (mut seen, mut seat) = self.look();
         for _ in rt.forever() {
             let more = permits.min(MOST - free(seen / ONE));
             if seen % 4 == CROWDED {
                 match self.try_take(seat, seen, seen + more * ONE - 1) {
-                    Ok(held) => {
+                    Ok((step, held)) => {
                         drop(self.put_back(rt, held));
-                        return;
+                        return step;
                     }
                     Err(again) => seat = again,
                 }
-            } else if self.change(&mut seat, seen, seen + more * ONE) {
-                return;
+            } else if let Some(step) = self.change(&mut seat, seen, seen + more * ONE) {
+                return step;
             }
             seen = self.look_again(&mut seat);
         }
@@ -111,8 +112,8 @@ impl Word<Competing<Permits>, ()> {
             if !may_take(seen, notified) {
                 return None;
             }
-            if held.change(self, seen, seen - ONE) {
-                return Some(Permit(()));
+            if let Some(step) = held.change(self, seen, seen - ONE) {
+                return Some(Permit::taken(step));
             }
         }
         unreachable!()

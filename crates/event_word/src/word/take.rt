@@ -19,7 +19,7 @@ const PAUSES: [u32; 6] = [64, 128, 256, 256, 256, 256];
 const PARKED_BITS: u64 = 0x1_0000_0000;
 
 impl<S: Kept, V> Word<S, V> {
-    fn take_step(&self, seat: &mut Seat<S, V>, seen: u64, new: u64) -> bool
+    pub(super) fn take_step(&self, seat: &mut Seat<S, V>, seen: u64, new: u64) -> bool
         requires seat { (seat.old.table_id ≡ self.now.table.shared.table_id)
             × HasNothing seat.old.me }
         requires home { seen % 2 ≡ 0 }
@@ -51,31 +51,8 @@ impl<S: Kept, V> Word<S, V> {
             == seen
     }
 
-    /// Takes the state out where it is at home, and changes the number by the same step. An error has the seat where the word
-    /// was another.
-    pub fn try_take(
-        &self,
-        mut seat: Seat<S, V>,
-        seen: u64,
-        new: u64,
-    ) -> Result<Held<S, V>, Seat<S, V>>
-        requires seat { (seat.table_id ≡ self.now.table.shared.table_id) × HasNothing seat.me }
-        requires home { seen % 2 ≡ 0 }
-        requires takes { Takes S.rules seen new × Stays S.rules seen new }
-        ensures ok { IfOk result (λ held. (held.seat.table_id ≡ self.now.table.shared.table_id)
-            × HasState (λ n q. (n ≡ number_of new) × S.rules.stands (number_of seen) q) held.seat.me
-            × (rest held.seat.me.1 ≡ [])) }
-        ensures err { IfErr result (λ again. (again.table_id ≡ seat.table_id)
-            × (again.me ≡ seat.me)) }
-    {
-        if self.take_step(&mut seat, seen, new) {
-            Ok(Held { seat })
-        } else {
-            Err(seat)
-        }
-    }
-
-    /// The same, and gives the value back.
+    /// Takes the state out where it is at home, gives the value back, and changes the number by the same step. An error has the
+    /// seat where the word was another.
     pub fn try_swap(
         &self,
         mut seat: Seat<S, V>,

@@ -1,4 +1,4 @@
-use Rattle.std.proofs.Common.{arith, sym, ◌∙◌}
+use Rattle.std.proofs.Common.{sym, ◌∙◌}
 use Rattle.event_word.proofs.FreeLemmas.{serves-left, serves-left_told}
 use Rattle.event_word.proofs.TurnLemmas.{among-left}
 use Rattle.event_word.proofs.line.competing.Competing.leave.Goals as goal
