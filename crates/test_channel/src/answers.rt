@@ -1,7 +1,8 @@
 //! What calls answer and whom they wake: that each way of a call reaches the state of the channel, whose clauses say the
-//! rest. A send and a receive that are polled attempt each time, and a stream keeps no message from a receive.
+//! rest.
 use crate::script::{Call, run};
-use crate::ways::{Answer, WAYS, Way};
+use crate::ways::Way::{AtOnce, Due, Forced, GivenUp, Timed, WaitedDue, WaitedTimed};
+use crate::ways::{Answer, WAYS};
 
 #[test]
 fn a_send_wakes_one_receive_and_all_streams(rt: HostRuntime) {
@@ -38,108 +39,55 @@ fn a_receive_wakes_one_send(rt: HostRuntime) {
     }
 }
 
-// Streams that wait, in front and behind, are polled no more.
-#[test]
-fn a_stream_that_is_left_alone_keeps_no_message(rt: HostRuntime) {
-    let steps = [
-        (Call::AwaitNext, Answer::Waits, [0, 0, 0]),
-        (Call::AwaitReceive, Answer::Waits, [0, 0, 0]),
-        (Call::AwaitNext, Answer::Waits, [0, 0, 0]),
-        (Call::Put(7), Answer::Sent, [1, 1, 1]),
-        (Call::Poll(1), Answer::Received(7), [1, 0, 1]),
-        (Call::Poll(1), Answer::Waits, [1, 0, 1]),
-        (Call::Put(8), Answer::Sent, [1, 1, 1]),
-        (Call::Poll(1), Answer::Received(8), [1, 0, 1]),
-    ];
-    run(&rt, Some(3), &steps);
-}
-
 // The first was told, and the second comes before it. The waker that it left is dropped, which wakes its task.
 #[test]
 fn a_poll_for_another_reason_attempts(rt: HostRuntime) {
     let receives = [
         (Call::AwaitReceive, Answer::Waits, [0, 0, 0]),
         (Call::AwaitReceive, Answer::Waits, [0, 0, 0]),
-        (Call::Put(7), Answer::Sent, [1, 0, 0]),
+        (Call::Send(AtOnce, 7), Answer::Sent, [1, 0, 0]),
         (Call::Poll(1), Answer::Received(7), [1, 1, 0]),
         (Call::Poll(0), Answer::Waits, [0, 1, 0]),
-        (Call::Put(8), Answer::Sent, [1, 1, 0]),
+        (Call::Send(AtOnce, 8), Answer::Sent, [1, 1, 0]),
         (Call::Poll(0), Answer::Received(8), [0, 1, 0]),
     ];
     run(&rt, Some(3), &receives);
     let sends = [
-        (Call::Put(0), Answer::Sent, [0, 0, 0]),
+        (Call::Send(AtOnce, 0), Answer::Sent, [0, 0, 0]),
         (Call::AwaitSend(1), Answer::Waits, [0, 0, 0]),
         (Call::AwaitSend(2), Answer::Waits, [0, 0, 0]),
-        (Call::Take, Answer::Received(0), [1, 0, 0]),
+        (Call::Receive(AtOnce), Answer::Received(0), [1, 0, 0]),
         (Call::Poll(1), Answer::Sent, [1, 1, 0]),
         (Call::Poll(0), Answer::Waits, [0, 1, 0]),
-        (Call::Take, Answer::Received(2), [1, 1, 0]),
+        (Call::Receive(AtOnce), Answer::Received(2), [1, 1, 0]),
         (Call::Poll(0), Answer::Sent, [0, 1, 0]),
     ];
     run(&rt, Some(1), &sends);
 }
 
-// The first was told of what another call took.
+// A stream is dropped before a message comes, and a receive and a send once they are told.
 #[test]
-fn one_that_was_told_and_is_left_alone_keeps_nothing(rt: HostRuntime) {
-    for way in WAYS {
-        let receives = [
-            (Call::AwaitReceive, Answer::Waits, [0, 0, 0]),
-            (Call::AwaitReceive, Answer::Waits, [0, 0, 0]),
-            (Call::Send(way, 7), Answer::Sent, [1, 0, 0]),
-            (Call::Take, Answer::Received(7), [1, 0, 0]),
-            (Call::Send(way, 8), Answer::Sent, [1, 1, 0]),
-            (Call::Poll(1), Answer::Received(8), [1, 0, 0]),
-        ];
-        run(&rt, None, &receives);
-        let sends = [
-            (Call::Put(0), Answer::Sent, [0, 0, 0]),
-            (Call::AwaitSend(1), Answer::Waits, [0, 0, 0]),
-            (Call::AwaitSend(2), Answer::Waits, [0, 0, 0]),
-            (Call::Receive(way), Answer::Received(0), [1, 0, 0]),
-            (Call::Put(3), Answer::Sent, [1, 0, 0]),
-            (Call::Receive(way), Answer::Received(3), [1, 1, 0]),
-            (Call::Poll(1), Answer::Sent, [1, 0, 0]),
-        ];
-        run(&rt, Some(1), &sends);
-    }
-}
-
-#[test]
-fn one_that_was_told_and_is_dropped_passes_on(rt: HostRuntime) {
+fn one_that_is_dropped_is_woken_no_more_and_passes_on(rt: HostRuntime) {
     let receives = [
-        (Call::AwaitReceive, Answer::Waits, [0, 0, 0]),
-        (Call::AwaitReceive, Answer::Waits, [0, 0, 0]),
         (Call::AwaitNext, Answer::Waits, [0, 0, 0]),
-        (Call::Put(7), Answer::Sent, [1, 0, 1]),
-        (Call::Drop(2), Answer::Late(None), [1, 0, 0]),
-        (Call::Drop(0), Answer::Late(None), [0, 1, 0]),
-        (Call::Poll(1), Answer::Received(7), [0, 0, 0]),
+        (Call::AwaitReceive, Answer::Waits, [0, 0, 0]),
+        (Call::AwaitReceive, Answer::Waits, [0, 0, 0]),
+        (Call::Drop(0), Answer::Late(None), [0, 0, 0]),
+        (Call::Send(AtOnce, 7), Answer::Sent, [0, 1, 0]),
+        (Call::Drop(1), Answer::Late(None), [0, 0, 1]),
+        (Call::Poll(2), Answer::Received(7), [0, 0, 0]),
     ];
     run(&rt, Some(1), &receives);
     let sends = [
-        (Call::Put(0), Answer::Sent, [0, 0, 0]),
+        (Call::Send(AtOnce, 0), Answer::Sent, [0, 0, 0]),
         (Call::AwaitSend(1), Answer::Waits, [0, 0, 0]),
         (Call::AwaitSend(2), Answer::Waits, [0, 0, 0]),
-        (Call::Take, Answer::Received(0), [1, 0, 0]),
+        (Call::Receive(AtOnce), Answer::Received(0), [1, 0, 0]),
         (Call::Drop(0), Answer::Late(None), [0, 1, 0]),
         (Call::Poll(1), Answer::Sent, [0, 0, 0]),
-        (Call::Take, Answer::Received(2), [0, 0, 0]),
+        (Call::Receive(AtOnce), Answer::Received(2), [0, 0, 0]),
     ];
     run(&rt, Some(1), &sends);
-}
-
-#[test]
-fn a_stream_that_is_dropped_is_woken_no_more(rt: HostRuntime) {
-    let steps = [
-        (Call::AwaitNext, Answer::Waits, [0, 0, 0]),
-        (Call::AwaitNext, Answer::Waits, [0, 0, 0]),
-        (Call::AwaitReceive, Answer::Waits, [0, 0, 0]),
-        (Call::Drop(0), Answer::Late(None), [0, 0, 0]),
-        (Call::Put(7), Answer::Sent, [0, 1, 1]),
-    ];
-    run(&rt, None, &steps);
 }
 
 // A message that replaces another one needs nobody told.
@@ -147,17 +95,13 @@ fn a_stream_that_is_dropped_is_woken_no_more(rt: HostRuntime) {
 fn a_send_by_force_takes_the_first_out(rt: HostRuntime) {
     let steps = [
         (Call::AwaitReceive, Answer::Waits, [0, 0, 0]),
-        (Call::Force(0), Answer::Sent, [1, 0, 0]),
-        (Call::Force(1), Answer::Sent, [1, 0, 0]),
+        (Call::Send(Forced, 0), Answer::Sent, [1, 0, 0]),
+        (Call::Send(Forced, 1), Answer::Sent, [1, 0, 0]),
         (Call::AwaitSend(9), Answer::Waits, [1, 0, 0]),
-        (Call::Force(2), Answer::Out(0), [1, 0, 0]),
-        (Call::Force(3), Answer::Out(1), [1, 0, 0]),
+        (Call::Send(Forced, 2), Answer::Out(0), [1, 0, 0]),
+        (Call::Send(Forced, 3), Answer::Out(1), [1, 0, 0]),
         (Call::Poll(0), Answer::Received(2), [0, 1, 0]),
         (Call::Poll(1), Answer::Sent, [0, 0, 0]),
-        (Call::Close, Answer::Closed(None), [0, 0, 0]),
-        (Call::Force(4), Answer::Closed(Some(4)), [0, 0, 0]),
-        (Call::Take, Answer::Received(3), [0, 0, 0]),
-        (Call::Take, Answer::Received(9), [0, 0, 0]),
     ];
     run(&rt, Some(2), &steps);
 }
@@ -188,22 +132,16 @@ fn a_close_wakes_all_and_leaves_the_messages(rt: HostRuntime) {
 // A deadline of now is past once it is looked at.
 #[test]
 fn calls_without_time_attempt_and_wake_nobody(rt: HostRuntime) {
-    for way in [
-        Way::Timed,
-        Way::Due,
-        Way::WaitedTimed,
-        Way::WaitedDue,
-        Way::GivenUp,
-    ] {
+    for way in [Timed, Due, WaitedTimed, WaitedDue, GivenUp] {
         let steps = [
             (Call::AwaitReceive, Answer::Waits, [0, 0, 0]),
             (Call::Receive(way), Answer::Late(None), [0, 0, 0]),
             (Call::Send(way, 0), Answer::Sent, [1, 0, 0]),
             (Call::AwaitSend(1), Answer::Waits, [1, 0, 0]),
             (Call::Send(way, 2), Answer::Late(Some(2)), [1, 0, 0]),
-            (Call::Put(3), Answer::Late(Some(3)), [1, 0, 0]),
+            (Call::Send(AtOnce, 3), Answer::Late(Some(3)), [1, 0, 0]),
             (Call::Receive(way), Answer::Received(0), [1, 1, 0]),
-            (Call::Take, Answer::Late(None), [1, 1, 0]),
+            (Call::Receive(AtOnce), Answer::Late(None), [1, 1, 0]),
         ];
         run(&rt, Some(1), &steps);
     }

@@ -1,10 +1,10 @@
-//! Handles: clones, weak ones, the last of a side, and what makes no channel.
-use crate::support::{Runtime, Sides, check, receives, sends, sides};
+//! Handles: clones, weak ones, the last of a side; and what handles and errors say.
+use crate::support::{Runtime, Sides, check, sends, sides};
 use crate::waiting::Waiting;
 use crate::ways::{Answer, Way};
-use event_channel::{ChannelError, Receiver, Sender, bounded};
-use std::alloc::AllocGlobal;
-use test_support::Unshared;
+use event_channel::{LockError, Receiver, SendError, SendReason, Sender};
+use std::alloc::{AllocError, AllocGlobal};
+use std::fmt::Debug;
 
 // Both sides say that there are so many of each.
 fn counts<R: Runtime>(
@@ -39,54 +39,36 @@ fn more<R: Runtime>(rt: &R, sides: &Sides<R>, by_weak: bool) -> Sides<R> {
 fn handles_are_counted(rt: HostRuntime) {
     for by_weak in [false, true] {
         let first = sides(&rt, Some(3));
-        counts(&rt, &first.0, &first.1, (1, 1));
         let second = more(&rt, &first, by_weak);
-        let third = more(&rt, &second, by_weak);
-        counts(&rt, &first.0, &third.1, (3, 3));
+        let (sender, receiver) = more(&rt, &second, by_weak);
+        counts(&rt, &first.0, &receiver, (3, 3));
         let fourth = first.0.clone().expect(&rt, "a sender");
-        counts(&rt, &fourth, &third.1, (4, 3));
+        counts(&rt, &fourth, &receiver, (4, 3));
         drop(fourth);
         drop(first);
         drop(second);
-        let (sender, receiver) = third;
         counts(&rt, &sender, &receiver, (1, 1));
-        sends(&rt, Way::AtOnce, &sender, 7, Answer::Sent);
-        receives(&rt, Way::AtOnce, &receiver, Answer::Received(7));
     }
 }
 
+// Who waits on the other side is woken, and told that none is left.
 #[test]
-fn the_last_sender_closes(rt: HostRuntime) {
-    let (sender, receiver) = sides(&rt, Some(3));
-    let weak = sender.downgrade().expect(&rt, "a weak handle");
+fn the_last_of_a_side_closes(rt: HostRuntime) {
+    let (sender, receiver) = sides(&rt, Some(1));
     let mut stream = Waiting::stream(&rt, &receiver);
-    check(&rt, "a poll", stream.poll(), Answer::Waits);
-    sends(&rt, Way::AtOnce, &sender, 7, Answer::Sent);
-    check(&rt, "a poll", stream.poll(), Answer::Received(7));
     check(&rt, "a poll", stream.poll(), Answer::Waits);
     drop(sender);
     check(&rt, "whether it was woken", stream.is_woken(), true);
     check(&rt, "the end", stream.poll(), Answer::Closed(None));
-    check(&rt, "whether it is closed", receiver.is_closed(), true);
     check(&rt, "senders left", receiver.sender_count(), 0);
-    let gone = weak.upgrade().expect(&rt, "memory").is_none();
-    check(&rt, "whether no sender comes back", gone, true);
-}
-
-#[test]
-fn the_last_receiver_closes(rt: HostRuntime) {
     let (sender, receiver) = sides(&rt, Some(1));
-    let weak = receiver.downgrade().expect(&rt, "a weak handle");
     sends(&rt, Way::AtOnce, &sender, 7, Answer::Sent);
     let mut send = Waiting::send(&rt, &sender, 8);
     check(&rt, "a poll", send.poll(), Answer::Waits);
     drop(receiver);
     check(&rt, "whether it was woken", send.is_woken(), true);
     check(&rt, "the end", send.poll(), Answer::Closed(Some(8)));
-    check(&rt, "whether it is closed", sender.is_closed(), true);
     check(&rt, "receivers left", sender.receiver_count(), 0);
-    let gone = weak.upgrade().expect(&rt, "memory").is_none();
-    check(&rt, "whether no receiver comes back", gone, true);
 }
 
 // Both sides have handles still.
@@ -104,14 +86,34 @@ fn a_closed_channel_makes_no_handle_anew(rt: HostRuntime) {
     check(&rt, "receivers", sender.receiver_count(), 1);
 }
 
+fn is_shown<D: Debug, R: Runtime>(rt: &R, value: &D, shown: &str) {
+    let name = format!(in rt.alloc(); "{value:?}").expect(rt, "a text");
+    check(rt, "what is shown", name.as_str(), shown);
+}
+
 #[test]
-fn what_makes_no_channel(rt: HostRuntime) {
-    let made = bounded::<usize, _>(&rt, rt.alloc(), 0);
-    let refused = matches!(&made, Err(ChannelError::ZeroCapacity));
-    check(&rt, "whether it needs room", refused, true);
-    // A sender and a receiver each keep a clone of the runtime value.
-    let unshared = Unshared { rt: &rt };
-    let made = bounded::<usize, _>(&unshared, rt.alloc(), 1);
-    let refused = matches!(&made, Err(ChannelError::Memory(_)));
-    check(&rt, "whether it needs clones", refused, true);
+fn handles_futures_and_errors_are_shown(rt: HostRuntime) {
+    let (sender, receiver) = sides(&rt, None);
+    is_shown(&rt, &sender, "Sender { .. }");
+    is_shown(&rt, &receiver, "Receiver { .. }");
+    is_shown(&rt, &sender.send(1), "Send { .. }");
+    is_shown(&rt, &receiver.recv(), "Recv { .. }");
+    let refused = SendReason::WaitFailed(LockError::Memory(AllocError));
+    let late = "the channel was full for too long";
+    for (reason, text, shown) in [
+        (SendReason::Full, "the channel is full", "Full"),
+        (SendReason::Closed, "the channel is closed", "Closed"),
+        (SendReason::TimedOut, late, "TimedOut"),
+        (SendReason::Memory, "no memory for a message", "Memory"),
+        (
+            refused,
+            "no memory for a wait",
+            "WaitFailed(Memory(AllocError))",
+        ),
+    ] {
+        let error = SendError { message: 1, reason };
+        is_shown(&rt, &error, shown);
+        let said = format!(in rt.alloc(); "{error}").expect(&rt, "a text");
+        check(&rt, "the text", said.as_str(), text);
+    }
 }

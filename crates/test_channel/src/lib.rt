@@ -3,12 +3,11 @@
 //!
 //! | Module | What it tests |
 //! |---|---|
-//! | `order` | messages in order, what a channel says of itself, many that are received at once, and iterators |
-//! | `answers` | tables: what calls answer and whom they wake; polls for another reason, and who is left alone or dropped; sends by force; a close |
-//! | `handles` | clones, weak handles, the last of a side, a closed channel, and what makes none |
+//! | `order` | messages in order, what a channel says of itself, many that are received at once, and an iterator of what waits |
+//! | `answers` | tables: what calls answer and whom they wake; polls for another reason, and who is dropped; sends by force; a close |
+//! | `handles` | clones, weak handles, the last of a side, a closed channel; what handles and errors say |
 //! | `limits` | calls that wait until a limit, and what comes while they look at the clock there |
-//! | `errors` | what errors and handles say |
-//! | `wakes` | threads that are blocked, and woken by many received at once, by force, or one by one |
+//! | `wakes` | threads that are blocked, and woken one by one |
 //! | `races` | the last two handles of a side dropped at once, a last message as another thread receives, and many received at once as another takes one |
 //! | `threads` | 8 threads that send and 8 that receive, each in a way of its own, or many at once; handles made anew by weak ones; a close among them; calls that are given up |
 //!
@@ -19,8 +18,6 @@
 
 #[cfg(test)]
 mod answers;
-#[cfg(test)]
-mod errors;
 #[cfg(test)]
 mod handles;
 #[cfg(test)]

@@ -39,11 +39,8 @@ fn a_call_that_has_time_waits_so_long(rt: HostRuntime) {
 
 #[test]
 fn a_clock_that_cannot_be_read_is_past_the_limit(rt: HostRuntime) {
-    let blind = NoClock { rt: &rt };
-    let made = bounded(&blind, rt.alloc(), 1);
+    let made = bounded(&NoClock { rt: &rt }, rt.alloc(), 1);
     let (sender, receiver) = made.expect(&rt, "a channel");
-    let none = receiver.recv_timeout(Duration::MAX).is_err();
-    check(&rt, "a receive from none", none, true);
     let sent = sender.send_timeout(7usize, Duration::MAX).is_ok();
     check(&rt, "a send with room", sent, true);
     let back = sender.send_timeout(8, Duration::MAX);
@@ -51,6 +48,8 @@ fn a_clock_that_cannot_be_read_is_past_the_limit(rt: HostRuntime) {
     check(&rt, "a send without room", back, Err(8));
     let message = receiver.recv_timeout(Duration::MAX);
     check(&rt, "a receive", message.ok(), Some(7));
+    let none = receiver.recv_timeout(Duration::MAX).is_err();
+    check(&rt, "a receive from none", none, true);
 }
 
 // A clock that shows the time once another thread has made its call: at 2 it is read, at 3 the call is made. If it begins
@@ -71,44 +70,35 @@ impl<'a, R: Runtime> OwnClock for Meets<'a, R> {
     }
 }
 
-// A receive until a moment that has passed when it looks at the clock. The message comes while it does.
-fn a_message_is_taken<R, C>(rt: &R, clock: &C, step: &AtomicUsize)
+// A receive or a send until a moment that has passed when it looks at the clock. The message or the room comes while it does.
+fn is_taken<R, C>(rt: &R, clock: &C, step: &AtomicUsize, is_send: bool)
 where
     R: SharedRuntime,
     C: Wait + Clock + Clone + Sync + Send,
 {
-    let due = Instant::now(rt).expect(rt, "the time");
+    let due = now(rt);
     let (sender, receiver) = &bounded(clock, rt.alloc(), 1).expect(rt, "a channel");
-    let waits = || receiver.recv_deadline(due).ok();
+    let is_full = is_send && sender.try_send(7usize).is_ok();
+    check(rt, "whether it is full", is_full, is_send);
+    let waits = || {
+        if is_send {
+            sender.send_deadline(8, due).is_ok()
+        } else {
+            receiver.recv_deadline(due).is_ok()
+        }
+    };
     let meanwhile = || {
         until(rt, step, 2);
-        let sent = sender.try_send(7usize).is_ok();
+        let done = if is_send {
+            receiver.try_recv().is_ok()
+        } else {
+            sender.try_send(7).is_ok()
+        };
         step.store(3, Ordering::SeqCst);
-        sent
+        done
     };
     let both = thread::join(rt, waits, meanwhile);
-    check(rt, "a receive and a send", both, (Some(7), true));
-}
-
-// It is the same with a send, and room.
-fn a_place_is_taken<R, C>(rt: &R, clock: &C, step: &AtomicUsize)
-where
-    R: SharedRuntime,
-    C: Wait + Clock + Clone + Sync + Send,
-{
-    let due = Instant::now(rt).expect(rt, "the time");
-    let (sender, receiver) = &bounded(clock, rt.alloc(), 1).expect(rt, "a channel");
-    let first = sender.try_send(7usize).is_ok();
-    check(rt, "a send", first, true);
-    let waits = || sender.send_deadline(8, due).is_ok();
-    let meanwhile = || {
-        until(rt, step, 2);
-        let received = receiver.try_recv().ok();
-        step.store(3, Ordering::SeqCst);
-        received
-    };
-    let both = thread::join(rt, waits, meanwhile);
-    check(rt, "a send and a receive", both, (true, Some(7)));
+    check(rt, "the wait, and the call meanwhile", both, (true, true));
 }
 
 // The first reading comes before the queue, the second in it.
@@ -117,11 +107,9 @@ where
     R: SharedRuntime,
     C: Wait + Clock + Clone + Sync + Send,
 {
-    for begin in [1, 0] {
+    for (begin, is_send) in [(1, false), (1, true), (0, false), (0, true)] {
         step.store(begin, Ordering::SeqCst);
-        a_message_is_taken(rt, clock, step);
-        step.store(begin, Ordering::SeqCst);
-        a_place_is_taken(rt, clock, step);
+        is_taken(rt, clock, step, is_send);
     }
 }
 

@@ -1,12 +1,12 @@
-//! Two threads that make their calls at the same time, on one channel after another, until time is up.
+//! Two threads that make their calls at the same time, on one channel after another.
 use crate::support::{Runtime, SharedRuntime, check, sides};
 use crate::ways::{Answer, Way};
 use event_channel::{Receiver, Sender};
 use std::alloc::AllocGlobal;
 use std::sync::atomic::{AtomicUsize, Ordering};
 use std::thread;
-use std::time::{Duration, Instant};
-use test_support::deadline_after;
+use std::time::Duration;
+use test_support::for_two_seconds;
 
 // A thread makes its call so many looks later at most.
 const SKEW: usize = 16;
@@ -14,29 +14,8 @@ const SKEW: usize = 16;
 // The channels of a race, in which each delay of one thread meets each of the other.
 const CHANNELS: usize = 256;
 
-// The races of a test take so long.
-const MILLISECONDS: u64 = 700;
-
-fn end_of_races<R: Runtime>(rt: &R) -> Instant {
-    deadline_after(rt, Duration::from_millis(MILLISECONDS)).expect(rt, "an end")
-}
-
-fn is_over<R: Runtime>(rt: &R, end: Instant) -> bool {
-    Instant::now(rt).expect(rt, "the time") >= end
-}
-
-// Makes this race again and again, until time is up.
-fn again<R: Runtime, F: Fn()>(rt: &R, race: F)
-    requires { F.IsAlwaysCallable race }
-{
-    let end = end_of_races(rt);
-    for _ in rt.forever() {
-        race();
-        if is_over(rt, end) {
-            break;
-        }
-    }
-}
+// How often a thread sends by twos.
+const TURNS: u32 = 200_000;
 
 // Waits until both threads have come to this channel, and a few looks longer.
 fn meet<R: Runtime>(rt: &R, come: &AtomicUsize, number: usize, looks: usize) {
@@ -115,7 +94,7 @@ fn drop_last_two<R: SharedRuntime>(rt: &R) {
 
 #[test]
 fn the_last_two_of_a_side_close_at_once(rt: HostRuntime) {
-    again(&rt, || drop_last_two(&rt));
+    for_two_seconds(&rt, || drop_last_two(&rt)).expect(&rt, "the time");
 }
 
 // Each sends the last message of its channel.
@@ -167,23 +146,19 @@ fn end_as_others_receive<R: SharedRuntime>(rt: &R) {
 
 #[test]
 fn no_receive_answers_closed_before_the_last_message(rt: HostRuntime) {
-    again(&rt, || end_as_others_receive(&rt));
+    for_two_seconds(&rt, || end_as_others_receive(&rt)).expect(&rt, "the time");
 }
 
-// Sends messages by twos, and takes one back, until time is up. Then it closes the channel.
-fn send_and_take<R: Runtime>(rt: &R, sender: &Sender<usize, R>, receiver: &Receiver<usize, R>) {
-    let end = end_of_races(rt);
+// Sends messages by twos, and takes one back each time. Then it closes the channel.
+fn send_and_take<R: Runtime>(sender: &Sender<usize, R>, receiver: &Receiver<usize, R>) {
     let mut next = 0usize;
-    for _ in rt.forever() {
+    for _ in 0..TURNS {
         for _ in 0..2 {
             if sender.try_send(next).is_ok() {
                 next = next.saturating_add(1);
             }
         }
         let _ = receiver.try_recv();
-        if is_over(rt, end) {
-            break;
-        }
     }
     sender.close();
 }
@@ -209,7 +184,7 @@ fn take_twos_as_others_take<R: SharedRuntime>(rt: &R) {
     let (torn, ()) = thread::join(
         rt,
         || take_twos(rt, receiver),
-        || send_and_take(rt, sender, receiver),
+        || send_and_take(sender, receiver),
     );
     check(rt, "how often they are torn apart", torn, 0);
 }

@@ -1,7 +1,7 @@
 //! Makes the calls of a test that is written as a table, by one thread, on a new channel.
 use crate::support::{Runtime, check, sides};
 use crate::waiting::Waiting;
-use crate::ways::{Answer, Way, of_force};
+use crate::ways::{Answer, Way};
 use event_channel::{Receiver, Sender};
 use std::time::Duration;
 
@@ -12,11 +12,6 @@ pub enum Call {
     Send(Way, usize),
     /// A receive in this way, without time.
     Receive(Way),
-    /// A send at once.
-    Put(usize),
-    /// A receive at once.
-    Take,
-    Force(usize),
     /// The first poll of a new send of this message.
     AwaitSend(usize),
     /// The first poll of a new receive.
@@ -51,20 +46,14 @@ impl<'a, R: Runtime> Desk<'a, R> {
     }
 
     fn poll(&mut self, number: usize) -> Answer {
-        match self.waiting.get_mut(number) {
-            Some(waiting) => waiting.poll(),
-            None => Answer::Failed,
-        }
+        let waiting = self.waiting.get_mut(number);
+        waiting.expect(self.rt, "one that waits").poll()
     }
 
     fn end(&mut self, number: usize) -> Answer {
-        match self.waiting.get_mut(number) {
-            Some(waiting) => {
-                waiting.give_up();
-                Answer::Late(None)
-            }
-            None => Answer::Failed,
-        }
+        let waiting = self.waiting.get_mut(number);
+        waiting.expect(self.rt, "one that waits").give_up();
+        Answer::Late(None)
     }
 
     fn is_woken(&self, number: usize) -> u8 {
@@ -87,9 +76,6 @@ impl<'a, R: Runtime> Desk<'a, R> {
         match call {
             Call::Send(way, message) => way.send(rt, sender, message, Duration::ZERO),
             Call::Receive(way) => way.receive(rt, receiver, Duration::ZERO),
-            Call::Put(message) => Way::AtOnce.send(rt, sender, message, Duration::ZERO),
-            Call::Take => Way::AtOnce.receive(rt, receiver, Duration::ZERO),
-            Call::Force(message) => of_force(sender.force_send(message)),
             Call::AwaitSend(message) => self.await_first(Waiting::send(rt, sender, message)),
             Call::AwaitReceive => self.await_first(Waiting::receive(rt, receiver)),
             Call::AwaitNext => self.await_first(Waiting::stream(rt, receiver)),

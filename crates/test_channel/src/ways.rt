@@ -44,10 +44,12 @@ pub enum Way {
     GivenUp,
     /// By an iterator of its own, for one item. A send blocks.
     Iterated,
+    /// By force. A receive is made at once.
+    Forced,
 }
 
 /// All ways.
-pub const WAYS: [Way; 11] = [
+pub const WAYS: [Way; 12] = [
     Way::AtOnce,
     Way::Blocking,
     Way::Timed,
@@ -59,6 +61,7 @@ pub const WAYS: [Way; 11] = [
     Way::Streamed,
     Way::GivenUp,
     Way::Iterated,
+    Way::Forced,
 ];
 
 impl Way {
@@ -70,20 +73,16 @@ impl Way {
         message: usize,
         limit: Duration,
     ) -> Answer {
+        let moment = deadline_after(rt, limit).expect(rt, "a moment");
         match self {
             Way::AtOnce => of_send(sender.try_send(message)),
+            Way::Forced => of_force(sender.force_send(message)),
             Way::Blocking | Way::Iterated => of_send(sender.send_blocking(message)),
             Way::Timed => of_send(sender.send_timeout(message, limit)),
-            Way::Due => {
-                let moment = deadline_after(rt, limit).expect(rt, "a moment");
-                of_send(sender.send_deadline(message, moment))
-            }
+            Way::Due => of_send(sender.send_deadline(message, moment)),
             Way::Waited => of_send(sender.send(message).wait()),
             Way::WaitedTimed => of_send(sender.send(message).wait_timeout(limit)),
-            Way::WaitedDue => {
-                let moment = deadline_after(rt, limit).expect(rt, "a moment");
-                of_send(sender.send(message).wait_deadline(moment))
-            }
+            Way::WaitedDue => of_send(sender.send(message).wait_deadline(moment)),
             Way::Awaited | Way::Streamed => {
                 of_send(block_on(rt, sender.send(message)).expect(rt, "an executor"))
             }
@@ -98,20 +97,15 @@ impl Way {
         receiver: &Receiver<usize, R>,
         limit: Duration,
     ) -> Answer {
+        let moment = deadline_after(rt, limit).expect(rt, "a moment");
         match self {
-            Way::AtOnce => of_try_recv(receiver.try_recv()),
+            Way::AtOnce | Way::Forced => of_try_recv(receiver.try_recv()),
             Way::Blocking => of_recv(receiver.recv_blocking()),
             Way::Timed => of_timed_recv(receiver.recv_timeout(limit)),
-            Way::Due => {
-                let moment = deadline_after(rt, limit).expect(rt, "a moment");
-                of_timed_recv(receiver.recv_deadline(moment))
-            }
+            Way::Due => of_timed_recv(receiver.recv_deadline(moment)),
             Way::Waited => of_recv(receiver.recv().wait()),
             Way::WaitedTimed => of_recv_in_time(receiver.recv().wait_timeout(limit)),
-            Way::WaitedDue => {
-                let moment = deadline_after(rt, limit).expect(rt, "a moment");
-                of_recv_in_time(receiver.recv().wait_deadline(moment))
-            }
+            Way::WaitedDue => of_recv_in_time(receiver.recv().wait_deadline(moment)),
             Way::Awaited => of_recv(block_on(rt, receiver.recv()).expect(rt, "an executor")),
             Way::Streamed => {
                 let mut stream = receiver.clone().expect(rt, "a receiver");
@@ -140,8 +134,7 @@ pub fn of_send(answer: Result<(), SendError<usize>>) -> Answer {
     of_force(answer.map(|()| None))
 }
 
-/// What a send by force answered.
-pub fn of_force(answer: Result<Option<usize>, SendError<usize>>) -> Answer {
+fn of_force(answer: Result<Option<usize>, SendError<usize>>) -> Answer {
     match answer {
         Ok(None) => Answer::Sent,
         Ok(Some(message)) => Answer::Out(message),
