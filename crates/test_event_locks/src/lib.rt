@@ -4,7 +4,6 @@
 //! | Module | What it tests |
 //! |---|---|
 //! | `threads` | threads that wait in each way, and are woken once they are let in |
-//! | `arrivals` | a thread that waits by a request of the test's own: it parks, and who has no time stays out of the queue |
 //! | `races` | one lets go while another one goes into the queue |
 //! | `stress` | threads and tasks at these locks, which give up at times |
 //! | `behaviours` | what each lock does when it is called in the order that its users know from other crates |
@@ -15,8 +14,6 @@
 
 #[cfg(test)]
 mod accounts;
-#[cfg(test)]
-mod arrivals;
 #[cfg(test)]
 mod behaviours;
 #[cfg(test)]

@@ -1,8 +1,8 @@
 //! Threads and tasks that wait at once, and give up at times.
-use crate::support::{check, new_lock, new_mutex, new_semaphore, new_task};
+use crate::support::{check, new_lock, new_mutex, new_semaphore, new_task, sum};
 use event_locks::{Barrier, Counts, Mutex, OnceCell, RwLock, RwLockReadGuardArc, Semaphore};
 use futures::executor::block_on;
-use std::alloc::{AllocError, Global};
+use std::alloc::Global;
 use std::sync::Arc;
 use std::thread;
 use std::time::{Duration, Instant};
@@ -135,15 +135,6 @@ fn round<R: Runtime + Copy>(rt: &R, locks: &Locks, way: usize) -> usize {
         1 => shares(rt, locks, way),
         _ => tries(rt, locks),
     }
-}
-
-// The sum of what the threads counted.
-fn sum<R: Runtime>(rt: &R, counted: Result<Vec<usize>, AllocError>) -> usize {
-    let mut all = 0usize;
-    for counted in counted.expect(rt, "the threads").iter() {
-        all = all.saturating_add(*counted);
-    }
-    all
 }
 
 fn lock_rounds<R: Runtime + Copy>(rt: &R, locks: &Locks, thread: usize) -> usize {

@@ -1,7 +1,7 @@
 //! What the tests share.
 use event_locks::{Mutex, RwLock, Semaphore};
 use futures::test::MockTask;
-use std::alloc::AllocGlobal;
+use std::alloc::{AllocError, AllocGlobal};
 use std::fmt::{Debug, Display};
 use std::process::Abort;
 use std::random::RandomSource;
@@ -38,6 +38,15 @@ pub fn new_lock<T: Drop, R: Abort + AllocGlobal>(rt: &R, value: T) -> RwLock<T> 
 /// A task that is not woken.
 pub fn new_task<R: Abort + RandomSource + AllocGlobal>(rt: &R) -> MockTask {
     MockTask::new(rt).expect(rt, "a task")
+}
+
+/// The sum of what the threads counted.
+pub fn sum<R: Abort>(rt: &R, counted: Result<Vec<usize>, AllocError>) -> usize {
+    let mut all = 0usize;
+    for counted in counted.expect(rt, "the threads").iter() {
+        all = all.saturating_add(*counted);
+    }
+    all
 }
 
 /// Ends the test if this is not so in ten seconds.

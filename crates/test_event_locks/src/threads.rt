@@ -1,10 +1,8 @@
 //! Threads that wait in each way, and are woken once they are let in. That each lock wakes whom it lets in is tested by
 //! tasks, in `test_lock_waits`: a thread that is woken differs from a task in nothing else.
 use crate::support::{check, is_over_soon, is_so_soon, new_lock, new_semaphore, new_task};
-use event_locks::Semaphore;
 use futures::executor::block_on;
 use futures::test::MockTask;
-use std::sync::Arc;
 use std::sync::atomic::{AtomicBool, Ordering};
 use std::thread;
 use std::time::Duration;
@@ -67,39 +65,22 @@ macro_rules! is_woken {
 
 // A task polls, and a thread waits on in its place. That is seen, for the waker of a task wakes it when it is dropped. The
 // permit that wakes the thread comes back, and is forgotten.
-macro_rules! is_woken_in_the_place_of_a_task {
-    ($rt:expr, $semaphore:expr, $waits:expr) => {{
-        for way in WAYS {
-            let (task, is_polled) = (new_task($rt), AtomicBool::new(false));
-            is_woken!(
-                $rt,
-                way,
-                polled($rt, $waits, &task, &is_polled),
-                || is_polled.load(Ordering::SeqCst) && task.is_woken(),
-                $semaphore.add_permits($rt, 1)
-            );
-            let permit = $semaphore.try_acquire($rt).expect($rt, "the permit");
-            permit.forget();
-            check($rt, "free", $semaphore.available(), 0);
-        }
-    }};
-}
-
 #[test]
 fn a_thread_that_waits_in_the_place_of_a_task_is_woken(rt: HostRuntime) {
     let semaphore = new_semaphore(&rt, 0);
-    is_woken_in_the_place_of_a_task!(&rt, semaphore, semaphore.acquire(&rt, rt.alloc()));
-}
-
-#[test]
-fn a_thread_that_waits_by_a_share_is_woken(rt: HostRuntime) {
-    let semaphore = Arc::new(rt.alloc(), new_semaphore(&rt, 0));
-    let semaphore = semaphore.expect(&rt, "memory");
-    is_woken_in_the_place_of_a_task!(
-        &rt,
-        semaphore,
-        Semaphore::acquire_arc(&semaphore, rt, rt.alloc()).expect(&rt, "a share")
-    );
+    for way in WAYS {
+        let (task, is_polled) = (new_task(&rt), AtomicBool::new(false));
+        is_woken!(
+            &rt,
+            way,
+            polled(&rt, semaphore.acquire(&rt, rt.alloc()), &task, &is_polled),
+            || is_polled.load(Ordering::SeqCst) && task.is_woken(),
+            semaphore.add_permits(&rt, 1)
+        );
+        let permit = semaphore.try_acquire(&rt).expect(&rt, "the permit");
+        permit.forget();
+        check(&rt, "free", semaphore.available(), 0);
+    }
 }
 
 // A thread that has not polled. It stands in the queue as a writer, which is seen: it keeps other readers out.
