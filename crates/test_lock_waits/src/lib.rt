@@ -6,8 +6,8 @@
 //! | `waits` | tasks that wait for each lock, and are woken once they are let in |
 //! | `limits` | waits that end at their limit, at one that has passed and by a clock that can't be read |
 //! | `told` | one that is told and dropped, which gives on what it was handed |
-//! | `turns` | that nobody is passed over for ever, and when newcomers are shut out |
-//! | `monitor` | a value that threads and tasks wait for |
+//! | `turns` | when newcomers are shut out |
+//! | `monitor` | a value that threads and tasks wait for, and that a thread parks until it changes |
 //! | `words` | threads that meet at the word of a lock, whose state another one has out |
 //!
 //! `support` has what they share.

@@ -1,22 +1,18 @@
 //! Waits that end at their limit. Who gives up there stands in no queue, and what it was handed is not lost.
-use crate::support::{check, in_time, is_over_soon, new_semaphore};
+use crate::support::{check, new_semaphore};
 use crate::waits::Polled;
 use event_locks::Semaphore;
 use std::alloc::AllocGlobal;
 use std::cell::Cell;
+use std::io;
 use std::sync::Wait;
-use std::sync::atomic::{AtomicBool, Ordering};
 use std::time::{Clock, Duration, Instant};
-use std::{io, thread};
-use test_lock_support::{Case, Kind, Sharing, Waits, each};
-use test_support::{CountedClock, NoClock, OwnClock, Runtime, WithClock};
+use test_lock_support::{Case, Kind, Waits, each};
+use test_support::{CountedClock, NoClock, OwnClock, Runtime, WithClock, deadline_after};
 
-// One waits with each of these limits, in vain. Then another one comes first.
+// One waits for some time, and one until a moment, in vain. Then another one comes first.
 #[derive(Drop)]
-struct InVain {
-    limits: [Duration; 2],
-    deadlines: [Instant; 2],
-}
+struct InVain;
 
 impl<R: Runtime> Case<R> for InVain {
     fn waiters(&self) -> usize {
@@ -25,84 +21,53 @@ impl<R: Runtime> Case<R> for InVain {
 
     fn run<K: Kind>(&self, rt: &R, kind: &K) {
         let held = kind.hold();
-        for limit in &self.limits {
+        for limit in [Duration::ZERO, Duration::from_millis(3)] {
             let began = Instant::now(rt).expect(rt, "the time");
-            let given = kind.waits().expect(rt, "a share").wait_timeout(*limit);
+            let given = kind.waits().expect(rt, "a share").wait_timeout(limit);
             let given = given.expect(rt, "an answer").is_some();
-            check(rt, "whether it is granted", given, false);
             let took = began.elapsed(rt).expect(rt, "the time");
-            let in_time = *limit > Duration::from_secs(1) || took >= *limit;
-            check(rt, "whether it waited so long", in_time, true);
-        }
-        for deadline in &self.deadlines {
-            let given = kind.waits().expect(rt, "a share").wait_deadline(*deadline);
+            let answer = (given, took >= limit);
+            check(rt, "granted, after so long", answer, (false, true));
+            let moment = deadline_after(rt, limit).expect(rt, "a moment");
+            let given = kind.waits().expect(rt, "a share").wait_deadline(moment);
             let given = given.expect(rt, "an answer").is_some();
-            check(rt, "whether it is granted", given, false);
+            let now = Instant::now(rt).expect(rt, "the time");
+            let answer = (given, now >= moment);
+            check(rt, "granted, after the moment", answer, (false, true));
         }
         Polled::new(rt, kind.waits().expect(rt, "a share")).let_in(rt, held);
-        if kind.sharing() != Sharing::Forever {
-            let held = kind.hold();
-            Polled::new(rt, kind.waits().expect(rt, "a share")).let_in(rt, held);
-        }
     }
 }
 
 #[test]
-fn a_limit_that_has_passed_ends_each_wait(rt: HostRuntime) {
-    let now = Instant::now(&rt).expect(&rt, "the time");
-    let past = now.checked_sub(Duration::from_millis(1)).unwrap_or(now);
-    let case = InVain {
-        limits: [Duration::ZERO, Duration::from_millis(3)],
-        deadlines: [now, past],
-    };
-    let ran = in_time!(&rt, each(&rt, &rt, &case));
-    ran.expect(&rt, "memory");
+fn each_wait_ends_at_its_limit(rt: HostRuntime) {
+    each(&rt, &rt, &InVain).expect(&rt, "memory");
 }
 
+// Whether one that waits so long for a permit is given one.
+fn is_given<R: Runtime, C: Wait + Clock>(
+    rt: &R,
+    clock: &C,
+    semaphore: &Semaphore,
+    limit: Duration,
+) -> bool {
+    let given = semaphore.acquire(clock, rt.alloc()).wait_timeout(limit);
+    given.expect(rt, "an answer").is_some()
+}
+
+// The waits of all locks look at the clock in one function.
 #[test]
-fn a_clock_that_cannot_be_read_ends_each_wait(rt: HostRuntime) {
+fn a_clock_that_cannot_be_read_ends_a_wait(rt: HostRuntime) {
+    let (semaphore, blind) = (new_semaphore(&rt, 0), NoClock { rt: &rt });
     let hour = Duration::from_secs(3600);
-    let now = Instant::now(&rt).expect(&rt, "the time");
-    let case = InVain {
-        limits: [Duration::MAX, hour],
-        deadlines: [now, now.checked_add(hour).expect(&rt, "a moment")],
-    };
-    let ran = in_time!(&rt, each(&rt, &NoClock { rt: &rt }, &case));
-    ran.expect(&rt, "memory");
-}
-
-// A clock that gives a permit whenever it is read.
-#[derive(Drop)]
-struct Gives<'a, R> {
-    rt: &'a R,
-    semaphore: &'a Semaphore,
-}
-
-impl<'a, R: Runtime> OwnClock for Gives<'a, R> {
-    fn read(&self) -> io::Result<Duration> {
-        self.semaphore.add_permits(self.rt, 1);
-        Ok(Duration::from_secs(1))
+    for limit in [Duration::MAX, hour] {
+        let given = is_given(&rt, &blind, &semaphore, limit);
+        check(&rt, "whether it is granted", given, false);
     }
-}
-
-// One waits until a moment that has passed when it looks at the clock.
-fn is_taken<R: Runtime, C: Wait + Clock>(rt: &R, clock: &C, semaphore: &Semaphore) {
-    let now = Instant::now(clock).expect(rt, "the time");
-    let first = semaphore.try_acquire(rt).expect(rt, "a permit");
-    let given = semaphore.acquire(clock, rt.alloc()).wait_deadline(now);
-    let given = given.expect(rt, "an answer").is_some();
-    check(rt, "whether it is granted", given, true);
-    drop(first);
-    check(rt, "how many are free", semaphore.available(), 2);
-}
-
-#[test]
-fn what_comes_while_the_clock_is_read_is_taken(rt: HostRuntime) {
-    let semaphore = new_semaphore(&rt, 0);
-    let (rt, semaphore) = (&rt, &semaphore);
-    let clock = Gives { rt, semaphore };
-    let clock = &clock;
-    is_taken(rt, &WithClock { rt, clock }, semaphore);
+    let moment = deadline_after(&rt, hour).expect(&rt, "a moment");
+    let given = semaphore.acquire(&blind, rt.alloc()).wait_deadline(moment);
+    let given = given.expect(&rt, "an answer").is_some();
+    check(&rt, "whether it is granted", given, false);
 }
 
 // What happens while the clock is read: at the third reading and later, one that waits has stored its task, and is to park.
@@ -142,25 +107,9 @@ impl<R: Runtime> OwnClock for Steps<'_, R> {
     }
 }
 
-// Whether one that waits so many milliseconds for a permit is given one.
-fn is_given<R: Runtime, C: Wait + Clock>(
-    rt: &R,
-    clock: &C,
-    semaphore: &Semaphore,
-    limit: u64,
-) -> bool {
-    let waits = semaphore.acquire(clock, rt.alloc());
-    let given = waits.wait_timeout(Duration::from_millis(limit));
-    given.expect(rt, "an answer").is_some()
-}
-
-// Whether one that waits is given a permit, and how often it looked at the clock: so much later it ended.
-fn waited<R: Runtime>(
-    rt: &R,
-    semaphore: &Semaphore,
-    limit: u64,
-    meanwhile: [Meanwhile; 4],
-) -> (bool, u64) {
+// One that waits so long is given a permit or not, and has looked at the clock so often: so much later it ended.
+fn ends<R: Runtime>(rt: &R, limit: u64, meanwhile: [Meanwhile; 4], expected: (bool, u64)) {
+    let semaphore = &new_semaphore(rt, 0);
     let steps = Steps {
         rt,
         semaphore,
@@ -168,15 +117,10 @@ fn waited<R: Runtime>(
         reads: Cell::new(0),
     };
     let clock = WithClock { rt, clock: &steps };
-    let given = is_given(rt, &clock, semaphore, limit);
-    (given, steps.reads.get())
-}
-
-fn ends<R: Runtime>(rt: &R, limit: u64, meanwhile: [Meanwhile; 4], expected: (bool, u64)) {
-    let semaphore = new_semaphore(rt, 0);
-    let waited = waited(rt, &semaphore, limit, meanwhile);
-    check(rt, "given, after looks", waited, expected);
-    check(rt, "free", semaphore.available(), usize::from(waited.0));
+    let given = is_given(rt, &clock, semaphore, Duration::from_millis(limit));
+    let answer = (given, steps.reads.get());
+    check(rt, "given, after looks", answer, expected);
+    check(rt, "free", semaphore.available(), usize::from(given));
 }
 
 #[test]
@@ -193,31 +137,19 @@ fn a_timed_wait_goes_on_until_its_limit_or_a_permit(rt: HostRuntime) {
     ends(&rt, 9, [Nothing, Nothing, AddedAndTaken, Added], (true, 4));
 }
 
-// How long one waited in vain.
-fn waits_in_vain<R: Runtime, C: Wait + Clock>(
-    rt: &R,
-    clock: &C,
-    semaphore: &Semaphore,
-    limit: Duration,
-) -> Duration {
-    let began = Instant::now(rt).expect(rt, "the time");
-    let given = semaphore.acquire(clock, rt.alloc()).wait_timeout(limit);
-    let given = given.expect(rt, "an answer").is_some();
-    check(rt, "whether it is granted", given, false);
-    began.elapsed(rt).expect(rt, "the time")
-}
-
 // Each of many waits would have to end late, and not only one, which a busy machine may bring about.
 fn parks_until_its_limit<R: Runtime>(rt: &R) -> bool {
-    let semaphore = new_semaphore(rt, 0);
-    let (limit, late) = (Duration::from_millis(50), Duration::from_millis(75));
+    let (semaphore, limit) = (new_semaphore(rt, 0), Duration::from_millis(50));
     for _ in 0..30u32 {
         let reads = Cell::new(0);
         let clock = CountedClock { rt, reads: &reads };
-        let took = waits_in_vain(rt, &clock, &semaphore, limit);
+        let began = Instant::now(rt).expect(rt, "the time");
+        let given = is_given(rt, &clock, &semaphore, limit);
+        let took = began.elapsed(rt).expect(rt, "the time");
+        check(rt, "whether it is granted", given, false);
         // Who does not park looks all the time.
         check(rt, "whether it parked", reads.get() < 10, true);
-        if took < late {
+        if took < Duration::from_millis(75) {
             return true;
         }
     }

@@ -1,88 +1,92 @@
 //! A value that threads and tasks wait for.
-use crate::support::{check, is_over_soon, new_task};
+use crate::support::{check, comes_soon, new_task};
 use event_locks::{Condition, LockError, Monitor};
 use std::alloc::Global;
 use std::sync::Wait;
-use std::sync::atomic::{AtomicBool, Ordering};
+use std::sync::atomic::{AtomicUsize, Ordering};
 use std::thread;
 use std::time::{Clock, Duration};
 
-type Stock = Monitor<u32, Takes>;
-
-/// Takes so many, once there are as many, and gives how many are left.
+/// Takes so many, once there are as many, and gives how many are left. It counts its attempts.
 #[derive(Clone, Copy)]
-struct Takes(u32);
+struct Takes<'a> {
+    many: u32,
+    attempts: &'a AtomicUsize,
+}
 
-impl Condition<u32> for Takes {
+impl Condition<u32> for Takes<'_> {
     type Output = u32;
 
     ghost use Rattle.std.specs.Prelude.{◌≡◌, ◌+◌, ◌<◌};
 
-    ghost fails = { λ takes stock. stock < takes.0 };
+    ghost fails = { λ takes stock. stock < takes.many };
 
-    ghost gives = { λ takes stock left rest. (left ≡ rest) × (rest + takes.0 ≡ stock) };
+    ghost gives = { λ takes stock left rest. (left ≡ rest) × (rest + takes.many ≡ stock) };
 
     fn attempt(&self, stock: &mut u32) -> Option<u32> {
-        let left = stock.checked_sub(self.0)?;
+        self.attempts.fetch_add(1, Ordering::SeqCst);
+        let left = stock.checked_sub(self.many)?;
         *stock = left;
         Some(left)
     }
 }
 
-fn add<R: Wait>(rt: &R, stock: &Stock, more: u32) {
+fn add<R: Wait>(rt: &R, stock: &Monitor<u32, Takes<'_>>, more: u32) {
     stock.change(rt, |stock| *stock = stock.saturating_add(more));
 }
 
-fn take<R: Wait + Clock>(
+fn take<'a, R: Wait + Clock>(
     rt: &R,
     alloc: Global,
-    stock: &Stock,
-    times: u32,
+    stock: &Monitor<u32, Takes<'a>>,
+    takes: Takes<'a>,
 ) -> Result<(), LockError> {
-    for _ in 0..times {
-        stock.until(rt, alloc, Takes(2)).wait()?;
+    for _ in 0..500u32 {
+        stock.until(rt, alloc, takes).wait()?;
     }
     Ok(())
 }
 
 #[test]
 fn what_is_added_is_taken(rt: HostRuntime) {
-    let alloc = rt.alloc();
-    let stock = Stock::new(alloc, 0);
+    let (alloc, attempts) = (rt.alloc(), AtomicUsize::new(0));
+    let (many, attempts) = (2, &attempts);
+    let takes = Takes { many, attempts };
+    let stock = Monitor::new(alloc, 0);
     let adds = || {
         for _ in 0..2000u32 {
             add(&rt, &stock, 1);
         }
     };
-    let takes = || {
+    let both = || {
         thread::join(
             &rt,
-            || take(&rt, alloc, &stock, 500),
-            || take(&rt, alloc, &stock, 500),
+            || take(&rt, alloc, &stock, takes),
+            || take(&rt, alloc, &stock, takes),
         )
     };
-    let ((), (first, second)) = thread::join(&rt, adds, takes);
-    check(&rt, "two that take", (first, second), (Ok(()), Ok(())));
-    check(&rt, "what is left", stock.try_now(&rt, Takes(1)), None);
+    let ((), taken) = thread::join(&rt, adds, both);
+    check(&rt, "two that take", taken, (Ok(()), Ok(())));
+    let left = stock.change(&rt, |stock| *stock);
+    check(&rt, "what is left", left, 0);
 }
 
+// The task attempts once. The thread does before it waits, and as it stores its task; then it parks until the change.
 #[test]
 fn a_change_wakes_a_thread_and_a_task(rt: HostRuntime) {
-    let alloc = rt.alloc();
-    let (stock, task) = (Stock::new(alloc, 1), new_task(&rt));
-    let mut awaited = stock.until(&rt, alloc, Takes(3));
+    let (alloc, task, attempts) = (rt.alloc(), new_task(&rt), AtomicUsize::new(0));
+    let attempts = &attempts;
+    let stock = Monitor::new(alloc, 1);
+    let mut awaited = stock.until(&rt, alloc, Takes { many: 3, attempts });
     let is_pending = task.poll(&mut awaited).is_pending();
     check(&rt, "whether the task waits", is_pending, true);
-    let is_over = AtomicBool::new(false);
-    let waits = || {
-        let left = stock.until(&rt, alloc, Takes(2)).wait();
-        is_over.store(true, Ordering::SeqCst);
-        left
-    };
+    let waits = || stock.until(&rt, alloc, Takes { many: 2, attempts }).wait();
     let changes = || {
+        comes_soon(&rt, attempts, 3);
         thread::sleep(&rt, Duration::from_millis(20));
+        check(&rt, "attempts", attempts.load(Ordering::SeqCst), 3);
         add(&rt, &stock, 4);
-        is_over_soon(&rt, &is_over);
+        comes_soon(&rt, attempts, 4);
     };
     let (left, ()) = thread::join(&rt, waits, changes);
     check(&rt, "the thread", left, Ok(3));
@@ -91,16 +95,20 @@ fn a_change_wakes_a_thread_and_a_task(rt: HostRuntime) {
 }
 
 #[test]
-fn one_that_gave_up_takes_nothing(rt: HostRuntime) {
-    let alloc = rt.alloc();
-    let (stock, task) = (Stock::new(alloc, 1), new_task(&rt));
-    let limit = Duration::from_millis(20);
-    let late = stock.until(&rt, alloc, Takes(2)).wait_timeout(limit);
-    check(&rt, "one that is late", late, Ok(None));
-    let mut dropped = stock.until(&rt, alloc, Takes(2));
-    let is_pending = task.poll(&mut dropped).is_pending();
-    check(&rt, "whether the task waits", is_pending, true);
+fn one_that_gave_up_is_woken_no_more(rt: HostRuntime) {
+    let (alloc, attempts) = (rt.alloc(), AtomicUsize::new(0));
+    let (many, attempts) = (9, &attempts);
+    let takes = Takes { many, attempts };
+    let (stock, task) = (Monitor::new(alloc, 1), new_task(&rt));
+    let mut late = stock.until(&rt, alloc, takes);
+    let mut dropped = stock.until(&rt, alloc, takes);
+    check(&rt, "one", task.poll(&mut late).is_pending(), true);
+    check(&rt, "two", task.poll(&mut dropped).is_pending(), true);
+    let answer = late.wait_timeout(Duration::ZERO);
+    check(&rt, "one that is late", answer, Ok(None));
     drop(dropped);
+    // The wakers that both left woke the task.
+    task.enter(|_| ());
     add(&rt, &stock, 1);
-    check(&rt, "what is left", stock.try_now(&rt, Takes(2)), Some(0));
+    check(&rt, "whether the task is woken", task.is_woken(), false);
 }

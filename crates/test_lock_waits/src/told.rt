@@ -4,25 +4,10 @@ use crate::waits::Polled;
 use event_locks::Mutex;
 use std::sync::Arc;
 use std::time::Duration;
-use test_lock_support::{Case, Kind, Waits, each};
+use test_lock_support::{Case, Kind, each};
 use test_support::Runtime;
 
-// Both wait, and the first is dropped once it is woken.
-fn passes_on<R, W, V, G>(rt: &R, first: W, second: V, held: G)
-where
-    R: Runtime,
-    W: Waits,
-    V: Waits,
-    G: Drop,
-{
-    let first = Polled::new(rt, first);
-    let mut second = Polled::new(rt, second);
-    drop(held);
-    check(rt, "whether the first is woken", first.is_woken(), true);
-    drop(first);
-    second.is_granted(rt);
-}
-
+// Two wait, and the first is dropped once it is woken.
 #[derive(Drop)]
 struct PassesOn;
 
@@ -33,30 +18,18 @@ impl<R: Runtime> Case<R> for PassesOn {
 
     fn run<K: Kind>(&self, rt: &R, kind: &K) {
         let held = kind.hold();
-        let first = kind.waits().expect(rt, "a share");
-        passes_on(rt, first, kind.waits().expect(rt, "a share"), held);
+        let first = Polled::new(rt, kind.waits().expect(rt, "a share"));
+        let mut second = Polled::new(rt, kind.waits().expect(rt, "a share"));
+        drop(held);
+        check(rt, "whether the first is woken", first.is_woken(), true);
+        drop(first);
+        second.is_granted(rt);
     }
 }
 
 #[test]
 fn who_is_dropped_once_it_is_told_passes_it_on(rt: HostRuntime) {
     each(&rt, &rt, &PassesOn).expect(&rt, "memory");
-}
-
-#[test]
-fn a_reader_gives_way_to_a_writer(rt: HostRuntime) {
-    let shared = new_lock(&rt, 7);
-    let writer = shared.try_write(&rt).expect(&rt, "the value");
-    let first = shared.read(&rt, rt.alloc());
-    passes_on(&rt, first, shared.write(&rt, rt.alloc()), writer);
-}
-
-#[test]
-fn a_writer_gives_way_to_a_reader(rt: HostRuntime) {
-    let shared = new_lock(&rt, 7);
-    let reader = shared.try_read(&rt).expect(&rt, "the value");
-    let first = shared.write(&rt, rt.alloc());
-    passes_on(&rt, first, shared.read(&rt, rt.alloc()), reader);
 }
 
 // The only writer that waits gives up, and is dropped or comes to its limit. Readers that stood behind it are let in.
@@ -72,31 +45,13 @@ fn readers_come_in_once_no_writer_waits(rt: HostRuntime) {
             drop(writer);
         } else {
             let given = writer.wait_timeout(Duration::ZERO);
-            check(
-                &rt,
-                "in vain",
-                given.expect(&rt, "an answer").is_none(),
-                true,
-            );
+            let given = given.expect(&rt, "an answer").is_some();
+            check(&rt, "whether it is granted", given, false);
         }
         first.is_granted(&rt);
         second.is_granted(&rt);
         drop(reader);
     }
-}
-
-// A reader that is alone writes first, though a writer waits, which is let in afterwards.
-#[test]
-fn upgrade_with_a_concurrent_writer(rt: HostRuntime) {
-    let lock = new_lock(&rt, 0);
-    let reader = lock.try_read(&rt).expect(&rt, "the reader");
-    let behind = Polled::new(&rt, lock.write(&rt, rt.alloc()));
-    check(&rt, "read", lock.try_read(&rt).is_none(), true);
-    let mut writer = reader.try_upgrade().ok().expect(&rt, "the writer");
-    check(&rt, "the value", *writer, 0);
-    *writer = 2;
-    behind.let_in(&rt, writer);
-    check(&rt, "the value", lock.into_inner(), 2);
 }
 
 // The mutex is gone but for the share of the one that was told, and with that goes its value.

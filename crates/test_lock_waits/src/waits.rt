@@ -1,6 +1,6 @@
 //! Tasks that wait in each way, and are woken once they are let in.
 use crate::support::{check, new_lock, new_semaphore, new_task};
-use event_locks::{Barrier, Claim, OnceCell, RwLock, Vacant};
+use event_locks::{Barrier, Claim, OnceCell, RwLock};
 use futures::test::MockTask;
 use std::sync::Arc;
 use std::thread;
@@ -13,22 +13,15 @@ use test_support::Runtime;
 pub struct Polled<W> {
     task: MockTask,
     waits: W,
-    is_granted: bool,
 }
 
 impl<W: Waits> Polled<W> {
     /// Polls this wait, which is not granted at once, and wakes nobody.
     pub fn new<R: Runtime>(rt: &R, waits: W) -> Self {
-        let (mut waits, task) = (waits, new_task(rt));
-        waits.can_be_polled();
-        let pending = task.poll(&mut waits).is_pending();
-        check(rt, "whether it waits", pending, true);
-        check(rt, "whether it is woken", task.is_woken(), false);
-        Polled {
-            task,
-            waits,
-            is_granted: false,
-        }
+        let task = new_task(rt);
+        let mut polled = Polled { task, waits };
+        polled.waits_on(rt);
+        polled
     }
 
     /// Whether its task was woken since its last poll.
@@ -36,12 +29,22 @@ impl<W: Waits> Polled<W> {
         self.task.is_woken()
     }
 
-    /// Polls again, in vain. That wakes nobody: its task is registered.
-    pub fn waits_on<R: Runtime>(&mut self, rt: &R) {
+    /// Whether it is granted at this poll. Then it lets it go at once.
+    pub fn is_ready(&mut self) -> bool {
         self.waits.can_be_polled();
-        let pending = self.task.poll(&mut self.waits).is_pending();
-        check(rt, "whether it waits on", pending, true);
-        check(rt, "whether it is woken", self.task.is_woken(), false);
+        self.task.poll(&mut self.waits).is_ready()
+    }
+
+    /// Polls in vain. That wakes nobody: its task is registered.
+    pub fn waits_on<R: Runtime>(&mut self, rt: &R) {
+        check(rt, "whether it is granted", self.is_ready(), false);
+        check(rt, "whether it is woken", self.is_woken(), false);
+    }
+
+    /// It was woken, and it is granted at the next poll.
+    pub fn is_granted<R: Runtime>(&mut self, rt: &R) {
+        check(rt, "whether it is woken", self.is_woken(), true);
+        check(rt, "whether it is granted", self.is_ready(), true);
     }
 
     /// It was woken, and a thread that waits in its place is granted what it waited for, and lets it go.
@@ -54,23 +57,8 @@ impl<W: Waits> Polled<W> {
 
     /// The wait, which nobody polls any more.
     pub fn into_waits(self) -> W {
-        let Polled {
-            task: _,
-            waits,
-            is_granted: _,
-        } = self;
+        let Polled { task: _, waits } = self;
         waits
-    }
-
-    /// Polls again if its task is woken: then it is granted, and let go at once.
-    pub fn polls_if_woken<R: Runtime>(&mut self, rt: &R) {
-        if self.is_granted || !self.task.is_woken() {
-            return;
-        }
-        self.waits.can_be_polled();
-        let ready = self.task.poll(&mut self.waits).is_ready();
-        check(rt, "whether it is granted", ready, true);
-        self.is_granted = true;
     }
 
     /// It is let in once this is dropped.
@@ -80,23 +68,12 @@ impl<W: Waits> Polled<W> {
         drop(held);
         polled.is_granted(rt);
     }
-
-    /// It was woken, and it is granted at the next poll.
-    pub fn is_granted<R: Runtime>(&mut self, rt: &R) {
-        self.polls_if_woken(rt);
-        check(
-            rt,
-            "whether it was woken and granted",
-            self.is_granted,
-            true,
-        );
-    }
 }
 
-/// Three tasks wait, and all are woken once they are let in, or one after the other. A poll before changes nothing, and a
-/// thread goes on in the place of the last.
+// Three tasks wait, and all are woken once they are let in, or one after the other. A poll before changes nothing, and a
+// thread goes on in the place of the last.
 #[derive(Drop)]
-pub struct AllAreWoken;
+struct AllAreWoken;
 
 impl<R: Runtime> Case<R> for AllAreWoken {
     fn waiters(&self) -> usize {
@@ -145,20 +122,15 @@ fn added_permits_wake_as_many(rt: HostRuntime) {
     check(&rt, "free", semaphore.available(), 2);
 }
 
-// It is granted at the first poll.
-fn comes_last<R: Runtime, W: Waits>(rt: &R, waits: W) {
-    let mut waits = waits;
-    waits.can_be_polled();
-    let ready = new_task(rt).poll(&mut waits).is_ready();
-    check(rt, "whether the round has ended", ready, true);
-}
-
 #[test]
 fn a_task_that_comes_last_wakes_all(rt: HostRuntime) {
     let barrier = Barrier::new(rt.alloc(), 3);
     let mut first = Polled::new(&rt, barrier.wait(&rt, rt.alloc()));
     let mut second = Polled::new(&rt, barrier.wait(&rt, rt.alloc()));
-    comes_last(&rt, barrier.wait(&rt, rt.alloc()));
+    let has_ended = new_task(&rt)
+        .poll(&mut barrier.wait(&rt, rt.alloc()))
+        .is_ready();
+    check(&rt, "whether the round has ended", has_ended, true);
     first.is_granted(&rt);
     second.is_granted(&rt);
 }
@@ -175,18 +147,12 @@ fn a_writer_that_downgrades_wakes_all_readers(rt: HostRuntime) {
     check(&rt, "the value", *reader, 7);
 }
 
-/// The turn to make the value of a cell, which nobody else has.
-pub fn turn_of<'a, R: Runtime>(rt: &'a R, cell: &'a OnceCell<u64>) -> Vacant<'a, u64, R> {
-    match cell.claim(rt, rt.alloc()).wait() {
-        Ok(Claim::Vacant(turn)) => turn,
-        _ => panic!(rt; "no turn"),
-    }
-}
-
 #[test]
 fn a_value_that_is_set_wakes_those_that_would_make_it(rt: HostRuntime) {
     let cell = OnceCell::new(rt.alloc());
-    let turn = turn_of(&rt, &cell);
+    let Ok(Claim::Vacant(turn)) = cell.claim(&rt, rt.alloc()).wait() else {
+        panic!(&rt; "no turn");
+    };
     let mut maker = Polled::new(&rt, cell.claim(&rt, rt.alloc()));
     let mut other = Polled::new(&rt, cell.claim(&rt, rt.alloc()));
     check(&rt, "set", turn.set(7).copied(), Ok(7));

@@ -11,8 +11,6 @@ use std::time::{Clock, Duration};
 
 const THREADS: usize = 4;
 
-const ROUNDS: u64 = 20_000;
-
 /// What has been added up, with nobody who waits.
 #[derive(Drop)]
 struct Tally {
@@ -53,44 +51,23 @@ fn add<R: Wait + Clock>(rt: &R, tally: &Word<Tally, ()>, much: u64, long: Durati
     before
 }
 
-#[test]
-fn threads_that_meet_all_get_the_state(rt: HostRuntime) -> Result<(), Fail> {
-    let tally = Word::new(rt.alloc(), 0, Tally { sum: 0 }, ())?;
-    let shared = &tally;
-    let added = thread::map_indices(
-        &rt,
-        rt.alloc(),
-        THREADS,
-        &|_| {
-            let mut added = 0u64;
-            for _ in 0..ROUNDS {
-                let _ = add(&rt, shared, 3, Duration::ZERO);
-                added = added.wrapping_add(3);
-            }
-            added
-        },
-    )?;
-    assert!(rt; added.iter().all(|sum| *sum == 3 * ROUNDS));
-    assert!(rt; add(&rt, &tally, 0, Duration::ZERO) == 3 * ROUNDS * THREADS as u64);
-    Ok(())
+// Where a round takes long, each thread but the first finds the state out for far longer than it pauses, so it sleeps, and has
+// to be woken.
+fn add_in_rounds<R: Wait + Clock>(rt: &R, tally: &Word<Tally, ()>, rounds: u64, long: Duration) {
+    for _ in 0..rounds {
+        let _ = add(rt, tally, 1, long);
+    }
 }
 
-// Each thread but the first finds the state out for far longer than it pauses, so it sleeps, and has to be woken.
 #[test]
-fn a_thread_that_sleeps_for_the_state_is_woken(rt: HostRuntime) -> Result<(), Fail> {
-    let tally = Word::new(rt.alloc(), 0, Tally { sum: 0 }, ())?;
-    let shared = &tally;
-    let before = thread::map_indices(
-        &rt,
-        rt.alloc(),
-        THREADS,
-        &|_| add(&rt, shared, 1, Duration::from_millis(20)),
-    )?;
-    let mut sum = 0u64;
-    for found in before.iter() {
-        sum = sum.wrapping_add(*found);
+fn threads_that_meet_all_get_the_state(rt: HostRuntime) -> Result<(), Fail> {
+    for (rounds, long) in [(20_000u64, 0u64), (1, 20)] {
+        let tally = Word::new(rt.alloc(), 0, Tally { sum: 0 }, ())?;
+        let long = Duration::from_millis(long);
+        let adds = |_| add_in_rounds(&rt, &tally, rounds, long);
+        let _ = thread::map_indices(&rt, rt.alloc(), THREADS, &adds)?;
+        let sum = add(&rt, &tally, 0, Duration::ZERO);
+        assert!(rt; sum == rounds.saturating_mul(THREADS as u64));
     }
-    assert!(rt; sum == 0 + 1 + 2 + 3);
-    assert!(rt; add(&rt, &tally, 0, Duration::ZERO) == THREADS as u64);
     Ok(())
 }
