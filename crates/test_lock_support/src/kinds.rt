@@ -50,6 +50,7 @@ pub trait Kind: Sync {
 }
 
 /// A lock, and the runtime of those that wait for it. Where a lock can be waited for in two ways, `A` says which.
+#[derive(Drop)]
 pub struct Of<'a, L, R, A = ()> {
     lock: &'a L,
     rt: &'a R,
@@ -66,17 +67,6 @@ impl<'a, L, R, A> Of<'a, L, R, A> {
             alloc,
             access: PhantomData,
         }
-    }
-}
-
-impl<L, R, A> Drop for Of<'_, L, R, A> {
-    fn drop(self) {
-        let Of {
-            lock: _,
-            rt: _,
-            alloc: _,
-            access: _,
-        } = self;
     }
 }
 
