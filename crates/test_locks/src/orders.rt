@@ -3,6 +3,7 @@ use crate::support::{check, hold, is_woken, new_mutex, new_task, waits};
 use example_locks::contended::{Clients, Contended, Owed, Taken, take, try_once};
 use example_locks::{Mutex, MutexGuard, PolledLock};
 use futures::test::MockTask;
+use std::alloc::AllocGlobal;
 use std::process::Abort;
 use std::sync::{self, Wait};
 use std::time::Clock;
@@ -44,34 +45,23 @@ impl<'a> Contended<'a> for Owes<'a> {
     }
 }
 
-// Notifies so many listeners of the lock more.
-fn notify_more<R: Abort + Wait>(rt: &R, mutex: &Mutex<u64>, count: usize) {
-    let held = try_once(Owes { mutex, count }).expect(rt, "what is always free");
-    held.free().notify(rt);
-}
-
 #[test]
 fn additional_notifications_tell_so_many_more(rt: HostRuntime) {
-    let mutex = new_mutex(&rt, 7);
-    let tasks = [new_task(&rt), new_task(&rt), new_task(&rt), new_task(&rt)];
-    let held = hold(&rt, &mutex);
-    let mut first = mutex.polled_lock(&rt, rt.alloc());
-    let mut second = mutex.polled_lock(&rt, rt.alloc());
-    let mut third = mutex.polled_lock(&rt, rt.alloc());
-    let mut fourth = mutex.polled_lock(&rt, rt.alloc());
-    waits(&rt, &mut first, &tasks[0]);
-    waits(&rt, &mut second, &tasks[1]);
-    waits(&rt, &mut third, &tasks[2]);
-    waits(&rt, &mut fourth, &tasks[3]);
-    notify_more(&rt, &mutex, 1);
-    is_woken(&rt, &tasks[0], true);
-    is_woken(&rt, &tasks[1], false);
-    notify_more(&rt, &mutex, 2);
-    is_woken(&rt, &tasks[1], true);
-    is_woken(&rt, &tasks[2], true);
-    is_woken(&rt, &tasks[3], false);
-    drop(held);
-    is_woken(&rt, &tasks[3], false);
+    let (rt, mutex) = (&rt, &new_mutex(&rt, 7));
+    let tasks = [new_task(rt), new_task(rt), new_task(rt), new_task(rt)];
+    let _held = hold(rt, mutex);
+    let mut waiting = Vec::new(rt.alloc());
+    for task in &tasks {
+        let mut polled = mutex.polled_lock(rt, rt.alloc());
+        waits(rt, &mut polled, task);
+        waiting.push(polled).expect(rt, "room");
+    }
+    for (count, woken) in [(1usize, 1usize), (2, 3)] {
+        let held = try_once(Owes { mutex, count });
+        held.expect(rt, "what is always free").free().notify(rt);
+        let told = tasks.iter().filter(|task| task.is_woken()).count();
+        check(rt, "how many are woken", told, woken);
+    }
 }
 
 // A lock that is freed right before a client's second try, when another one waits behind it: so the client is told, and

@@ -1,4 +1,4 @@
-//! Permits of a semaphore: taking and giving them back, and threads that wait for them.
+//! Permits of a semaphore: taking and giving them back, and threads that wait for several. One waits as for a lock.
 use crate::support::{check, new_semaphore, take_permit};
 use example_locks::{Permit, Semaphore};
 use std::alloc::AllocGlobal;
@@ -6,8 +6,7 @@ use std::process::Abort;
 use std::sync::atomic::{AtomicUsize, Ordering};
 use std::sync::{Barrier, Wait};
 use std::thread;
-use std::time::{Clock, Duration, Instant};
-use test_support::NoClock;
+use std::time::{Clock, Duration};
 
 // How many permits are free. They are taken for that, and given back.
 fn count_free<R: Wait>(rt: &R, semaphore: &Semaphore) -> usize {
@@ -22,38 +21,6 @@ fn count_free<R: Wait>(rt: &R, semaphore: &Semaphore) -> usize {
     all.held()
 }
 
-#[test]
-fn a_permit_takes_more_while_some_are_free(rt: HostRuntime) {
-    let semaphore = new_semaphore(&rt, 3);
-    let mut permit = take_permit(&rt, &semaphore);
-    check(&rt, "held at first", permit.held(), 1);
-    check(&rt, "more of two", permit.more(), true);
-    check(&rt, "held then", permit.held(), 2);
-    let other = take_permit(&rt, &semaphore);
-    check(&rt, "more of none", permit.more(), false);
-    check(&rt, "held still", permit.held(), 2);
-    let none = semaphore.try_acquire(&rt).is_none();
-    check(&rt, "whether all are taken", none, true);
-    drop(permit);
-    check(
-        &rt,
-        "free after the drop of two",
-        count_free(&rt, &semaphore),
-        2,
-    );
-    drop(other);
-    check(&rt, "free at the end", count_free(&rt, &semaphore), 3);
-}
-
-#[test]
-fn a_semaphore_without_permits_gives_none(rt: HostRuntime) {
-    let semaphore = new_semaphore(&rt, 0);
-    check(&rt, "free", count_free(&rt, &semaphore), 0);
-}
-
-// How many seconds somebody waits who is to be given a permit: long enough for any machine.
-const LONG: u64 = 20;
-
 fn acquire_within<'a, R>(
     rt: &'a R,
     semaphore: &'a Semaphore,
@@ -66,42 +33,20 @@ where
     answer.expect(rt, "an answer")
 }
 
-fn drop_later<R: Abort + Wait + Clock>(rt: &R, permit: Permit<'_, R>) {
-    thread::sleep(rt, Duration::from_millis(20));
+#[test]
+fn a_permit_takes_more_while_some_are_free(rt: HostRuntime) {
+    let semaphore = new_semaphore(&rt, 3);
+    let mut permit = take_permit(&rt, &semaphore);
+    check(&rt, "more of two", permit.more(), true);
+    let other = take_permit(&rt, &semaphore);
+    check(&rt, "more of none", permit.more(), false);
+    let limit = Duration::from_millis(10);
+    let given = acquire_within(&rt, &semaphore, limit).is_some();
+    check(&rt, "whether one is given of none", given, false);
     drop(permit);
-}
-
-fn acquire<R>(rt: &R, semaphore: &Semaphore) -> usize
-where
-    R: Abort + AllocGlobal + Wait + Clock + Clone,
-{
-    let permit = semaphore.acquire(rt, rt.alloc());
-    permit.expect(rt, "a permit").held()
-}
-
-#[test]
-fn a_thread_waits_until_another_one_frees_a_permit(rt: HostRuntime) {
-    let semaphore = new_semaphore(&rt, 1);
-    let permit = take_permit(&rt, &semaphore);
-    let (held, ()) = thread::join(
-        &rt,
-        || acquire(&rt, &semaphore),
-        move || drop_later(&rt, permit),
-    );
-    check(&rt, "held", held, 1);
-    check(&rt, "free at the end", count_free(&rt, &semaphore), 1);
-}
-
-#[test]
-fn a_deadline_that_cannot_be_represented_never_comes(rt: HostRuntime) {
-    let semaphore = new_semaphore(&rt, 1);
-    let permit = take_permit(&rt, &semaphore);
-    let (given, ()) = thread::join(
-        &rt,
-        || acquire_within(&rt, &semaphore, Duration::MAX).is_some(),
-        move || drop_later(&rt, permit),
-    );
-    check(&rt, "whether it is given", given, true);
+    check(&rt, "free then", count_free(&rt, &semaphore), 2);
+    drop(other);
+    check(&rt, "free at the end", count_free(&rt, &semaphore), 3);
 }
 
 // Waits for a permit, and keeps it until both threads have ended their wait: so the first permit that is given back can't
@@ -110,7 +55,7 @@ fn acquire_beside<R>(rt: &R, semaphore: &Semaphore, both: &Barrier) -> bool
 where
     R: Abort + AllocGlobal + Wait + Clock + Clone,
 {
-    let permit = acquire_within(rt, semaphore, Duration::from_secs(LONG));
+    let permit = acquire_within(rt, semaphore, Duration::from_secs(20));
     both.wait(rt);
     permit.is_some()
 }
@@ -125,42 +70,12 @@ fn all_permits_of_one_go_to_those_who_wait(rt: HostRuntime) {
     let (given, ()) = thread::join(
         &rt,
         || thread::join(&rt, wait, wait),
-        move || drop_later(&rt, permit),
+        move || {
+            thread::sleep(&rt, Duration::from_millis(20));
+            drop(permit);
+        },
     );
     check(&rt, "whether they are given", given, (true, true));
-}
-
-#[test]
-fn a_timed_acquire_gives_up_at_its_deadline(rt: HostRuntime) {
-    let limit = Duration::from_millis(10);
-    let semaphore = new_semaphore(&rt, 2);
-    let first = take_permit(&rt, &semaphore);
-    let second = take_permit(&rt, &semaphore);
-    let began = Instant::now(&rt).expect(&rt, "the time");
-    let given = acquire_within(&rt, &semaphore, limit).is_some();
-    let took = began.elapsed(&rt).expect(&rt, "the time");
-    check(&rt, "whether it is given while all are held", given, false);
-    check(&rt, "whether the time had passed", took >= limit, true);
-    drop(first);
-    let given = acquire_within(&rt, &semaphore, limit).is_some();
-    check(&rt, "whether it is given once one is free", given, true);
-    drop(second);
-    check(&rt, "free at the end", count_free(&rt, &semaphore), 2);
-}
-
-#[test]
-fn a_clock_that_cannot_be_read_is_past_the_deadline(rt: HostRuntime) {
-    let hour = Duration::from_secs(3600);
-    let semaphore = new_semaphore(&rt, 1);
-    let blind = NoClock { rt: &rt };
-    let permit = take_permit(&rt, &semaphore);
-    let answer = semaphore.acquire_timeout(&blind, rt.alloc(), hour);
-    let given = answer.expect(&rt, "an answer").is_some();
-    check(&rt, "whether it is given while all are held", given, false);
-    drop(permit);
-    let answer = semaphore.acquire_timeout(&blind, rt.alloc(), hour);
-    let given = answer.expect(&rt, "an answer").is_some();
-    check(&rt, "whether it is given once one is free", given, true);
 }
 
 const TURNS: u32 = 30_000;

@@ -1,6 +1,5 @@
 //! What the tests share: the calls that have to succeed. Each ends the test where it does not.
 use event_listener::{EventId, EventIds};
-use example_locks::contended::{Contended, Held, Taken, try_once};
 use example_locks::{Mutex, MutexError, MutexGuard, Permit, PolledLock, Semaphore};
 use futures::task::{Poll, Waker};
 use futures::test::MockTask;
@@ -59,29 +58,6 @@ pub fn take_permit<'a, R: Abort + Wait>(rt: &'a R, semaphore: &'a Semaphore) -> 
 /// Whether a try finds the lock held.
 pub fn is_held<R: Wait>(rt: &R, mutex: &Mutex<u64>) -> bool {
     mutex.try_lock(rt).is_none()
-}
-
-/// What somebody has taken and gives back when it is dropped, be it a lock or a permit.
-pub struct Keeper<'a, V: Taken, R: Wait> {
-    rt: &'a R,
-    held: Held<'a, V>,
-}
-
-impl<'a, V: Taken, R: Wait> Drop for Keeper<'a, V, R> {
-    fn drop(self) {
-        let Self { rt, held } = self;
-        held.free().notify(rt);
-    }
-}
-
-/// Takes it, where it is free.
-pub fn keep<'a, C, R>(rt: &'a R, contended: C) -> Option<Keeper<'a, C::Taken, R>>
-where
-    C: Contended<'a>,
-    R: Wait,
-{
-    let held = try_once(contended)?;
-    Some(Keeper { rt, held })
 }
 
 // A waker of this task, which begins a poll of it.

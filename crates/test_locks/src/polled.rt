@@ -4,12 +4,14 @@ use crate::support::{
 };
 use example_locks::MutexError;
 
+// The task of the last poll is the one that is woken.
 #[test]
 fn pending_while_it_is_held_and_ready_once_it_is_free(rt: HostRuntime) {
     let mutex = new_mutex(&rt, 7);
     let task = new_task(&rt);
     let held = hold(&rt, &mutex);
     let mut polled = mutex.polled_lock(&rt, rt.alloc());
+    waits(&rt, &mut polled, &new_task(&rt));
     waits(&rt, &mut polled, &task);
     is_woken(&rt, &task, false);
     drop(held);
@@ -21,23 +23,6 @@ fn pending_while_it_is_held_and_ready_once_it_is_free(rt: HostRuntime) {
     drop(guard);
     check(&rt, "whether it is held", is_held(&rt, &mutex), false);
     is_refused(&rt, &mut polled, &task, MutexError::Finished);
-}
-
-// The task of the last poll is the one that is woken.
-#[test]
-fn a_poll_without_a_wake_up_waits_on(rt: HostRuntime) {
-    let mutex = new_mutex(&rt, 7);
-    let first = new_task(&rt);
-    let second = new_task(&rt);
-    let held = hold(&rt, &mutex);
-    let mut polled = mutex.polled_lock(&rt, rt.alloc());
-    waits(&rt, &mut polled, &first);
-    waits(&rt, &mut polled, &second);
-    is_woken(&rt, &second, false);
-    drop(held);
-    is_woken(&rt, &second, true);
-    let guard = is_given(&rt, &mut polled, &second);
-    check(&rt, "the value", *guard, 7);
 }
 
 // Who was told may find the lock taken again. The poll then has no waker left, so its task must be woken.
@@ -60,6 +45,7 @@ fn a_told_lock_that_comes_too_late_is_polled_again(rt: HostRuntime) {
     check(&rt, "the value", *guard, 7);
 }
 
+// The notification of a guard counts whoever is told already, so a second guard wakes nobody.
 #[test]
 fn a_told_lock_that_is_dropped_passes_its_turn_on(rt: HostRuntime) {
     let mutex = new_mutex(&rt, 7);
@@ -73,30 +59,10 @@ fn a_told_lock_that_is_dropped_passes_its_turn_on(rt: HostRuntime) {
     drop(held);
     is_woken(&rt, &first, true);
     is_woken(&rt, &second, false);
+    drop(hold(&rt, &mutex));
+    is_woken(&rt, &second, false);
     drop(gives_up);
     is_woken(&rt, &second, true);
     let guard = is_given(&rt, &mut stays, &second);
-    check(&rt, "the value", *guard, 7);
-}
-
-// The notification of a guard counts whoever is told already.
-#[test]
-fn a_second_guard_wakes_nobody_while_one_is_told(rt: HostRuntime) {
-    let mutex = new_mutex(&rt, 7);
-    let first = new_task(&rt);
-    let second = new_task(&rt);
-    let held = hold(&rt, &mutex);
-    let mut in_front = mutex.polled_lock(&rt, rt.alloc());
-    let mut behind = mutex.polled_lock(&rt, rt.alloc());
-    waits(&rt, &mut in_front, &first);
-    waits(&rt, &mut behind, &second);
-    drop(held);
-    is_woken(&rt, &first, true);
-    is_woken(&rt, &second, false);
-    drop(hold(&rt, &mutex));
-    is_woken(&rt, &second, false);
-    drop(is_given(&rt, &mut in_front, &first));
-    is_woken(&rt, &second, true);
-    let guard = is_given(&rt, &mut behind, &second);
     check(&rt, "the value", *guard, 7);
 }

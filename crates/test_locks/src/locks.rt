@@ -1,4 +1,0 @@
-//! The lock.
-mod blocking;
-mod polled;
-mod second_try;
