@@ -1,6 +1,5 @@
 //! Callers of events: who gets which tag, and which tasks are woken.
 mod flags;
-mod heard;
 mod timed;
 
 use crate::support::{Host, check, is_woken, listen, new_id, new_task, tell};
@@ -9,28 +8,17 @@ use example_events::desk::{Desk, Sitting};
 use example_events::polled::Order::{Stop, Work};
 use example_events::polled::{NextOrder, await_tag};
 use example_events::relayed::{TagError, wait_for_tag};
-use example_events::tagged::{tags_of_two, tell_one, tell_one_more};
+use example_events::tagged::tags_of_two;
 use futures::task::Poll;
 use futures::test::MockTask;
 use std::thread;
 use test_support::Runtime;
 
-// Two listen, and none is told yet.
-fn tells_two<R: Runtime>(rt: &R, event: &Event<u32>) {
-    let (first, second) = (listen(rt, event), listen(rt, event));
-    check(rt, "one", tell_one(rt, event, 7), 1);
-    check(rt, "one told already", tell_one(rt, event, 8), 0);
-    check(rt, "one more", tell_one_more(rt, event, 9), 1);
-    check(rt, "one too many", tell_one_more(rt, event, 10), 0);
-    check(rt, "the first", first.discard(), true);
-    check(rt, "the second", second.discard(), true);
-}
-
+// One of two is told already when it is told once more, and the other one then.
 #[test]
 fn a_default_notification_counts_who_is_told_and_an_additional_one_does_not(rt: HostRuntime) {
     let tags = tags_of_two(&rt, rt.alloc(), new_id(&rt));
     check(&rt, "the tags of two", tags, Ok((7, 9)));
-    tells_two(&rt, &Event::with_tag(new_id(&rt)));
 }
 
 // Notifies a listener as soon as there is one.

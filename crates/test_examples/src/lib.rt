@@ -3,9 +3,9 @@
 //!
 //! | Module | What it tests |
 //! |---|---|
-//! | `queue` | a line of visitors under a lock; who gets which desk or text; at how many others those look who leave a line |
-//! | `events` | which listener gets which tag, that it comes, who passes on, and which tasks are woken; `flags` that are set between a look and the queue, and records as tables; who `heard` what another thread said; `timed` waits, also such as are refused and tried again |
-//! | `races` | threads that count, take permits and wait for flags, one that is woken and finds the seat free, and a race that is recorded, for two seconds each; worked row 21 |
+//! | `queue` | a line of visitors under a lock; who gets which desk or text; at how many others one looks who leaves a line |
+//! | `events` | which listener gets which tag, that it comes, who passes on, and which tasks are woken; `flags` that are set between a look and the queue, and records as tables; `timed` waits, also such as are refused and tried again |
+//! | `races` | threads that count, take permits and wait for flags, that hear what others say, one that is woken and finds the seat free, and a race that is recorded, for two seconds each; worked row 21 |
 //! | `texts` | the texts of all errors |
 #![tactic(auto)]
 

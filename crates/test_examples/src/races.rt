@@ -1,8 +1,9 @@
-//! Threads that race, for two seconds each time.
+//! Threads that race, most for two seconds each time.
 use crate::support::{Host, check, new_id, new_task};
-use event_listener::{RecordedCall, RecordedReply, RegisterResult};
+use event_listener::{Event, RecordedCall, RecordedReply, RegisterResult};
 use example_events::desk::Desk;
 use example_events::flag::Flag;
+use example_events::heard::hear_another;
 use example_events::meeting::wait_for_setter;
 use example_events::race::race;
 use example_locks::{count, count_with_permits};
@@ -38,6 +39,18 @@ fn a_thread_waits_until_another_one_sets_the_flag(rt: HostRuntime) {
         check(&rt, "the program", waited, Ok(()));
     })
     .expect(&rt, "the time");
+}
+
+// Each of two threads starts one more that notifies all.
+#[test]
+fn two_threads_hear_what_two_others_say(rt: HostRuntime) {
+    let event = Event::new(new_id(&rt));
+    let hears = || hear_another(&rt, rt.alloc(), &event);
+    for _ in 0..100 {
+        let heard = thread::join(&rt, hears, hears);
+        check(&rt, "what both hear", heard, (Ok(true), Ok(true)));
+        check(&rt, "listeners", event.total_listeners(&rt), 0);
+    }
 }
 
 // Another thread leaves the seat. The one who waits tries as soon as its task is woken, and needs no lock for that.

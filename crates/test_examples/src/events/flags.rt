@@ -1,12 +1,9 @@
 //! Flags that are set between the first look of who waits and the queue, and who is told.
 use crate::support::{check, new_id};
-use event_listener::{
-    Entry, EventIds, Former, Hand, Key, Listener, Record, RecordedCall, RecordedReply,
-};
+use event_listener::{EventIds, Hand, Listener, Record, RecordedReply};
 use example_events::flag::{Flag, pair};
 use example_events::record_table::write_table;
 use example_events::recorded_flag::RecordedFlag;
-use std::fmt::Debug;
 use std::sync::{Mutex, Wait};
 use test_support::{InBetween, Interrupted, Runtime};
 
@@ -71,13 +68,6 @@ fn record_of_a_late_set<R: Runtime>(rt: &R) -> Record<()> {
     flag.close(hands).expect(rt, "a record")
 }
 
-// The table of these entries is this text.
-fn reads<T: Copy + Debug, R: Runtime>(rt: &R, entries: &[Entry<T>], text: &str) {
-    let mut table = String::new(rt.alloc());
-    write_table(entries, &mut table).expect(rt, "a table");
-    check(rt, "the table", table.as_str(), text);
-}
-
 // The flag is set before the listener is in the queue, so nobody tells it, but the second look finds the flag set.
 #[test]
 fn a_listener_that_is_dropped_stands_without_a_hand(rt: HostRuntime) {
@@ -93,15 +83,8 @@ fn a_listener_that_is_dropped_stands_without_a_hand(rt: HostRuntime) {
 ",
         usize::MAX
     );
-    reads(&rt, record.entries(), text.expect(&rt, "a text").as_str());
-
-    let (key, additional, propagate, tag) = (Key { slot: 2, serial: 5 }, false, true, 7);
-    let entry = Entry {
-        hand: None,
-        call: RecordedCall::Remove { key, propagate },
-        reply: RecordedReply::Removed(Some(Former::Lost { additional, tag })),
-    };
-    let text =
-        "- | Remove { key: Key { slot: 2, serial: 5 }, propagate: true } | Removed(Some(Lost { additional: false, tag: 7 }))\n";
-    reads(&rt, &[entry], text);
+    let mut table = String::new(rt.alloc());
+    write_table(record.entries(), &mut table).expect(&rt, "a table");
+    let text = text.expect(&rt, "a text");
+    check(&rt, "the table", table.as_str(), text.as_str());
 }
