@@ -3,9 +3,8 @@
 //!
 //! | Module | What it tests |
 //! |---|---|
-//! | `waits` | tasks that wait for each lock, and are woken once they are let in |
+//! | `waits` | tasks that wait for each lock, and are woken once they are let in; one that is told and dropped, which gives on what it was handed |
 //! | `limits` | waits that end at their limit, at one that has passed and by a clock that can't be read |
-//! | `told` | one that is told and dropped, which gives on what it was handed |
 //! | `turns` | when newcomers are shut out |
 //! | `monitor` | a value that threads and tasks wait for, and that a thread parks until it changes |
 //! | `words` | threads that meet at the word of a lock, whose state another one has out |
@@ -19,8 +18,6 @@ mod limits;
 mod monitor;
 #[cfg(test)]
 mod support;
-#[cfg(test)]
-mod told;
 #[cfg(test)]
 mod turns;
 #[cfg(test)]
