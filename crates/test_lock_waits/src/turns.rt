@@ -38,6 +38,8 @@ macro_rules! starves {
 enum Starving {
     // It is notified, and newcomers take nothing meanwhile, though it is free.
     Granted,
+    // The same, as it comes to its limit.
+    GrantedAtItsLimit,
     Dropped,
     DroppedOnceNotified,
     Late,
@@ -60,6 +62,11 @@ impl<R: Runtime> Case<R> for Starving {
                 check(rt, "shut", kind.counts(), Some(counts_of(1, 1, 0, 1)));
                 check(rt, "whether it is granted", one.is_ready(), true);
                 drop(newcomer);
+            }
+            Starving::GrantedAtItsLimit => {
+                drop(held);
+                let given = one.into_waits().wait_timeout(Duration::ZERO);
+                check(rt, "in time", given.expect(rt, "an answer").is_some(), true);
             }
             Starving::Dropped => {
                 drop(one);
@@ -86,6 +93,7 @@ impl<R: Runtime> Case<R> for Starving {
 fn newcomers_are_shut_out_while_one_starves(rt: HostRuntime) {
     for case in [
         Starving::Granted,
+        Starving::GrantedAtItsLimit,
         Starving::Dropped,
         Starving::DroppedOnceNotified,
         Starving::Late,
