@@ -37,8 +37,8 @@ const RENEWED: usize = 16;
 #[derive(Clone, Copy)]
 struct Plan {
     capacity: Option<usize>,
-    // How many microseconds a call waits that has a limit.
-    patience: u64,
+    // How long a call waits that has a limit.
+    patience: Duration,
     // After how many messages a receiver closes the channel.
     closes_after: usize,
 }
@@ -73,12 +73,7 @@ fn receiver_anew<R: Runtime>(rt: &R, receiver: Receiver<usize, R>) -> Receiver<u
 }
 
 impl Plan {
-    fn patience(&self) -> Duration {
-        Duration::from_micros(self.patience)
-    }
-
-    // Sends the messages of a sender, until the channel is closed or it has sent the least and time is up. Each that is not
-    // sent comes back.
+    // Sends the messages of a sender, until the channel is closed or it has sent the least and time is up.
     fn send_all<R: Runtime>(
         &self,
         rt: &R,
@@ -96,12 +91,9 @@ impl Plan {
             if sent.len() % RENEWED == 0 {
                 sender = sender_anew(rt, sender);
             }
-            match way_of(number).send(rt, &sender, message, self.patience()) {
+            match way_of(number).send(rt, &sender, message, self.patience) {
                 Answer::Sent => sent.push(message).expect(rt, "room"),
-                Answer::Closed(Some(same)) => {
-                    check(rt, "what comes back", same, message);
-                    break;
-                }
+                Answer::Closed(_) => break,
                 other => {
                     check(rt, "what is late", other, Answer::Late(Some(message)));
                     thread::yield_now();
@@ -128,7 +120,7 @@ impl Plan {
                 }
             };
         }
-        match way_of(number).receive(rt, receiver, self.patience()) {
+        match way_of(number).receive(rt, receiver, self.patience) {
             Answer::Received(message) => messages.push(message).expect(rt, "room"),
             Answer::Closed(None) => return false,
             other => {
@@ -250,7 +242,7 @@ fn each_message_is_received_once(rt: HostRuntime) {
     ] {
         let plan = Plan {
             capacity,
-            patience,
+            patience: Duration::from_micros(patience),
             closes_after,
         };
         plan.run(&rt);
