@@ -1,18 +1,14 @@
-//! What `Until` and channels leave where memory is refused: a message is in the channel or comes back, and is never lost.
-use crate::support::{
-    Answer, Runtime, Starved, all_memory, check, count_refused, leave, new_id, new_task,
-};
+//! What channels leave where memory is refused: a message is in the channel or comes back, and is never lost.
+use crate::support::{Answer, Runtime, Starved, all_memory, check, count_refused, leave, new_task};
 use event_channel::{
     ChannelError, LockError, Receiver, RecvError, RecvTimeoutError, SendError, SendReason, Sender,
     TryRecvError, bounded, unbounded,
 };
-use event_listener::{Event, ListenError, NeverInserted, WaitReason};
-use event_until::{Attempt, Until, UntilError};
+use event_listener::ListenError;
 use futures::StreamExt;
 use futures::task::Poll;
 use std::alloc::AllocError;
 use std::cell::Cell;
-use std::sync::Wait;
 use std::time::Duration;
 use test_queue_memory::Budget;
 
@@ -21,66 +17,6 @@ const LISTENING: LockError = LockError::Listen(ListenError::Memory);
 const NO_MEMORY: LockError = LockError::Memory(AllocError);
 
 const MAX: Duration = Duration::MAX;
-
-fn reads<R: Runtime>(rt: &R, error: UntilError, text: &str) {
-    let shown = format!(in rt.alloc(); "{error}").expect(rt, "a text");
-    check(rt, "the text", shown.as_str(), text);
-}
-
-#[test]
-fn texts_of_attempts(rt: HostRuntime) {
-    reads(&rt, ListenError::Memory.into(), "no memory for a listener");
-    reads(&rt, WaitReason::Memory.into(), "no memory for a parker");
-    let gone = "listener is not in the queue";
-    reads(&rt, WaitReason::NeverInserted.into(), gone);
-    reads(&rt, NeverInserted.into(), gone);
-}
-
-// An attempt that never succeeds. It notes how many were made, and how many listeners there were at the last.
-#[derive(Drop)]
-struct Never<'r, 'e, 's, R> {
-    rt: &'r R,
-    event: &'e Event<()>,
-    seen: &'s Cell<(usize, usize)>,
-}
-
-impl<R: Wait> Attempt for Never<'_, '_, '_, R> {
-    type Output = ();
-
-    fn attempt(&mut self) -> Option<()> {
-        let attempts = self.seen.get().0.saturating_add(1);
-        let listeners = self.event.total_listeners(self.rt);
-        self.seen.set((attempts, listeners));
-        None
-    }
-}
-
-// Without memory each wait is refused for this reason, after so many attempts, and leaves no listener.
-fn waits_are_refused<R: Runtime>(rt: &R, has_room: bool, refusal: UntilError, attempts: usize) {
-    let event = &Event::new(new_id(rt));
-    if has_room {
-        drop(event.listen(rt, rt.alloc()).expect(rt, "a listener"));
-    }
-    let seen = &Cell::new((0, 0));
-    let mut until = Until::new(rt, rt.alloc(), event, Never { rt, event, seen });
-    let hog = all_memory(rt);
-    check(rt, "the wait", until.wait(), Err(refusal));
-    let listeners = usize::from(has_room);
-    check(rt, "attempts", seen.replace((0, 0)), (attempts, listeners));
-    check(rt, "a timed wait", until.wait_timeout(MAX), Err(refusal));
-    check(rt, "attempts", seen.get(), (attempts, listeners));
-    check(rt, "listeners left", event.total_listeners(rt), 0);
-    drop(hog);
-    let answer = until.wait_timeout(Duration::ZERO);
-    check(rt, "a wait after it", answer, Ok(None));
-}
-
-#[test]
-fn a_refused_listening_or_parker_leaves_no_listener(rt: HostRuntime) {
-    let listening = UntilError::Listen(ListenError::Memory);
-    waits_are_refused(&rt, false, listening, 1);
-    waits_are_refused(&rt, true, UntilError::Parker, 2);
-}
 
 type Sides<R> = (Sender<usize, R>, Receiver<usize, R>);
 
@@ -123,17 +59,11 @@ impl<R: Runtime> Starved for NewChannel<'_, R> {
         leave(rt, budget, bytes);
         let made = make(rt, self.room);
         budget.give_back();
-        match made {
-            Ok((sender, receiver)) => {
-                sends(rt, &sender, &[7]);
-                are_left(rt, &receiver, &[7]);
-                true
-            }
-            Err(refusal) => {
-                check(rt, bytes, refusal, ChannelError::Memory(AllocError));
-                false
-            }
+        let refusal = made.err();
+        if let Some(refusal) = refusal {
+            check(rt, bytes, refusal, ChannelError::Memory(AllocError));
         }
+        refusal.is_none()
     }
 }
 
@@ -175,16 +105,18 @@ impl<R: Runtime> Starved for FirstWait<'_, R> {
         let sent = sender.send_timeout(7, Duration::from_millis(500));
         budget.give_back();
         are_left(rt, &receiver, &[0]);
-        let is_late = sent == Err(unsent(7, SendReason::TimedOut));
-        let is_placeless = sent == Err(unsent(7, SendReason::WaitFailed(LISTENING)));
-        if is_placeless {
+        let SendError { message, reason } = sent.expect_err(rt, "room for a message");
+        check(rt, "the message", message, 7);
+        let SendReason::WaitFailed(refusal) = reason else {
+            check(rt, "the reason", reason, SendReason::TimedOut);
+            return true;
+        };
+        if refusal == LISTENING {
             self.needs_place.set(true);
+        } else {
+            check(rt, "the refusal", refusal, NO_MEMORY);
         }
-        if !is_late && !is_placeless {
-            let refusal = unsent(7, SendReason::WaitFailed(NO_MEMORY));
-            refused(rt, sent, refusal);
-        }
-        is_late
+        false
     }
 }
 
@@ -209,8 +141,16 @@ fn a_send_that_cannot_wait_hands_back(rt: HostRuntime) {
     let refusal = unsent(9, SendReason::WaitFailed(LISTENING));
     check(rt, "a poll", polled, Poll::Ready(Err(refusal)));
     drop(hog);
+    are_left(rt, &receiver, &[0, 1]);
+}
 
-    // It makes a place in the queue, for which it has time.
+// A first send makes a place in the queue, for which it has time. One that waits there needs no memory.
+#[test]
+fn a_send_at_a_place_that_is_there_waits(rt: HostRuntime) {
+    let rt = &rt;
+    let (sender, receiver) = make(rt, Some(2)).expect(rt, "a channel");
+    sends(rt, &sender, &[0, 1]);
+    let task = new_task(rt);
     let timed_out = sender.send_timeout(5, Duration::from_millis(500));
     refused(rt, timed_out, unsent(5, SendReason::TimedOut));
     let mut sending = sender.send(9);
@@ -257,8 +197,18 @@ fn a_receive_that_cannot_wait_loses_nothing(rt: HostRuntime) {
     refused(rt, receiver.recv_many(&mut many, 2), refusal);
     are_left(rt, &receiver, &[5]);
     drop(hog);
+    let polled = task.poll(&mut receiving);
+    check(rt, "a poll with memory", polled, Poll::Pending);
+}
 
-    // They make places in the queues.
+// Two polls make places in the queue. A receive that waits there needs no memory, nor does one that takes such a place.
+#[test]
+fn a_receive_at_a_place_that_is_there_waits(rt: HostRuntime) {
+    let rt = &rt;
+    let (sender, receiver) = make(rt, Some(2)).expect(rt, "a channel");
+    let task = new_task(rt);
+    let mut stream = receiver.clone().expect(rt, "a receiver");
+    let mut receiving = receiver.recv();
     let polled = task.poll(&mut receiving);
     check(rt, "a poll", polled, Poll::Pending);
     let item = task.poll(&mut stream.next());

@@ -1,160 +1,68 @@
-//! Events: listening that is refused what it needs or takes a spare slot, waits that are refused what the thread parks on,
-//! and threads that are parked, and woken by one that has no memory.
-use crate::support::{Runtime, all_memory, check, new_id, new_task};
-use event_listener::{
-    Event, IntoNotification, IntoTagged, ListenError, Listener, StackSlot, WaitError,
-};
-use futures::task::Poll;
+//! Events: listening that takes a spare slot, waits that are refused what the thread parks on, and threads that are parked,
+//! and woken by one that has no memory.
+use crate::support::{Runtime, all_memory, check, new_budget, new_id};
+use calls::Row;
+use calls_events::run_on_events;
+use event_listener::{Event, IntoTagged, Listener};
 use std::io;
 use std::sync::atomic::{AtomicBool, Ordering};
 use std::thread::{self, Threads};
-use std::time::{Clock, Duration, Instant};
+use std::time::{Clock, Duration};
+use test_queue_memory::Starving;
 use test_support::{
-    Borrowing, Case, ListenerKind, OwnClock, Sharing, Trial, Unshared, WithClock, answered,
-    any_waker, both, deadline_after, spin_until, waker_of,
+    Borrowing, ListenerKind, OwnClock, Sharing, WithClock, answered, deadline_after, spin_until,
 };
 
+// Each call but these that listen or wait has no memory, and each of these that is starved. What is refused otherwise, worked
+// rows have.
+const ROWS: &str = "
+A listener takes the slot that another one left, and needs no memory.
+row 1 event
+listen -> listener 0
+listen -> listener 1
+drop 0 -> dropped
+starved listen -> listener 2
+drop 1 -> dropped
+starved slisten -> listener 3
+notify max d -> told 2
+discard 2 -> discarded true
+discard 3 -> discarded true
+total -> total 0
+
+A wait that is refused what its thread parks on hands the listener back as it was, told or not. One that comes back passes \
+its notification on where it is dropped. That a listener is finished is found without memory.
+row 2 event tags
+listen -> listener 0
+listen -> listener 1
+starved wait 0 -> no memory
+starved timeout 0 0 -> no memory
+starved timeout 0 1000 -> no memory
+starved timeout 0 max -> no memory
+starved expire 0 -> no memory
+total -> total 2
+isnotified -> isnotified false
+notify 1 d 7 -> told 1
+starved wait 0 -> no memory
+starved timeout 0 0 -> no memory
+starved timeout 0 1000 -> no memory
+starved timeout 0 max -> no memory
+starved expire 0 -> no memory
+total -> total 2
+isnotified -> isnotified true
+drop 0 -> dropped
+poll 1 1 -> ready 7 wakes 1
+starved wait 1 -> finished
+";
+
 #[test]
-fn nobody_listens_where_the_runtime_is_not_cloned(rt: HostRuntime) {
-    let event: Event<()> = Event::new(new_id(&rt));
-    let (unshared, refused) = (Unshared { rt }, Some(ListenError::Memory));
-    let refusal = event.listen(&unshared, rt.alloc()).err();
-    check(&rt, "one that shares it", refusal, refused);
-    let slot = StackSlot::new(&rt, rt.alloc(), &event).expect(&rt, "a slot");
-    let refusal = slot.listen(&unshared).err();
-    check(&rt, "one that borrows it", refusal, refused);
-    check(&rt, "listeners", event.total_listeners(&rt), 0);
-}
-
-struct NewEvent;
-
-impl<R: Runtime> Case<R> for NewEvent {
-    type Tag = ();
-
-    fn run<S: Trial<Tag = (), Runtime = R>>(trial: &S) {
-        let (rt, event) = (trial.rt(), trial.event());
-        let refused = Some(ListenError::Memory);
-        let hog = all_memory(rt);
-        check(rt, "a listener", trial.try_listen().err(), refused);
-        let slot = StackSlot::new(rt, rt.alloc(), event);
-        check(rt, "a slot", slot.err(), refused);
-        check(rt, "listeners", event.total_listeners(rt), 0);
-        check(rt, "told", event.notify(rt, 2), Ok(0));
-        drop(hog);
-        let shown = format!(in rt.alloc(); "{event:?}").expect(rt, "a text");
-        check(rt, "it", shown.as_str(), "Event(<uninitialized>)");
-
-        let listener = trial.try_listen().expect(rt, "a listener");
-        check(rt, "told", event.notify(rt, 2), Ok(1));
-        check(rt, "whether it is told", listener.discard(), true);
-    }
-}
-
-#[test]
-fn a_new_event_stays_new_where_its_queue_is_refused(rt: HostRuntime) {
-    both::<NewEvent, _>(&rt);
-}
-
-// More slots than a queue has once it has grown for the first time.
-const MANY: usize = 64;
-
-struct SpareSlots;
-
-// The first listener leaves a slot. A share of the queue only counts one owner more.
-impl<R: Runtime> Case<R> for SpareSlots {
-    type Tag = ();
-
-    fn run<S: Trial<Tag = (), Runtime = R>>(trial: &S) {
-        let (rt, event) = (trial.rt(), trial.event());
-        let task = new_task(rt);
-        let waker = waker_of(&task).expect(rt, "a waker");
-        let mut listeners = Vec::with_capacity(rt.alloc(), MANY).expect(rt, "room for listeners");
-        let first = trial.try_listen().expect(rt, "a listener");
-        let mut second = trial.try_listen().expect(rt, "a listener");
-        let hog = all_memory(rt);
-        check(rt, "a poll", second.poll(waker), Ok(Poll::Pending));
-        check(rt, "told", event.notify(rt, 1), Ok(1));
-        drop(first);
-        check(rt, "whether it passes on", task.is_woken(), true);
-        for _ in 1..MANY {
-            let Ok(listener) = trial.try_listen() else {
-                break;
-            };
-            listeners.push(listener).expect(rt, "room");
+fn listening_takes_spare_slots_and_a_refused_wait_hands_the_listener_back(rt: HostRuntime) {
+    for number in [1, 2] {
+        let row = Row::numbered(ROWS, number).expect(&rt, "a row");
+        let made = run_on_events(row, &rt, &mut Starving::new(new_budget(&rt)));
+        if let Err(difference) = made.expect(&rt, "a subject") {
+            panic!(&rt; "{difference}");
         }
-        let refusal = trial.try_listen().err();
-        check(rt, "the refusal", refusal, Some(ListenError::Memory));
-        let spare = listeners.len();
-        check(rt, "whether a slot was spare", spare > 0, true);
-        check(rt, "told", event.notify_additional(rt, MANY), spare);
-        drop(hog);
-
-        let late = trial.try_listen().expect(rt, "a listener");
-        check(rt, "whether the late one is told", late.discard(), false);
-        let total = event.total_listeners(rt).checked_sub(1);
-        check(rt, "listeners but the second", total, Some(spare));
     }
-}
-
-#[test]
-fn listening_takes_the_spare_slots_and_then_is_refused(rt: HostRuntime) {
-    both::<SpareSlots, _>(&rt);
-}
-
-fn comes_back<A: Drop, L: Drop, R: Runtime>(rt: &R, answer: Result<A, WaitError<L>>) -> L {
-    let Err(WaitError::Memory(listener)) = answer else {
-        panic!(rt; "it was not refused memory, or was looked for");
-    };
-    listener
-}
-
-// Makes each call that waits while all memory is taken. The listener comes back each time, or else the test ends.
-fn waits_in_vain<L: Listener<u32> + Drop, R: Runtime>(rt: &R, listener: L) -> L {
-    let past = Instant::now(rt).expect(rt, "the time");
-    let hog = all_memory(rt);
-    let mut listener = comes_back(rt, listener.wait());
-    for timeout in [Duration::ZERO, Duration::from_secs(1), Duration::MAX] {
-        listener = comes_back(rt, listener.wait_timeout(timeout));
-    }
-    let listener = comes_back(rt, listener.wait_deadline(past));
-    drop(hog);
-    listener
-}
-
-struct RefusedWaits;
-
-// The second is told in the end, and is finished then.
-impl<R: Runtime> Case<R> for RefusedWaits {
-    type Tag = u32;
-
-    fn run<S: Trial<Tag = u32, Runtime = R>>(trial: &S) {
-        let (rt, event) = (trial.rt(), trial.event());
-        let waker = any_waker(rt).expect(rt, "a waker");
-        let first = trial.try_listen().expect(rt, "a listener");
-        let second = trial.try_listen().expect(rt, "a listener");
-        let first = waits_in_vain(rt, first);
-        let mut second = waits_in_vain(rt, second);
-        check(rt, "listeners", event.total_listeners(rt), 2);
-        check(rt, "told", event.notify(rt, 1.tag(7)), Ok(1));
-        let told = waits_in_vain(rt, first);
-        let left = (event.total_listeners(rt), event.is_notified(rt));
-        check(rt, "listeners, whether one is told", left, (2, true));
-
-        // One that comes back passes its notification on where it is dropped.
-        drop(told);
-        check(rt, "its tag", second.poll(waker), Ok(Poll::Ready(7)));
-        // That it is finished is found without memory.
-        let hog = all_memory(rt);
-        let answer = second.wait();
-        drop(hog);
-        let refusal = Err("listener is not in the queue");
-        check(rt, "a wait", answered(answer), refusal);
-    }
-}
-
-#[test]
-fn a_refused_wait_hands_the_listener_back_as_it_was(rt: HostRuntime) {
-    both::<RefusedWaits, _>(&rt);
 }
 
 // What a test of two threads asks of its runtime value.

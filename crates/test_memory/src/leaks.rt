@@ -33,68 +33,54 @@ fn an_event_and_its_listeners_give_the_queue_back(rt: HostRuntime) {
     comes_back(&rt, || event_and_listeners(&rt));
 }
 
-// Each guard outlives the other share of its lock.
-fn guards<R: Runtime + Copy>(rt: &R) {
-    let (runtime, alloc) = (*rt, rt.alloc());
-    let mutex = Mutex::new(alloc, 7).expect(rt, "a mutex");
-    let mutex = Arc::new(alloc, mutex).expect(rt, "a share");
-    let waits = Mutex::lock_arc(&mutex, runtime, alloc).expect(rt, "a share");
-    let value = waits.wait().expect(rt, "the value");
-    drop(mutex);
-    drop(value);
-    let permits = Semaphore::new(alloc, 1).expect(rt, "a semaphore");
-    let permits = Arc::new(alloc, permits).expect(rt, "a share");
-    let waits = Semaphore::acquire_arc(&permits, runtime, alloc).expect(rt, "a share");
-    let permit = waits.wait().expect(rt, "a permit");
-    drop(permits);
-    drop(permit);
-}
-
-#[test]
-fn guards_that_share_their_lock_give_it_back(rt: HostRuntime) {
-    comes_back(&rt, || guards(&rt));
-}
-
-// One is told, and dropped with the last share of its lock.
-fn is_told<R: Runtime, W: Waits, G: Drop>(rt: &R, waits: W, held: G) {
+// One that waits is told. It has the last share of its lock, and is dropped with it; or a guard has the last share.
+fn is_told<R: Runtime, W: Waits, G: Drop>(rt: &R, waits: W, held: G, is_given: bool) {
     let (mut waits, task) = (waits, new_task(rt));
     waits.can_be_polled();
     check(rt, "waits", task.poll(&mut waits).is_pending(), true);
     drop(held);
     check(rt, "told", task.is_woken(), true);
-    drop(waits);
+    if is_given {
+        let guard = waits.wait();
+        check(rt, "given", guard.is_ok(), true);
+        drop(guard);
+    } else {
+        drop(waits);
+    }
 }
 
-fn of_a_semaphore<R: Runtime + Copy>(rt: &R) {
+fn of_a_semaphore<R: Runtime + Copy>(rt: &R, is_given: bool) {
     let permits = Semaphore::new(rt.alloc(), 1).expect(rt, "a semaphore");
     let permits = Arc::new(rt.alloc(), permits).expect(rt, "a share");
     let held = Semaphore::try_acquire_arc(&permits, *rt).expect(rt, "a share");
     let waits = Semaphore::acquire_arc(&permits, *rt, rt.alloc()).expect(rt, "a share");
     drop(permits);
-    is_told(rt, waits, held);
+    is_told(rt, waits, held, is_given);
 }
 
-fn of_a_mutex<R: Runtime + Copy>(rt: &R) {
+fn of_a_mutex<R: Runtime + Copy>(rt: &R, is_given: bool) {
     let mutex = Mutex::new(rt.alloc(), 7u64).expect(rt, "a mutex");
     let mutex = Arc::new(rt.alloc(), mutex).expect(rt, "a share");
     let held = Mutex::try_lock_arc(&mutex, *rt).expect(rt, "a share");
     let waits = Mutex::lock_arc(&mutex, *rt, rt.alloc()).expect(rt, "a share");
     drop(mutex);
-    is_told(rt, waits, held);
+    is_told(rt, waits, held, is_given);
 }
 
-fn of_a_read_write_lock<R: Runtime + Copy>(rt: &R) {
+fn of_a_read_write_lock<R: Runtime + Copy>(rt: &R, is_given: bool) {
     let lock = RwLock::new(rt.alloc(), 7u64).expect(rt, "a lock");
     let lock = Arc::new(rt.alloc(), lock).expect(rt, "a share");
     let held = RwLock::try_read_arc(&lock, *rt).expect(rt, "a share");
     let waits = RwLock::write_arc(&lock, *rt, rt.alloc()).expect(rt, "a share");
     drop(lock);
-    is_told(rt, waits, held);
+    is_told(rt, waits, held, is_given);
 }
 
 #[test]
 fn a_lock_is_given_back_by_the_last_one_that_was_told(rt: HostRuntime) {
-    comes_back(&rt, || of_a_semaphore(&rt));
-    comes_back(&rt, || of_a_mutex(&rt));
-    comes_back(&rt, || of_a_read_write_lock(&rt));
+    for is_given in [false, true] {
+        comes_back(&rt, || of_a_semaphore(&rt, is_given));
+        comes_back(&rt, || of_a_mutex(&rt, is_given));
+        comes_back(&rt, || of_a_read_write_lock(&rt, is_given));
+    }
 }

@@ -1,7 +1,7 @@
 //! Locks that are held, and semaphores whose permits are taken, while their callers are refused memory, and the example
 //! programs.
 use crate::support::{
-    Answer, Runtime, Starved, all_memory, check, count_refused, leave, new_budget, new_id,
+    Answer, Runtime, Starved, all_memory, check, count_refused, leave, new_budget, new_id, new_task,
 };
 use example_events::meeting::{MeetingError, wait_for_setter};
 use example_locks::{
@@ -9,12 +9,9 @@ use example_locks::{
 };
 use futures::task::Waker;
 use std::alloc::AllocError;
-use std::cell::Cell;
-use std::io;
-use std::sync::{self, Wait};
-use std::time::{Clock, Duration};
+use std::time::Duration;
 use test_queue_memory::Budget;
-use test_support::{OwnClock, WithClock, any_waker};
+use test_support::{any_waker, waker_of};
 
 // Whether it was given. There is no answer where memory was refused.
 fn is_given<G: Drop, E: Answer, R: Runtime>(
@@ -38,26 +35,6 @@ fn poll<R: Runtime>(rt: &R, lock: &mut PolledLock<'_, u64, R>, waker: Waker) -> 
             check(rt, "the refusal", refusal, MutexError::Memory);
             None
         }
-    }
-}
-
-// A clock that stands still. A client that waits reads it for the second time once its listener is in the queue. Then what
-// is held is freed, which notifies the client at its limit.
-#[derive(Drop)]
-struct FreesWhenRead<'a, G, R> {
-    rt: &'a R,
-    reads: Cell<u32>,
-    held: sync::Mutex<Option<G>>,
-}
-
-impl<G: Drop, R: Runtime> OwnClock for FreesWhenRead<'_, G, R> {
-    fn read(&self) -> io::Result<Duration> {
-        let reads = self.reads.get();
-        self.reads.set(reads.saturating_add(1));
-        if reads == 1 {
-            drop(self.held.lock(self.rt).take());
-        }
-        Ok(Duration::ZERO)
     }
 }
 
@@ -90,39 +67,38 @@ struct Wanted<'a, R> {
 }
 
 impl<R: Runtime> Wanted<'_, R> {
-    fn make<C: Wait + Clock + Clone>(&self, call: Call, clock: &C, waker: Waker) -> Option<bool> {
+    fn make(&self, call: Call, waker: Waker) -> Option<bool> {
         let (rt, alloc) = (self.rt, self.rt.alloc());
         let (mutex, permits) = (&self.mutex, &self.permits);
         let (lock, permit) = (MutexError::Memory, SemaphoreError::Memory);
         let now = Duration::ZERO;
         match call {
-            Call::Lock => is_given(rt, mutex.lock(clock, alloc).map(Some), lock),
-            Call::TimedLock => is_given(rt, mutex.lock_timeout(clock, alloc, now), lock),
+            Call::Lock => is_given(rt, mutex.lock(rt, alloc).map(Some), lock),
+            Call::TimedLock => is_given(rt, mutex.lock_timeout(rt, alloc, now), lock),
             Call::Poll => poll(rt, &mut mutex.polled_lock(rt, alloc), waker),
-            Call::Acquire => is_given(rt, permits.acquire(clock, alloc).map(Some), permit),
-            Call::TimedAcquire => is_given(rt, permits.acquire_timeout(clock, alloc, now), permit),
+            Call::Acquire => is_given(rt, permits.acquire(rt, alloc).map(Some), permit),
+            Call::TimedAcquire => is_given(rt, permits.acquire_timeout(rt, alloc, now), permit),
         }
     }
 
-    // Makes the call with so many bytes of memory while both are taken. Nobody is left that waits: the first client that
-    // waits from now on is told, and is given what was taken.
+    // Makes the call with so many bytes of memory while both are taken. Nobody is left that waits: the first task that waits
+    // for the lock from now on is told that it is free.
     fn make_in_vain(&self, call: Call, budget: &mut Budget, bytes: usize) -> Option<bool> {
         let rt = self.rt;
         let lock = self.mutex.try_lock(rt).expect(rt, "the lock");
         let permit = self.permits.try_acquire(rt).expect(rt, "the permit");
         let waker = any_waker(rt).expect(rt, "a waker");
-        let last_waker = any_waker(rt).expect(rt, "a waker");
         leave(rt, budget, bytes);
-        let answer = self.make(call, rt, waker);
+        let answer = self.make(call, waker);
         budget.give_back();
-        let clock = FreesWhenRead {
-            rt,
-            reads: Cell::new(0),
-            held: sync::Mutex::new(Some((lock, permit))),
-        };
-        let clock = WithClock { rt, clock: &clock };
-        let next = self.make(call.timed(), &clock, last_waker);
-        check(rt, call, next, Some(true));
+        let (mut next, task) = (self.mutex.polled_lock(rt, rt.alloc()), new_task(rt));
+        let waker = waker_of(&task).expect(rt, "a waker");
+        check(rt, call, poll(rt, &mut next, waker), Some(false));
+        drop(lock);
+        drop(permit);
+        check(rt, "whether it is woken", task.is_woken(), true);
+        let waker = waker_of(&task).expect(rt, "a waker");
+        check(rt, call, poll(rt, &mut next, waker), Some(true));
         answer
     }
 }
