@@ -7,10 +7,10 @@
 //! |---|---|
 //! | `rows`, as text | what each call answers, which tasks wake, and what the record has of it; both kinds of listeners in one queue; serial numbers that are used up |
 //! | `lists`, as text that a loop writes | how many listeners each notifying call tells, and which; that none is kept for the first listener; the order of a thousand wakes |
-//! | `tags` | tags that are refused, and tags that own memory |
+//! | `tags` | tags that are refused |
 //! | `locks` | what is called while the lock of an event is held, by its thread and by another; threads that race to make the queue |
 //! | `making` | the macro `listener!`; slots; what is shown; what threads may share; listeners that outlive their event |
-//! | `hands` | which hands a recorded event owns, with which it is closed, and whose notes differ |
+//! | `hands` | more hands than memory holds; an event that is closed with the hand of a namesake, whose notes are the same |
 //!
 //! Events are tested with both kinds of listener. Records alone, and tasks that await, are tested in `test_records`, waits
 //! in `test_waits`, and refused memory in `test_memory`. Not tested: a recorded queue whose serial numbers are used up. None

@@ -1,5 +1,5 @@
 //! How listeners are made by the macro and by slots, and what events, slots, listeners and refusals show of themselves.
-use crate::support::{Runtime, check, discard, has_listeners, new_event, new_event_at, shows};
+use crate::support::{Runtime, check, discard, has_listeners, new_event, shows};
 use event_listener::{
     CloseError, Event, EventIds, EventListener, IntoTagged, ListenError, Listener, NeverInserted,
     NotifyError, RecordError, RecordedPollError, StackListener, StackSlot, WaitError, WaitReason,
@@ -9,7 +9,7 @@ use futures::task::Poll;
 use futures::test::MockTask;
 use std::alloc::{AllocGlobal, Global};
 use std::cell::Cell;
-use std::fmt::{self, Debug, Display, Write};
+use std::fmt::{self, Debug, Write};
 use std::process::Abort;
 use std::sync::{Arc, Wait};
 use std::time::Clock;
@@ -53,11 +53,14 @@ fn two_listeners_in_one_body_are_polled_by_their_names(rt: HostRuntime) {
     check(&rt, "how many, and what they give", polled, expected);
     has_listeners(&rt, &event, 0, false);
 
-    // The refusal of the macro's calls is the function's own error.
+    // The refusal of the macro's calls is the function's own error. Nobody listens where the runtime value is not cloned.
     let unshared = Unshared { rt: &rt };
     let refused = two_polled(&unshared, rt.alloc(), &event, &task);
     let refusal = Stopped::Listening(ListenError::Memory);
     check(&rt, "the refusal", refused, Err(refusal));
+    let refused = event.listen(&unshared, rt.alloc()).err();
+    check(&rt, "of the call", refused, Some(ListenError::Memory));
+    has_listeners(&rt, &event, 0, false);
 }
 
 // A place, a reference and an `Arc`: each is a listener of that event. Two of them have the names of variables in the
@@ -99,7 +102,8 @@ fn made<'ev, R: Wait + Clock + Clone>(
 // There is one serial number left, so a second listening would be refused.
 #[test]
 fn the_macro_listens_once_and_its_listener_may_move(rt: HostRuntime) {
-    let event = new_event_at(&rt, u64::MAX - 1);
+    let id = EventIds::new().next().expect(&rt, "an identity");
+    let event = Event::starting_at(rt.alloc(), id, u64::MAX - 1).expect(&rt, "an event");
     let (times, listener) = made(&rt, rt.alloc(), &event).expect(&rt, "a listener");
     check(&rt, "how often each is evaluated", times, [1, 1, 1]);
     check(&rt, "told", event.notify_relaxed(&rt, 1), 1);
@@ -125,12 +129,6 @@ fn tags_that_may_be_sent_are_enough(rt: HostRuntime) {
     is_shared_by_threads(&slot);
     is_shared_by_threads(&slot.listen(&rt).expect(&rt, "a listener"));
     is_shared_by_threads(&sharing(&rt, &event));
-}
-
-// The value has this text.
-fn reads<V: Display + Drop, R: Abort + AllocGlobal>(rt: &R, value: V, text: &str) {
-    let shown = format!(in rt.alloc(); "{value}").expect(rt, "a text");
-    check(rt, "the text", shown.as_str(), text);
 }
 
 // The value has this text for debugging where that takes several lines.
@@ -197,27 +195,29 @@ fn events_slots_and_listeners_show_their_names_and_counts(rt: HostRuntime) {
 fn refusals_say_what_was_refused(rt: HostRuntime) {
     let used_up = EventIds::starting_at(u64::MAX).next();
     let used_up = used_up.expect_err(&rt, "a source at its end gives an identity");
-    reads(&rt, used_up, "event identities are used up");
-    reads(&rt, NeverInserted, "listener is not in the queue");
-    let refusal = NotifyError { told: 2 };
-    reads(&rt, refusal, "a tag was refused after 2 listeners");
     let absent: WaitError<u8> = WaitError::NeverInserted;
-    reads(&rt, absent, "listener is not in the queue");
-    reads(&rt, WaitError::Memory(7u8), "no memory for a parker");
-    reads(&rt, RecordError::Memory, "no memory for the record");
-    reads(
-        &rt,
+    let shown = format!(in rt.alloc();
+        "{used_up}; {}; {}; {absent}; {}; {}; {}; {}; {}; {}; {}",
+        NeverInserted,
+        NotifyError { told: 2 },
+        WaitError::Memory(7u8),
+        RecordError::Memory,
         RecordError::SerialsUsedUp,
-        "serial numbers are used up",
-    );
-    reads(
-        &rt,
         RecordedPollError::NeverInserted,
-        "listener is not in the queue",
+        RecordedPollError::Memory,
+        CloseError::HandsMissing,
+        CloseError::Differs,
     );
-    reads(&rt, RecordedPollError::Memory, "no memory for the record");
-    reads(&rt, CloseError::HandsMissing, "hands are missing");
-    reads(&rt, CloseError::Differs, "notes differ from the record");
+    let expected = "event identities are used up; listener is not in the queue; \
+        a tag was refused after 2 listeners; listener is not in the queue; no memory for a parker; \
+        no memory for the record; serial numbers are used up; listener is not in the queue; \
+        no memory for the record; hands are missing; notes differ from the record";
+    check(
+        &rt,
+        "the texts",
+        shown.expect(&rt, "a text").as_str(),
+        expected,
+    );
 }
 
 // The event is dropped while three listeners stand in its queue.

@@ -69,12 +69,6 @@ pub fn new_event<T, R: Abort>(rt: &R) -> Event<T> {
     Event::with_tag(EventIds::new().next().expect(rt, "an identity"))
 }
 
-/// A new event, the only one of its source, whose first listener gets this serial number.
-pub fn new_event_at<T: Drop, R: Abort + AllocGlobal>(rt: &R, serial: u64) -> Event<T> {
-    let id = EventIds::new().next().expect(rt, "an identity");
-    Event::starting_at(rt.alloc(), id, serial).expect(rt, "an event")
-}
-
 /// A new listener of this kind.
 pub fn listen_as<'ev, K, L, R>(rt: &R, event: &'ev Event<u32>) -> L
 where

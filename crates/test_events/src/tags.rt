@@ -1,25 +1,9 @@
-//! Notifications with tags that are refused, or that own memory.
+//! Notifications with tags that are refused.
 use crate::support::{Runtime, check, discard, has_listeners, listen};
-use event_listener::{Event, IntoTagged, Listener, NotifyError};
-use futures::task::Poll;
-use std::alloc::{AllocError, AllocGlobal};
+use event_listener::{Event, IntoTagged, NotifyError};
+use std::alloc::AllocError;
 use std::cell::Cell;
-use std::process::Abort;
-use test_support::{Case, Trial, any_waker, both};
-
-// So many new listeners.
-fn listen_all<R, S>(trial: &S, count: usize) -> Vec<S::Listener>
-where
-    R: Abort + AllocGlobal,
-    S: Trial<Runtime = R>,
-{
-    let mut listeners = Vec::new(trial.rt().alloc());
-    for _ in 0..count {
-        let room = listeners.push(listen(trial));
-        room.expect(trial.rt(), "room for a listener");
-    }
-    listeners
-}
+use test_support::{Case, Trial, both};
 
 // A tag that can be cloned so many times. Its clones can't be cloned.
 #[derive(Debug, Drop)]
@@ -53,16 +37,16 @@ fn notify_three<R: Runtime>(
 // Three wait. Of the first notification so many are told, and it is refused. Of the second the others are told.
 fn tells_then<R: Runtime, S: Trial<Tag = Refusing, Runtime = R>>(trial: &S, clones: u8) {
     let (rt, event) = (trial.rt(), trial.event());
-    let listeners = listen_all(trial, 3);
+    let (first, second, third) = (listen(trial), listen(trial), listen(trial));
     let told = usize::from(clones);
     let refused = notify_three(rt, event, clones);
     check(rt, "refused", refused, Err(NotifyError { told }));
     has_listeners(rt, event, 3, told > 0);
     let others = notify_three(rt, event, 3);
     check(rt, "the others", others, Ok(3usize.saturating_sub(told)));
-    for listener in listeners {
-        discard(rt, listener, true);
-    }
+    discard(rt, first, true);
+    discard(rt, second, true);
+    discard(rt, third, true);
 }
 
 struct RefusedClones;
@@ -91,27 +75,4 @@ impl<R: Runtime> Case<R> for RefusedClones {
 #[test]
 fn a_refused_clone_skips_nobody_and_a_tag_is_passed_on_without_one(rt: HostRuntime) {
     both::<RefusedClones, _>(&rt);
-}
-
-struct OwningTag;
-
-impl<R: Runtime> Case<R> for OwningTag {
-    type Tag = String;
-
-    fn run<S: Trial<Tag = String, Runtime = R>>(trial: &S) {
-        let rt = trial.rt();
-        let listeners = listen_all(trial, 2);
-        let tag = "go".to_string(rt.alloc()).expect(rt, "a text");
-        check(rt, "told", trial.event().notify(rt, 2.tag(tag)), Ok(2));
-        for mut listener in listeners {
-            let polled = listener.poll(any_waker(rt).expect(rt, "a waker"));
-            let tag = "go".to_string(rt.alloc()).expect(rt, "a text");
-            check(rt, "the tag", polled, Ok(Poll::Ready(tag)));
-        }
-    }
-}
-
-#[test]
-fn tags_may_own_memory(rt: HostRuntime) {
-    both::<OwningTag, _>(&rt);
 }
