@@ -2,7 +2,7 @@
 //! the kinds of listeners and the wakers of `calls_events`, which this hands on.
 //!
 //! - Listeners and tasks: a [`Case`] is a test that [`both`] runs with each [`ListenerKind`], by the calls of a [`Trial`];
-//!   [`WaitCall`] with [`TIMED_WAITS`], so that a test is run with each wait; [`Awaited`], a listener as a future;
+//!   [`WaitCall`] names a wait, so that a test is run with each; [`Awaited`], a listener as a future;
 //!   [`any_waker`]; [`answered`], what a wait answered.
 //! - Runtimes: [`Runtime`] is what a test asks of its runtime value. [`CountedClock`] counts how often its clock is
 //!   read, [`NoClock`] can't be read, [`WithClock`] has an [`OwnClock`], which may do what the test wants done at a
@@ -29,5 +29,5 @@ pub use clocks::{CountedClock, NoClock, OwnClock, WithClock};
 pub use interrupted::{InBetween, Interrupted};
 pub use loops::{for_two_seconds, spin_until};
 pub use runtimes::{Runtime, Unshared};
-pub use waits::{TIMED_WAITS, WaitCall, answered, deadline_after};
+pub use waits::{WaitCall, answered, deadline_after};
 pub use wakers::any_waker;

@@ -28,26 +28,3 @@ pub enum WaitCall {
     /// A timeout whose moment can't be represented, and so never comes.
     GreatestTimeout,
 }
-
-/// The waits that end at a limit.
-pub const TIMED_WAITS: [WaitCall; 2] = [WaitCall::Timeout, WaitCall::Deadline];
-
-impl WaitCall {
-    /// Makes the call, with this limit from now on if it has one. `clock` is the listener's.
-    pub fn make<T, R: Clock, L: Listener<T> + Drop>(
-        self,
-        clock: &R,
-        listener: L,
-        limit: Duration,
-    ) -> Result<Option<T>, &'static str> {
-        match self {
-            WaitCall::Timeout => answered(listener.wait_timeout(limit)),
-            WaitCall::Deadline => {
-                let deadline = deadline_after(clock, limit)?;
-                answered(listener.wait_deadline(deadline))
-            }
-            WaitCall::UntilTold => Ok(Some(answered(listener.wait())?)),
-            WaitCall::GreatestTimeout => answered(listener.wait_timeout(Duration::MAX)),
-        }
-    }
-}

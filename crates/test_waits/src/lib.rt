@@ -7,7 +7,6 @@
 //!   only once its listener is told, and a finished listener does not wait.
 //! - `wakes`: a notification and the drop of a told listener wake parked threads; two threads tell each other in turn; a
 //!   thread is told before it looks for its listener, before it parks, as it does so, or after.
-//! - `records`: eight threads that call one recorded event make one history.
 //!
 //! `stage` is the event of a case, with the clock of its listeners, `trial` what a case makes its calls on, and `recorded`
 //! that of a recorded event, which each test closes with all its hands: their notes have to be those of its record.
@@ -15,15 +14,14 @@
 //! The machine may be busy, so "soon" means that of up to twenty waits of 50 milliseconds one ends within 87. No contract
 //! says that a thread wakes: the tests show that it woke within ten seconds here. One that is not woken ends at a limit of
 //! 20 seconds, and fails. A wait that should end at once and does not, or that has no limit, fails at the limit that the
-//! toolchain has for every test. Threads that race do so for two seconds.
+//! toolchain has for every test. Threads that race do so for two seconds. Eight threads that call one
+//! recorded event make one history: the program `soak` shows it.
 #![tactic(auto)]
 
 #[cfg(test)]
 mod limits;
 #[cfg(test)]
 mod recorded;
-#[cfg(test)]
-mod records;
 #[cfg(test)]
 mod stage;
 #[cfg(test)]

@@ -1,13 +1,12 @@
 //! When a wait ends, by the clock of its listener.
 use crate::stage::Habit::{self, Back, Exact, Fails, Notifies, Slow};
-use crate::stage::{AnyEvent, WAITS, check, ends_soon, greatest, limit, long, now};
+use crate::stage::{AnyEvent, TIMED_WAITS, WAITS, check, ends_soon, greatest, limit, long, now};
 use crate::trial::{Case, Polled, Refusal, Trial, all};
 use event_listener::{Former, RecordedReply, RegisterResult};
 use futures::task::Poll;
 use futures::test::MockTask;
 use std::sync::atomic::Ordering;
 use std::time::Duration;
-use test_support::TIMED_WAITS;
 use test_support::WaitCall::{self, Deadline, GreatestTimeout, Timeout};
 
 // What a step of a wait answers: the listener was told with the tag 7, waits, or is gone; it leaves untold or told.

@@ -15,9 +15,9 @@ use test_support::{Runtime, WaitCall, WithClock, deadline_after};
 /// A recorded event, with those of its hands that make no call at present.
 #[derive(Drop)]
 pub struct Recorded {
-    pub event: RecordedEvent<u32>,
-    /// How many listeners were dropped while they were in the queue.
-    pub dropped: AtomicUsize,
+    event: RecordedEvent<u32>,
+    // How many listeners were dropped while they were in the queue.
+    dropped: AtomicUsize,
     hands: Mutex<Vec<Hand<u32>>>,
 }
 
@@ -32,13 +32,13 @@ impl Recorded {
         }
     }
 
-    /// One of the hands.
-    pub fn take<R: Runtime>(&self, rt: &R) -> Hand<u32> {
+    // One of the hands.
+    fn take<R: Runtime>(&self, rt: &R) -> Hand<u32> {
         self.hands.lock(rt).pop().expect(rt, "a hand")
     }
 
-    /// Takes a hand back, which is the next that is taken.
-    pub fn give_back<R: Runtime>(&self, rt: &R, hand: Hand<u32>) {
+    // Takes a hand back, which is the next that is taken.
+    fn give_back<R: Runtime>(&self, rt: &R, hand: Hand<u32>) {
         self.hands.lock(rt).push(hand).expect(rt, "room for a hand");
     }
 

@@ -29,6 +29,9 @@ where
 /// All waits.
 pub const WAITS: [WaitCall; 4] = [Timeout, Deadline, UntilTold, GreatestTimeout];
 
+/// Those that end at a limit.
+pub const TIMED_WAITS: [WaitCall; 2] = [Timeout, Deadline];
+
 /// The present moment by the system's clock.
 pub fn now<R: Clock + Abort>(rt: &R) -> Duration {
     rt.monotonic().expect(rt, "the time")

@@ -2,7 +2,7 @@
 use crate::stage::{
     AnyEvent, SharedRuntime, WAITS, check, end_of_race, ends_soon, greatest, limit, now,
 };
-use crate::trial::{Case, Trial, all, new_event};
+use crate::trial::{Case, Trial, all, answered, new_event};
 use event_listener::{Event, IntoTagged, Listener, NotifyError};
 use std::alloc::AllocError;
 use std::sync::Wait;
@@ -98,10 +98,10 @@ impl Clone for Once {
     }
 }
 
-fn is_woken_where_a_tag_is_refused<L, N, R>(rt: &R, event: &Event<Once>, first: L, next: N)
+// The first listener is told, and the one behind it is refused a tag.
+fn is_woken_where_a_tag_is_refused<L, R>(rt: &R, event: &Event<Once>, first: L)
 where
     L: Listener<Once> + Drop,
-    N: Drop,
     R: SharedRuntime,
 {
     let start = now(rt);
@@ -113,11 +113,10 @@ where
             let answer = event.notify(rt, 2.tag(Once { is_given }));
             check(rt, "notify", answer, Err(NotifyError { told: 1 }));
         },
-        || WaitCall::Timeout.make(rt, first, limit()),
+        || answered(first.wait_timeout(limit())),
     );
     ends_soon(rt, start);
     check(rt, "wait", matches!(waited, Ok(Some(_))), true);
-    drop(next);
 }
 
 fn listen<'ev, K: ListenerKind<'ev, Once, R>, R: Runtime>(
@@ -131,11 +130,10 @@ fn listen<'ev, K: ListenerKind<'ev, Once, R>, R: Runtime>(
 fn a_thread_told_before_a_tag_is_refused_is_woken(rt: HostRuntime) {
     let event = new_event(&rt);
     let first = listen::<Sharing, _>(&rt, &event);
-    let next = listen::<Borrowing, _>(&rt, &event);
-    is_woken_where_a_tag_is_refused(&rt, &event, first, next);
-    let first = listen::<Borrowing, _>(&rt, &event);
-    let next = listen::<Sharing, _>(&rt, &event);
-    is_woken_where_a_tag_is_refused(&rt, &event, first, next);
+    let second = listen::<Borrowing, _>(&rt, &event);
+    let _third = listen::<Sharing, _>(&rt, &event);
+    is_woken_where_a_tag_is_refused(&rt, &event, first);
+    is_woken_where_a_tag_is_refused(&rt, &event, second);
 }
 
 // The tag of the last round of a race. The others have the tag 7.
