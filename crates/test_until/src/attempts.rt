@@ -1,7 +1,7 @@
-//! How many attempts are made, and when.
+//! How many attempts are made, and when, and texts.
 use crate::support::{Notes, check, new_id, until_nth};
-use event_listener::{Event, EventListener, Listener};
-use event_until::{Attempt, Until};
+use event_listener::{Event, EventListener, ListenError, Listener, NeverInserted, WaitReason};
+use event_until::{Attempt, Until, UntilError};
 use std::alloc::{AllocGlobal, Global};
 use std::cell::Cell;
 use std::sync::Wait;
@@ -37,42 +37,17 @@ where
 }
 
 #[test]
-fn the_first_attempt_needs_no_listener(rt: HostRuntime) {
-    gives(&rt, &rt, 1, (UntilTold, Duration::ZERO), Some(1), [0, 9, 9]);
-}
-
-#[test]
-fn the_second_attempt_is_made_while_it_listens(rt: HostRuntime) {
-    gives(&rt, &rt, 2, (UntilTold, Duration::ZERO), Some(2), [0, 1, 9]);
-}
-
-#[test]
-fn the_last_attempt_is_made_at_the_limit(rt: HostRuntime) {
-    gives(&rt, &rt, 3, (Timeout, Duration::ZERO), Some(3), [0, 1, 0]);
-}
-
-#[test]
-fn three_attempts_fail_before_a_timeout(rt: HostRuntime) {
-    let limit = Duration::from_millis(5);
-    gives(&rt, &rt, 9, (Timeout, limit), None, [0, 1, 0]);
-}
-
-#[test]
-fn three_attempts_fail_before_a_deadline(rt: HostRuntime) {
-    gives(&rt, &rt, 9, (Deadline, Duration::ZERO), None, [0, 1, 0]);
-}
-
-#[test]
-fn a_clock_that_cannot_be_read_is_past_the_deadline(rt: HostRuntime) {
-    let blind = NoClock { rt: &rt };
-    gives(
-        &rt,
-        &blind,
-        9,
-        (GreatestTimeout, Duration::MAX),
-        None,
-        [0, 1, 0],
-    );
+fn attempts_are_made_before_it_listens_then_and_at_the_limit(rt: HostRuntime) {
+    let rt = &rt;
+    let (now, soon) = (Duration::ZERO, Duration::from_millis(5));
+    gives(rt, rt, 1, (UntilTold, now), Some(1), [0, 9, 9]);
+    gives(rt, rt, 2, (UntilTold, now), Some(2), [0, 1, 9]);
+    gives(rt, rt, 3, (Timeout, now), Some(3), [0, 1, 0]);
+    gives(rt, rt, 9, (Timeout, soon), None, [0, 1, 0]);
+    gives(rt, rt, 9, (Deadline, now), None, [0, 1, 0]);
+    // A clock that can't be read is past the deadline.
+    let blind = NoClock { rt };
+    gives(rt, &blind, 9, (GreatestTimeout, now), None, [0, 1, 0]);
 }
 
 // An attempt whose second makes another one listen, tells the first listener, and succeeds.
@@ -116,4 +91,19 @@ fn who_is_told_and_succeeds_before_it_waits_passes_on(rt: HostRuntime) {
     let other = other.take().expect(&rt, "the other listener");
     let told = other.wait_timeout(Duration::ZERO).expect(&rt, "an answer");
     check(&rt, "what the other was told", told, Some(()));
+}
+
+// The error of a wait has this text.
+fn reads<R: Runtime>(rt: &R, error: UntilError, text: &str) {
+    let shown = format!(in rt.alloc(); "{error}").expect(rt, "a text");
+    check(rt, "the text", shown.as_str(), text);
+}
+
+#[test]
+fn texts_of_errors(rt: HostRuntime) {
+    reads(&rt, ListenError::Memory.into(), "no memory for a listener");
+    reads(&rt, WaitReason::Memory.into(), "no memory for a parker");
+    let gone = "listener is not in the queue";
+    reads(&rt, WaitReason::NeverInserted.into(), gone);
+    reads(&rt, NeverInserted.into(), gone);
 }

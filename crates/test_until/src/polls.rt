@@ -6,49 +6,45 @@ use futures::task::Poll;
 use std::time::Duration;
 use test_support::{Runtime, deadline_after};
 
+// A poll attempts as long as nobody listens, and then once it is told. One that is not due keeps its place.
 #[test]
-fn a_poll_that_is_not_due_attempts_nothing(rt: HostRuntime) {
+fn a_poll_that_is_not_due_attempts_nothing_and_one_that_fails_listens_anew(rt: HostRuntime) {
     let (event, notes) = (Event::new(new_id(&rt)), Notes::new());
     let task = new_task(&rt);
     let mut until = until_nth(&rt, &rt, &event, &notes, 5);
     check(&rt, "the first", task.poll(&mut until), Poll::Pending);
     notes.check(&rt, 2, [0, 1, 9]);
-    check(&rt, "the second", task.poll(&mut until), Poll::Pending);
+    check(&rt, "not due", task.poll(&mut until), Poll::Pending);
     check(&rt, "the attempts", notes.made.get(), 2);
     check_woken(&rt, &task, false);
-    check(&rt, "listeners", event.total_listeners(&rt), 1);
-    drop(until);
-    check(&rt, "listeners left", event.total_listeners(&rt), 0);
-}
-
-#[test]
-fn a_poll_that_is_not_due_keeps_its_place(rt: HostRuntime) {
-    let (event, notes) = (Event::new(new_id(&rt)), Notes::new());
-    let (first, second) = (new_task(&rt), new_task(&rt));
-    let mut one = until_nth(&rt, &rt, &event, &notes, 9);
-    let mut other = until_nth(&rt, &rt, &event, &notes, 9);
-    check(&rt, "the first", first.poll(&mut one), Poll::Pending);
-    check(&rt, "the second", second.poll(&mut other), Poll::Pending);
-    check(&rt, "not due", first.poll(&mut one), Poll::Pending);
-    check(&rt, "told", event.notify_relaxed(&rt, 1), 1);
-    check_woken(&rt, &first, true);
-    check_woken(&rt, &second, false);
-}
-
-#[test]
-fn who_is_told_and_fails_listens_anew(rt: HostRuntime) {
-    let (event, notes) = (Event::new(new_id(&rt)), Notes::new());
-    let task = new_task(&rt);
-    let mut until = until_nth(&rt, &rt, &event, &notes, 5);
-    check(&rt, "the first", task.poll(&mut until), Poll::Pending);
     check(&rt, "told", event.notify_relaxed(&rt, 1), 1);
     check_woken(&rt, &task, true);
-    check(&rt, "the second", task.poll(&mut until), Poll::Pending);
+    check(&rt, "the third", task.poll(&mut until), Poll::Pending);
     check(&rt, "the attempts", notes.made.get(), 4);
     check_woken(&rt, &task, false);
     check(&rt, "told again", event.notify_relaxed(&rt, 1), 1);
-    check(&rt, "the third", task.poll(&mut until), Poll::Ready(Ok(5)));
+    check(&rt, "the last", task.poll(&mut until), Poll::Ready(Ok(5)));
     check(&rt, "listeners left", event.total_listeners(&rt), 0);
+}
+
+// The first is dropped, and wakes nobody; the second is polled again, and is told before the third.
+#[test]
+fn who_leaves_wakes_nobody_and_a_poll_that_is_not_due_keeps_its_place(rt: HostRuntime) {
+    let (event, notes) = (Event::new(new_id(&rt)), Notes::new());
+    let (first, second, third) = (new_task(&rt), new_task(&rt), new_task(&rt));
+    let mut one = until_nth(&rt, &rt, &event, &notes, 9);
+    let mut other = until_nth(&rt, &rt, &event, &notes, 9);
+    let mut last = until_nth(&rt, &rt, &event, &notes, 9);
+    check(&rt, "the first", first.poll(&mut one), Poll::Pending);
+    check(&rt, "the second", second.poll(&mut other), Poll::Pending);
+    check(&rt, "the third", third.poll(&mut last), Poll::Pending);
+    drop(one);
+    check_woken(&rt, &second, false);
+    check(&rt, "listeners left", event.total_listeners(&rt), 2);
+    check(&rt, "not due", second.poll(&mut other), Poll::Pending);
+    check(&rt, "told", event.notify_relaxed(&rt, 1), 1);
+    check_woken(&rt, &second, true);
+    check_woken(&rt, &third, false);
 }
 
 // What is called on an `Until` that a poll left pending. Its third attempt succeeds.
@@ -100,28 +96,14 @@ fn passes_on<R: Runtime>(rt: &R, end: End) {
 }
 
 #[test]
-fn who_is_told_and_goes_passes_on(rt: HostRuntime) {
-    for end in [End::Drop, End::IntoAttempt] {
+fn who_is_told_and_goes_or_blocks_passes_on(rt: HostRuntime) {
+    for end in [
+        End::Drop,
+        End::IntoAttempt,
+        End::Wait,
+        End::Timeout,
+        End::Deadline,
+    ] {
         passes_on(&rt, end);
     }
-}
-
-#[test]
-fn who_is_told_and_then_blocks_passes_on(rt: HostRuntime) {
-    for end in [End::Wait, End::Timeout, End::Deadline] {
-        passes_on(&rt, end);
-    }
-}
-
-#[test]
-fn who_is_not_told_and_dropped_wakes_nobody(rt: HostRuntime) {
-    let (event, notes) = (Event::new(new_id(&rt)), Notes::new());
-    let task = new_task(&rt);
-    let mut one = until_nth(&rt, &rt, &event, &notes, 9);
-    let mut other = until_nth(&rt, &rt, &event, &notes, 9);
-    let polled = new_task(&rt).poll(&mut one);
-    check(&rt, "the first", polled, Poll::Pending);
-    check(&rt, "the second", task.poll(&mut other), Poll::Pending);
-    drop(one);
-    check_woken(&rt, &task, false);
 }

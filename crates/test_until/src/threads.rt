@@ -173,16 +173,8 @@ fn frees_and_then_wakes<R: Runtime + Threads + Sync + Send + Drop>(rt: &R) {
 }
 
 #[test]
-fn who_is_woken_finds_the_gate_open(rt: HostRuntime) {
+fn who_is_woken_finds_the_gate_open_a_newer_value_or_the_baton_free(rt: HostRuntime) {
     for_two_seconds(&rt, || opens_and_then_wakes(&rt)).expect(&rt, "the time");
-}
-
-#[test]
-fn who_is_woken_finds_a_newer_value(rt: HostRuntime) {
     for_two_seconds(&rt, || replaces_and_then_wakes(&rt)).expect(&rt, "the time");
-}
-
-#[test]
-fn who_is_woken_finds_the_baton_free(rt: HostRuntime) {
     for_two_seconds(&rt, || frees_and_then_wakes(&rt)).expect(&rt, "the time");
 }
