@@ -38,24 +38,12 @@ fn poll<R: Runtime>(rt: &R, lock: &mut PolledLock<'_, u64, R>, waker: Waker) -> 
     }
 }
 
-// The calls that wait, and a poll.
+// The calls that wait: two that end at their limit, and a poll.
 #[derive(Clone, Copy, Debug)]
 enum Call {
     Lock,
-    TimedLock,
-    Poll,
     Acquire,
-    TimedAcquire,
-}
-
-impl Call {
-    // The timed wait for the same.
-    fn timed(self) -> Call {
-        match self {
-            Call::Lock | Call::TimedLock | Call::Poll => Call::TimedLock,
-            Call::Acquire | Call::TimedAcquire => Call::TimedAcquire,
-        }
-    }
+    Poll,
 }
 
 // What some have and others want.
@@ -67,17 +55,26 @@ struct Wanted<'a, R> {
 }
 
 impl<R: Runtime> Wanted<'_, R> {
+    fn new(rt: &R, permits: usize) -> Wanted<'_, R> {
+        Wanted {
+            rt,
+            mutex: Mutex::new(new_id(rt), 7),
+            permits: Semaphore::new(new_id(rt), permits),
+        }
+    }
+
     fn make(&self, call: Call, waker: Waker) -> Option<bool> {
-        let (rt, alloc) = (self.rt, self.rt.alloc());
-        let (mutex, permits) = (&self.mutex, &self.permits);
-        let (lock, permit) = (MutexError::Memory, SemaphoreError::Memory);
-        let now = Duration::ZERO;
+        let (rt, alloc, now) = (self.rt, self.rt.alloc(), Duration::ZERO);
         match call {
-            Call::Lock => is_given(rt, mutex.lock(rt, alloc).map(Some), lock),
-            Call::TimedLock => is_given(rt, mutex.lock_timeout(rt, alloc, now), lock),
-            Call::Poll => poll(rt, &mut mutex.polled_lock(rt, alloc), waker),
-            Call::Acquire => is_given(rt, permits.acquire(rt, alloc).map(Some), permit),
-            Call::TimedAcquire => is_given(rt, permits.acquire_timeout(rt, alloc, now), permit),
+            Call::Lock => {
+                let answer = self.mutex.lock_timeout(rt, alloc, now);
+                is_given(rt, answer, MutexError::Memory)
+            }
+            Call::Acquire => {
+                let answer = self.permits.acquire_timeout(rt, alloc, now);
+                is_given(rt, answer, SemaphoreError::Memory)
+            }
+            Call::Poll => poll(rt, &mut self.mutex.polled_lock(rt, alloc), waker),
         }
     }
 
@@ -113,49 +110,31 @@ struct InVain<'a, R> {
 
 impl<R: Runtime> Starved for InVain<'_, R> {
     fn is_granted(&self, budget: &mut Budget, bytes: usize) -> bool {
-        let (rt, call) = (self.rt, self.call);
-        let wanted = Wanted {
-            rt,
-            mutex: Mutex::new(new_id(rt), 7),
-            permits: Semaphore::new(new_id(rt), 1),
-        };
+        let (rt, call, wanted) = (self.rt, self.call, Wanted::new(self.rt, 1));
         if self.has_slot {
-            let answer = wanted.make_in_vain(call.timed(), budget, Budget::MOST);
+            let answer = wanted.make_in_vain(call, budget, Budget::MOST);
             check(rt, call, answer, Some(false));
         }
         let answer = wanted.make_in_vain(call, budget, bytes);
         if answer.is_none() {
-            let again = wanted.make_in_vain(call.timed(), budget, Budget::MOST);
+            let again = wanted.make_in_vain(call, budget, Budget::MOST);
             check(rt, call, again, Some(false));
-            return false;
         }
-        check(rt, (call, bytes), answer, Some(false));
-        true
+        answer.is_some()
     }
-}
-
-// Each request is refused in its turn, and so are those of the same call without a limit, which asks for no more: where
-// nothing is refused, it would wait for ever. Answers how many budgets are too small.
-fn waits_are_refused<R: Runtime>(rt: &R, endless: Call, has_slot: bool) -> usize {
-    let call = endless.timed();
-    let refused = count_refused(rt, &InVain { rt, call, has_slot });
-    let call = endless;
-    let (endless, mut budget) = (InVain { rt, call, has_slot }, new_budget(rt));
-    for bytes in (0..Budget::MOST).step_by(Budget::STEP).take(refused) {
-        let is_granted = endless.is_granted(&mut budget, bytes);
-        check(rt, bytes, is_granted, false);
-    }
-    refused
 }
 
 #[test]
 fn each_request_of_a_wait_for_a_lock_or_a_permit_is_refused(rt: HostRuntime) {
+    let rt = &rt;
     for call in [Call::Lock, Call::Acquire] {
         // Where there is a slot, only what the thread parks on is asked for.
-        let parker = waits_are_refused(&rt, call, true);
-        check(&rt, "whether a parker was refused", parker > 0, true);
-        let queue = waits_are_refused(&rt, call, false);
-        check(&rt, "whether a queue was refused", queue > parker, true);
+        let has_slot = true;
+        let parker = count_refused(rt, &InVain { rt, call, has_slot });
+        check(rt, "whether a parker was refused", parker > 0, true);
+        let has_slot = false;
+        let queue = count_refused(rt, &InVain { rt, call, has_slot });
+        check(rt, "whether a queue was refused", queue > parker, true);
     }
 }
 
@@ -169,19 +148,27 @@ fn a_polled_lock_needs_memory_for_its_slot_alone(rt: HostRuntime) {
     }
 }
 
+// Who would wait without a limit is refused.
 #[test]
 fn what_is_free_needs_no_memory(rt: HostRuntime) {
     let rt = &rt;
     let hog = all_memory(rt);
-    let permits = Semaphore::new(new_id(rt), 3);
+    let wanted = Wanted::new(rt, 3);
+    let (mutex, permits) = (&wanted.mutex, &wanted.permits);
     let mut two = permits.try_acquire(rt).expect(rt, "a permit");
     check(rt, "a second", two.more(), true);
     drop(permits.acquire(rt, rt.alloc()).expect(rt, "the third"));
     let third = permits.acquire_timeout(rt, rt.alloc(), Duration::ZERO);
     check(rt, "a fourth", two.more(), false);
+    let refusal = permits.acquire(rt, rt.alloc()).err();
+    check(rt, "a wait", refusal, Some(SemaphoreError::Memory));
     let third = third.expect(rt, "no refusal").is_some();
     check(rt, "the third in time", third, true);
     drop(two);
+    let held = mutex.lock(rt, rt.alloc()).expect(rt, "the lock");
+    let refusal = mutex.lock(rt, rt.alloc()).err();
+    check(rt, "a wait", refusal, Some(MutexError::Memory));
+    drop(held);
     drop(hog);
 }
 
@@ -202,11 +189,4 @@ fn programs_start_no_thread(rt: HostRuntime) {
         check(&rt, bytes, permitted, Err(no_memory));
         check(&rt, bytes, met, Err(MeetingError::from(AllocError)));
     }
-    drop(budget);
-    let counted = count(rt, rt.alloc(), new_id(&rt), 2);
-    check(&rt, "a count", counted, Ok(2));
-    let permitted = count_with_permits(rt, rt.alloc(), new_id(&rt), 2, 1);
-    check(&rt, "a count by permits", permitted, Ok(2));
-    let met = wait_for_setter(rt, rt.alloc(), new_id(&rt));
-    check(&rt, "a meeting", met, Ok(()));
 }
