@@ -1,25 +1,9 @@
-//! The gate, the watch and the baton of `example_events`, one call after another.
+//! The watch and the baton of `example_events`, one call after another.
 use crate::support::{check, check_woken, new_id, new_task};
-use example_events::until::{Baton, Gate, Version, Watch};
+use example_events::until::{Baton, Version, Watch};
 use futures::executor::block_on;
 use futures::task::Poll;
 use std::sync::Arc;
-
-#[test]
-fn a_gate_lets_all_pass_once_it_is_open(rt: HostRuntime) {
-    let gate = Gate::new(new_id(&rt));
-    let (first, second) = (new_task(&rt), new_task(&rt));
-    let mut one = gate.pass(&rt, rt.alloc());
-    let mut other = gate.pass(&rt, rt.alloc());
-    check(&rt, "pending", first.poll(&mut one).is_pending(), true);
-    check(&rt, "pending", second.poll(&mut other).is_pending(), true);
-    gate.open(&rt);
-    check_woken(&rt, &first, true);
-    check_woken(&rt, &second, true);
-    check(&rt, "ready", first.poll(&mut one).is_ready(), true);
-    check(&rt, "ready", second.poll(&mut other).is_ready(), true);
-    check(&rt, "a third", gate.pass(&rt, rt.alloc()).wait(), Ok(()));
-}
 
 #[test]
 fn a_watch_gives_its_latest_value_to_all(rt: HostRuntime) {

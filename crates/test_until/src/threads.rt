@@ -149,6 +149,12 @@ fn opens_and_then_wakes<R: Runtime + Threads + Sync>(rt: &R) {
     }
     let pass = gate.pass(rt, rt.alloc()).into_attempt();
     who_is_woken_succeeds(rt, &task, pass, || gate.open(rt));
+    // All who wait there are told, and pass.
+    check(rt, "woken", other.is_woken(), true);
+    for until in line {
+        let mut until = until;
+        check(rt, "passes", other.poll(&mut until).is_ready(), true);
+    }
 }
 
 fn replaces_and_then_wakes<R: Runtime + Threads + Sync>(rt: &R) {
