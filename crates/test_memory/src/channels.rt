@@ -47,35 +47,6 @@ fn are_left<R: Runtime>(rt: &R, receiver: &Receiver<usize, R>, messages: &[usize
     refused(rt, receiver.try_recv(), TryRecvError::Empty);
 }
 
-#[derive(Drop)]
-struct NewChannel<'a, R> {
-    rt: &'a R,
-    room: Option<usize>,
-}
-
-impl<R: Runtime> Starved for NewChannel<'_, R> {
-    fn is_granted(&self, budget: &mut Budget, bytes: usize) -> bool {
-        let rt = self.rt;
-        leave(rt, budget, bytes);
-        let made = make(rt, self.room);
-        budget.give_back();
-        let refusal = made.err();
-        if let Some(refusal) = refusal {
-            check(rt, bytes, refusal, ChannelError::Memory(AllocError));
-        }
-        refusal.is_none()
-    }
-}
-
-#[test]
-fn each_request_of_a_new_channel_is_refused(rt: HostRuntime) {
-    let rt = &rt;
-    let unlimited = count_refused(rt, &NewChannel { rt, room: None });
-    check(rt, "whether some are refused", unlimited > 0, true);
-    let limited = count_refused(rt, &NewChannel { rt, room: Some(64) });
-    check(rt, "whether its room is, too", limited > unlimited, true);
-}
-
 fn unsent(message: usize, reason: SendReason) -> SendError<usize> {
     SendError { message, reason }
 }

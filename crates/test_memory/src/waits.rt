@@ -1,7 +1,7 @@
 //! Waits for each lock of `event_locks` that are refused memory, and calls there that need none.
 use crate::support::{Runtime, Starved, all_memory, check, count_refused, leave, new_task};
 use event_listener::ListenError;
-use event_locks::{Barrier, LockError, Mutex, RwLock, Semaphore};
+use event_locks::{Barrier, LockError};
 use futures::task::Poll;
 use std::cell::Cell;
 use std::io;
@@ -111,43 +111,6 @@ fn each_request_of_a_wait_for_a_lock_is_refused(rt: HostRuntime) {
     for is_polled in [false, true] {
         let ran = each(&rt, &own, &EachIsRefused { is_polled });
         ran.expect(&rt, "memory");
-    }
-}
-
-// The locks that allocate when they are made.
-#[derive(Clone, Copy, Debug)]
-enum New {
-    Semaphore,
-    Mutex,
-    RwLock,
-}
-
-#[derive(Drop)]
-struct NewLock<'a, R> {
-    rt: &'a R,
-    new: New,
-}
-
-impl<R: Runtime> Starved for NewLock<'_, R> {
-    fn is_granted(&self, budget: &mut Budget, bytes: usize) -> bool {
-        let (rt, alloc) = (self.rt, self.rt.alloc());
-        leave(rt, budget, bytes);
-        let is_made = match self.new {
-            New::Semaphore => Semaphore::new(alloc, 1).is_ok(),
-            New::Mutex => Mutex::new(alloc, 7u64).is_ok(),
-            New::RwLock => RwLock::new(alloc, 7u64).is_ok(),
-        };
-        budget.give_back();
-        is_made
-    }
-}
-
-#[test]
-fn each_request_of_a_new_lock_is_refused(rt: HostRuntime) {
-    let rt = &rt;
-    for new in [New::Semaphore, New::Mutex, New::RwLock] {
-        let refused = count_refused(rt, &NewLock { rt, new });
-        check(rt, new, refused > 0, true);
     }
 }
 
