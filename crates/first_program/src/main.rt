@@ -26,9 +26,11 @@ where
         let balance = Arc::try_clone(&balance)?;
         threads.push(thread::spawn(&rt, move || pay(&rt, alloc, &balance, amount))?)?;
     }
+    let mut paid = Ok(());
     for thread in threads {
-        thread.join(&rt)?;
+        paid = paid.and(thread.join(&rt));
     }
+    paid?;
     let balance = balance.lock(&rt, alloc).wait()?;
     Ok(*balance)
 }
