@@ -7,68 +7,83 @@ use std::sync::atomic::{AtomicUsize, Ordering};
 use std::thread;
 use std::time::{Clock, Duration};
 
-/// Takes so many, once there are as many, and gives how many are left. It counts its attempts.
+/// Takes so many, once there are as many, and gives how many are left.
 #[derive(Clone, Copy)]
-struct Takes<'a> {
-    many: u32,
-    attempts: &'a AtomicUsize,
-}
+struct Takes(u32);
 
-impl Condition<u32> for Takes<'_> {
+impl Condition<u32> for Takes {
     type Output = u32;
 
     ghost use Rattle.std.specs.Prelude.{◌≡◌, ◌+◌, ◌<◌};
 
-    ghost fails = { λ takes stock. stock < takes.many };
+    ghost fails = { λ takes stock. stock < takes.0 };
 
-    ghost gives = { λ takes stock left rest. (left ≡ rest) × (rest + takes.many ≡ stock) };
+    ghost gives = { λ takes stock left rest. (left ≡ rest) × (rest + takes.0 ≡ stock) };
 
     fn attempt(&self, stock: &mut u32) -> Option<u32> {
-        self.attempts.fetch_add(1, Ordering::SeqCst);
-        let left = stock.checked_sub(self.many)?;
+        let left = stock.checked_sub(self.0)?;
         *stock = left;
         Some(left)
     }
 }
 
-fn add<R: Wait>(rt: &R, stock: &Monitor<u32, Takes<'_>>, more: u32) {
+/// The same, and counts its attempts.
+#[derive(Clone, Copy)]
+struct Counted<'a> {
+    takes: Takes,
+    attempts: &'a AtomicUsize,
+}
+
+impl Condition<u32> for Counted<'_> {
+    type Output = u32;
+
+    ghost use Rattle.std.specs.Prelude.{◌≡◌, ◌+◌, ◌<◌};
+
+    ghost fails = { λ counted stock. stock < counted.takes.0 };
+
+    ghost gives = { λ counted stock left rest. (left ≡ rest)
+        × (rest + counted.takes.0 ≡ stock) };
+
+    fn attempt(&self, stock: &mut u32) -> Option<u32> {
+        self.attempts.fetch_add(1, Ordering::SeqCst);
+        self.takes.attempt(stock)
+    }
+}
+
+fn add<R: Wait, C: Condition<u32> + Copy>(rt: &R, stock: &Monitor<u32, C>, more: u32) {
     stock.change(rt, |stock| *stock = stock.saturating_add(more));
 }
 
-fn take<'a, R: Wait + Clock>(
+fn take<R: Wait + Clock>(
     rt: &R,
     alloc: Global,
-    stock: &Monitor<u32, Takes<'a>>,
-    takes: Takes<'a>,
+    stock: &Monitor<u32, Takes>,
 ) -> Result<(), LockError> {
     for _ in 0..500u32 {
-        stock.until(rt, alloc, takes).wait()?;
+        stock.until(rt, alloc, Takes(2)).wait()?;
     }
     Ok(())
 }
 
 #[test]
 fn what_is_added_is_taken(rt: HostRuntime) {
-    let (alloc, attempts) = (rt.alloc(), AtomicUsize::new(0));
-    let (many, attempts) = (2, &attempts);
-    let takes = Takes { many, attempts };
+    let alloc = rt.alloc();
     let stock = Monitor::new(alloc, 0);
     let adds = || {
         for _ in 0..2000u32 {
             add(&rt, &stock, 1);
         }
     };
-    let both = || {
+    let takes = || {
         thread::join(
             &rt,
-            || take(&rt, alloc, &stock, takes),
-            || take(&rt, alloc, &stock, takes),
+            || take(&rt, alloc, &stock),
+            || take(&rt, alloc, &stock),
         )
     };
-    let ((), taken) = thread::join(&rt, adds, both);
+    let ((), taken) = thread::join(&rt, adds, takes);
     check(&rt, "two that take", taken, (Ok(()), Ok(())));
-    let left = stock.change(&rt, |stock| *stock);
-    check(&rt, "what is left", left, 0);
+    check(&rt, "what is left", stock.try_now(&rt, Takes(1)), None);
 }
 
 // The task attempts once. The thread does before it waits, and as it stores its task; then it parks until the change.
@@ -77,10 +92,26 @@ fn a_change_wakes_a_thread_and_a_task(rt: HostRuntime) {
     let (alloc, task, attempts) = (rt.alloc(), new_task(&rt), AtomicUsize::new(0));
     let attempts = &attempts;
     let stock = Monitor::new(alloc, 1);
-    let mut awaited = stock.until(&rt, alloc, Takes { many: 3, attempts });
+    let mut awaited = stock.until(
+        &rt,
+        alloc,
+        Counted {
+            takes: Takes(3),
+            attempts,
+        },
+    );
     let is_pending = task.poll(&mut awaited).is_pending();
     check(&rt, "whether the task waits", is_pending, true);
-    let waits = || stock.until(&rt, alloc, Takes { many: 2, attempts }).wait();
+    let waits = || stock
+        .until(
+            &rt,
+            alloc,
+            Counted {
+                takes: Takes(2),
+                attempts,
+            },
+        )
+        .wait();
     let changes = || {
         comes_soon(&rt, attempts, 3);
         thread::sleep(&rt, Duration::from_millis(20));
@@ -96,12 +127,10 @@ fn a_change_wakes_a_thread_and_a_task(rt: HostRuntime) {
 
 #[test]
 fn one_that_gave_up_is_woken_no_more(rt: HostRuntime) {
-    let (alloc, attempts) = (rt.alloc(), AtomicUsize::new(0));
-    let (many, attempts) = (9, &attempts);
-    let takes = Takes { many, attempts };
-    let (stock, task) = (Monitor::new(alloc, 1), new_task(&rt));
-    let mut late = stock.until(&rt, alloc, takes);
-    let mut dropped = stock.until(&rt, alloc, takes);
+    let (alloc, task) = (rt.alloc(), new_task(&rt));
+    let stock = Monitor::new(alloc, 1);
+    let mut late = stock.until(&rt, alloc, Takes(9));
+    let mut dropped = stock.until(&rt, alloc, Takes(9));
     check(&rt, "one", task.poll(&mut late).is_pending(), true);
     check(&rt, "two", task.poll(&mut dropped).is_pending(), true);
     let answer = late.wait_timeout(Duration::ZERO);
