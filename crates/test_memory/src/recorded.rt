@@ -5,12 +5,12 @@ use crate::support::{
 };
 use calls::{Reply, Request, Row, reads};
 use calls_records::{HandCalls, On, close, new_event, run_on_records};
-use event_listener::{Hand, RecordedEvent, RecordedPollError};
+use event_listener::{Hand, RecordedEvent, RecordedPollError, WaitError};
+use std::alloc::AllocError;
 use std::cell::Cell;
 use std::process::Abort;
 use std::time::Duration;
 use test_queue_memory::{Budget, Calls, Refusing};
-use test_support::answered;
 
 // Each call is the first of its hand, which has no room for a note, and those of the first three rows are the first of their
 // event, whose record has no room for an entry. What a refused call leaves shows in its answer with memory, and in the record.
@@ -122,6 +122,15 @@ fn a_poll_in_a_task_is_refused_a_note_and_a_call_with_room_needs_no_memory(rt: H
     check(rt, "entries", entries_of(rt, event, hands), SOME + 3);
 }
 
+// A wait is refused memory and nothing else.
+fn answered<A, L: Drop, R: Abort>(rt: &R, reply: Result<A, WaitError<L>>) -> Result<A, AllocError> {
+    match reply {
+        Ok(answer) => Ok(answer),
+        Err(WaitError::Memory(_)) => Err(AllocError),
+        Err(WaitError::NeverInserted) => panic!(rt; "the listener was not in the queue"),
+    }
+}
+
 // A wait of a listener that nobody tells, whose limit has passed.
 #[derive(Drop)]
 struct TimedWait<'a, R> {
@@ -145,11 +154,11 @@ impl<R: Runtime> Starved for TimedWait<'_, R> {
             panic!(rt; "nobody listens");
         };
         leave(rt, budget, bytes);
-        let answer = answered(listener.wait_timeout(hand, Duration::ZERO));
+        let answer = answered(rt, listener.wait_timeout(hand, Duration::ZERO));
         budget.give_back();
         let is_granted = answer == Ok(None);
         if !is_granted {
-            check(rt, bytes, answer, Err("no memory for a parker"));
+            check(rt, bytes, answer, Err(AllocError));
         }
         let notes = hand.notes().len();
         let steps = notes.saturating_sub(calls).saturating_sub(1);
