@@ -1,69 +1,13 @@
-//! Events: listening that takes a spare slot, waits that are refused what the thread parks on, and threads that are parked,
-//! and woken by one that has no memory.
-use crate::support::{Runtime, all_memory, check, new_budget, new_id};
-use calls::Row;
-use calls_events::run_on_events;
+//! Events: threads that are parked, and woken by one that has no memory.
+use crate::support::{Runtime, all_memory, check, new_id};
 use event_listener::{Event, IntoTagged, Listener};
 use std::io;
 use std::sync::atomic::{AtomicBool, Ordering};
 use std::thread::{self, Threads};
 use std::time::{Clock, Duration};
-use test_queue_memory::Starving;
 use test_support::{
     Borrowing, ListenerKind, OwnClock, Sharing, WithClock, answered, deadline_after, spin_until,
 };
-
-// Each call but these that listen or wait has no memory, and each of these that is starved. What is refused otherwise, worked
-// rows have.
-const ROWS: &str = "
-A listener takes the slot that another one left, and needs no memory.
-row 1 event
-listen -> listener 0
-listen -> listener 1
-drop 0 -> dropped
-starved listen -> listener 2
-drop 1 -> dropped
-starved slisten -> listener 3
-notify max d -> told 2
-discard 2 -> discarded true
-discard 3 -> discarded true
-total -> total 0
-
-A wait that is refused what its thread parks on hands the listener back as it was, told or not. One that comes back passes \
-its notification on where it is dropped. That a listener is finished is found without memory.
-row 2 event tags
-listen -> listener 0
-listen -> listener 1
-starved wait 0 -> no memory
-starved timeout 0 0 -> no memory
-starved timeout 0 1000 -> no memory
-starved timeout 0 max -> no memory
-starved expire 0 -> no memory
-total -> total 2
-isnotified -> isnotified false
-notify 1 d 7 -> told 1
-starved wait 0 -> no memory
-starved timeout 0 0 -> no memory
-starved timeout 0 1000 -> no memory
-starved timeout 0 max -> no memory
-starved expire 0 -> no memory
-total -> total 2
-isnotified -> isnotified true
-drop 0 -> dropped
-poll 1 1 -> ready 7 wakes 1
-starved wait 1 -> finished
-";
-
-#[test]
-fn listening_takes_spare_slots_and_a_refused_wait_hands_the_listener_back(rt: HostRuntime) {
-    for number in [1, 2] {
-        let row = Row::numbered(ROWS, number).expect(&rt, "a row");
-        let made = run_on_events(row, &rt, &mut Starving::new(new_budget(&rt)));
-        if let Err(difference) = made.expect(&rt, "a subject") {
-            panic!(&rt; "{difference}");
-        }
-    }
-}
 
 // What a test of two threads asks of its runtime value.
 trait SharedRuntime: Runtime + Threads + Sync + Copy {}

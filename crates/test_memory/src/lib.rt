@@ -3,8 +3,8 @@
 //!
 //! | Module | What it tests |
 //! |---|---|
-//! | `events` | as text: listening that takes a spare slot, and waits that are refused what the thread parks on, and hand the listener back as it was; threads that are parked, and woken by one without memory: by a notification, and by the drop of a listener that was told |
-//! | `recorded` | as text: calls on recorded events that are refused the note or the entry; calls that have room for both; each request of a wait |
+//! | `events` | threads that are parked, and woken by one without memory: by a notification, and by the drop of a listener that was told |
+//! | `recorded` | calls on recorded events that have room for note and entry, or none for the note; each request of a wait |
 //! | `locks` | the locks, polled locks and semaphores of `example_locks`, each of whose requests is refused while another one has them; the example programs, refused the counter, the flag or a thread |
 //! | `channels` | calls on channels that are refused a place in the queue, what a thread parks on, or room for a message |
 //! | `leaks` | a thousand events, listeners, waits and guards that have the last share of their lock, one after another where little memory is left: what is dropped gives its memory back |

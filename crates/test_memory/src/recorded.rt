@@ -1,80 +1,16 @@
-//! Calls on recorded events that are refused memory for the note or for the entry, and each request of a wait. Afterwards
-//! the record agrees with the notes.
+//! Calls on recorded events that have room for note and entry, or none for the note, and each request of a wait. Afterwards the
+//! record agrees with the notes.
 use crate::support::{
     Runtime, Starved, all_memory, check, count_refused, leave, new_budget, new_task,
 };
-use calls::{Reply, Request, Row, reads};
-use calls_records::{HandCalls, On, close, new_event, run_on_records};
+use calls::{Reply, reads};
+use calls_records::{HandCalls, On, close, new_event};
 use event_listener::{Hand, RecordedEvent, RecordedPollError, WaitError};
 use std::alloc::AllocError;
 use std::cell::Cell;
 use std::process::Abort;
 use std::time::Duration;
-use test_queue_memory::{Budget, Calls, Refusing};
-
-// Each call is the first of its hand, which has no room for a note, and those of the first three rows are the first of their
-// event, whose record has no room for an entry. What a refused call leaves shows in its answer with memory, and in the record.
-const ROWS: &str = "
-A notification is the first call.
-row 1 recorded by 1
-notify 1 d 5 -> told 0
-close 1 -> 0 notify 1 d 5: told 0
-
-A question is.
-row 2 recorded by 1
-isnotified -> isnotified false
-close 1 -> 0 isnotified: isnotified false
-
-The other question is.
-row 3 recorded by 1
-total -> total 0
-close 1 -> 0 total: total 0
-
-A listening is, and each other call is made by a hand of its own.
-row 4 recorded by 6
-listen -> listener 0
-listen -> listener 1
-at 1 -> ok
-poll 1 0 -> pending
-at 2 -> ok
-notify 1 a 7 -> told 1
-at 3 -> ok
-wait 0 -> ready 7
-at 4 -> ok
-discard 1 -> discarded false wakes 0
-at 5 -> ok
-isnotified -> isnotified false
-close 6 -> 0 listen: listener 0; 0 listen: listener 1; 1 poll 1: pending; 2 notify 1 a 7: told 1; 3 poll 0: ready 7; \
-4 remove 1 0: removed task; 5 isnotified: isnotified false
-";
-
-// A row on a recorded event.
-#[derive(Drop)]
-struct OnRecorded<'a, R> {
-    rt: &'a R,
-    row: Row<'a>,
-}
-
-impl<R: Runtime> Calls for OnRecorded<'_, R> {
-    fn make(&self, hook: &mut Refusing) -> bool {
-        matches!(run_on_records(self.row, self.rt, hook), Some(Ok(())))
-    }
-}
-
-// All of the nine first calls of a hand are refused the note, and the four first ones of an event the entry, too.
-#[test]
-fn nothing_is_done_where_the_note_or_the_entry_has_no_room(rt: HostRuntime) {
-    let rt = &rt;
-    let mut hook = Refusing::new(new_budget(rt));
-    for number in [1, 2, 3, 4] {
-        let row = Row::numbered(ROWS, number).expect(rt, "a row");
-        if let Err(wrong) = hook.each(&OnRecorded { rt, row }) {
-            panic!(rt; "row {number}: {wrong:?}");
-        }
-    }
-    let refusals = hook.refusals_of(Request::Entry);
-    check(rt, refusals, refusals >= 13, true);
-}
+use test_queue_memory::Budget;
 
 // A call has the reply that has this text. It allocates nothing.
 fn is<R: Abort>(rt: &R, reply: Reply, text: &str) {

@@ -33,6 +33,42 @@ notify 1 a -> told 1 wakes 2
 notify 1 a -> told 1 missed 1
 ";
 
+// Each call is the first of its hand, which has no room for a note, and those of the first three rows are the first of their
+// event, whose record has no room for an entry. What a refused call leaves shows in its answer with memory, and in the record.
+const RECORDED: &str = "
+A notification is the first call.
+row 1 recorded by 1
+notify 1 d 5 -> told 0
+close 1 -> 0 notify 1 d 5: told 0
+
+A question is.
+row 2 recorded by 1
+isnotified -> isnotified false
+close 1 -> 0 isnotified: isnotified false
+
+The other question is.
+row 3 recorded by 1
+total -> total 0
+close 1 -> 0 total: total 0
+
+A listening is, and each other call is made by a hand of its own.
+row 4 recorded by 6
+listen -> listener 0
+listen -> listener 1
+at 1 -> ok
+poll 1 0 -> pending
+at 2 -> ok
+notify 1 a 7 -> told 1
+at 3 -> ok
+wait 0 -> ready 7
+at 4 -> ok
+discard 1 -> discarded false wakes 0
+at 5 -> ok
+isnotified -> isnotified false
+close 6 -> 0 listen: listener 0; 0 listen: listener 1; 1 poll 1: pending; 2 notify 1 a 7: told 1; 3 poll 0: ready 7; \
+4 remove 1 0: removed task; 5 isnotified: isnotified false
+";
+
 // How many rows a text has, and how many calls these make, with each kind of listener, and with those that make an event,
 // close it, and replay its record. So many of them or more allocate nothing.
 #[derive(Drop)]
@@ -180,4 +216,14 @@ fn rows_on_worlds(rt: HostRuntime) {
         starved: 60,
     };
     family(&rt, WORLDS, [(Request::World, 22)].as_slice(), counts);
+}
+
+// Nothing is done where the note or the entry has no room: all of the nine first calls of a hand are refused the note, and the
+// four first ones of an event the entry, too.
+#[test]
+fn rows_of_first_calls(rt: HostRuntime) {
+    let mut hook = Refusing::new(new_budget(&rt));
+    refuse_each(&rt, &mut hook, RECORDED);
+    let refusals = hook.refusals_of(Request::Entry);
+    check(&rt, refusals, refusals >= 13, true);
 }

@@ -32,6 +32,43 @@ row 52 list
 reserve max -> no memory
 has_room 1 -> false
 total -> total 0
+
+A listener takes the slot that another one left, and needs no memory.
+row 101 event
+listen -> listener 0
+listen -> listener 1
+drop 0 -> dropped
+starved listen -> listener 2
+drop 1 -> dropped
+starved slisten -> listener 3
+notify max d -> told 2
+discard 2 -> discarded true
+discard 3 -> discarded true
+total -> total 0
+
+A wait that is refused what its thread parks on hands the listener back as it was, told or not. One that comes back passes \
+its notification on where it is dropped. That a listener is finished is found without memory.
+row 102 event tags
+listen -> listener 0
+listen -> listener 1
+starved wait 0 -> no memory
+starved timeout 0 0 -> no memory
+starved timeout 0 1000 -> no memory
+starved timeout 0 max -> no memory
+starved expire 0 -> no memory
+total -> total 2
+isnotified -> isnotified false
+notify 1 d 7 -> told 1
+starved wait 0 -> no memory
+starved timeout 0 0 -> no memory
+starved timeout 0 1000 -> no memory
+starved timeout 0 max -> no memory
+starved expire 0 -> no memory
+total -> total 2
+isnotified -> isnotified true
+drop 0 -> dropped
+poll 1 1 -> ready 7 wakes 1
+starved wait 1 -> finished
 ";
 
 #[test]
@@ -46,5 +83,5 @@ fn rows_that_meet_a_refusal(rt: HostRuntime) {
         }
         rows = rows.wrapping_add(1);
     }
-    check(&rt, "rows", rows, 4);
+    check(&rt, "rows", rows, 6);
 }
