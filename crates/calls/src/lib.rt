@@ -1,5 +1,5 @@
 //! Calls on queues and events and their answers, as text: one language for the worked rows, for tables of tests, and for
-//! the programs `vectors` and `fuzz`.
+//! the programs `vectors` and `soak`. [`worlds`] has schedules of models as text.
 //!
 //! A row is a title, a head and lines, up to an empty line:
 //!
@@ -64,6 +64,7 @@ mod queues;
 mod row;
 mod subject;
 mod tag;
+pub mod worlds;
 
 pub use answer::{Answer, Left, Reply, reads};
 pub use call::{Act, Call, Kind, Notice, Tags};

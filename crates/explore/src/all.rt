@@ -1,18 +1,17 @@
 //! Every schedule of a length.
-use crate::safe::Watched;
 use crate::table::take;
 use anyhow::Result;
-use calls_worlds::{Act, Step};
+use calls::worlds::{Act, Step, World};
 use std::alloc::{AllocError, Global};
 use std::io::Print;
 
-/// What was found, and what it took.
+/// What was found.
 #[derive(Drop)]
 pub struct Search<'a> {
     alloc: Global,
     size: &'a str,
-    /// The steps up to the one that is looked at. Where a wake-up was lost, those that led to it.
-    pub path: Vec<Step>,
+    // The steps up to the one that is looked at.
+    path: Vec<Step>,
     /// Lists of as many steps as were asked for, each of them taken.
     pub schedules: u64,
     /// Steps that were taken. Steps that schedules have in common are taken once.
@@ -34,12 +33,11 @@ impl<'a> Search<'a> {
         }
     }
 
-    /// Goes on from the path by every schedule of so many steps more, and answers whether no wake-up was lost after any
-    /// step. It ends at the first that was. A step that is not taken is not followed further.
-    pub fn go_on<V: Watched, P: Print>(&mut self, depth: usize, progress: &P) -> Result<bool> {
+    /// Goes on from the path by every schedule of so many steps more. A step that is not taken is not followed further.
+    pub fn go_on<V: World, P: Print>(&mut self, depth: usize, progress: &P) -> Result<()> {
         if depth == 0 {
             self.schedules = self.schedules.saturating_add(1);
-            return Ok(true);
+            return Ok(());
         }
         let world = self.world::<V>()?;
         for number in 0..usize::MAX {
@@ -48,31 +46,24 @@ impl<'a> Search<'a> {
                 break;
             }
             for act in Act::ALL {
-                match self.make::<V>(Step { actor, act })? {
-                    None => {}
-                    Some(false) => return Ok(false),
-                    Some(true) => {
-                        self.report(progress)?;
-                        if !self.go_on::<V, P>(depth - 1, progress)? {
-                            return Ok(false);
-                        }
-                        self.path.pop();
-                    }
+                if self.make::<V>(Step { actor, act })? {
+                    self.report(progress)?;
+                    self.go_on::<V, P>(depth - 1, progress)?;
+                    self.path.pop();
                 }
             }
         }
-        Ok(true)
+        Ok(())
     }
 
-    fn world<V: Watched>(&self) -> Result<V, AllocError> {
+    fn world<V: World>(&self) -> Result<V, AllocError> {
         V::sized(self.alloc, self.size).unwrap_or(Err(AllocError))
     }
 
-    // Makes one step after the path, if such a world has it. Where it is taken, the path has it, and the answer is whether
-    // no wake-up is lost then.
-    fn make<V: Watched>(&mut self, step: Step) -> Result<Option<bool>> {
+    // Makes one step after the path, if such a world has it, and answers whether it was taken. Then the path has it.
+    fn make<V: World>(&mut self, step: Step) -> Result<bool> {
         if V::step_of(step).is_none() {
-            return Ok(None);
+            return Ok(false);
         }
         let mut world = self.world::<V>()?;
         for earlier in self.path.iter() {
@@ -80,11 +71,11 @@ impl<'a> Search<'a> {
         }
         if !take(&mut world, step) {
             self.not_taken = self.not_taken.saturating_add(1);
-            return Ok(None);
+            return Ok(false);
         }
         self.taken = self.taken.saturating_add(1);
         self.path.push(step)?;
-        Ok(Some(world.is_safe()))
+        Ok(true)
     }
 
     // Writes how many steps were taken, now and then.

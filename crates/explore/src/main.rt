@@ -1,10 +1,10 @@
 //! Runs the worlds of `event_worlds`, models of a lock (flag, semaphore, channel) and its clients, and shows every
-//! step. A line of its input is a world, a colon, a space, and what is asked for, in the language of [`calls_worlds`]:
+//! step. A line of its input is a world, a colon, a space, and what is asked for, in the language of [`calls::worlds`]:
 //!
 //! - `mutex 2: 0:2 1:5`: the run as a table, and how many of its steps were taken. Client 0 goes twice, then client 1 five
 //!   times. Worlds are `mutex CLIENTS`, `flag CLIENTS SETTERS`, `semaphore CLIENTS PERMITS` and
 //!   `channel SENDERS RECEIVERS CAPACITY`; words of a schedule are `ACTOR:TIMES` and `ACTOR:ACT`.
-//! - `mutex 2: all 8`: runs every schedule of that length, and looks after each step whether a wake-up is lost.
+//! - `mutex 2: all 8`: runs every schedule of that length, and counts them and their steps.
 //!
 //! `docs/DEFINITIONS.md` says where each act leads from each place. An act is one of these:
 //!
@@ -24,8 +24,8 @@
 //!     make explore RUN='mutex 3: all 10'
 //!     make explore < LINES
 //!
-//! The status is 1 if a wake-up was lost, a line is invalid, memory ran out, or a line can't be read or written, and
-//! else 0.
+//! The status is 1 if a line is invalid, memory ran out, or a line can't be read or written, and else 0. That no wake-up is
+//! lost, whatever the schedule, is not looked for: `event_worlds` proves it.
 //!
 //! # The table
 //!
@@ -60,9 +60,7 @@
 //!
 //! A schedule of a length is counted if each of its steps is taken; a step that is not taken is not followed further. Steps
 //! that schedules have in common are made and counted once. All messages are 9. So `mutex 2: all 8` has to find 286
-//! schedules, 546 steps taken and 1542 not taken. After each step the program asks the world's public questions, and
-//! the first lost wake-up ends the search with its table. It writes the number of steps taken to the standard error,
-//! each 100,000.
+//! schedules, 546 steps taken and 1542 not taken. It writes the number of steps taken to the standard error, each 100,000.
 //!
 //! `stdin` has twelve runs and five searches. What `stdout` says of them was made by another program that knows the
 //! tables of the worlds alone, and no queue; of one run, by hand. Twenty invalid lines follow, each with a wrong or missing
@@ -71,7 +69,6 @@
 
 mod all;
 mod lines;
-mod safe;
 mod table;
 #[cfg(test)]
 mod tests;
@@ -84,9 +81,9 @@ fn main(rt: HostRuntime) -> Result<ExitCode> {
     let alloc = rt.alloc();
     let input = BufReader::new(alloc, rt.reader())?;
     let mut output = BufWriter::new(alloc, io::writer(&rt))?;
-    let is_safe = lines::answer_all(&rt, alloc, input, &mut output)?;
+    let are_valid = lines::answer_all(&rt, alloc, input, &mut output)?;
     output.flush()?;
-    Ok(if is_safe {
+    Ok(if are_valid {
         ExitCode::SUCCESS
     } else {
         ExitCode::FAILURE

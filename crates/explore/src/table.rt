@@ -1,24 +1,22 @@
 //! A run of a world as a table.
-use crate::safe::Watched;
 use anyhow::Result;
-use calls_worlds::{Step, World, write_state};
+use calls::worlds::{Step, World, write_state};
 use std::alloc::Global;
 use std::io::Write;
 
 /// Takes the steps in order, and writes a line for each: what was done, and where everybody is then. A step that is not
-/// taken changes nothing, and is marked. Answers whether no wake-up was lost after any of them.
-pub fn write_run<V: Watched, W: Write>(
+/// taken changes nothing, and is marked.
+pub fn write_run<V: World, W: Write>(
     alloc: Global,
     world: &mut V,
     steps: &[Step],
     output: &mut W,
-) -> Result<bool> {
+) -> Result<()> {
     let mut parts = String::new(alloc);
     write_state(world, &mut parts)?;
     write_header(parts.as_str(), output)?;
     write!(output, "|    0 | {:<9} {:<9} |", "start", "")?;
     write_parts(parts.as_str(), output)?;
-    let mut is_safe = world.is_safe();
     let mut made: u64 = 0;
     for (number, step) in (1u64..).zip(steps.iter()) {
         let is_step = take(world, *step);
@@ -32,10 +30,9 @@ pub fn write_run<V: Watched, W: Write>(
         parts.clear();
         write_state(world, &mut parts)?;
         write_parts(parts.as_str(), output)?;
-        is_safe = is_safe && world.is_safe();
     }
     writeln!(output, "{made} steps taken")?;
-    Ok(is_safe)
+    Ok(())
 }
 
 /// Takes the step, and answers whether it was one.

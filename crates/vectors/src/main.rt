@@ -17,7 +17,7 @@
 //! # Another row
 //!
 //! - Write its title, which says what it shows, its head and its lines into the text of its family: [`queue`], [`events`],
-//!   [`records`] or [`calls_worlds`]. No two rows have one number. `calls` has the calls and the subjects.
+//!   [`records`] or [`calls::worlds`]. No two rows have one number. `calls` has the calls and the subjects.
 //! - Add its line to the rows of `crates/vectors/stdout`, and its calls to the counts of [`refused`]. `make run` shows
 //!   whether its answers are right.
 //!

@@ -2,10 +2,10 @@
 use crate::events::EVENTS;
 use crate::queue::QUEUE;
 use crate::records::RECORDS;
+use calls::worlds::{WORLDS, run_on_worlds};
 use calls::{Difference, Hook, Row};
 use calls_events::{Runtime, run_on_events};
 use calls_records::run_on_records;
-use calls_worlds::{WORLDS, run_on_worlds};
 
 /// The texts of the families.
 pub const TEXTS: [&str; 4] = [QUEUE, EVENTS, RECORDS, WORLDS];

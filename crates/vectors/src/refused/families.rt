@@ -5,9 +5,9 @@ use crate::records::RECORDS;
 use crate::refused::printed::{print_each_refusal, print_without_memory};
 use crate::refused::{check, new_budget};
 use crate::rows::run;
+use calls::worlds::WORLDS;
 use calls::{Request, Row};
 use calls_events::Runtime;
-use calls_worlds::WORLDS;
 use std::process::Abort;
 use test_queue_memory::{Calls, Refusing, Starving};
 

@@ -1,7 +1,7 @@
 //! A lock and its clients.
-use crate::spot::{At, Spot};
-use crate::step::{Act, Actor, Step};
-use crate::world::{World, size_and_first};
+use crate::worlds::spot::{At, Spot};
+use crate::worlds::step::{Act, Actor, Step};
+use crate::worlds::world::{World, size_and_first};
 use event_worlds::{Act as LockAct, MutexWorld, Step as LockStep};
 use std::alloc::{AllocError, Global};
 use std::fmt::Write;

@@ -1,5 +1,5 @@
 //! Steps, as texts have them.
-use crate::world::World;
+use crate::worlds::world::World;
 use std::alloc::{AllocError, Global};
 use std::fmt::{self, Display, Formatter, Write};
 

@@ -1,7 +1,7 @@
 //! Rows on worlds.
-use crate::runner::{Runner, new_world};
-use crate::world::World;
-use calls::{Difference, Hook, Row};
+use crate::worlds::runner::{Runner, new_world};
+use crate::worlds::world::World;
+use crate::{Difference, Hook, Row};
 use event_worlds::{ChannelWorld, FlagWorld, MutexWorld, SemaphoreWorld};
 use std::alloc::{AllocError, Global};
 
@@ -25,27 +25,25 @@ fn run_on<'t, W: World, H: Hook>(
     row: Row<'t>,
     alloc: Global,
     hook: &mut H,
-    size: &'t str,
+    size: &str,
 ) -> Option<Result<(), Difference<'t>>> {
     match new_world::<W, H>(alloc, hook, size)? {
-        Ok(world) => Some(make_lines(row, alloc, hook, size, world)),
+        Ok(world) => Some(make_lines(row, alloc, hook, world)),
         Err(_) => Some(Err(row.differs(0, None))),
     }
 }
 
-// Makes the lines on this world, which is new and has this size.
+// Makes the lines on this world, which is new.
 fn make_lines<'t, W: World, H: Hook>(
     row: Row<'t>,
     alloc: Global,
     hook: &mut H,
-    size: &'t str,
     world: W,
 ) -> Result<(), Difference<'t>> {
-    let Ok(mut runner) = Runner::new(alloc, hook, size, world) else {
+    let Ok(mut runner) = Runner::new(alloc, hook, world) else {
         return Err(row.differs(0, None));
     };
-    for (before, text) in row.lines.lines().enumerate() {
-        let line = before.saturating_add(1);
+    for (line, text) in (1usize..).zip(row.lines.lines()) {
         match found(alloc, &mut runner, text) {
             Ok(None) => {}
             Ok(answer) => return Err(row.differs(line, answer)),
@@ -56,10 +54,10 @@ fn make_lines<'t, W: World, H: Hook>(
 }
 
 // What a line answers where that is not what it says. The error is that there is no memory for it.
-fn found<'t, W: World, H: Hook>(
+fn found<W: World, H: Hook>(
     alloc: Global,
-    runner: &mut Runner<'_, 't, W, H>,
-    line: &'t str,
+    runner: &mut Runner<'_, W, H>,
+    line: &str,
 ) -> Result<Option<String>, AllocError> {
     let (call, wanted) = line.split_once(" -> ").unwrap_or((line, ""));
     let answer = runner.answer(call)?;

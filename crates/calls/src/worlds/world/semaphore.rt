@@ -1,7 +1,7 @@
 //! A semaphore and its clients.
-use crate::spot::{At, Spot};
-use crate::step::{Act, Actor, Step};
-use crate::world::World;
+use crate::worlds::spot::{At, Spot};
+use crate::worlds::step::{Act, Actor, Step};
+use crate::worlds::world::World;
 use event_worlds::{SemAct, SemStep, SemaphoreWorld};
 use std::alloc::{AllocError, Global};
 use std::fmt::Write;

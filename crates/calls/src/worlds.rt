@@ -1,7 +1,7 @@
 //! Schedules of the worlds of [`event_worlds`] as text: one language for the worked rows ([`WORLDS`]), and for the program
-//! `explore` and the tables of its tests.
+//! `explore` and its tests.
 //!
-//! A row is a title, a head and lines up to an empty line, as in [`calls`]:
+//! A row is a title, a head and lines up to an empty line:
 //!
 //! ```text
 //! A client that is told and then times out tries once more.
@@ -20,7 +20,6 @@
 //! Line|Answers
 //! ---|---
 //! `SCHEDULE`|how many of its steps are taken, and all parts of the world that it changes
-//! `each ACTOR after SCHEDULE`, `each ACTOR`|on a new world: how that actor stands after the schedule; each of its acts that is a step then, with what that changes; how many steps of the schedule are not taken, if there are any
 //! `state`|all parts of the world
 //! `new SIZE`|`ok`, `no memory`: later schedules are of a new world of the same sort, which has that size
 //!
@@ -33,8 +32,6 @@
 //! parsed: what is displayed is compared with the text.
 //!
 //! No clause speaks of texts: rows show it when they run.
-#![tactic(auto)]
-
 mod row;
 mod rows;
 mod runner;

@@ -4,8 +4,8 @@ mod flag;
 mod mutex;
 mod semaphore;
 
-use crate::spot::Spot;
-use crate::step::{Actor, Step};
+use crate::worlds::spot::Spot;
+use crate::worlds::step::{Actor, Step};
 use std::alloc::{AllocError, Global};
 use std::fmt::Write;
 

@@ -1,8 +1,8 @@
 //! A flag, its clients, and its setters behind them.
-use crate::spot::{At, Spot};
-use crate::step::{Actor, Step};
-use crate::world::mutex::lock_step;
-use crate::world::{World, size_and_first};
+use crate::worlds::spot::{At, Spot};
+use crate::worlds::step::{Actor, Step};
+use crate::worlds::world::mutex::lock_step;
+use crate::worlds::world::{World, size_and_first};
 use event_worlds::{FlagWorld, Step as FlagStep};
 use std::alloc::{AllocError, Global};
 use std::fmt::Write;
