@@ -100,7 +100,7 @@ fn main(rt: HostRuntime) -> Result<ExitCode> {
     let asked = read_words(&rt);
     let mut ends = ExitCode::SUCCESS;
     if asked.rows {
-        let none_differs = print_rows(&rt, TEXTS.as_slice(), asked.texts, &mut Undisturbed);
+        let none_differs = print_rows(&rt, &rt, TEXTS.as_slice(), asked.texts, &mut Undisturbed);
         ends = status(&rt, none_differs);
     }
     if asked.replies {

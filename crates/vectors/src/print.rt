@@ -14,12 +14,19 @@ pub const HEAD: &str =
 ///
 /// Each text has its rows in order of number. The rows allocate; their table and the printing do not, so a row that was
 /// refused memory has its line too.
-pub fn print_rows<R, H>(rt: &R, texts: &[&str], with_texts: bool, hook: &mut H) -> io::Result<bool>
+pub fn print_rows<R, P, H>(
+    rt: &R,
+    screen: &P,
+    texts: &[&str],
+    with_texts: bool,
+    hook: &mut H,
+) -> io::Result<bool>
 where
-    R: Runtime + Print + Eprint,
+    R: Runtime,
+    P: Print + Eprint,
     H: Hook,
 {
-    println!(rt; "{HEAD}")?;
+    println!(screen; "{HEAD}")?;
     let mut none_differs = true;
     let mut places = [0usize; TEXTS.len()];
     for number in 0..=u8::MAX {
@@ -27,7 +34,7 @@ where
             match Row::nth(text, *place) {
                 Some(row) if row.number <= number => {
                     *place = place.wrapping_add(1);
-                    none_differs &= print_row(rt, row, with_texts, hook)?;
+                    none_differs &= print_row(rt, screen, row, with_texts, hook)?;
                 }
                 _ => {}
             }
@@ -36,24 +43,31 @@ where
     Ok(none_differs)
 }
 
-fn print_row<R, H>(rt: &R, row: Row<'_>, with_text: bool, hook: &mut H) -> io::Result<bool>
+fn print_row<R, P, H>(
+    rt: &R,
+    screen: &P,
+    row: Row<'_>,
+    with_text: bool,
+    hook: &mut H,
+) -> io::Result<bool>
 where
-    R: Runtime + Print + Eprint,
+    R: Runtime,
+    P: Print + Eprint,
     H: Hook,
 {
     if with_text {
-        print!(rt; "\n{row}")?;
+        print!(screen; "\n{row}")?;
     }
     let number = row.number;
     match run(row, rt, hook) {
         Ok(()) => {
-            println!(rt; "row {number} ok")?;
+            println!(screen; "row {number} ok")?;
             Ok(true)
         }
         Err(difference) => {
-            println!(rt; "row {number} differs")?;
+            println!(screen; "row {number} differs")?;
             // Where this can't be printed, the line above still says that the row differs.
-            let _ = eprintln!(rt; "{difference}");
+            let _ = eprintln!(screen; "{difference}");
             Ok(false)
         }
     }

@@ -2,7 +2,7 @@
 use crate::events::EVENTS;
 use crate::queue::QUEUE;
 use crate::records::RECORDS;
-use crate::refused::printed::{print_each_refusal, print_without_memory};
+use crate::refused::printed::print_refused;
 use crate::refused::{check, new_budget};
 use crate::rows::run;
 use calls::worlds::WORLDS;
@@ -69,13 +69,17 @@ close 6 -> 0 listen: listener 0; 0 listen: listener 1; 1 poll 1: pending; 2 noti
 4 remove 1 0: removed task; 5 isnotified: isnotified false
 ";
 
-// How many rows a text has, and how many calls these make, with each kind of listener, and with those that make an event,
-// close it, and replay its record. So many of them or more allocate nothing.
-#[derive(Drop)]
-struct Counts {
+// A text, and what is counted of it by hand: its rows; the calls that they make, with each kind of listener, and with those
+// that make an event, close it, and replay its record; how many of these allocate nothing, or more; and how often a request
+// is refused, or more often. How many requests a call makes, and of which sizes, follows from the layout of a queue, and is
+// not counted.
+#[derive(Clone, Copy)]
+struct Family<'a> {
+    text: &'static str,
     rows: usize,
     calls: usize,
     starved: usize,
+    requests: &'a [(Request, usize)],
 }
 
 // A row.
@@ -107,47 +111,32 @@ fn refuse_each<R: Runtime + Abort>(rt: &R, hook: &mut Refusing, text: &'static s
 }
 
 // Makes the rows of the text with no memory during the calls that are to take none.
-fn starve_each<R: Runtime + Abort>(rt: &R, text: &'static str, counts: Counts) {
+fn starve_each<R: Runtime + Abort>(rt: &R, family: Family<'_>) {
     let mut hook = Starving::new(new_budget(rt));
     let mut rows = 0usize;
-    for place in 0..usize::MAX {
-        let Some(row) = Row::nth(text, place) else {
-            break;
-        };
+    while let Some(row) = Row::nth(family.text, rows) {
         if let Err(difference) = run(row, rt, &mut hook) {
             panic!(rt; "{difference}");
         }
         rows = rows.wrapping_add(1);
     }
-    let Starving {
-        starved,
-        served,
-        ..
-    } = hook;
-    check(rt, "rows", rows, counts.rows);
-    check(rt, "calls", starved.wrapping_add(served), counts.calls);
-    check(rt, starved, starved >= counts.starved, true);
+    let calls = hook.starved.wrapping_add(hook.served);
+    check(rt, "rows", rows, family.rows);
+    check(rt, "calls", calls, family.calls);
+    check(rt, hook.starved, hook.starved >= family.starved, true);
 }
 
-// Each of these requests is refused so often, or more often. That is counted from the calls of the rows alone: how many
-// requests a call makes, and of which sizes, follows from the layout of a queue. Printed, each call that asks for memory is
-// refused, too.
-fn family<R: Runtime + Abort>(
-    rt: &R,
-    text: &'static str,
-    requests: &[(Request, usize)],
-    counts: Counts,
-) {
+// Each call that asks for memory is refused where the rows are printed, too.
+fn check_family<R: Runtime + Abort>(rt: &R, family: Family<'_>) {
     let mut hook = Refusing::new(new_budget(rt));
-    let asking = refuse_each(rt, &mut hook, text);
-    for (request, least) in requests.iter() {
+    let asking = refuse_each(rt, &mut hook, family.text);
+    for (request, least) in family.requests.iter() {
         let refused = hook.refusals_of(*request);
         check(rt, (*request, refused, *least), refused >= *least, true);
     }
     drop(hook);
-    starve_each(rt, text, counts);
-    check(rt, "printed", print_each_refusal(rt, text), Ok(asking));
-    print_without_memory(rt, text);
+    starve_each(rt, family);
+    check(rt, "printed", print_refused(rt, family.text), Ok(asking));
 }
 
 // Thirteen queues get a first listener that comes alone. Six runs are made, and five of them insert. Four sinks have room.
@@ -159,63 +148,70 @@ fn rows_on_a_queue(rt: HostRuntime) {
         (Request::Replies, 6),
         (Request::Sink, 4),
     ];
-    let counts = Counts {
+    let family = Family {
+        text: QUEUE,
         rows: 16,
         calls: 117,
         starved: 78,
+        requests: &requests,
     };
-    family(&rt, QUEUE, requests.as_slice(), counts);
+    check_family(&rt, family);
 }
 
 // With two kinds of listeners: 23 rows make one, and three have two waits.
 #[test]
 fn rows_on_an_event(rt: HostRuntime) {
-    let requests = [(Request::Listener, 46), (Request::Parker, 12)];
-    let counts = Counts {
+    let family = Family {
+        text: EVENTS,
         rows: 24,
         calls: 412,
         starved: 296,
+        requests: &[(Request::Listener, 46), (Request::Parker, 12)],
     };
-    family(&rt, EVENTS, requests.as_slice(), counts);
+    check_family(&rt, family);
 }
 
 // Three rows make an event. Two of them make calls, and ask of their record whether it replays. Three records that were
 // written by hand begin with a listener.
 #[test]
 fn rows_on_a_recorded_event(rt: HostRuntime) {
-    let requests = [
-        (Request::Hands, 3),
-        (Request::Entry, 2),
-        (Request::Replay, 5),
-    ];
-    let counts = Counts {
+    let family = Family {
+        text: RECORDS,
         rows: 4,
         calls: 22,
         starved: 5,
+        requests: &[
+            (Request::Hands, 3),
+            (Request::Entry, 2),
+            (Request::Replay, 5),
+        ],
     };
-    family(&rt, RECORDS, requests.as_slice(), counts);
+    check_family(&rt, family);
 }
 
 #[test]
 fn other_rows(rt: HostRuntime) {
-    let counts = Counts {
+    let family = Family {
+        text: OTHERS,
         rows: 2,
         calls: 13,
         starved: 8,
+        requests: &[(Request::SlotInRun, 1), (Request::Slot, 1)],
     };
-    let requests = [(Request::SlotInRun, 1), (Request::Slot, 1)];
-    family(&rt, OTHERS, requests.as_slice(), counts);
+    check_family(&rt, family);
 }
 
 // Each row makes a world, and each schedule of its lines takes no memory.
 #[test]
 fn rows_on_worlds(rt: HostRuntime) {
-    let counts = Counts {
+    let family = Family {
+        text: WORLDS,
         rows: 22,
         calls: 82,
         starved: 60,
+        requests: &[(Request::World, 22)],
     };
-    family(&rt, WORLDS, [(Request::World, 22)].as_slice(), counts);
+    check_family(&rt, family);
 }
 
 // Nothing is done where the note or the entry has no room: all of the nine first calls of a hand are refused the note, and the
