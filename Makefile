@@ -70,11 +70,14 @@ explore:
 	$(needs_rt)@echo "$(if $(PROVED),Proving,Compiling) the program first, if no earlier run has kept it." >&2
 	@cd crates/explore && $(if $(RUN),echo '$(RUN)' |) rt $(if $(PROVED),run,try --seconds 3600)
 
+fuzz: kind = lists
+soak: kind = threads
+
 # The first run proves and keeps the program, and does nothing.
 fuzz soak:
 	$(needs_rt)@echo "Proving the program first. That takes minutes, unless an earlier run has kept it." >&2
-	@cd crates/$@ && rt run -- seed 0 times 0 < /dev/null >&2
-	@crates/$@/out/$@ seed "$(or $(SEED),$(shell date +%s))" seconds "$(or $(SECONDS),60)"
+	@cd crates/soak && rt run -- $(kind) seed 0 times 0 < /dev/null >&2
+	@crates/soak/out/soak $(kind) seed "$(or $(SEED),$(shell date +%s))" seconds "$(or $(SECONDS),60)"
 
 starved:
 	$(needs_rt)@scripts/starved

@@ -24,12 +24,9 @@
 //! record of a queue, `true` or `false`. There are none behind `replays` alone; their calls are `listen` and `notify`.
 //!
 //! Proved: no call is made by a hand that is none of the event's.
-//!
-//! [`random`] has what programs of random calls share.
 #![tactic(auto)]
 
 mod hand_calls;
-pub mod random;
 mod record;
 mod recorded;
 mod row;

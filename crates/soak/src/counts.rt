@@ -1,8 +1,9 @@
 //! What was counted.
+use event_listener::{Entry, Former, RecordedReply, RegisterResult};
 use std::fmt::{self, Display, Formatter, Write};
 
 /// How often something was done. No count passes the greatest number.
-#[derive(Clone, Copy, PartialEq, Eq)]
+#[derive(Clone, Copy, Default)]
 pub struct Counts {
     /// New listeners.
     pub listened: u64,
@@ -18,17 +19,12 @@ pub struct Counts {
     pub lost: u64,
 }
 
-impl Counts {
-    /// Nothing was done.
-    pub const NONE: Counts = Counts {
-        listened: 0,
-        told: 0,
-        taken: 0,
-        dropped: 0,
-        passed_on: 0,
-        lost: 0,
-    };
+/// So many more.
+pub fn add(count: &mut u64, more: usize) {
+    *count = count.saturating_add(more as u64);
+}
 
+impl Counts {
     /// Both together.
     pub fn plus(self, other: Counts) -> Counts {
         Counts {
@@ -41,25 +37,38 @@ impl Counts {
         }
     }
 
-    /// One more tag was taken, if this says so.
-    pub fn take(&mut self, is_taken: bool) {
-        self.taken = self.taken.saturating_add(u64::from(is_taken));
+    /// What the replies of a record say, which are those of a queue.
+    pub fn of_record(entries: &[Entry<u32>]) -> Counts {
+        let mut counts = Counts::default();
+        for entry in entries {
+            match entry.reply {
+                RecordedReply::Listened(Ok(_)) => add(&mut counts.listened, 1),
+                RecordedReply::Notified(told) => add(&mut counts.told, told),
+                RecordedReply::Registered(RegisterResult::Notified(_)) => add(&mut counts.taken, 1),
+                RecordedReply::Removed(Some(former)) => counts.remove(former),
+                _ => {}
+            }
+        }
+        counts
+    }
+
+    // A listener left the queue.
+    fn remove(&mut self, former: Former<u32>) {
+        match former {
+            Former::Notified { .. } => add(&mut self.taken, 1),
+            Former::Passed { .. } => add(&mut self.passed_on, 1),
+            Former::Lost { .. } => add(&mut self.lost, 1),
+            Former::Created | Former::Task => {}
+        }
     }
 }
 
 impl Display for Counts {
     fn fmt<W: Write>(&self, f: &mut Formatter<W>) -> fmt::Result {
-        let Counts {
-            listened,
-            told,
-            taken,
-            dropped,
-            passed_on,
-            lost,
-        } = *self;
         write!(
             f,
-            "{listened} listened, {told} told, {taken} taken, {dropped} dropped, {passed_on} passed on, {lost} lost"
+            "{} listened, {} told, {} taken, {} dropped, {} passed on, {} lost",
+            self.listened, self.told, self.taken, self.dropped, self.passed_on, self.lost
         )
     }
 }

@@ -1,4 +1,4 @@
-//! Random numbers from a seed.
+//! Random numbers from a seed, and listeners by a random place.
 ghost use Rattle.std.specs.Prelude.{◌<◌};
 
 use rand_core::Rng;
@@ -29,5 +29,15 @@ impl RandomNumbers {
     /// The next number, as one of two.
     pub fn coin(&mut self) -> bool {
         self.below(2) == 0
+    }
+}
+
+/// Takes out the listener at that place, if there are any. A place that is too great begins again at the first.
+pub fn take_listener<L>(listeners: &mut Vec<L>, place: usize) -> Option<L> {
+    let at = place.checked_rem(listeners.len())?;
+    if at < listeners.len() {
+        Some(listeners.remove(at))
+    } else {
+        None
     }
 }
