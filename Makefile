@@ -22,7 +22,7 @@
 # fmt       formats the files
 # bench     measures events, locks and channels beside Rust crates, if those are at hand: `make bench ORACLE=FOLDER`, as
 #           scripts/bench says. It writes the tables and the chart of docs/BENCHMARKS.md: a quarter of an hour, and the
-#           programs' proofs
+#           program's proof
 # diff      compares the queue with the Rust crate, if its answers are at hand: `make diff ORACLE=FOLDER`, with
 #           a folder as crates/vectors/src/replies.rt says
 .PHONY: help run test gate prove vectors check refused quoted api explore fuzz soak starved fmt bench diff

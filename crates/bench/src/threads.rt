@@ -1,134 +1,128 @@
-//! Workloads of several threads.
-use crate::error::BenchError;
-use crate::measure::Run;
-use crate::watch::Watch;
+//! What threads do together: they take locks and give them back, meet, and wait for each other.
+use crate::run::{Run, Runtime};
+use anyhow::Result;
 use event_listener::{Event, EventIds, Listener};
-use example_locks::{Mutex, MutexError};
-use std::alloc::Global;
-use std::sync::Wait;
+use event_locks::{Barrier, Mutex, RwLock, Semaphore};
 use std::sync::atomic::{AtomicU64, Ordering};
-use std::thread::{self, Threads};
-use std::time::{Clock, Instant};
 
-// How often the threads of a lock count in one round, together.
-const INCREMENTS: u64 = 100_000;
-
-// Two events, and whose turn it is: odd numbers are one thread's, even ones the other's.
-#[derive(Drop)]
-struct Table {
-    ping: Event<()>,
-    pong: Event<()>,
-    turn: AtomicU64,
-}
-
-/// Two threads wait for each other in turn. An operation is one round trip.
-pub fn ping_pong<R>(run: &Run<'_, R>) -> Result<Watch, BenchError>
-where
-    R: Threads + Wait + Clock + Clone + Sync,
-{
-    let mut ids = EventIds::new();
-    let table = Table {
-        ping: Event::new(ids.next()?),
-        pong: Event::new(ids.next()?),
-        turn: AtomicU64::new(0),
+pub fn lock_mutex<R: Runtime>(run: &mut Run<'_, R>) -> Result<()> {
+    let (rt, alloc, n) = (run.rt, run.rt.alloc(), run.n);
+    let mutex = &Mutex::new(alloc, 0u64)?;
+    let work = |_: usize| {
+        let Ok(mut count) = mutex.lock(rt, alloc).wait() else {
+            return false;
+        };
+        *count = count.wrapping_add(1);
+        true
     };
-    let mut watch = Watch::new();
-    let began = Instant::now(run.rt)?;
-    thread::join(
-        run.rt,
-        || answer(run.rt, run.alloc, &table, run.rounds),
-        || call(run.rt, run.alloc, &table, run.rounds),
-    );
-    watch.add(run.rt, began, run.rounds)?;
-    Ok(watch)
+    run.together(n, n, &work)
 }
 
-fn call<R: Wait + Clock + Clone>(rt: &R, alloc: Global, table: &Table, rounds: u64) {
-    let mut turn = 0u64;
-    for _ in 0..rounds {
-        turn = turn.wrapping_add(1);
-        table.turn.store(turn, Ordering::SeqCst);
-        table.ping.notify_relaxed(rt, 1);
-        turn = turn.wrapping_add(1);
-        wait_until(rt, alloc, &table.pong, &table.turn, turn);
-    }
+/// One thread takes a free mutex that it tries.
+pub fn try_mutex<R: Runtime>(run: &mut Run<'_, R>) -> Result<()> {
+    let (rt, rounds) = (run.rt, run.rounds);
+    let mutex = &Mutex::new(rt.alloc(), 0u64)?;
+    run.alone(rounds, 1, || {
+        let Some(mut count) = mutex.try_lock(rt) else {
+            return false;
+        };
+        *count = count.wrapping_add(1);
+        true
+    })
 }
 
-fn answer<R: Wait + Clock + Clone>(rt: &R, alloc: Global, table: &Table, rounds: u64) {
-    let mut turn = 0u64;
-    for _ in 0..rounds {
-        turn = turn.wrapping_add(1);
-        wait_until(rt, alloc, &table.ping, &table.turn, turn);
-        turn = turn.wrapping_add(1);
-        table.turn.store(turn, Ordering::SeqCst);
-        table.pong.notify_relaxed(rt, 1);
-    }
+pub fn acquire<R: Runtime>(run: &mut Run<'_, R>, permits: usize) -> Result<()> {
+    let (rt, alloc, n) = (run.rt, run.rt.alloc(), run.n);
+    let semaphore = &Semaphore::new(alloc, permits)?;
+    run.together(n, n, &|_| semaphore.acquire(rt, alloc).wait().is_ok())
+}
+
+pub fn read<R: Runtime>(run: &mut Run<'_, R>) -> Result<()> {
+    let (rt, alloc, n) = (run.rt, run.rt.alloc(), run.n);
+    let lock = &RwLock::new(alloc, 0u64)?;
+    run.together(n, n, &|_| lock.read(rt, alloc).wait().is_ok())
+}
+
+pub fn write<R: Runtime>(run: &mut Run<'_, R>) -> Result<()> {
+    let (rt, alloc, n) = (run.rt, run.rt.alloc(), run.n);
+    let lock = &RwLock::new(alloc, 0u64)?;
+    let work = |_: usize| {
+        let Ok(mut count) = lock.write(rt, alloc).wait() else {
+            return false;
+        };
+        *count = count.wrapping_add(1);
+        true
+    };
+    run.together(n, n, &work)
+}
+
+pub fn meet<R: Runtime>(run: &mut Run<'_, R>) -> Result<()> {
+    let (rt, alloc, n) = (run.rt, run.rt.alloc(), run.n);
+    let barrier = &Barrier::new(alloc, n);
+    run.together(n, 1, &|_| barrier.wait(rt, alloc).wait().is_ok())
+}
+
+/// Two threads wait for each other in turn, by semaphores. An operation is a round trip, as below.
+pub fn hand_over<R: Runtime>(run: &mut Run<'_, R>) -> Result<()> {
+    let (rt, alloc) = (run.rt, run.rt.alloc());
+    let (here, there) = (&Semaphore::new(alloc, 0)?, &Semaphore::new(alloc, 0)?);
+    let work = |index: usize| {
+        let (mine, other) = if index == 0 {
+            (here, there)
+        } else {
+            (there, here)
+        };
+        if index == 0 {
+            other.add_permits(rt, 1);
+        }
+        let Ok(permit) = mine.acquire(rt, alloc).wait() else {
+            return false;
+        };
+        permit.forget();
+        if index != 0 {
+            other.add_permits(rt, 1);
+        }
+        true
+    };
+    run.together(2, 1, &work)
+}
+
+/// The same, by events: even turns are the first thread's.
+pub fn ping_pong<R: Runtime>(run: &mut Run<'_, R>) -> Result<()> {
+    let rt = run.rt;
+    let mut ids = EventIds::new();
+    let ping = &Event::new(ids.next()?);
+    let pong = &Event::new(ids.next()?);
+    let turn = &AtomicU64::new(0);
+    let work = |index: usize| {
+        if index == 0 {
+            end_turn(rt, turn, ping);
+            wait_for_turn(rt, pong, turn, 0);
+        } else {
+            wait_for_turn(rt, ping, turn, 1);
+            end_turn(rt, turn, pong);
+        }
+        true
+    };
+    run.together(2, 1, &work)
+}
+
+fn end_turn<R: Runtime>(rt: &R, turn: &AtomicU64, event: &Event<()>) {
+    turn.fetch_add(1, Ordering::SeqCst);
+    event.notify_relaxed(rt, 1);
 }
 
 // Where memory is refused, it tries again: the other thread can't go on alone.
-fn wait_until<R: Wait + Clock + Clone>(
-    rt: &R,
-    alloc: Global,
-    event: &Event<()>,
-    turn: &AtomicU64,
-    wanted: u64,
-) {
+fn wait_for_turn<R: Runtime>(rt: &R, event: &Event<()>, turn: &AtomicU64, index: u64) {
     for _ in rt.forever() {
-        if turn.load(Ordering::SeqCst) >= wanted {
+        if turn.load(Ordering::SeqCst) % 2 == index {
             return;
         }
-        if let Ok(listener) = event.listen(rt, alloc) {
-            if turn.load(Ordering::SeqCst) >= wanted {
+        if let Ok(listener) = event.listen(rt, rt.alloc()) {
+            if turn.load(Ordering::SeqCst) % 2 == index {
                 return;
             }
             let _ = listener.wait();
         }
     }
-}
-
-/// As many threads as listeners count under the lock of `example_locks`. An operation is one lock.
-pub fn mutex_threads<R>(run: &Run<'_, R>) -> Result<Watch, BenchError>
-where
-    R: Threads + Wait + Clock + Clone + Sync,
-{
-    let mut ids = EventIds::new();
-    let mut watch = Watch::new();
-    for _ in 0..run.rounds {
-        let counter = Mutex::new(ids.next()?, 0u64);
-        let began = Instant::now(run.rt)?;
-        count(run, &counter)?;
-        watch.add(run.rt, began, INCREMENTS)?;
-    }
-    Ok(watch)
-}
-
-fn count<R>(run: &Run<'_, R>, counter: &Mutex<u64>) -> Result<(), BenchError>
-where
-    R: Threads + Wait + Clock + Clone + Sync,
-{
-    let each = INCREMENTS / run.listeners.max(1) as u64;
-    let counted = thread::map_indices(
-        run.rt,
-        run.alloc,
-        run.listeners,
-        &|_| { add(run.rt, run.alloc, counter, each).is_ok() },
-    )?;
-    if counted.iter().all(|is_ok| *is_ok) {
-        Ok(())
-    } else {
-        Err(BenchError::Memory)
-    }
-}
-
-fn add<R: Wait + Clock + Clone>(
-    rt: &R,
-    alloc: Global,
-    counter: &Mutex<u64>,
-    times: u64,
-) -> Result<(), MutexError> {
-    for _ in 0..times {
-        let mut count = counter.lock(rt, alloc)?;
-        *count = count.wrapping_add(1);
-    }
-    Ok(())
 }

@@ -1,4 +1,4 @@
-//! What the crates of tests share, and `bench`, `soak` and the worked rows with them: clocks and runtimes of their own, and
+//! What the crates of tests share, and `soak` and the worked rows with them: clocks and runtimes of their own, and
 //! the kinds of listeners and the wakers of `calls_events`, which this hands on.
 //!
 //! - Listeners and tasks: a [`Case`] is a test that [`both`] runs with each [`ListenerKind`], by the calls of a [`Trial`];

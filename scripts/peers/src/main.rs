@@ -1,4 +1,4 @@
-//! The workloads of `crates/bench_callers` on the Rust crates that callers would take instead:
+//! The workloads of `crates/bench` on the Rust crates that callers would take instead:
 //!
 //!     peers LIBRARY WORKLOAD THREADS [OPERATIONS]
 //!
@@ -489,7 +489,7 @@ fn shares(library: &str, workload: &str, threads: u64, millis: u64) -> Option<St
     })
 }
 
-/// How many operations a run has, or milliseconds where threads share a mutex, as in `crates/bench_callers`.
+/// How many operations a run has, or milliseconds where threads share a mutex, as in `crates/bench`.
 fn operations(workload: &str, threads: u64) -> u64 {
     match workload {
         "handover" | "barrier" => 20_000,

@@ -1,9 +1,9 @@
 //! The queue as a value.
 ghost use Rattle.std.specs.Prelude.{◌≡◌};
 
-use crate::subject::Subject;
+use super::Queue;
 use event_listener::RegisterResult::Notified;
-use event_listener::{IntoNotification, Key, List, ListenError, Notification, WakeSink};
+use event_listener::{IntoNotification, Key, List, ListenError, WakeSink};
 use futures::task::Context;
 use std::alloc::Global;
 
@@ -19,17 +19,6 @@ impl OnList {
             list: List::new(alloc),
         }
     }
-
-    #[inline(always)]
-    fn notify_by<N: Notification<Tag = ()> + Drop>(&mut self, notification: N) -> usize
-    where
-        requires { N.can_tag notification }
-    {
-        let mut notification = notification;
-        self.list
-            .notify_uncounted(&mut notification, &mut Unheard)
-            .unwrap_or(0)
-    }
 }
 
 // Wakes nobody.
@@ -43,7 +32,7 @@ impl WakeSink<u64> for Unheard {
     fn wake(&mut self, _task: u64) {}
 }
 
-impl Subject for OnList {
+impl Queue for OnList {
     type Listener = Key;
 
     #[inline(always)]
@@ -58,12 +47,10 @@ impl Subject for OnList {
 
     #[inline(always)]
     fn notify(&mut self, count: usize) -> usize {
-        self.notify_by(count.into_notification())
-    }
-
-    #[inline(always)]
-    fn notify_relaxed(&mut self, count: usize) -> usize {
-        self.notify_by(count.relaxed().into_notification())
+        let mut notification = count.into_notification();
+        self.list
+            .notify_uncounted(&mut notification, &mut Unheard)
+            .unwrap_or(0)
     }
 
     #[inline(always)]

@@ -1,70 +1,57 @@
 //! Channels, through which messages pass.
-use crate::locks::Threaded;
-use crate::loops::measured;
+use crate::run::{Run, Runtime};
+use anyhow::Result;
 use event_channel::{Receiver, Recv, Sender, bounded, unbounded};
 use futures::Future;
 use futures::executor::block_on;
 use futures::task::{Context, Poll};
-use std::random::RandomSource;
-use std::sync::Wait;
-use std::time::{Clock, Duration};
 
 const MESSAGE: u64 = 7;
 
-fn channel<R: Threaded>(
+fn channel<R: Runtime>(
     rt: &R,
     capacity: Option<usize>,
-) -> anyhow::Result<(Sender<u64, R>, Receiver<u64, R>)> {
+) -> Result<(Sender<u64, R>, Receiver<u64, R>)> {
     Ok(match capacity {
         Some(capacity) => bounded(rt, rt.alloc(), capacity)?,
         None => unbounded(rt, rt.alloc())?,
     })
 }
 
-/// So many threads send, and as many receive, each so many messages.
-pub fn pass<R: Threaded>(
-    rt: &R,
-    capacity: Option<usize>,
-    threads: usize,
-    messages: u64,
-) -> anyhow::Result<Duration> {
-    let (sender, receiver) = channel(rt, capacity)?;
+/// So many threads send, and as many receive.
+pub fn pass<R: Runtime>(run: &mut Run<'_, R>, capacity: Option<usize>) -> Result<()> {
+    let n = run.n;
+    let (sender, receiver) = channel(run.rt, capacity)?;
     let (sender, receiver) = (&sender, &receiver);
-    measured(
-        rt,
-        threads.saturating_mul(2),
-        messages,
-        &|index| {
-            if index % 2 == 0 {
-                sender.send_blocking(MESSAGE).is_ok()
-            } else {
-                receiver.recv_blocking() == Ok(MESSAGE)
-            }
-        },
-    )
+    let work = |index: usize| {
+        if index % 2 == 0 {
+            sender.send_blocking(MESSAGE).is_ok()
+        } else {
+            receiver.recv_blocking() == Ok(MESSAGE)
+        }
+    };
+    run.together(n.saturating_mul(2), n, &work)
 }
 
 /// One thread sends a message and receives it.
-pub fn pass_alone<R: Threaded>(rt: &R, messages: u64) -> anyhow::Result<Duration> {
-    let (sender, receiver) = channel(rt, Some(128))?;
+pub fn pass_alone<R: Runtime>(run: &mut Run<'_, R>) -> Result<()> {
+    let (sender, receiver) = channel(run.rt, Some(128))?;
     let (sender, receiver) = (&sender, &receiver);
-    measured(
-        rt,
-        1,
-        messages,
-        &|_| { sender.try_send(MESSAGE).is_ok() & (receiver.try_recv() == Ok(MESSAGE)) },
-    )
+    let work = |_: usize| {
+        sender.try_send(MESSAGE).is_ok() & (receiver.try_recv() == Ok(MESSAGE))
+    };
+    run.together(1, 1, &work)
 }
 
 // A receive that waits for messages, which the same task sends, each once the receive waits.
 #[derive(Drop)]
-struct Passing<'a, R: Threaded> {
+struct Passing<'a, R: Runtime> {
     sender: &'a Sender<u64, R>,
     receive: Recv<'a, u64, R>,
     left: u64,
 }
 
-impl<'a, R: Threaded> Future for Passing<'a, R> {
+impl<'a, R: Runtime> Future for Passing<'a, R> {
     // Whether each message came.
     type Output = bool;
 
@@ -86,10 +73,12 @@ impl<'a, R: Threaded> Future for Passing<'a, R> {
     }
 }
 
-fn pass_awaited<R>(rt: &R, sender: &Sender<u64, R>, receiver: &Receiver<u64, R>, left: u64) -> bool
-where
-    R: Threaded + RandomSource,
-{
+fn pass_awaited<R: Runtime>(
+    rt: &R,
+    sender: &Sender<u64, R>,
+    receiver: &Receiver<u64, R>,
+    left: u64,
+) -> bool {
     let passing = Passing {
         sender,
         receive: receiver.recv(),
@@ -98,12 +87,14 @@ where
     block_on(rt, passing).unwrap_or(false)
 }
 
-/// One thread awaits messages that it sends, in one executor.
-pub fn pass_in_tasks<R: Threaded + RandomSource>(
-    rt: &R,
-    messages: u64,
-) -> anyhow::Result<Duration> {
+/// One thread awaits the messages of all rounds, which it sends, in one executor.
+pub fn pass_in_tasks<R: Runtime>(run: &mut Run<'_, R>) -> Result<()> {
+    let (rt, messages) = (run.rt, run.rounds);
     let (sender, receiver) = channel(rt, Some(3))?;
     let (sender, receiver) = (&sender, &receiver);
-    measured(rt, 1, 1, &|_| pass_awaited(rt, sender, receiver, messages))
+    run.alone(
+        1,
+        messages as usize,
+        || pass_awaited(rt, sender, receiver, messages),
+    )
 }

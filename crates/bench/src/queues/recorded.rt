@@ -1,6 +1,6 @@
 //! Recorded events.
-use crate::error::BenchError;
-use crate::subject::{Subject, waker_of};
+use super::{Queue, waker_of};
+use anyhow::Result;
 use calls::Reply;
 use calls_records::{HandCalls, On, OwnListener};
 use event_listener::{EventIds, Hand, ListenError, RecordedEvent};
@@ -25,7 +25,7 @@ impl<'ev, R> OnRecorded<'ev, R> {
     }
 }
 
-impl<'ev, R: AllocGlobal + Wait + Clock + Clone> Subject for OnRecorded<'ev, R> {
+impl<'ev, R: AllocGlobal + Wait + Clock + Clone> Queue for OnRecorded<'ev, R> {
     type Listener = OwnListener<'ev, R>;
 
     #[inline(always)]
@@ -54,11 +54,6 @@ impl<'ev, R: AllocGlobal + Wait + Clock + Clone> Subject for OnRecorded<'ev, R> 
         }
     }
 
-    #[inline(always)]
-    fn notify_relaxed(&mut self, count: usize) -> usize {
-        self.notify(count)
-    }
-
     // It is dropped at the end of the scope: a call of `drop` is never inlined.
     #[inline(always)]
     fn leave(&mut self, _listener: OwnListener<'ev, R>) {}
@@ -82,7 +77,7 @@ impl<'ev, R: AllocGlobal + Wait + Clock + Clone> Subject for OnRecorded<'ev, R> 
 pub fn recorded_events(
     alloc: Global,
     count: usize,
-) -> Result<(Vec<RecordedEvent<u32>>, Vec<Hand<u32>>), BenchError> {
+) -> Result<(Vec<RecordedEvent<u32>>, Vec<Hand<u32>>)> {
     let mut ids = EventIds::new();
     let mut events = Vec::new(alloc);
     let mut all_hands = Vec::new(alloc);
