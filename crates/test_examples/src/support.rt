@@ -5,7 +5,6 @@ use std::fmt::{Debug, Display};
 use std::process::Abort;
 use std::sync::Wait;
 use std::thread::Threads;
-use std::time::{Clock, Instant};
 use test_support::Runtime;
 
 /// What a test asks of its runtime value that starts threads.
@@ -48,9 +47,4 @@ pub fn new_task<R: Runtime>(rt: &R) -> MockTask {
 /// Since its last poll began the task was woken, or was not.
 pub fn is_woken<R: Abort>(rt: &R, task: &MockTask, expected: bool) {
     check(rt, "whether the task is woken", task.is_woken(), expected);
-}
-
-/// The present moment.
-pub fn now<R: Abort + Clock>(rt: &R) -> Instant {
-    Instant::now(rt).expect(rt, "the time")
 }

@@ -33,11 +33,9 @@ fn reads<V: Display + Drop, R: Runtime>(rt: &R, value: V, text: &str) {
 
 #[test]
 fn all_errors_have_their_texts(rt: HostRuntime) {
-    reads(&rt, MutexError::Memory, LISTENER);
     reads(&rt, MutexError::Finished, "the lock was given");
     reads(&rt, MutexError::from(Memory), LISTENER);
     reads(&rt, MutexError::from(SerialsUsedUp), SERIALS);
-    reads(&rt, SemaphoreError::SerialsUsedUp, SERIALS);
     reads(&rt, SemaphoreError::from(Memory), LISTENER);
     reads(&rt, SemaphoreError::from(SerialsUsedUp), SERIALS);
     reads(&rt, CountError::from(MutexError::SerialsUsedUp), SERIALS);
@@ -46,8 +44,7 @@ fn all_errors_have_their_texts(rt: HostRuntime) {
     reads(&rt, MeetingError::from(FlagError::Memory), PARKER);
     reads(&rt, MeetingError::from(AllocError), PROGRAM);
     reads(&rt, HeardError::from(Memory), LISTENER);
-    let refused = HeardError::from(AllocError);
-    reads(&rt, refused, "no memory for a hand");
+    reads(&rt, HeardError::from(AllocError), "no memory for a hand");
     reads(&rt, SitError::from(Memory), LISTENER);
     reads(&rt, SitError::from(NeverInserted), ABSENT);
     reads(&rt, FlagError::from(SerialsUsedUp), SERIALS);

@@ -1,5 +1,5 @@
 //! Waits against a deadline, which are tried again where they are refused memory.
-use crate::support::{check, listen, new_id, now, tell};
+use crate::support::{check, listen, new_id, tell};
 use event_listener::{Event, Limit, Listener, NeverInserted, WaitError, WaitReason};
 use example_events::timed::tag_within;
 use futures::task::{Context, Poll, Waker};
@@ -16,15 +16,11 @@ fn give_a_tag_or_none<R: Runtime, C: Clock>(rt: &R, clock: &C, limit: Duration) 
     check(rt, "the tag", tag, Ok(Some(7)));
     let tag = answered(tag_within(clock, untold, limit));
     check(rt, "no tag", tag, Ok(None));
-    check(rt, "listeners", event.total_listeners(rt), 0);
 }
 
 #[test]
 fn a_listener_gives_its_tag_or_none_at_its_limit(rt: HostRuntime) {
-    let limit = Duration::from_millis(50);
-    let end = now(&rt).checked_add(limit);
-    give_a_tag_or_none(&rt, &rt, limit);
-    check(&rt, "in time", Some(now(&rt)) < end, false);
+    give_a_tag_or_none(&rt, &rt, Duration::from_millis(50));
     // A clock that can't be read is past every deadline.
     give_a_tag_or_none(&rt, &NoClock { rt: &rt }, Duration::MAX);
 }
@@ -49,14 +45,13 @@ impl<L: Listener<u32> + Drop> Listener<u32> for Refusing<'_, L> {
     }
 
     fn wait_until(self, limit: Limit) -> Result<Option<u32>, WaitError<Self>> {
-        if let Limit::At(deadline) = limit {
-            self.deadline.set(Some(deadline));
-            if let Some(left) = self.refusals.get().checked_sub(1) {
-                self.refusals.set(left);
-                return Err(WaitError::Memory(self));
-            }
-        } else {
-            self.deadline.set(None);
+        self.deadline.set(match limit {
+            Limit::At(moment) => Some(moment),
+            _ => None,
+        });
+        if let Some(left) = self.refusals.get().checked_sub(1) {
+            self.refusals.set(left);
+            return Err(WaitError::Memory(self));
         }
         let Refusing {
             listener,
@@ -103,9 +98,10 @@ fn gives<R: Runtime>(rt: &R, refused: u32, limit: Duration, tag: Result<u32, Wai
     };
     tell(rt, &event);
     let clock = CountedClock { rt, reads: &reads };
-    let earliest = now(rt).checked_add(limit);
+    let end = || Instant::now(rt).expect(rt, "the time").checked_add(limit);
+    let earliest = end();
     let answer = tag_within(&clock, listener, limit).map_err(|error| error.reason());
-    let latest = now(rt).checked_add(limit);
+    let latest = end();
     check(rt, "the tag", answer, tag.map(Some));
     check(rt, "refusals left", refusals.get(), 0);
     check(rt, "readings", reads.get(), 1);
