@@ -1,6 +1,6 @@
 //! What each lock does in the order in which callers of other crates' locks use it.
 use crate::support::{check, new_lock, new_mutex, new_semaphore, new_task, sum};
-use event_locks::{Barrier, LockError, Mutex, OnceCell, RwLock, Semaphore, SetError, SetReason};
+use event_locks::{Barrier, LockError, Mutex, OnceCell, Semaphore, SetError, SetReason};
 use std::fmt::Debug;
 use std::sync::Arc;
 use std::sync::atomic::{AtomicUsize, Ordering};
@@ -20,49 +20,10 @@ fn a_future_that_gave_its_output_is_over(rt: HostRuntime) {
 }
 
 #[test]
-fn a_mutex_keeps_what_its_guard_writes(rt: HostRuntime) {
+fn a_mutex_that_is_over_gives_its_value(rt: HostRuntime) {
     let mutex = new_mutex(&rt, 1u64);
-    *mutex.lock(&rt, rt.alloc()).wait().expect(&rt, "the value") = 2;
-    let mut guard = mutex.try_lock(&rt).expect(&rt, "the value");
-    *guard = guard.saturating_add(1);
-    let is_out = guard.source().try_lock(&rt).is_none();
-    check(&rt, "whether it is out", is_out, true);
-    drop(guard);
-    check(&rt, "the value", mutex.into_inner(), Some(3));
-}
-
-// A writer becomes a reader. Beside another reader that does not write, and alone it does.
-macro_rules! downgrades_and_upgrades {
-    ($rt:expr, $lock:expr, $writer:expr, $other:expr) => {{
-        let reader = $writer.downgrade();
-        let other = $other.expect($rt, "another reader");
-        check($rt, "a writer", $lock.try_write($rt).is_none(), true);
-        let reader = reader.try_upgrade().err().expect($rt, "the reader");
-        drop(other);
-        let writer = reader.try_upgrade().ok().expect($rt, "the writer");
-        check($rt, "a reader", $lock.try_read($rt).is_none(), true);
-        drop(writer);
-        check($rt, "free", $lock.try_write($rt).is_some(), true);
-    }};
-}
-
-#[test]
-fn a_writer_downgrades_and_one_reader_of_two_does_not_upgrade(rt: HostRuntime) {
-    let mut lock = new_lock(&rt, 7u64);
-    *lock.get_mut() = 6;
-    let mut writer = lock.try_write(&rt).expect(&rt, "the writer");
-    *writer = writer.saturating_add(2);
-    downgrades_and_upgrades!(&rt, lock, writer, lock.try_read(&rt));
-    check(&rt, "the value", lock.into_inner(), 8);
-}
-
-#[test]
-fn an_owned_writer_downgrades_and_one_reader_of_two_does_not_upgrade(rt: HostRuntime) {
-    let lock = Arc::new(rt.alloc(), new_lock(&rt, 7u64)).expect(&rt, "memory");
-    let writer = RwLock::try_write_arc(&lock, rt).expect(&rt, "a share");
-    let writer = writer.expect(&rt, "the writer");
-    let other = || RwLock::try_read_arc(&lock, rt).expect(&rt, "a share");
-    downgrades_and_upgrades!(&rt, lock, writer, other());
+    *mutex.try_lock(&rt).expect(&rt, "the value") = 2;
+    check(&rt, "the value", mutex.into_inner(), Some(2));
 }
 
 #[test]
@@ -71,8 +32,7 @@ fn a_semaphore_has_no_more_permits_than_it_can_count(rt: HostRuntime) {
     let permit = semaphore.try_acquire(&rt).expect(&rt, "a permit");
     semaphore.add_permits(&rt, 2);
     drop(permit);
-    let free = semaphore.available();
-    check(&rt, "free", free, Semaphore::MAX_PERMITS);
+    check(&rt, "free", semaphore.available(), Semaphore::MAX_PERMITS);
 }
 
 // What this shows of itself is this text.
@@ -82,50 +42,31 @@ fn shows<V: Debug, R: Runtime>(rt: &R, value: &V, expected: &str) {
 }
 
 #[test]
-fn a_semaphore_and_its_guards_show_themselves(rt: HostRuntime) {
+fn locks_and_their_guards_show_themselves(rt: HostRuntime) {
     let semaphore = Arc::new(rt.alloc(), new_semaphore(&rt, 3)).expect(&rt, "memory");
     let permit = semaphore.try_acquire(&rt).expect(&rt, "a permit");
     let owned = Semaphore::try_acquire_arc(&semaphore, rt).expect(&rt, "a share");
-    let owned = owned.expect(&rt, "a permit");
+    shows(&rt, &owned, "Some(SemaphoreGuardArc)");
     shows(&rt, &*semaphore, "Semaphore { available: 1 }");
     shows(&rt, &permit, "SemaphoreGuard");
-    shows(&rt, &owned, "SemaphoreGuardArc");
-}
 
-#[test]
-fn a_mutex_and_its_guards_show_themselves(rt: HostRuntime) {
     let mutex = Arc::new(rt.alloc(), new_mutex(&rt, 7u64)).expect(&rt, "memory");
     shows(&rt, &*mutex, "Mutex { is_locked: false }");
-    let guard = mutex.try_lock(&rt).expect(&rt, "the value");
+    let guard = mutex.try_lock(&rt);
     shows(&rt, &*mutex, "Mutex { is_locked: true }");
-    shows(&rt, &guard, "7");
+    shows(&rt, &guard, "Some(7)");
     drop(guard);
     let owned = Mutex::try_lock_arc(&mutex, rt).expect(&rt, "a share");
-    shows(&rt, &owned.expect(&rt, "the value"), "7");
-}
+    shows(&rt, &owned, "Some(7)");
 
-#[test]
-fn a_read_write_lock_and_its_guards_show_themselves(rt: HostRuntime) {
     let lock = new_lock(&rt, 7u64);
-    let (first, second) = (lock.try_read(&rt), lock.try_read(&rt));
+    let readers = (lock.try_read(&rt), lock.try_read(&rt));
     shows(&rt, &lock, "RwLock { readers: 2, is_written: false }");
-    shows(&rt, &first.expect(&rt, "a reader"), "7");
-    drop(second);
-    let writer = lock.try_write(&rt).expect(&rt, "the writer");
+    shows(&rt, &readers, "(Some(7), Some(7))");
+    drop(readers);
+    let writer = lock.try_write(&rt);
     shows(&rt, &lock, "RwLock { readers: 0, is_written: true }");
-    shows(&rt, &writer, "7");
-}
-
-#[test]
-fn a_shared_permit_goes_to_another_thread(rt: HostRuntime) {
-    let semaphore = Arc::new(rt.alloc(), new_semaphore(&rt, 1));
-    let semaphore = semaphore.expect(&rt, "memory");
-    let acquire = Semaphore::acquire_arc(&semaphore, rt, rt.alloc());
-    let permit = acquire.expect(&rt, "a share").wait();
-    let permit = permit.expect(&rt, "a permit");
-    let wait = || semaphore.acquire(&rt, rt.alloc()).wait().is_ok();
-    let ((), given) = thread::join(&rt, move || drop(permit), wait);
-    check(&rt, "given", given, true);
+    shows(&rt, &writer, "Some(7)");
 }
 
 // How often this thread led.
@@ -178,9 +119,8 @@ fn a_value_is_made_once(rt: HostRuntime) {
             thread::yield_now();
             Ok(7)
         };
-        cell.get_or_try_init(&rt, rt.alloc(), make)
-            .copied()
-            .unwrap_or(0)
+        let value = cell.get_or_try_init(&rt, rt.alloc(), make);
+        value.copied().unwrap_or(0)
     };
     let values = thread::map_indices(&rt, rt.alloc(), 8, &gets);
     let values = values.expect(&rt, "the threads");

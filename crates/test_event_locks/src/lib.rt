@@ -7,15 +7,13 @@
 //! | `races` | one lets go while another one goes into the queue |
 //! | `stress` | threads and tasks at these locks, which give up at times |
 //! | `behaviours` | what each lock does when it is called in the order that its users know from other crates |
-//! | `accounts` | what the page of the crate shows |
-//!
-//! `support` has what they share.
+//! | `monitor` | a value that threads and tasks wait for, and that a thread parks until it changes |
 #![tactic(auto)]
 
 #[cfg(test)]
-mod accounts;
-#[cfg(test)]
 mod behaviours;
+#[cfg(test)]
+mod monitor;
 #[cfg(test)]
 mod races;
 #[cfg(test)]

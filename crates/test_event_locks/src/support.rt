@@ -1,13 +1,13 @@
 //! What the tests share.
 use event_locks::{Mutex, RwLock, Semaphore};
+use event_wait::pause;
 use futures::test::MockTask;
 use std::alloc::{AllocError, AllocGlobal};
 use std::fmt::{Debug, Display};
 use std::process::Abort;
 use std::random::RandomSource;
-use std::sync::atomic::{AtomicBool, Ordering};
+use std::sync::Wait;
 use std::thread;
-use std::time::{Clock, Duration};
 
 /// The answer is the expected one. Where it is not, the message has both, and what was asked. The assertion stands here
 /// once, in a generic function, and is proved once.
@@ -49,20 +49,17 @@ pub fn sum<R: Abort>(rt: &R, counted: Result<Vec<usize>, AllocError>) -> usize {
     all
 }
 
-/// Ends the test if this is not so in ten seconds.
-pub fn is_so_soon<R: Abort + Clock, F: Fn() -> bool>(rt: &R, is_so: &F)
-    requires { F.IsAlwaysCallable is_so.now }
+/// Returns once this is so. It looks often at first: threads that race are to run at once.
+pub fn wait_until<R: Wait, F: Fn() -> bool>(rt: &R, is_so: F)
+    requires { F.IsAlwaysCallable is_so }
 {
-    for _ in 0..10_000u32 {
-        if is_so() {
-            return;
+    for _ in rt.forever() {
+        for _ in 0..100u32 {
+            if is_so() {
+                return;
+            }
+            pause(1);
         }
-        thread::sleep(rt, Duration::from_millis(1));
+        thread::yield_now();
     }
-    panic!(rt; "somebody waits in vain");
-}
-
-/// Ends the test if this is not over in ten seconds.
-pub fn is_over_soon<R: Abort + Clock>(rt: &R, is_over: &AtomicBool) {
-    is_so_soon(rt, &|| is_over.load(Ordering::SeqCst));
 }

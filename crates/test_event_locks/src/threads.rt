@@ -1,6 +1,7 @@
 //! Threads that wait in each way, and are woken once they are let in. That each lock wakes whom it lets in is tested by
 //! tasks, in `test_lock_waits`: a thread that is woken differs from a task in nothing else.
-use crate::support::{check, is_over_soon, is_so_soon, new_lock, new_semaphore, new_task};
+use crate::support::{check, new_lock, new_task, wait_until};
+use event_locks::RwLock;
 use futures::executor::block_on;
 use futures::test::MockTask;
 use std::sync::atomic::{AtomicBool, Ordering};
@@ -33,68 +34,44 @@ fn is_granted<R: Runtime, W: Waits>(rt: &R, waits: W, way: Way) -> bool {
     given.expect(rt, "an answer").is_some()
 }
 
-// The same wait, after a poll in vain by this task.
-fn polled<R: Runtime, W: Waits>(rt: &R, waits: W, task: &MockTask, is_polled: &AtomicBool) -> W {
+// One waits in this way, for which a task polls before, if there is one.
+fn waits<R: Runtime, W: Waits>(rt: &R, waits: W, way: Way, task: Option<&MockTask>) -> bool {
     let mut waits = waits;
-    waits.can_be_polled();
-    let is_pending = task.poll(&mut waits).is_pending();
-    check(rt, "whether the task waits", is_pending, true);
-    check(rt, "whether it is woken", task.is_woken(), false);
-    is_polled.store(true, Ordering::SeqCst);
-    waits
-}
-
-// A thread waits in this way. Once it is seen to stand in the queue it is let in, and has to be woken.
-macro_rules! is_woken {
-    ($rt:expr, $way:expr, $waits:expr, $is_in_queue:expr, $let_in:expr) => {{
-        let is_over = AtomicBool::new(false);
-        let waits = || {
-            let granted = is_granted($rt, $waits, $way);
-            is_over.store(true, Ordering::SeqCst);
-            granted
-        };
-        let lets_in = || {
-            is_so_soon($rt, &$is_in_queue);
-            $let_in;
-            is_over_soon($rt, &is_over);
-        };
-        let (granted, ()) = thread::join($rt, waits, lets_in);
-        check($rt, "whether it is granted", granted, true);
-    }};
-}
-
-// A task polls, and a thread waits on in its place. That is seen, for the waker of a task wakes it when it is dropped. The
-// permit that wakes the thread comes back, and is forgotten.
-#[test]
-fn a_thread_that_waits_in_the_place_of_a_task_is_woken(rt: HostRuntime) {
-    let semaphore = new_semaphore(&rt, 0);
-    for way in WAYS {
-        let (task, is_polled) = (new_task(&rt), AtomicBool::new(false));
-        is_woken!(
-            &rt,
-            way,
-            polled(&rt, semaphore.acquire(&rt, rt.alloc()), &task, &is_polled),
-            || is_polled.load(Ordering::SeqCst) && task.is_woken(),
-            semaphore.add_permits(&rt, 1)
-        );
-        let permit = semaphore.try_acquire(&rt).expect(&rt, "the permit");
-        permit.forget();
-        check(&rt, "free", semaphore.available(), 0);
+    if let Some(task) = task {
+        waits.can_be_polled();
+        let is_pending = task.poll(&mut waits).is_pending();
+        check(rt, "whether the task waits", is_pending, true);
+        check(rt, "whether it is woken", task.is_woken(), false);
     }
+    is_granted(rt, waits, way)
 }
 
-// A thread that has not polled. It stands in the queue as a writer, which is seen: it keeps other readers out.
+// Whether it stands in the queue, as a writer, which keeps readers out. That a thread waits on in the place of a task is seen,
+// too: the waker of a task wakes it when it is dropped.
+fn is_in_queue<R: Runtime>(rt: &R, lock: &RwLock<u64>, task: Option<&MockTask>) -> bool {
+    lock.try_read(rt).is_none() && task.map_or(true, |task| task.is_woken())
+}
+
+// Once it is seen to stand in the queue it is let in, and has to be woken.
 #[test]
 fn a_thread_that_waits_is_woken(rt: HostRuntime) {
-    let lock = new_lock(&rt, 7u64);
-    for way in WAYS {
-        let reader = lock.try_read(&rt).expect(&rt, "the value");
-        is_woken!(
-            &rt,
-            way,
-            lock.write(&rt, rt.alloc()),
-            || lock.try_read(&rt).is_none(),
-            drop(reader)
-        );
+    let (lock, mock) = (new_lock(&rt, 7u64), new_task(&rt));
+    for task in [None, Some(&mock)] {
+        for way in WAYS {
+            let reader = lock.try_read(&rt).expect(&rt, "the value");
+            let is_over = AtomicBool::new(false);
+            let waits = || {
+                let granted = waits(&rt, lock.write(&rt, rt.alloc()), way, task);
+                is_over.store(true, Ordering::SeqCst);
+                granted
+            };
+            let lets_in = || {
+                wait_until(&rt, || is_in_queue(&rt, &lock, task));
+                drop(reader);
+                wait_until(&rt, || is_over.load(Ordering::SeqCst));
+            };
+            let (granted, ()) = thread::join(&rt, waits, lets_in);
+            check(&rt, "whether it is granted", granted, true);
+        }
     }
 }

@@ -33,8 +33,11 @@ pub trait Kind: Sync {
     type Held: Drop;
 
     /// To how many it is granted. As written here, to one.
+    const GRANTED_TO: Sharing = Sharing::One;
+
+    /// To how many it is granted.
     fn sharing(&self) -> Sharing {
-        Sharing::One
+        Self::GRANTED_TO
     }
 
     /// Takes the lock, if it is free, so that those wait that come.
@@ -43,10 +46,21 @@ pub trait Kind: Sync {
     /// A new wait. The error is a refused share of the lock.
     fn waits(&self) -> Result<Self::Waits, AllocError>;
 
-    /// How the lock stands, if those that wait for it compete with newcomers.
+    /// How the lock stands, if those that wait for it compete with newcomers. Of a share of it none is asked: that is one
+    /// lock, however a wait holds it.
     fn counts(&self) -> Option<Counts> {
         None
     }
+}
+
+/// How many are free, and how many are notified, wait, and starve. A clause says that newcomers are shut out while one starves.
+pub fn numbers(of: Counts) -> [u64; 4] {
+    [
+        of.free,
+        of.notified as u64,
+        of.waiting as u64,
+        of.starving as u64,
+    ]
 }
 
 /// A lock, and the runtime of those that wait for it. Where a lock can be waited for in two ways, `A` says which.
@@ -112,10 +126,6 @@ impl<'a, R: Wait + Clock + Clone + Sync> Kind for Of<'a, Arc<Semaphore, Global>,
     fn waits(&self) -> Result<Self::Waits, AllocError> {
         Semaphore::acquire_arc(self.lock, self.rt.clone()?, self.alloc)
     }
-
-    fn counts(&self) -> Option<Counts> {
-        Some(self.lock.counts(self.rt))
-    }
 }
 
 impl<'a, R: Wait + Clock + Sync> Kind for Of<'a, Mutex<u64>, R> {
@@ -148,10 +158,6 @@ impl<'a, R: Wait + Clock + Clone + Sync> Kind for Of<'a, Arc<Mutex<u64>, Global>
     fn waits(&self) -> Result<Self::Waits, AllocError> {
         Mutex::lock_arc(self.lock, self.rt.clone()?, self.alloc)
     }
-
-    fn counts(&self) -> Option<Counts> {
-        Some(self.lock.counts(self.rt))
-    }
 }
 
 impl<'a, R: Wait + Clock + Sync> Kind for Of<'a, RwLock<u64>, R, Read> {
@@ -159,9 +165,7 @@ impl<'a, R: Wait + Clock + Sync> Kind for Of<'a, RwLock<u64>, R, Read> {
 
     type Held = Option<RwLockWriteGuard<'a, u64, R>>;
 
-    fn sharing(&self) -> Sharing {
-        Sharing::All
-    }
+    const GRANTED_TO: Sharing = Sharing::All;
 
     fn hold(&self) -> Option<RwLockWriteGuard<'a, u64, R>> {
         self.lock.try_write(self.rt)
@@ -177,9 +181,7 @@ impl<'a, R: Wait + Clock + Clone + Sync> Kind for Of<'a, Arc<RwLock<u64>, Global
 
     type Held = Result<Option<RwLockWriteGuardArc<u64, R>>, AllocError>;
 
-    fn sharing(&self) -> Sharing {
-        Sharing::All
-    }
+    const GRANTED_TO: Sharing = Sharing::All;
 
     fn hold(&self) -> Result<Option<RwLockWriteGuardArc<u64, R>>, AllocError> {
         RwLock::try_write_arc(self.lock, self.rt.clone()?)
@@ -235,9 +237,7 @@ impl<'a, R: Wait + Clock + Sync> Kind for Of<'a, Barrier, R> {
 
     type Held = Arrives<'a, R>;
 
-    fn sharing(&self) -> Sharing {
-        Sharing::Together
-    }
+    const GRANTED_TO: Sharing = Sharing::Together;
 
     fn hold(&self) -> Arrives<'a, R> {
         Arrives(Some(self.lock.wait(self.rt, self.alloc)))
@@ -280,9 +280,7 @@ impl<'a, R: Wait + Clock + Sync> Kind for Of<'a, OnceCell<u64>, R, See> {
 
     type Held = Sets<'a, R>;
 
-    fn sharing(&self) -> Sharing {
-        Sharing::Forever
-    }
+    const GRANTED_TO: Sharing = Sharing::Forever;
 
     fn hold(&self) -> Sets<'a, R> {
         let claiming = self.lock.claim(self.rt, self.alloc);

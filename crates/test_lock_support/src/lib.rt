@@ -6,5 +6,5 @@ mod kinds;
 mod waits;
 
 pub use cases::{Case, each};
-pub use kinds::{Arrives, Kind, Of, Read, See, Sets, Sharing, Write};
+pub use kinds::{Arrives, Kind, Of, Read, See, Sets, Sharing, Write, numbers};
 pub use waits::Waits;

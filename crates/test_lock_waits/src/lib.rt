@@ -6,16 +6,11 @@
 //! | `waits` | tasks that wait for each lock, and are woken once they are let in; one that is told and dropped, which gives on what it was handed |
 //! | `limits` | waits that end at their limit, at one that has passed and by a clock that can't be read |
 //! | `turns` | when newcomers are shut out |
-//! | `monitor` | a value that threads and tasks wait for, and that a thread parks until it changes |
 //! | `words` | threads that meet at the word of a lock, whose state another one has out |
-//!
-//! `support` has what they share.
 #![tactic(auto)]
 
 #[cfg(test)]
 mod limits;
-#[cfg(test)]
-mod monitor;
 #[cfg(test)]
 mod support;
 #[cfg(test)]

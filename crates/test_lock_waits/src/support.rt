@@ -5,9 +5,6 @@ use std::alloc::AllocGlobal;
 use std::fmt::{Debug, Display};
 use std::process::Abort;
 use std::random::RandomSource;
-use std::sync::atomic::{AtomicUsize, Ordering};
-use std::thread;
-use std::time::{Clock, Duration};
 
 /// The answer is the expected one. Where it is not, the message has both, and what was asked. The assertion stands here
 /// once, in a generic function, and is proved once.
@@ -33,15 +30,4 @@ pub fn new_lock<R: Abort + AllocGlobal>(rt: &R, value: u64) -> RwLock<u64> {
 /// A task that is not woken.
 pub fn new_task<R: Abort + RandomSource + AllocGlobal>(rt: &R) -> MockTask {
     MockTask::new(rt).expect(rt, "a task")
-}
-
-/// Ends the test if this has not come so far in ten seconds.
-pub fn comes_soon<R: Abort + Clock>(rt: &R, come: &AtomicUsize, far: usize) {
-    for _ in 0..10_000u32 {
-        if come.load(Ordering::SeqCst) >= far {
-            return;
-        }
-        thread::sleep(rt, Duration::from_millis(1));
-    }
-    panic!(rt; "somebody waits in vain");
 }

@@ -1,7 +1,7 @@
 //! Tasks that wait in each way, and are woken once they are let in. One that gives up hands on what it was handed, and lets in
 //! who waited for it alone.
 use crate::support::{check, new_lock, new_semaphore, new_task};
-use event_locks::{Barrier, Claim, Mutex, OnceCell, RwLock};
+use event_locks::{Barrier, Mutex, RwLock};
 use futures::test::MockTask;
 use std::sync::Arc;
 use std::thread;
@@ -48,14 +48,6 @@ impl<W: Waits> Polled<W> {
         check(rt, "whether it is granted", self.is_ready(), true);
     }
 
-    /// It was woken, and a thread that waits in its place is granted what it waited for, and lets it go.
-    pub fn is_granted_to_a_thread<R: Runtime>(self, rt: &R) {
-        check(rt, "whether it is woken", self.is_woken(), true);
-        let given = self.into_waits().wait_timeout(Duration::from_secs(10));
-        let given = given.expect(rt, "an answer").is_some();
-        check(rt, "whether it is granted", given, true);
-    }
-
     /// The wait, which nobody polls any more.
     pub fn into_waits(self) -> W {
         let Polled { task: _, waits } = self;
@@ -71,29 +63,37 @@ impl<W: Waits> Polled<W> {
     }
 }
 
-// Three tasks wait, and all are woken once they are let in, or one after the other. A poll before changes nothing, and a
-// thread goes on in the place of the last.
+// Four tasks wait, and all are woken once they are let in, or one after the other. One that is dropped then passes it on. A poll
+// before changes nothing, and threads go on in the place of two tasks, without a limit and at one that has come.
 #[derive(Drop)]
 struct AllAreWoken;
 
 impl<R: Runtime> Case<R> for AllAreWoken {
     fn waiters(&self) -> usize {
-        3
+        4
     }
 
     fn run<K: Kind>(&self, rt: &R, kind: &K) {
         let held = kind.hold();
-        let mut first = Polled::new(rt, kind.waits().expect(rt, "a share"));
-        let mut second = Polled::new(rt, kind.waits().expect(rt, "a share"));
+        let first = Polled::new(rt, kind.waits().expect(rt, "a share"));
+        let second = Polled::new(rt, kind.waits().expect(rt, "a share"));
         let third = Polled::new(rt, kind.waits().expect(rt, "a share"));
-        second.waits_on(rt);
+        let mut last = Polled::new(rt, kind.waits().expect(rt, "a share"));
+        last.waits_on(rt);
         drop(held);
         let woken = [first.is_woken(), second.is_woken(), third.is_woken()];
         let all = kind.sharing() != Sharing::One;
         check(rt, "who is woken", woken, [true, all, all]);
-        first.is_granted(rt);
-        second.is_granted(rt);
-        third.is_granted_to_a_thread(rt);
+        drop(first);
+        check(rt, "whether it is woken", second.is_woken(), true);
+        let given = second.into_waits().wait();
+        check(rt, "whether it is granted", given.is_ok(), true);
+        drop(given);
+        check(rt, "whether it is woken", third.is_woken(), true);
+        let given = third.into_waits().wait_timeout(Duration::ZERO);
+        let given = given.expect(rt, "an answer").is_some();
+        check(rt, "whether it is granted", given, true);
+        last.is_granted(rt);
         if matches!(kind.sharing(), Sharing::One | Sharing::All) {
             // Nobody is left in the queue to whom it could go in the place of this one.
             let held = kind.hold();
@@ -110,16 +110,12 @@ fn all_tasks_are_woken_in_their_turn(rt: HostRuntime) {
 #[test]
 fn added_permits_wake_as_many(rt: HostRuntime) {
     let semaphore = new_semaphore(&rt, 0);
-    let mut first = Polled::new(&rt, semaphore.acquire(&rt, rt.alloc()));
-    let mut second = Polled::new(&rt, semaphore.acquire(&rt, rt.alloc()));
+    let first = Polled::new(&rt, semaphore.acquire(&rt, rt.alloc()));
+    let second = Polled::new(&rt, semaphore.acquire(&rt, rt.alloc()));
     let third = Polled::new(&rt, semaphore.acquire(&rt, rt.alloc()));
     semaphore.add_permits(&rt, 2);
     let woken = [first.is_woken(), second.is_woken(), third.is_woken()];
     check(&rt, "who is woken", woken, [true, true, false]);
-    // Each lets its permit go at once, and the third is given one of them.
-    first.is_granted(&rt);
-    second.is_granted(&rt);
-    drop(third);
     check(&rt, "free", semaphore.available(), 2);
 }
 
@@ -128,95 +124,58 @@ fn a_task_that_comes_last_wakes_all(rt: HostRuntime) {
     let barrier = Barrier::new(rt.alloc(), 3);
     let mut first = Polled::new(&rt, barrier.wait(&rt, rt.alloc()));
     let mut second = Polled::new(&rt, barrier.wait(&rt, rt.alloc()));
-    let has_ended = new_task(&rt)
-        .poll(&mut barrier.wait(&rt, rt.alloc()))
-        .is_ready();
+    let mut last = barrier.wait(&rt, rt.alloc());
+    let has_ended = new_task(&rt).poll(&mut last).is_ready();
     check(&rt, "whether the round has ended", has_ended, true);
     first.is_granted(&rt);
     second.is_granted(&rt);
 }
 
-#[test]
-fn a_writer_that_downgrades_wakes_all_readers(rt: HostRuntime) {
-    let shared = new_lock(&rt, 7);
-    let writer = shared.try_write(&rt).expect(&rt, "the value");
-    let mut first = Polled::new(&rt, shared.read(&rt, rt.alloc()));
-    let mut second = Polled::new(&rt, shared.read(&rt, rt.alloc()));
-    let reader = writer.downgrade();
-    first.is_granted(&rt);
-    second.is_granted(&rt);
-    check(&rt, "the value", *reader, 7);
+// A writer that reads lets in all readers that wait. Beside one of them it does not write again, and alone it does, though a
+// writer waits, which comes in after it.
+macro_rules! reads_and_writes {
+    ($rt:expr, $lock:expr, $writer:expr) => {{
+        let mut first = Polled::new($rt, $lock.read($rt, $rt.alloc()));
+        let mut second = Polled::new($rt, $lock.read($rt, $rt.alloc()));
+        let behind = Polled::new($rt, $lock.write($rt, $rt.alloc()));
+        let reader = $writer.downgrade();
+        first.is_granted($rt);
+        let reader = reader.try_upgrade().err().expect($rt, "the reader");
+        second.is_granted($rt);
+        let writer = reader.try_upgrade().ok().expect($rt, "the writer");
+        behind.let_in($rt, writer);
+    }};
 }
 
 #[test]
-fn a_guard_that_downgrades_and_upgrades_lets_no_writer_in_between(rt: HostRuntime) {
-    let shared = new_lock(&rt, 7);
-    let writer = shared.try_write(&rt).expect(&rt, "the value");
-    let behind = Polled::new(&rt, shared.write(&rt, rt.alloc()));
-    let reader = writer.downgrade();
-    let writer = reader.try_upgrade().ok().expect(&rt, "the writer");
-    behind.let_in(&rt, writer);
+fn a_guard_downgrades_and_upgrades(rt: HostRuntime) {
+    let lock = new_lock(&rt, 7);
+    let writer = lock.try_write(&rt).expect(&rt, "the value");
+    reads_and_writes!(&rt, lock, writer);
 }
 
 #[test]
-fn a_value_that_is_set_wakes_those_that_would_make_it(rt: HostRuntime) {
-    let cell = OnceCell::new(rt.alloc());
-    let Ok(Claim::Vacant(turn)) = cell.claim(&rt, rt.alloc()).wait() else {
-        panic!(&rt; "no turn");
-    };
-    let mut maker = Polled::new(&rt, cell.claim(&rt, rt.alloc()));
-    let mut other = Polled::new(&rt, cell.claim(&rt, rt.alloc()));
-    check(&rt, "set", turn.set(7).copied(), Ok(7));
-    let woken = [maker.is_woken(), other.is_woken()];
-    check(&rt, "who is woken", woken, [true, true]);
-    maker.is_granted(&rt);
-    other.is_granted(&rt);
+fn an_owned_guard_downgrades_and_upgrades(rt: HostRuntime) {
+    let lock = Arc::new(rt.alloc(), new_lock(&rt, 7)).expect(&rt, "memory");
+    let writer = RwLock::try_write_arc(&lock, rt).expect(&rt, "a share");
+    let writer = writer.expect(&rt, "the value");
+    reads_and_writes!(&rt, lock, writer);
 }
 
-// A writer that shares its lock goes to another thread, whose end lets a reader in that shares it too.
+// A guard that shares its lock is dropped by another thread, which lets in a reader that shares it too.
 #[test]
-fn owned_guards_of_a_read_write_lock(rt: HostRuntime) {
-    let lock = Arc::new(rt.alloc(), new_lock(&rt, 7));
-    let lock = lock.expect(&rt, "memory");
-    let write = RwLock::write_arc(&lock, rt, rt.alloc());
-    let writer = write.expect(&rt, "a share").wait();
+fn an_owned_guard_goes_to_another_thread(rt: HostRuntime) {
+    let lock = Arc::new(rt.alloc(), new_lock(&rt, 7)).expect(&rt, "memory");
+    let writer = RwLock::try_write_arc(&lock, rt).expect(&rt, "a share");
     let mut writer = writer.expect(&rt, "the value");
     writer.with(|value| *value = 8);
-    let read = RwLock::read_arc(&lock, rt, rt.alloc());
-    let mut read = read.expect(&rt, "a share");
-    let task = new_task(&rt);
-    check(&rt, "pending", task.poll(&mut read).is_pending(), true);
+    let reads = RwLock::read_arc(&lock, rt, rt.alloc()).expect(&rt, "a share");
+    let reads = Polled::new(&rt, reads);
     let child = thread::spawn(&rt, move || drop(writer));
     child.ok().expect(&rt, "a thread").join(&rt);
-    check(&rt, "woken", task.is_woken(), true);
-    let reader = read.wait().expect(&rt, "the value");
+    check(&rt, "whether it is woken", reads.is_woken(), true);
+    let reader = reads.into_waits().wait().expect(&rt, "the value");
     check(&rt, "the value", reader.with(|value| *value), 8);
-    check(&rt, "a writer", lock.try_write(&rt).is_none(), true);
-}
-
-// Two wait, and the first is dropped once it is woken.
-#[derive(Drop)]
-struct PassesOn;
-
-impl<R: Runtime> Case<R> for PassesOn {
-    fn waiters(&self) -> usize {
-        2
-    }
-
-    fn run<K: Kind>(&self, rt: &R, kind: &K) {
-        let held = kind.hold();
-        let first = Polled::new(rt, kind.waits().expect(rt, "a share"));
-        let mut second = Polled::new(rt, kind.waits().expect(rt, "a share"));
-        drop(held);
-        check(rt, "whether the first is woken", first.is_woken(), true);
-        drop(first);
-        second.is_granted(rt);
-    }
-}
-
-#[test]
-fn who_is_dropped_once_it_is_told_passes_it_on(rt: HostRuntime) {
-    each(&rt, &rt, &PassesOn).expect(&rt, "memory");
 }
 
 #[test]
@@ -265,7 +224,6 @@ fn a_value_is_dropped_with_the_last_one_that_was_told(rt: HostRuntime) {
     drop(mutex);
     drop(held);
     check(&rt, "whether it is woken", told.is_woken(), true);
-    check(&rt, "shares", Arc::strong_count(&value), 2);
     drop(told);
     check(&rt, "shares", Arc::strong_count(&value), 1);
 }
