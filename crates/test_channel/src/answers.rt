@@ -1,107 +1,75 @@
 //! What calls answer and whom they wake: that each way of a call reaches the state of the channel, whose clauses say the
 //! rest.
 use crate::script::{Call, run};
+use crate::support::{check, sides};
+use crate::waiting::Waiting;
+use crate::ways::Answer::{Closed, Late, Out, Received, Sent, Waits};
+use crate::ways::WAYS;
 use crate::ways::Way::{AtOnce, Due, Forced, GivenUp, Timed, WaitedDue, WaitedTimed};
-use crate::ways::{Answer, WAYS};
+use std::alloc::AllocGlobal;
 
+// One message wakes a receive and all streams. A stream is dropped before, and is not woken; a receive is dropped once it is
+// told, and another one is. A poll for another reason attempts, too, and comes before who was told, who waits again. The waker
+// that it left is dropped, which wakes its task.
 #[test]
 fn a_send_wakes_one_receive_and_all_streams(rt: HostRuntime) {
     for way in WAYS {
         let steps = [
-            (Call::AwaitNext, Answer::Waits, [0, 0, 0]),
-            (Call::AwaitReceive, Answer::Waits, [0, 0, 0]),
-            (Call::AwaitReceive, Answer::Waits, [0, 0, 0]),
-            (Call::Send(way, 7), Answer::Sent, [1, 1, 0]),
-            (Call::Poll(1), Answer::Received(7), [1, 0, 0]),
-            (Call::Poll(0), Answer::Waits, [0, 0, 0]),
-            (Call::Send(way, 8), Answer::Sent, [1, 0, 1]),
-            (Call::Poll(0), Answer::Received(8), [0, 0, 1]),
-            (Call::Poll(2), Answer::Waits, [0, 0, 0]),
+            (Call::AwaitNext, Waits, [0, 0, 0, 0, 0]),
+            (Call::AwaitNext, Waits, [0, 0, 0, 0, 0]),
+            (Call::AwaitReceive, Waits, [0, 0, 0, 0, 0]),
+            (Call::AwaitReceive, Waits, [0, 0, 0, 0, 0]),
+            (Call::AwaitReceive, Waits, [0, 0, 0, 0, 0]),
+            (Call::Drop(0), Late, [0, 0, 0, 0, 0]),
+            (Call::Send(way, 7), Sent, [0, 1, 1, 0, 0]),
+            (Call::Drop(2), Late, [0, 1, 0, 1, 0]),
+            (Call::Poll(4), Received(7), [0, 1, 0, 1, 1]),
+            (Call::Poll(1), Waits, [0, 0, 0, 1, 1]),
+            (Call::Poll(3), Waits, [0, 0, 0, 0, 1]),
+            (Call::Send(way, 8), Sent, [0, 1, 0, 1, 1]),
+            (Call::Poll(1), Received(8), [0, 0, 0, 1, 1]),
+            (Call::Send(way, 0), Sent, [0, 0, 0, 1, 1]),
+            (Call::Send(way, 1), Sent, [0, 0, 0, 1, 1]),
+            (Call::Poll(3), Received(0), [0, 0, 0, 0, 1]),
+            (Call::Receive(way), Received(1), [0, 0, 0, 0, 1]),
         ];
         run(&rt, None, &steps);
     }
 }
 
+// The same of sends.
 #[test]
 fn a_receive_wakes_one_send(rt: HostRuntime) {
     for way in WAYS {
         let steps = [
-            (Call::Send(way, 0), Answer::Sent, [0, 0, 0]),
-            (Call::AwaitSend(1), Answer::Waits, [0, 0, 0]),
-            (Call::AwaitSend(2), Answer::Waits, [0, 0, 0]),
-            (Call::Receive(way), Answer::Received(0), [1, 0, 0]),
-            (Call::Poll(0), Answer::Sent, [0, 0, 0]),
-            (Call::Receive(way), Answer::Received(1), [0, 1, 0]),
-            (Call::Poll(1), Answer::Sent, [0, 0, 0]),
-            (Call::Receive(way), Answer::Received(2), [0, 0, 0]),
+            (Call::Send(way, 0), Sent, [0, 0, 0, 0, 0]),
+            (Call::AwaitSend(1), Waits, [0, 0, 0, 0, 0]),
+            (Call::AwaitSend(2), Waits, [0, 0, 0, 0, 0]),
+            (Call::AwaitSend(3), Waits, [0, 0, 0, 0, 0]),
+            (Call::Receive(way), Received(0), [1, 0, 0, 0, 0]),
+            (Call::Drop(0), Late, [0, 1, 0, 0, 0]),
+            (Call::Poll(2), Sent, [0, 1, 1, 0, 0]),
+            (Call::Poll(1), Waits, [0, 0, 1, 0, 0]),
+            (Call::Receive(way), Received(3), [0, 1, 1, 0, 0]),
+            (Call::Poll(1), Sent, [0, 0, 1, 0, 0]),
+            (Call::Receive(way), Received(2), [0, 0, 1, 0, 0]),
         ];
         run(&rt, Some(1), &steps);
     }
-}
-
-// The first was told, and the second comes before it. The waker that it left is dropped, which wakes its task.
-#[test]
-fn a_poll_for_another_reason_attempts(rt: HostRuntime) {
-    let receives = [
-        (Call::AwaitReceive, Answer::Waits, [0, 0, 0]),
-        (Call::AwaitReceive, Answer::Waits, [0, 0, 0]),
-        (Call::Send(AtOnce, 7), Answer::Sent, [1, 0, 0]),
-        (Call::Poll(1), Answer::Received(7), [1, 1, 0]),
-        (Call::Poll(0), Answer::Waits, [0, 1, 0]),
-        (Call::Send(AtOnce, 8), Answer::Sent, [1, 1, 0]),
-        (Call::Poll(0), Answer::Received(8), [0, 1, 0]),
-    ];
-    run(&rt, Some(3), &receives);
-    let sends = [
-        (Call::Send(AtOnce, 0), Answer::Sent, [0, 0, 0]),
-        (Call::AwaitSend(1), Answer::Waits, [0, 0, 0]),
-        (Call::AwaitSend(2), Answer::Waits, [0, 0, 0]),
-        (Call::Receive(AtOnce), Answer::Received(0), [1, 0, 0]),
-        (Call::Poll(1), Answer::Sent, [1, 1, 0]),
-        (Call::Poll(0), Answer::Waits, [0, 1, 0]),
-        (Call::Receive(AtOnce), Answer::Received(2), [1, 1, 0]),
-        (Call::Poll(0), Answer::Sent, [0, 1, 0]),
-    ];
-    run(&rt, Some(1), &sends);
-}
-
-// A stream is dropped before a message comes, and a receive and a send once they are told.
-#[test]
-fn one_that_is_dropped_is_woken_no_more_and_passes_on(rt: HostRuntime) {
-    let receives = [
-        (Call::AwaitNext, Answer::Waits, [0, 0, 0]),
-        (Call::AwaitReceive, Answer::Waits, [0, 0, 0]),
-        (Call::AwaitReceive, Answer::Waits, [0, 0, 0]),
-        (Call::Drop(0), Answer::Late(None), [0, 0, 0]),
-        (Call::Send(AtOnce, 7), Answer::Sent, [0, 1, 0]),
-        (Call::Drop(1), Answer::Late(None), [0, 0, 1]),
-        (Call::Poll(2), Answer::Received(7), [0, 0, 0]),
-    ];
-    run(&rt, Some(1), &receives);
-    let sends = [
-        (Call::Send(AtOnce, 0), Answer::Sent, [0, 0, 0]),
-        (Call::AwaitSend(1), Answer::Waits, [0, 0, 0]),
-        (Call::AwaitSend(2), Answer::Waits, [0, 0, 0]),
-        (Call::Receive(AtOnce), Answer::Received(0), [1, 0, 0]),
-        (Call::Drop(0), Answer::Late(None), [0, 1, 0]),
-        (Call::Poll(1), Answer::Sent, [0, 0, 0]),
-        (Call::Receive(AtOnce), Answer::Received(2), [0, 0, 0]),
-    ];
-    run(&rt, Some(1), &sends);
 }
 
 // A message that replaces another one needs nobody told.
 #[test]
 fn a_send_by_force_takes_the_first_out(rt: HostRuntime) {
     let steps = [
-        (Call::AwaitReceive, Answer::Waits, [0, 0, 0]),
-        (Call::Send(Forced, 0), Answer::Sent, [1, 0, 0]),
-        (Call::Send(Forced, 1), Answer::Sent, [1, 0, 0]),
-        (Call::AwaitSend(9), Answer::Waits, [1, 0, 0]),
-        (Call::Send(Forced, 2), Answer::Out(0), [1, 0, 0]),
-        (Call::Send(Forced, 3), Answer::Out(1), [1, 0, 0]),
-        (Call::Poll(0), Answer::Received(2), [0, 1, 0]),
-        (Call::Poll(1), Answer::Sent, [0, 0, 0]),
+        (Call::AwaitReceive, Waits, [0, 0, 0, 0, 0]),
+        (Call::Send(Forced, 0), Sent, [1, 0, 0, 0, 0]),
+        (Call::Send(Forced, 1), Sent, [1, 0, 0, 0, 0]),
+        (Call::AwaitSend(9), Waits, [1, 0, 0, 0, 0]),
+        (Call::Send(Forced, 2), Out(0), [1, 0, 0, 0, 0]),
+        (Call::Send(Forced, 3), Out(1), [1, 0, 0, 0, 0]),
+        (Call::Poll(0), Received(2), [0, 1, 0, 0, 0]),
+        (Call::Poll(1), Sent, [0, 0, 0, 0, 0]),
     ];
     run(&rt, Some(2), &steps);
 }
@@ -111,19 +79,19 @@ fn a_send_by_force_takes_the_first_out(rt: HostRuntime) {
 fn a_close_wakes_all_and_leaves_the_messages(rt: HostRuntime) {
     for way in WAYS {
         let steps = [
-            (Call::AwaitReceive, Answer::Waits, [0, 0, 0]),
-            (Call::AwaitReceive, Answer::Waits, [0, 0, 0]),
-            (Call::Send(way, 0), Answer::Sent, [1, 0, 0]),
-            (Call::AwaitSend(1), Answer::Waits, [1, 0, 0]),
-            (Call::Close, Answer::Closed(None), [1, 1, 1]),
-            (Call::Close, Answer::Late(None), [1, 1, 1]),
-            (Call::Send(way, 5), Answer::Closed(Some(5)), [1, 1, 1]),
-            (Call::Receive(way), Answer::Received(0), [1, 1, 1]),
-            (Call::Poll(0), Answer::Closed(None), [0, 1, 1]),
-            (Call::Poll(1), Answer::Closed(None), [0, 0, 1]),
-            (Call::Poll(2), Answer::Closed(Some(1)), [0, 0, 0]),
-            (Call::AwaitNext, Answer::Closed(None), [0, 0, 0]),
-            (Call::Receive(way), Answer::Closed(None), [0, 0, 0]),
+            (Call::AwaitReceive, Waits, [0, 0, 0, 0, 0]),
+            (Call::AwaitReceive, Waits, [0, 0, 0, 0, 0]),
+            (Call::Send(way, 0), Sent, [1, 0, 0, 0, 0]),
+            (Call::AwaitSend(1), Waits, [1, 0, 0, 0, 0]),
+            (Call::Close, Closed, [1, 1, 1, 0, 0]),
+            (Call::Close, Late, [1, 1, 1, 0, 0]),
+            (Call::Send(way, 5), Closed, [1, 1, 1, 0, 0]),
+            (Call::Receive(way), Received(0), [1, 1, 1, 0, 0]),
+            (Call::Poll(0), Closed, [0, 1, 1, 0, 0]),
+            (Call::Poll(1), Closed, [0, 0, 1, 0, 0]),
+            (Call::Poll(2), Closed, [0, 0, 0, 0, 0]),
+            (Call::AwaitNext, Closed, [0, 0, 0, 0, 0]),
+            (Call::Receive(way), Closed, [0, 0, 0, 0, 0]),
         ];
         run(&rt, Some(1), &steps);
     }
@@ -132,17 +100,39 @@ fn a_close_wakes_all_and_leaves_the_messages(rt: HostRuntime) {
 // A deadline of now is past once it is looked at.
 #[test]
 fn calls_without_time_attempt_and_wake_nobody(rt: HostRuntime) {
-    for way in [Timed, Due, WaitedTimed, WaitedDue, GivenUp] {
+    for way in [AtOnce, Timed, Due, WaitedTimed, WaitedDue, GivenUp] {
         let steps = [
-            (Call::AwaitReceive, Answer::Waits, [0, 0, 0]),
-            (Call::Receive(way), Answer::Late(None), [0, 0, 0]),
-            (Call::Send(way, 0), Answer::Sent, [1, 0, 0]),
-            (Call::AwaitSend(1), Answer::Waits, [1, 0, 0]),
-            (Call::Send(way, 2), Answer::Late(Some(2)), [1, 0, 0]),
-            (Call::Send(AtOnce, 3), Answer::Late(Some(3)), [1, 0, 0]),
-            (Call::Receive(way), Answer::Received(0), [1, 1, 0]),
-            (Call::Receive(AtOnce), Answer::Late(None), [1, 1, 0]),
+            (Call::AwaitReceive, Waits, [0, 0, 0, 0, 0]),
+            (Call::Receive(way), Late, [0, 0, 0, 0, 0]),
+            (Call::Send(way, 0), Sent, [1, 0, 0, 0, 0]),
+            (Call::AwaitSend(1), Waits, [1, 0, 0, 0, 0]),
+            (Call::Send(way, 2), Late, [1, 0, 0, 0, 0]),
+            (Call::Receive(way), Received(0), [1, 1, 0, 0, 0]),
         ];
         run(&rt, Some(1), &steps);
+    }
+}
+
+// They are put behind what was there, and as many that wait for room are woken. An iterator has the rest.
+#[test]
+fn many_are_received_at_once(rt: HostRuntime) {
+    for (limit, count) in [(2, 2), (usize::MAX, 4)] {
+        let (sender, receiver) = sides(&rt, Some(4));
+        for message in 0..4 {
+            check(&rt, "a send", sender.try_send(message), Ok(()));
+        }
+        let mut sends = [
+            Waiting::send(&rt, &sender, 4),
+            Waiting::send(&rt, &sender, 5),
+        ];
+        check(&rt, "polls", [sends[0].poll(), sends[1].poll()], [Waits; 2]);
+        let mut many = vec![in rt.alloc(); 9usize].expect(&rt, "room");
+        check(&rt, limit, receiver.recv_many(&mut many, limit), Ok(count));
+        let woken = [sends[0].is_woken(), sends[1].is_woken()];
+        check(&rt, "whether they are woken", woken, [true; 2]);
+        for message in receiver.try_iter() {
+            many.push(message).expect(&rt, "room");
+        }
+        check(&rt, limit, many.as_slice(), [9, 0, 1, 2, 3].as_slice());
     }
 }

@@ -3,8 +3,7 @@
 //!
 //! | Module | What it tests |
 //! |---|---|
-//! | `order` | messages in order, what a channel says of itself, many that are received at once, and an iterator of what waits |
-//! | `answers` | tables: what calls answer and whom they wake; polls for another reason, and who is dropped; sends by force; a close |
+//! | `answers` | tables: what calls answer and whom they wake; polls for another reason, and who is dropped; sends by force; a close; many that are received at once, and an iterator of what waits |
 //! | `handles` | clones, weak handles, the last of a side, a closed channel; what handles and errors say |
 //! | `limits` | calls that wait until a limit, and what comes while they look at the clock there |
 //! | `wakes` | threads that are blocked, and woken one by one |
@@ -22,8 +21,6 @@ mod answers;
 mod handles;
 #[cfg(test)]
 mod limits;
-#[cfg(test)]
-mod order;
 #[cfg(test)]
 mod races;
 #[cfg(test)]

@@ -1,5 +1,5 @@
 //! Calls that wait until a limit.
-use crate::support::{Runtime, SharedRuntime, check, sends, sides, until};
+use crate::support::{Runtime, SharedRuntime, check, sides};
 use crate::ways::{Answer, Way};
 use event_channel::bounded;
 use std::alloc::AllocGlobal;
@@ -8,9 +8,9 @@ use std::sync::Wait;
 use std::sync::atomic::{AtomicUsize, Ordering};
 use std::time::{Clock, Duration, Instant};
 use std::{io, thread};
-use test_support::{NoClock, OwnClock, WithClock};
+use test_support::{NoClock, OwnClock, WithClock, spin_until};
 
-const MILLISECONDS: u64 = 20;
+const MAX: Duration = Duration::MAX;
 
 fn now<R: Runtime>(rt: &R) -> Instant {
     Instant::now(rt).expect(rt, "the time")
@@ -18,22 +18,29 @@ fn now<R: Runtime>(rt: &R) -> Instant {
 
 #[test]
 fn a_call_that_has_time_waits_so_long(rt: HostRuntime) {
-    let limit = Duration::from_millis(MILLISECONDS);
-    let (sender, receiver) = sides(&rt, Some(1));
+    let (limit, (sender, receiver)) = (Duration::from_millis(20), sides(&rt, Some(1)));
     for way in [Way::Timed, Way::Due, Way::WaitedTimed, Way::WaitedDue] {
         let before = now(&rt);
-        let received = way.receive(&rt, &receiver, limit);
-        check(&rt, way, received, Answer::Late(None));
+        check(&rt, way, way.receive(&rt, &receiver, limit), Answer::Late);
         let between = now(&rt);
-        let waited = between.saturating_duration_since(before) >= limit;
-        check(&rt, "whether it waited so long", waited, true);
-        sends(&rt, way, &sender, 7, Answer::Sent);
-        let sent = way.send(&rt, &sender, 8, limit);
-        check(&rt, way, sent, Answer::Late(Some(8)));
-        let waited = now(&rt).saturating_duration_since(between) >= limit;
-        check(&rt, "whether it waited so long", waited, true);
-        let received = way.receive(&rt, &receiver, limit);
-        check(&rt, way, received, Answer::Received(7));
+        check(
+            &rt,
+            way,
+            way.send(&rt, &sender, 7, Duration::ZERO),
+            Answer::Sent,
+        );
+        check(&rt, way, way.send(&rt, &sender, 8, limit), Answer::Late);
+        let waited = [
+            between.saturating_duration_since(before) >= limit,
+            now(&rt).saturating_duration_since(between) >= limit,
+        ];
+        check(&rt, "whether each waited so long", waited, [true; 2]);
+        check(
+            &rt,
+            way,
+            way.receive(&rt, &receiver, limit),
+            Answer::Received(7),
+        );
     }
 }
 
@@ -41,15 +48,10 @@ fn a_call_that_has_time_waits_so_long(rt: HostRuntime) {
 fn a_clock_that_cannot_be_read_is_past_the_limit(rt: HostRuntime) {
     let made = bounded(&NoClock { rt: &rt }, rt.alloc(), 1);
     let (sender, receiver) = made.expect(&rt, "a channel");
-    let sent = sender.send_timeout(7usize, Duration::MAX).is_ok();
-    check(&rt, "a send with room", sent, true);
-    let back = sender.send_timeout(8, Duration::MAX);
-    let back = back.map_err(|error| error.into_inner());
-    check(&rt, "a send without room", back, Err(8));
-    let message = receiver.recv_timeout(Duration::MAX);
-    check(&rt, "a receive", message.ok(), Some(7));
-    let none = receiver.recv_timeout(Duration::MAX).is_err();
-    check(&rt, "a receive from none", none, true);
+    check(&rt, "room", sender.send_timeout(7usize, MAX).is_ok(), true);
+    check(&rt, "no room", sender.send_timeout(8, MAX).is_ok(), false);
+    check(&rt, "a message", receiver.recv_timeout(MAX).ok(), Some(7));
+    check(&rt, "no message", receiver.recv_timeout(MAX).ok(), None);
 }
 
 // A clock that shows the time once another thread has made its call: at 2 it is read, at 3 the call is made. If it begins
@@ -65,7 +67,7 @@ impl<'a, R: Runtime> OwnClock for Meets<'a, R> {
         if self.step.fetch_add(1, Ordering::SeqCst) == 0 {
             return Ok(Duration::ZERO);
         }
-        until(self.rt, self.step, 3);
+        spin_until(self.rt, || self.step.load(Ordering::SeqCst) >= 3);
         self.rt.monotonic()
     }
 }
@@ -88,7 +90,7 @@ where
         }
     };
     let meanwhile = || {
-        until(rt, step, 2);
+        spin_until(rt, || step.load(Ordering::SeqCst) >= 2);
         let done = if is_send {
             receiver.try_recv().is_ok()
         } else {

@@ -1,11 +1,9 @@
 //! Two threads that make their calls at the same time, on one channel after another.
-use crate::support::{Runtime, SharedRuntime, check, sides};
-use crate::ways::{Answer, Way};
+use crate::support::{Runtime, SharedRuntime, Sides, check, sides};
 use event_channel::{Receiver, Sender};
 use std::alloc::AllocGlobal;
 use std::sync::atomic::{AtomicUsize, Ordering};
 use std::thread;
-use std::time::Duration;
 use test_support::for_two_seconds;
 
 // A thread makes its call so many looks later at most.
@@ -14,15 +12,14 @@ const SKEW: usize = 16;
 // The channels of a race, in which each delay of one thread meets each of the other.
 const CHANNELS: usize = 256;
 
-// How often a thread sends by twos.
-const TURNS: u32 = 200_000;
+// How many messages are sent where many are received at once.
+const MESSAGES: usize = 400_000;
 
-// Waits until both threads have come to this channel, and a few looks longer.
-fn meet<R: Runtime>(rt: &R, come: &AtomicUsize, number: usize, looks: usize) {
+// Waits until both threads have come so far, and a few looks longer.
+fn meet<R: Runtime>(rt: &R, come: &AtomicUsize, far: usize, looks: usize) {
     come.fetch_add(1, Ordering::SeqCst);
-    let both = number.saturating_mul(2).saturating_add(2);
     for _ in rt.forever() {
-        if come.load(Ordering::SeqCst) >= both {
+        if come.load(Ordering::SeqCst) >= far {
             break;
         }
         thread::yield_now();
@@ -32,64 +29,49 @@ fn meet<R: Runtime>(rt: &R, come: &AtomicUsize, number: usize, looks: usize) {
     }
 }
 
-// A handle of either side.
-#[derive(Drop)]
-enum Handle<R: Runtime> {
-    Sender(Sender<usize, R>),
-    Receiver(Receiver<usize, R>),
-}
-
-impl<R: Runtime> Handle<R> {
-    fn is_closed(&self) -> bool {
-        match self {
-            Handle::Sender(sender) => sender.is_closed(),
-            Handle::Receiver(receiver) => receiver.is_closed(),
-        }
+// New channels: for each of two threads both sides of all of them.
+fn channels<R: Runtime>(rt: &R) -> (Vec<Sides<R>>, Vec<Sides<R>>) {
+    let (mut first, mut second) = (Vec::new(rt.alloc()), Vec::new(rt.alloc()));
+    for _ in 0..CHANNELS {
+        let (sender, receiver) = sides(rt, Some(1));
+        let clone = sender.clone().expect(rt, "a sender");
+        let clones = (clone, receiver.clone().expect(rt, "a receiver"));
+        first.push(clones).expect(rt, "room");
+        second.push((sender, receiver)).expect(rt, "room");
     }
+    (first, second)
 }
 
-// All handles of a new channel: two of one side, and one of the other.
-fn last_two<R: Runtime>(rt: &R, are_senders: bool) -> (Handle<R>, Handle<R>, Handle<R>) {
-    let (sender, receiver) = sides(rt, Some(1));
-    if are_senders {
-        let first = Handle::Sender(sender.clone().expect(rt, "a sender"));
-        (first, Handle::Sender(sender), Handle::Receiver(receiver))
-    } else {
-        let first = Handle::Receiver(receiver.clone().expect(rt, "a receiver"));
-        (first, Handle::Receiver(receiver), Handle::Sender(sender))
-    }
-}
-
-fn drop_all<R: Runtime>(rt: &R, handles: Vec<Handle<R>>, come: &AtomicUsize, is_first: bool) {
-    for (number, handle) in handles.into_iter().enumerate() {
+// Drops a sender of each channel or a receiver, as the other thread does. Then the channel is closed.
+fn drop_all<R: Runtime>(rt: &R, all: Vec<Sides<R>>, come: &AtomicUsize, is_first: bool) {
+    for (number, (sender, receiver)) in all.into_iter().enumerate() {
         let looks = if is_first {
             number % SKEW
         } else {
             number / SKEW
         };
-        meet(rt, come, number, looks);
-        drop(handle);
+        let far = number.saturating_mul(4).saturating_add(2);
+        meet(rt, come, far, looks);
+        let is_closed = if number % 2 == 0 {
+            drop(sender);
+            meet(rt, come, far.saturating_add(2), 0);
+            receiver.is_closed()
+        } else {
+            drop(receiver);
+            meet(rt, come, far.saturating_add(2), 0);
+            sender.is_closed()
+        };
+        check(rt, number, is_closed, true);
     }
 }
 
 fn drop_last_two<R: SharedRuntime>(rt: &R) {
-    let mut first = Vec::new(rt.alloc());
-    let mut second = Vec::new(rt.alloc());
-    let mut others = Vec::new(rt.alloc());
-    for number in 0..CHANNELS {
-        let (one, two, other) = last_two(rt, number % 2 == 0);
-        first.push(one).expect(rt, "room");
-        second.push(two).expect(rt, "room");
-        others.push(other).expect(rt, "room");
-    }
-    let come = &AtomicUsize::new(0);
+    let ((first, second), come) = (channels(rt), &AtomicUsize::new(0));
     thread::join(
         rt,
         || drop_all(rt, first, come, true),
         || drop_all(rt, second, come, false),
     );
-    let open = others.iter().filter(|other| !other.is_closed()).count();
-    check(rt, "channels left open", open, 0);
 }
 
 #[test]
@@ -98,50 +80,41 @@ fn the_last_two_of_a_side_close_at_once(rt: HostRuntime) {
 }
 
 // Each sends the last message of its channel.
-fn send_last<R: Runtime>(rt: &R, senders: Vec<Sender<usize, R>>, come: &AtomicUsize) {
-    for (number, sender) in senders.into_iter().enumerate() {
-        meet(rt, come, number, number % SKEW);
-        let sent = Way::AtOnce.send(rt, &sender, 7, Duration::ZERO);
+fn send_last<R: Runtime>(rt: &R, all: Vec<Sides<R>>, come: &AtomicUsize) {
+    for (number, (sender, _receiver)) in all.into_iter().enumerate() {
+        let far = number.saturating_mul(2).saturating_add(2);
+        meet(rt, come, far, number % SKEW);
+        let sent = sender.try_send(7);
         drop(sender);
-        check(rt, "the last message", sent, Answer::Sent);
+        check(rt, "the last message", sent, Ok(()));
     }
 }
 
-// How many messages are received before the channels are closed.
-fn receive_until_closed<R: Runtime>(
-    rt: &R,
-    receivers: Vec<Receiver<usize, R>>,
-    come: &AtomicUsize,
-) -> usize {
-    let mut received = 0usize;
-    for (number, receiver) in receivers.into_iter().enumerate() {
-        meet(rt, come, number, number / SKEW);
+// Receives them, each before the end.
+fn receive_until_closed<R: Runtime>(rt: &R, all: Vec<Sides<R>>, come: &AtomicUsize) {
+    for (number, (sender, receiver)) in all.into_iter().enumerate() {
+        drop(sender);
+        let far = number.saturating_mul(2).saturating_add(2);
+        meet(rt, come, far, number / SKEW);
+        let mut received = None;
         for _ in rt.forever() {
             match receiver.try_recv() {
-                Ok(message) => received = received.saturating_add(message / 7),
+                Ok(message) => received = Some(message),
                 Err(error) if error.is_closed() => break,
                 Err(_) => {}
             }
         }
+        check(rt, number, received, Some(7));
     }
-    received
 }
 
 fn end_as_others_receive<R: SharedRuntime>(rt: &R) {
-    let mut senders = Vec::new(rt.alloc());
-    let mut receivers = Vec::new(rt.alloc());
-    for _ in 0..CHANNELS {
-        let (sender, receiver) = sides(rt, Some(1));
-        senders.push(sender).expect(rt, "room");
-        receivers.push(receiver).expect(rt, "room");
-    }
-    let come = &AtomicUsize::new(0);
-    let ((), received) = thread::join(
+    let ((first, second), come) = (channels(rt), &AtomicUsize::new(0));
+    thread::join(
         rt,
-        || send_last(rt, senders, come),
-        || receive_until_closed(rt, receivers, come),
+        || send_last(rt, first, come),
+        || receive_until_closed(rt, second, come),
     );
-    check(rt, "messages received", received, CHANNELS);
 }
 
 #[test]
@@ -149,23 +122,19 @@ fn no_receive_answers_closed_before_the_last_message(rt: HostRuntime) {
     for_two_seconds(&rt, || end_as_others_receive(&rt)).expect(&rt, "the time");
 }
 
-// Sends messages by twos, and takes one back each time. Then it closes the channel.
+// Sends messages, and takes one back after two of them. Then it closes the channel.
 fn send_and_take<R: Runtime>(sender: &Sender<usize, R>, receiver: &Receiver<usize, R>) {
-    let mut next = 0usize;
-    for _ in 0..TURNS {
-        for _ in 0..2 {
-            if sender.try_send(next).is_ok() {
-                next = next.saturating_add(1);
-            }
+    for message in 0..MESSAGES {
+        let _ = sender.send_blocking(message);
+        if message % 2 == 1 {
+            let _ = receiver.try_recv();
         }
-        let _ = receiver.try_recv();
     }
     sender.close();
 }
 
-// How often two that are received at once are not adjacent.
-fn take_twos<R: Runtime>(rt: &R, receiver: &Receiver<usize, R>) -> usize {
-    let mut torn = 0usize;
+// Receives two at once, which are adjacent.
+fn take_twos<R: Runtime>(rt: &R, receiver: &Receiver<usize, R>) {
     let mut two = Vec::with_capacity(rt.alloc(), 2).expect(rt, "room");
     for _ in rt.forever() {
         two.clear();
@@ -173,23 +142,17 @@ fn take_twos<R: Runtime>(rt: &R, receiver: &Receiver<usize, R>) -> usize {
             break;
         }
         if let [first, second] = two.as_slice() {
-            torn = torn.saturating_add(usize::from(*second != first.saturating_add(1)));
+            check(rt, *first, *second, first.saturating_add(1));
         }
     }
-    torn
-}
-
-fn take_twos_as_others_take<R: SharedRuntime>(rt: &R) {
-    let (sender, receiver) = &sides(rt, Some(128));
-    let (torn, ()) = thread::join(
-        rt,
-        || take_twos(rt, receiver),
-        || send_and_take(sender, receiver),
-    );
-    check(rt, "how often they are torn apart", torn, 0);
 }
 
 #[test]
 fn many_received_at_once_are_adjacent(rt: HostRuntime) {
-    take_twos_as_others_take(&rt);
+    let (sender, receiver) = &sides(&rt, Some(128));
+    thread::join(
+        &rt,
+        || take_twos(&rt, receiver),
+        || send_and_take(sender, receiver),
+    );
 }

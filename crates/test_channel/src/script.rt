@@ -25,9 +25,9 @@ pub enum Call {
     Close,
 }
 
-/// A call, its answer, and which of the first three that wait are woken then (1) since their last polls began, or since they
+/// A call, its answer, and which of the first five that wait are woken then (1) since their last polls began, or since they
 /// were dropped.
-pub type Step = (Call, Answer, [u8; 3]);
+pub type Step = (Call, Answer, [u8; 5]);
 
 #[derive(Drop)]
 struct Desk<'a, R: Runtime> {
@@ -35,40 +35,25 @@ struct Desk<'a, R: Runtime> {
     sender: &'a Sender<usize, R>,
     receiver: &'a Receiver<usize, R>,
     waiting: Vec<Waiting<'a, R>>,
+    // How many messages have to be there, by the answers.
+    len: usize,
 }
 
 impl<'a, R: Runtime> Desk<'a, R> {
-    fn await_first(&mut self, waiting: Waiting<'a, R>) -> Answer {
-        let mut waiting = waiting;
+    fn await_first(&mut self, mut waiting: Waiting<'a, R>) -> Answer {
         let answer = waiting.poll();
         self.waiting.push(waiting).expect(self.rt, "room");
         answer
     }
 
-    fn poll(&mut self, number: usize) -> Answer {
+    fn numbered(&mut self, number: usize) -> &mut Waiting<'a, R> {
         let waiting = self.waiting.get_mut(number);
-        waiting.expect(self.rt, "one that waits").poll()
-    }
-
-    fn end(&mut self, number: usize) -> Answer {
-        let waiting = self.waiting.get_mut(number);
-        waiting.expect(self.rt, "one that waits").give_up();
-        Answer::Late(None)
+        waiting.expect(self.rt, "one that waits")
     }
 
     fn is_woken(&self, number: usize) -> u8 {
-        match self.waiting.get(number) {
-            Some(waiting) => u8::from(waiting.is_woken()),
-            None => 0,
-        }
-    }
-
-    fn close(&self) -> Answer {
-        if self.sender.close() {
-            Answer::Closed(None)
-        } else {
-            Answer::Late(None)
-        }
+        let waiting = self.waiting.get(number);
+        u8::from(waiting.is_some_and(|waiting| waiting.is_woken()))
     }
 
     fn make(&mut self, call: Call) -> Answer {
@@ -79,10 +64,26 @@ impl<'a, R: Runtime> Desk<'a, R> {
             Call::AwaitSend(message) => self.await_first(Waiting::send(rt, sender, message)),
             Call::AwaitReceive => self.await_first(Waiting::receive(rt, receiver)),
             Call::AwaitNext => self.await_first(Waiting::stream(rt, receiver)),
-            Call::Poll(number) => self.poll(number),
-            Call::Drop(number) => self.end(number),
-            Call::Close => self.close(),
+            Call::Poll(number) => self.numbered(number).poll(),
+            Call::Drop(number) => {
+                self.numbered(number).give_up();
+                Answer::Late
+            }
+            Call::Close if sender.close() => Answer::Closed,
+            Call::Close => Answer::Late,
         }
+    }
+
+    // Both sides say how many messages there are, and whether more fit and may come.
+    fn says(&self, capacity: Option<usize>, is_closed: bool) {
+        let (rt, sender, receiver) = (self.rt, self.sender, self.receiver);
+        let expected = (self.len, self.len == 0, capacity == Some(self.len));
+        let said = (sender.len(), sender.is_empty(), sender.is_full());
+        check(rt, "the sender", said, expected);
+        let said = (receiver.len(), receiver.is_empty(), receiver.is_full());
+        check(rt, "the receiver", said, expected);
+        let closed = (sender.is_closed(), receiver.is_closed());
+        check(rt, "whether it is closed", closed, (is_closed, is_closed));
     }
 }
 
@@ -94,10 +95,19 @@ pub fn run<R: Runtime>(rt: &R, capacity: Option<usize>, steps: &[Step]) {
         sender,
         receiver,
         waiting: Vec::new(rt.alloc()),
+        len: 0,
     };
+    let mut is_closed = false;
     for (number, &(call, answer, woken)) in steps.iter().enumerate() {
         let answered = desk.make(call);
-        let now = [desk.is_woken(0), desk.is_woken(1), desk.is_woken(2)];
+        let now = [0, 1, 2, 3, 4].map(|number| desk.is_woken(number));
         check(rt, ("step", number), (answered, now), (answer, woken));
+        match answer {
+            Answer::Sent => desk.len = desk.len.saturating_add(1),
+            Answer::Received(_) => desk.len = desk.len.saturating_sub(1),
+            Answer::Closed => is_closed = true,
+            _ => {}
+        }
+        desk.says(capacity, is_closed);
     }
 }

@@ -1,6 +1,6 @@
 //! Threads that are blocked: each that is notified is woken, and no other one. A thread that is not blocked yet needs nobody
 //! to wake it, so each test is made with longer and longer pauses before the call that wakes.
-use crate::support::{SharedRuntime, check, sends, sides};
+use crate::support::{SharedRuntime, check, sides};
 use crate::waiting::Waiting;
 use crate::ways::{Answer, Way, of_recv_in_time};
 use futures::test::MockTask;
@@ -23,7 +23,7 @@ fn wakes_the_task<R: SharedRuntime>(rt: &R, way: Way, send: Way, pause: u64) -> 
         thread::sleep(rt, Duration::from_millis(pause));
         let mut waiting = Waiting::receive(rt, receiver);
         check(rt, "a poll", waiting.poll(), Answer::Waits);
-        sends(rt, send, sender, 7, Answer::Sent);
+        check(rt, send, send.send(rt, sender, 7, limit()), Answer::Sent);
         waiting.is_woken()
     };
     let (received, is_woken) = thread::join(rt, blocked, wakes);
@@ -57,7 +57,7 @@ fn waits_at_its_place<R: SharedRuntime>(rt: &R, pause: u64) {
     let blocked = || of_recv_in_time(first.wait_timeout(limit()));
     let wakes = || {
         thread::sleep(rt, Duration::from_millis(pause));
-        sends(rt, Way::AtOnce, sender, 7, Answer::Sent);
+        check(rt, "a send", sender.try_send(7), Ok(()));
     };
     let (received, ()) = thread::join(rt, blocked, wakes);
     check(rt, "a wait", received, Answer::Received(7));

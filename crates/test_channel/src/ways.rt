@@ -10,7 +10,7 @@ use std::thread;
 use std::time::Duration;
 use test_support::deadline_after;
 
-/// What a call answered. A message in it came back, but for one that was received or went out by force.
+/// What a call answered. That a message which was not sent comes back is a clause of each call.
 #[derive(Clone, Copy, Debug, PartialEq, Eq)]
 pub enum Answer {
     Sent,
@@ -18,9 +18,9 @@ pub enum Answer {
     /// Another one was sent, and this went out.
     Out(usize),
     Waits,
-    /// The channel was full or empty: it did not wait, was out of time, or was given up.
-    Late(Option<usize>),
-    Closed(Option<usize>),
+    /// The channel was full or empty: the call did not wait, was out of time, or was given up.
+    Late,
+    Closed,
     /// It was refused memory, or was done before.
     Failed,
 }
@@ -50,17 +50,17 @@ pub enum Way {
 
 /// All ways.
 pub const WAYS: [Way; 12] = [
-    Way::AtOnce,
     Way::Blocking,
+    Way::Awaited,
     Way::Timed,
+    Way::Streamed,
     Way::Due,
+    Way::GivenUp,
+    Way::Iterated,
+    Way::AtOnce,
     Way::Waited,
     Way::WaitedTimed,
     Way::WaitedDue,
-    Way::Awaited,
-    Way::Streamed,
-    Way::GivenUp,
-    Way::Iterated,
     Way::Forced,
 ];
 
@@ -86,7 +86,7 @@ impl Way {
             Way::Awaited | Way::Streamed => {
                 of_send(block_on(rt, sender.send(message)).expect(rt, "an executor"))
             }
-            Way::GivenUp => once(Waiting::send(rt, sender, message), Some(message)),
+            Way::GivenUp => once(Waiting::send(rt, sender, message)),
         }
     }
 
@@ -112,19 +112,17 @@ impl Way {
                 of_item(block_on(rt, stream.next()).expect(rt, "an executor"))
             }
             Way::Iterated => of_item(receiver.iter().next()),
-            Way::GivenUp => once(Waiting::receive(rt, receiver), None),
+            Way::GivenUp => once(Waiting::receive(rt, receiver)),
         }
     }
 }
 
 // Between the poll and the drop others may tell it.
-fn once<R: Runtime>(waiting: Waiting<'_, R>, message: Option<usize>) -> Answer {
-    let mut waiting = waiting;
+fn once<R: Runtime>(mut waiting: Waiting<'_, R>) -> Answer {
     match waiting.poll() {
         Answer::Waits => {
             thread::yield_now();
-            drop(waiting);
-            Answer::Late(message)
+            Answer::Late
         }
         answer => answer,
     }
@@ -138,9 +136,9 @@ fn of_force(answer: Result<Option<usize>, SendError<usize>>) -> Answer {
     match answer {
         Ok(None) => Answer::Sent,
         Ok(Some(message)) => Answer::Out(message),
-        Err(SendError { message, reason }) => match reason {
-            SendReason::Full | SendReason::TimedOut => Answer::Late(Some(message)),
-            SendReason::Closed => Answer::Closed(Some(message)),
+        Err(SendError { message: _, reason }) => match reason {
+            SendReason::Full | SendReason::TimedOut => Answer::Late,
+            SendReason::Closed => Answer::Closed,
             SendReason::Memory | SendReason::WaitFailed(_) => Answer::Failed,
         },
     }
@@ -149,16 +147,31 @@ fn of_force(answer: Result<Option<usize>, SendError<usize>>) -> Answer {
 fn of_try_recv(answer: Result<usize, TryRecvError>) -> Answer {
     match answer {
         Ok(message) => Answer::Received(message),
-        Err(TryRecvError::Empty) => Answer::Late(None),
-        Err(TryRecvError::Closed) => Answer::Closed(None),
+        Err(TryRecvError::Empty) => Answer::Late,
+        Err(TryRecvError::Closed) => Answer::Closed,
     }
 }
 
 pub fn of_recv(answer: Result<usize, RecvError>) -> Answer {
+    of_recv_in_time(answer.map(Some))
+}
+
+/// What a receive answered that waited in time, or was late.
+pub fn of_recv_in_time(answer: Result<Option<usize>, RecvError>) -> Answer {
+    match answer {
+        Ok(Some(message)) => Answer::Received(message),
+        Ok(None) => Answer::Late,
+        Err(RecvError::Closed) => Answer::Closed,
+        Err(RecvError::WaitFailed(_)) => Answer::Failed,
+    }
+}
+
+fn of_timed_recv(answer: Result<usize, RecvTimeoutError>) -> Answer {
     match answer {
         Ok(message) => Answer::Received(message),
-        Err(RecvError::Closed) => Answer::Closed(None),
-        Err(RecvError::WaitFailed(_)) => Answer::Failed,
+        Err(RecvTimeoutError::TimedOut) => Answer::Late,
+        Err(RecvTimeoutError::Closed) => Answer::Closed,
+        Err(RecvTimeoutError::WaitFailed(_)) => Answer::Failed,
     }
 }
 
@@ -166,24 +179,6 @@ pub fn of_item(item: Option<Result<usize, LockError>>) -> Answer {
     match item {
         Some(Ok(message)) => Answer::Received(message),
         Some(Err(_)) => Answer::Failed,
-        None => Answer::Closed(None),
-    }
-}
-
-fn of_timed_recv(answer: Result<usize, RecvTimeoutError>) -> Answer {
-    match answer {
-        Ok(message) => Answer::Received(message),
-        Err(RecvTimeoutError::TimedOut) => Answer::Late(None),
-        Err(RecvTimeoutError::Closed) => Answer::Closed(None),
-        Err(RecvTimeoutError::WaitFailed(_)) => Answer::Failed,
-    }
-}
-
-/// What a receive answered that waited in time, or was late.
-pub fn of_recv_in_time(answer: Result<Option<usize>, RecvError>) -> Answer {
-    match answer {
-        Ok(Some(message)) => Answer::Received(message),
-        Ok(None) => Answer::Late(None),
-        Err(error) => of_recv(Err(error)),
+        None => Answer::Closed,
     }
 }
