@@ -121,14 +121,12 @@ fn many_are_received_at_once(rt: HostRuntime) {
         for message in 0..4 {
             check(&rt, "a send", sender.try_send(message), Ok(()));
         }
-        let mut sends = [
-            Waiting::send(&rt, &sender, 4),
-            Waiting::send(&rt, &sender, 5),
-        ];
-        check(&rt, "polls", [sends[0].poll(), sends[1].poll()], [Waits; 2]);
+        let mut first = Waiting::send(&rt, &sender, 4);
+        let mut second = Waiting::send(&rt, &sender, 5);
+        check(&rt, "polls", [first.poll(), second.poll()], [Waits; 2]);
         let mut many = vec![in rt.alloc(); 9usize].expect(&rt, "room");
         check(&rt, limit, receiver.recv_many(&mut many, limit), Ok(count));
-        let woken = [sends[0].is_woken(), sends[1].is_woken()];
+        let woken = [first.is_woken(), second.is_woken()];
         check(&rt, "whether they are woken", woken, [true; 2]);
         for message in receiver.try_iter() {
             many.push(message).expect(&rt, "room");

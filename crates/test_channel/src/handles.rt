@@ -83,12 +83,8 @@ fn handles_futures_and_errors_are_shown(rt: HostRuntime) {
     let (send, recv) = (sender.send(1), receiver.recv());
     let shown = format!(in rt.alloc(); "{sender:?}, {receiver:?}, {send:?}, {recv:?}");
     let expected = "Sender { .. }, Receiver { .. }, Send { .. }, Recv { .. }";
-    check(
-        &rt,
-        "handles",
-        shown.expect(&rt, "a text").as_str(),
-        expected,
-    );
+    let shown = shown.expect(&rt, "a text");
+    check(&rt, "handles", shown.as_str(), expected);
     for (reason, expected) in [
         (SendReason::Full, "Full: the channel is full"),
         (SendReason::Closed, "Closed: the channel is closed"),
@@ -104,11 +100,7 @@ fn handles_futures_and_errors_are_shown(rt: HostRuntime) {
     ] {
         let error = SendError { message: 1, reason };
         let shown = format!(in rt.alloc(); "{error:?}: {error}");
-        check(
-            &rt,
-            "an error",
-            shown.expect(&rt, "a text").as_str(),
-            expected,
-        );
+        let shown = shown.expect(&rt, "a text");
+        check(&rt, "an error", shown.as_str(), expected);
     }
 }

@@ -23,24 +23,16 @@ fn a_call_that_has_time_waits_so_long(rt: HostRuntime) {
         let before = now(&rt);
         check(&rt, way, way.receive(&rt, &receiver, limit), Answer::Late);
         let between = now(&rt);
-        check(
-            &rt,
-            way,
-            way.send(&rt, &sender, 7, Duration::ZERO),
-            Answer::Sent,
-        );
+        let sent = way.send(&rt, &sender, 7, Duration::ZERO);
+        check(&rt, way, sent, Answer::Sent);
         check(&rt, way, way.send(&rt, &sender, 8, limit), Answer::Late);
         let waited = [
             between.saturating_duration_since(before) >= limit,
             now(&rt).saturating_duration_since(between) >= limit,
         ];
         check(&rt, "whether each waited so long", waited, [true; 2]);
-        check(
-            &rt,
-            way,
-            way.receive(&rt, &receiver, limit),
-            Answer::Received(7),
-        );
+        let received = way.receive(&rt, &receiver, limit);
+        check(&rt, way, received, Answer::Received(7));
     }
 }
 

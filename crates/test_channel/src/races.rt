@@ -12,8 +12,8 @@ const SKEW: usize = 16;
 // The channels of a race, in which each delay of one thread meets each of the other.
 const CHANNELS: usize = 256;
 
-// How many messages are sent where many are received at once.
-const MESSAGES: usize = 400_000;
+// How often a thread sends by twos.
+const TURNS: u32 = 200_000;
 
 // Waits until both threads have come so far, and a few looks longer.
 fn meet<R: Runtime>(rt: &R, come: &AtomicUsize, far: usize, looks: usize) {
@@ -122,11 +122,14 @@ fn no_receive_answers_closed_before_the_last_message(rt: HostRuntime) {
     for_two_seconds(&rt, || end_as_others_receive(&rt)).expect(&rt, "the time");
 }
 
-// Sends messages, and takes one back after two of them. Then it closes the channel.
+// Sends messages by twos, and takes one back each time. Then it closes the channel.
 fn send_and_take<R: Runtime>(sender: &Sender<usize, R>, receiver: &Receiver<usize, R>) {
-    for message in 0..MESSAGES {
-        let _ = sender.send_blocking(message);
-        if message % 2 == 1 {
+    let mut next = 0usize;
+    for turn in 0..2 * TURNS {
+        if sender.try_send(next).is_ok() {
+            next = next.saturating_add(1);
+        }
+        if turn % 2 == 1 {
             let _ = receiver.try_recv();
         }
     }

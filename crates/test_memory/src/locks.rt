@@ -124,14 +124,9 @@ fn is_in_vain<R: Runtime>(
 fn each_request_of_a_wait_for_a_lock_or_a_permit_is_refused(rt: HostRuntime) {
     for call in [Call::Lock, Call::Acquire, Call::Poll] {
         let parker = refuse_each(&rt, call, true);
-        check(
-            &rt,
-            "whether a parker was refused",
-            parker > 0,
-            call != Call::Poll,
-        );
+        check(&rt, "a parker", parker > 0, call != Call::Poll);
         let queue = refuse_each(&rt, call, false);
-        check(&rt, "whether a queue was refused", queue > parker, true);
+        check(&rt, "a queue", queue > parker, true);
     }
 }
 

@@ -65,12 +65,7 @@ fn waits_are_refused<R: Runtime>(rt: &R, places: usize, refusal: UntilError, att
         let left = event.total_listeners(rt);
         check(rt, "listeners left", left, usize::from(is_told));
         let told = next.replace(None).map(|next| next.discard());
-        check(
-            rt,
-            "whether the next is told",
-            told,
-            is_told.then_some(true),
-        );
+        check(rt, "the next", told, is_told.then_some(true));
     }
     drop(hog);
     if !is_told {

@@ -1,5 +1,5 @@
 //! Whether the memory that tests take is refused, and all of it.
-use crate::support::check;
+use crate::support::{check, leave, new_budget};
 use crate::{Budget, Hog};
 use std::alloc::{AllocError, AllocGlobal, Global};
 use std::process::Abort;
@@ -49,10 +49,10 @@ fn a_hog_refuses_every_request_until_it_is_dropped(rt: HostRuntime) {
 
 #[test]
 fn a_budget_of_nothing_refuses_everything(rt: HostRuntime) {
-    let mut budget = Budget::new(rt.alloc()).expect(&rt, "all memory but a reserve");
+    let mut budget = new_budget(&rt);
     let _kept = parted_by_holes(&rt);
     for _ in 0..500 {
-        budget.leave(0).expect(&rt, "nothing of the reserve");
+        leave(&rt, &mut budget, 0);
         are_granted(&rt, false);
         budget.give_back();
         are_granted(&rt, true);
@@ -72,7 +72,7 @@ fn least_for<R: Abort + AllocGlobal>(rt: &R, budget: &mut Budget, sizes: &[usize
     let mut kept = Vec::with_capacity(rt.alloc(), 128).expect(rt, "room");
     let mut next = 0;
     for bytes in (0..Budget::MOST).step_by(Budget::STEP) {
-        budget.leave(bytes).expect(rt, "so much of the reserve");
+        leave(rt, budget, bytes);
         let made = blocks_of(rt.alloc(), sizes, &mut kept);
         budget.give_back();
         if kept.len() == next {
@@ -91,21 +91,17 @@ fn least_for<R: Abort + AllocGlobal>(rt: &R, budget: &mut Budget, sizes: &[usize
 // The smallest block takes 32 bytes, of which 8 are not its own.
 #[test]
 fn a_budget_grants_so_many_bytes_and_no_more(rt: HostRuntime) {
-    let mut budget = Budget::new(rt.alloc()).expect(&rt, "all memory but a reserve");
+    let mut budget = new_budget(&rt);
     let least = least_for(&rt, &mut budget, [24; 128].as_slice());
     check(&rt, "small blocks", least, 128 * Budget::STEP);
     least_for(&rt, &mut budget, [8, 100, 24, 25, 40, 600, 1].as_slice());
     least_for(&rt, &mut budget, [1000, 16, 4000, 16, 2000, 9].as_slice());
     for sixteens in 2..512 {
-        budget
-            .leave(16 * sixteens)
-            .expect(&rt, "so much of the reserve");
+        leave(&rt, &mut budget, 16 * sixteens);
         is_granted(&rt, 16 * sixteens - 7, false);
         is_granted(&rt, 16 * sixteens - 8, true);
     }
-    budget
-        .leave(Budget::MOST)
-        .expect(&rt, "so much of the reserve");
+    leave(&rt, &mut budget, Budget::MOST);
     is_granted(&rt, Budget::MOST - 8, true);
     let too_much = budget.leave(Budget::MOST + 1);
     check(&rt, "too much", too_much.is_err(), true);

@@ -1,6 +1,6 @@
 //! What no clause says of a queue: when tags and tasks are dropped, that many listeners come and leave in any order, that a
 //! dropped queue gives its memory back, and texts.
-use crate::support::check;
+use crate::support::{check, leave, new_budget};
 use crate::{Budget, Hog};
 use event_queue::{
     Call, IntoNotification, IntoTagged, List, ListenError, NotifyError, State, Woken,
@@ -98,10 +98,8 @@ fn a_queue_is_dropped_with_its_tags_and_tasks_without_memory(rt: HostRuntime) {
 // that nobody took.
 #[test]
 fn a_dropped_queue_gives_every_node_back(rt: HostRuntime) {
-    let mut budget = Budget::new(rt.alloc()).expect(&rt, "all memory but a reserve");
-    budget
-        .leave(Budget::MOST)
-        .expect(&rt, "so much of the reserve");
+    let mut budget = new_budget(&rt);
+    leave(&rt, &mut budget, Budget::MOST);
     for _ in 0..500 {
         let mut list: List<(), u32> = List::new(rt.alloc());
         list.reserve(3).expect(&rt, "room");
@@ -113,28 +111,9 @@ fn a_dropped_queue_gives_every_node_back(rt: HostRuntime) {
 
 const MANY: usize = 100_000;
 
-// In which order many leave: who came first is the first, or the last, or they leave from the middle outwards.
-#[derive(Clone, Copy)]
-enum Leaving {
-    FirstFirst,
-    LastFirst,
-    FromTheMiddle,
-}
-
-impl Leaving {
-    // Whose place it is to leave at that step.
-    fn place(self, step: usize) -> usize {
-        match (self, step % 2) {
-            (Leaving::FirstFirst, _) => step,
-            (Leaving::LastFirst, _) => (MANY - 1).wrapping_sub(step),
-            (Leaving::FromTheMiddle, 0) => (MANY / 2 - 1).wrapping_sub(step / 2),
-            (Leaving::FromTheMiddle, _) => (MANY / 2).wrapping_add(step / 2),
-        }
-    }
-}
-
-// Many listeners come, and leave in this order. Then as many come again, into the slots that were left.
-fn many_leave<R: Abort + AllocGlobal>(rt: &R, order: Leaving) {
+// Many listeners come and leave, each so many places after the one before. Then as many come again, into the slots that were
+// left.
+fn many_leave<R: Abort + AllocGlobal>(rt: &R, stride: usize) {
     let mut list: List<(), usize> = List::new(rt.alloc());
     let mut woken = Woken::with_room(rt.alloc(), 0).expect(rt, "a sink");
     let mut keys = Vec::new(rt.alloc());
@@ -145,7 +124,7 @@ fn many_leave<R: Abort + AllocGlobal>(rt: &R, order: Leaving) {
     }
     let slots = list.spare().saturating_add(MANY);
     for step in 0..MANY {
-        let place = order.place(step);
+        let place = step.wrapping_mul(stride) % MANY;
         let key = keys.get(place).copied().expect(rt, "a key");
         let left = list.remove_uncounted(key, false, &mut woken);
         check(rt, step, left, Some(State::Task(place)));
@@ -157,11 +136,12 @@ fn many_leave<R: Abort + AllocGlobal>(rt: &R, order: Leaving) {
     }
 }
 
+// The first is the first to leave, or the last is, or they leave from everywhere.
 #[test]
 fn many_listeners_leave_in_any_order_and_their_slots_are_used_again(rt: HostRuntime) {
-    many_leave(&rt, Leaving::FirstFirst);
-    many_leave(&rt, Leaving::LastFirst);
-    many_leave(&rt, Leaving::FromTheMiddle);
+    for stride in [1, MANY - 1, 61_803] {
+        many_leave(&rt, stride);
+    }
 }
 
 // A function that makes tags.

@@ -1,9 +1,8 @@
 //! Rows on queues: their requests for memory refused in turn, and calls that have none.
-use crate::support::check;
-use crate::{Budget, Calls, Refusing, Starving};
+use crate::support::{check, new_budget};
+use crate::{Calls, Refusing, Starving};
 use calls::{Request, Row};
 use std::alloc::{AllocGlobal, Global};
-use std::process::Abort;
 
 // Such a call that is starved has no memory at all. Rows in which each call may have some are worked rows, whose requests are
 // refused by the same hooks in the tests of `vectors`.
@@ -59,10 +58,6 @@ starved poll 3 5 -> finished
 starved total -> total 1
 starved isnotified -> isnotified true
 ";
-
-fn new_budget<R: Abort + AllocGlobal>(rt: &R) -> Budget {
-    Budget::new(rt.alloc()).expect(rt, "all memory but a reserve")
-}
 
 // A row on queues.
 #[derive(Drop)]

@@ -1,4 +1,6 @@
 //! What the tests share.
+use crate::Budget;
+use std::alloc::AllocGlobal;
 use std::fmt::Debug;
 use std::process::Abort;
 
@@ -11,4 +13,14 @@ where
     R: Abort,
 {
     assert_eq!(rt; answer, expected, "{asked:?}");
+}
+
+/// All memory but a reserve, of which a test says how much is left.
+pub fn new_budget<R: Abort + AllocGlobal>(rt: &R) -> Budget {
+    Budget::new(rt.alloc()).expect(rt, "all memory but a reserve")
+}
+
+/// From now on no more than so many bytes are left.
+pub fn leave<R: Abort>(rt: &R, budget: &mut Budget, bytes: usize) {
+    budget.leave(bytes).expect(rt, "so much of the reserve");
 }
