@@ -3,7 +3,6 @@ use crate::support::{Notes, check, new_id, until_nth};
 use event_listener::{Event, EventListener, ListenError, Listener, NeverInserted, WaitReason};
 use event_until::{Attempt, Until, UntilError};
 use std::alloc::{AllocGlobal, Global};
-use std::cell::Cell;
 use std::sync::Wait;
 use std::time::{Clock, Duration};
 use test_support::WaitCall::{self, Deadline, GreatestTimeout, Timeout, UntilTold};
@@ -50,47 +49,43 @@ fn attempts_are_made_before_it_listens_then_and_at_the_limit(rt: HostRuntime) {
     gives(rt, &blind, 9, (GreatestTimeout, now), None, [0, 1, 0]);
 }
 
-// An attempt whose second makes another one listen, tells the first listener, and succeeds.
+// An attempt whose second makes another one listen, tells the first listener, and gives the other one.
 #[derive(Drop)]
-struct Overtaken<'a, R: Wait + Clock + Clone> {
+struct Overtaken<'a, R> {
     rt: &'a R,
     alloc: Global,
     event: &'a Event<()>,
-    first: bool,
-    other: &'a Cell<Option<EventListener<(), R>>>,
+    is_first: bool,
 }
 
 impl<R: Wait + Clock + Clone> Attempt for Overtaken<'_, R> {
-    type Output = usize;
+    type Output = EventListener<(), R>;
 
     ghost fails = { λ _ _. Unit {0} };
 
-    fn attempt(&mut self) -> Option<usize> {
-        if self.first {
-            self.first = false;
+    fn attempt(&mut self) -> Option<EventListener<(), R>> {
+        if self.is_first {
+            self.is_first = false;
             return None;
         }
-        self.other.set(self.event.listen(self.rt, self.alloc).ok());
-        Some(self.event.notify_relaxed(self.rt, 1))
+        let other = self.event.listen(self.rt, self.alloc).ok();
+        self.event.notify_relaxed(self.rt, 1);
+        other
     }
 }
 
 #[test]
 fn who_is_told_and_succeeds_before_it_waits_passes_on(rt: HostRuntime) {
-    let event = Event::new(new_id(&rt));
-    let other = Cell::new(None);
+    let (alloc, event) = (rt.alloc(), Event::new(new_id(&rt)));
     let overtaken = Overtaken {
         rt: &rt,
-        alloc: rt.alloc(),
+        alloc,
         event: &event,
-        first: true,
-        other: &other,
+        is_first: true,
     };
-    let mut until = Until::new(&rt, rt.alloc(), &event, overtaken);
-    check(&rt, "how many were told", until.wait(), Ok(1));
-    let other = other.take().expect(&rt, "the other listener");
-    let told = other.wait_timeout(Duration::ZERO).expect(&rt, "an answer");
-    check(&rt, "what the other was told", told, Some(()));
+    let mut until = Until::new(&rt, alloc, &event, overtaken);
+    let other = until.wait().expect(&rt, "the other listener");
+    check(&rt, "whether it is told", other.discard(), true);
 }
 
 // The error of a wait has this text.

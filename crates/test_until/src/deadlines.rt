@@ -3,10 +3,9 @@ use crate::support::{Notes, check, new_id, until_nth};
 use event_listener::Event;
 use example_events::until::Gate;
 use std::cell::Cell;
-use std::io;
 use std::sync::Wait;
-use std::thread::{self, Threads};
-use std::time::{Clock, Duration};
+use std::time::Duration;
+use std::{io, thread};
 use test_support::{OwnClock, Runtime, WithClock};
 
 // A clock that goes on by a second at each reading. From the second reading to the last that it is told to, it notifies.
@@ -32,8 +31,7 @@ impl<'a, R: Wait> OwnClock for Notifies<'a, R> {
 // What a wait of so many seconds gives whose n-th attempt succeeds, under a clock that notifies up to this reading; and how
 // many readings and attempts that takes.
 fn waits<R: Runtime>(rt: &R, seconds: u64, n: usize, last: u32) -> (Option<usize>, u32, usize) {
-    let event = Event::new(new_id(rt));
-    let notes = Notes::new();
+    let (event, notes) = (Event::new(new_id(rt)), Notes::new());
     let notifies = Notifies {
         rt,
         event: &event,
@@ -50,54 +48,23 @@ fn waits<R: Runtime>(rt: &R, seconds: u64, n: usize, last: u32) -> (Option<usize
     (output, notifies.reads.get(), notes.made.get())
 }
 
-// The second reading, which notifies, shows the deadline. One last attempt would be the third.
+// First the second reading, which notifies, shows the deadline; one last attempt would be the third. Then it is told at each
+// reading before the deadline, and fails each time: it gives up at the deadline that it began with.
 #[test]
-fn who_is_told_at_its_deadline_begins_anew(rt: HostRuntime) {
+fn who_is_told_at_its_deadline_begins_anew_and_keeps_its_deadline(rt: HostRuntime) {
     check(&rt, "the fourth", waits(&rt, 1, 4, 1), (Some(4), 2, 4));
-}
-
-// It is told at each reading before the deadline, and fails each time. It gives up at the deadline that it began with.
-#[test]
-fn who_is_told_and_too_late_keeps_its_deadline(rt: HostRuntime) {
     check(&rt, "too late", waits(&rt, 5, 99, 4), (None, 6, 11));
 }
 
-// A clock that stands at its beginning.
-#[derive(Drop)]
-struct Still;
-
-impl OwnClock for Still {
-    fn read(&self) -> io::Result<Duration> {
-        Ok(Duration::ZERO)
-    }
-}
-
-// A wait with this limit lasts until the gate is opened. One that ends at once has ended by then.
-fn waits_for_the_gate<R, C>(rt: &R, clock: &C, limit: Duration)
-where
-    R: Runtime + Threads + Sync,
-    C: Wait + Clock + Clone + Sync,
-{
-    let gate = Gate::new(new_id(rt));
-    let passes = || gate.pass(clock, rt.alloc()).wait_timeout(limit);
-    let opens = || {
-        thread::sleep(rt, Duration::from_millis(30));
-        gate.open(rt);
-    };
-    let (passed, ()) = thread::join(rt, passes, opens);
-    check(rt, "whether it passed", passed, Ok(Some(())));
-}
-
-// The greatest limit whose moment can be represented, the next one, and the greatest of all.
+// It lasts until the gate is opened. A wait that ends at once has ended by then.
 #[test]
-fn the_greatest_limits_end_no_wait(rt: HostRuntime) {
-    let clock = WithClock {
-        rt: &rt,
-        clock: &Still,
+fn the_greatest_limit_ends_no_wait(rt: HostRuntime) {
+    let gate = Gate::new(new_id(&rt));
+    let passes = || gate.pass(&rt, rt.alloc()).wait_timeout(Duration::MAX);
+    let opens = || {
+        thread::sleep(&rt, Duration::from_millis(30));
+        gate.open(&rt);
     };
-    let last = Duration::new(u64::MAX / 2, 999_999_999);
-    let next = Duration::from_secs(u64::MAX / 2 + 1);
-    for limit in [last, next, Duration::MAX] {
-        waits_for_the_gate(&rt, &clock, limit);
-    }
+    let (passed, ()) = thread::join(&rt, passes, opens);
+    check(&rt, "whether it passed", passed, Ok(Some(())));
 }

@@ -2,49 +2,40 @@
 use crate::support::{Notes, Nth, check, check_woken, new_id, new_task, until_nth};
 use event_listener::{Event, Listener};
 use event_until::Until;
+use example_events::until::{Version, Watch};
 use futures::task::Poll;
 use std::time::Duration;
 use test_support::{Runtime, deadline_after};
 
-// A poll attempts as long as nobody listens, and then once it is told. One that is not due keeps its place.
+// Two are behind one that leaves, which wakes nobody. The first of them attempts as long as it does not listen, and then
+// once it is told. A poll that is not due attempts nothing, and keeps its place.
 #[test]
-fn a_poll_that_is_not_due_attempts_nothing_and_one_that_fails_listens_anew(rt: HostRuntime) {
-    let (event, notes) = (Event::new(new_id(&rt)), Notes::new());
-    let task = new_task(&rt);
+fn a_poll_that_is_not_due_keeps_its_place_and_one_that_fails_listens_anew(rt: HostRuntime) {
+    let (event, notes, others) = (Event::new(new_id(&rt)), Notes::new(), Notes::new());
+    let (task, other) = (new_task(&rt), new_task(&rt));
+    let mut leaves = until_nth(&rt, &rt, &event, &others, 9);
+    check(&rt, "one", other.poll(&mut leaves), Poll::Pending);
     let mut until = until_nth(&rt, &rt, &event, &notes, 5);
     check(&rt, "the first", task.poll(&mut until), Poll::Pending);
-    notes.check(&rt, 2, [0, 1, 9]);
+    notes.check(&rt, 2, [1, 2, 9]);
+    let mut behind = until_nth(&rt, &rt, &event, &others, 9);
+    drop(leaves);
+    check(&rt, "behind", other.poll(&mut behind), Poll::Pending);
+    check_woken(&rt, &task, false);
+    check(&rt, "listeners", event.total_listeners(&rt), 2);
     check(&rt, "not due", task.poll(&mut until), Poll::Pending);
     check(&rt, "the attempts", notes.made.get(), 2);
     check_woken(&rt, &task, false);
     check(&rt, "told", event.notify_relaxed(&rt, 1), 1);
     check_woken(&rt, &task, true);
+    check_woken(&rt, &other, false);
+    drop(behind);
     check(&rt, "the third", task.poll(&mut until), Poll::Pending);
     check(&rt, "the attempts", notes.made.get(), 4);
     check_woken(&rt, &task, false);
     check(&rt, "told again", event.notify_relaxed(&rt, 1), 1);
     check(&rt, "the last", task.poll(&mut until), Poll::Ready(Ok(5)));
     check(&rt, "listeners left", event.total_listeners(&rt), 0);
-}
-
-// The first is dropped, and wakes nobody; the second is polled again, and is told before the third.
-#[test]
-fn who_leaves_wakes_nobody_and_a_poll_that_is_not_due_keeps_its_place(rt: HostRuntime) {
-    let (event, notes) = (Event::new(new_id(&rt)), Notes::new());
-    let (first, second, third) = (new_task(&rt), new_task(&rt), new_task(&rt));
-    let mut one = until_nth(&rt, &rt, &event, &notes, 9);
-    let mut other = until_nth(&rt, &rt, &event, &notes, 9);
-    let mut last = until_nth(&rt, &rt, &event, &notes, 9);
-    check(&rt, "the first", first.poll(&mut one), Poll::Pending);
-    check(&rt, "the second", second.poll(&mut other), Poll::Pending);
-    check(&rt, "the third", third.poll(&mut last), Poll::Pending);
-    drop(one);
-    check_woken(&rt, &second, false);
-    check(&rt, "listeners left", event.total_listeners(&rt), 2);
-    check(&rt, "not due", second.poll(&mut other), Poll::Pending);
-    check(&rt, "told", event.notify_relaxed(&rt, 1), 1);
-    check_woken(&rt, &second, true);
-    check_woken(&rt, &third, false);
 }
 
 // What is called on an `Until` that a poll left pending. Its third attempt succeeds.
@@ -91,8 +82,7 @@ fn passes_on<R: Runtime>(rt: &R, end: End) {
     check_woken(rt, &tasks.1, true);
     end.make(rt, second);
     check(rt, "listeners left", event.total_listeners(rt), 1);
-    let told = third.wait_timeout(Duration::ZERO).expect(rt, "an answer");
-    check(rt, "what the third is told", told, Some(()));
+    check(rt, "whether the third is told", third.discard(), true);
 }
 
 #[test]
@@ -106,4 +96,29 @@ fn who_is_told_and_goes_or_blocks_passes_on(rt: HostRuntime) {
     ] {
         passes_on(&rt, end);
     }
+}
+
+#[test]
+fn a_watch_gives_its_latest_value_to_all(rt: HostRuntime) {
+    let watch = Watch::new(new_id(&rt), 'a');
+    let (number, value) = (1, 'a');
+    let initial = watch.wait_newer(&rt, rt.alloc(), 0);
+    check(&rt, "the first", initial, Ok(Version { number, value }));
+    let (first, second) = (new_task(&rt), new_task(&rt));
+    let mut one = watch.newer(&rt, rt.alloc(), 1);
+    let mut other = watch.newer(&rt, rt.alloc(), 1);
+    check(&rt, "pending", first.poll(&mut one), Poll::Pending);
+    check(&rt, "pending", second.poll(&mut other), Poll::Pending);
+    watch.replace(&rt, 'b');
+    watch.replace(&rt, 'c');
+    check_woken(&rt, &first, true);
+    check_woken(&rt, &second, true);
+    let (number, value) = (3, 'c');
+    let latest = Version { number, value };
+    check(&rt, "ready", first.poll(&mut one), Poll::Ready(Ok(latest)));
+    let polled = second.poll(&mut other);
+    check(&rt, "ready", polled, Poll::Ready(Ok(latest)));
+    check(&rt, "again", first.poll(&mut one), Poll::Pending);
+    let waited = watch.wait_newer(&rt, rt.alloc(), 2);
+    check(&rt, "waited", waited, Ok(latest));
 }

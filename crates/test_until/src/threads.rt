@@ -176,6 +176,9 @@ fn frees_and_then_wakes<R: Runtime + Threads + Sync + Send + Drop>(rt: &R) {
     wait_in_line(rt, &mut line, &task, Baton::take(&baton, rt, rt.alloc()));
     let take = Baton::take(&baton, rt, rt.alloc()).into_attempt();
     who_is_woken_succeeds(rt, &task, take, || drop(held));
+    for until in line {
+        check(rt, "failed", until.into_attempt().failed(), 2);
+    }
 }
 
 #[test]
