@@ -5,8 +5,8 @@
 //! - `limits`: a told listener gives its tag at once, without parking; a timed wait parks until its limit, and ends no
 //!   earlier and soon after it, by clocks that are slow, go back, fail, can't be read or notify; a task that polls is woken
 //!   only once its listener is told, and a finished listener does not wait.
-//! - `wakes`: a notification and the drop of a told listener wake parked threads; two threads tell each other in turn; a
-//!   thread is told before it looks for its listener, before it parks, as it does so, or after.
+//! - `wakes`: a notification and the drop of a told listener wake parked threads; a thread is told before it looks for its
+//!   listener, before it parks, as it does so, or after.
 //!
 //! `stage` is the event of a case, with the clock of its listeners, `trial` what a case makes its calls on, and `recorded`
 //! that of a recorded event, which each test closes with all its hands: their notes have to be those of its record.

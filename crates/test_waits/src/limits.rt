@@ -1,20 +1,18 @@
 //! When a wait ends, by the clock of its listener.
 use crate::stage::Habit::{self, Back, Exact, Fails, Notifies, Slow};
 use crate::stage::{AnyEvent, TIMED_WAITS, WAITS, check, ends_soon, greatest, limit, long, now};
-use crate::trial::{Case, Polled, Refusal, Trial, all};
-use event_listener::{Former, RecordedReply, RegisterResult};
+use crate::trial::{Case, Polled, Trial, all};
+use event_listener::{Former, RecordedReply, RegisterResult, WaitReason};
 use futures::task::Poll;
 use futures::test::MockTask;
 use std::sync::atomic::Ordering;
 use std::time::Duration;
 use test_support::WaitCall::{self, Deadline, GreatestTimeout, Timeout};
 
-// What a step of a wait answers: the listener was told with the tag 7, waits, or is gone; it leaves untold or told.
+// What a step of a wait answers: the listener was told with the tag 7, or waits; it leaves untold or told.
 const TOLD: RecordedReply<u32> = RecordedReply::Registered(RegisterResult::Notified(7));
 
 const WAITS_ON: RecordedReply<u32> = RecordedReply::Registered(RegisterResult::Registered);
-
-const GONE: RecordedReply<u32> = RecordedReply::Registered(RegisterResult::NeverInserted);
 
 const LEAVES: RecordedReply<u32> = RecordedReply::Removed(Some(Former::Task));
 
@@ -32,7 +30,6 @@ fn gives_its_tag<S: Trial>(trial: &S, wait: WaitCall, limit: Duration) {
     let (told, waiting) = (trial.listen(), trial.listen());
     trial.tell(1, 7);
     trial.waits(told, wait, limit, Some(7));
-    trial.noted(wait, &[TOLD]);
     trial.has_listeners(1);
     trial.waits(waiting, Timeout, Duration::ZERO, None);
     trial.has_listeners(0);
@@ -70,11 +67,10 @@ fn gives_one_tag<S: Trial>(trial: &S, task: &MockTask, wait: WaitCall, limit: Du
     trial.tell(1, 7);
     check(trial.rt(), "woken", task.is_woken(), true);
     polls(trial, task, &mut listener, Ok(Poll::Ready(7)));
-    let gone = Refusal::NeverInserted;
+    let gone = WaitReason::NeverInserted;
     polls(trial, task, &mut listener, Err(gone));
     let answer = trial.wait(listener, wait, limit);
     check(trial.rt(), wait, answer, Err(gone));
-    trial.noted(wait, &[WAITS_ON, WAITS_ON, TOLD, GONE, GONE]);
     trial.leave(behind);
     trial.has_listeners(0);
 }
@@ -92,7 +88,7 @@ fn a_task_is_woken_once_told_and_a_finished_listener_does_not_wait(rt: HostRunti
     all(&rt, Case::Polled);
 }
 
-pub fn ends_at_once<S: Trial>(trial: &S) {
+pub fn ends_by_its_clock<S: Trial>(trial: &S) {
     let rt = trial.rt();
     let (zero, ahead) = (Duration::ZERO, an_hour_ahead(trial));
     for (habit, wait, limit, tag, last_step) in [
@@ -116,21 +112,20 @@ pub fn ends_at_once<S: Trial>(trial: &S) {
         let answer = trial.wait(listener, wait, limit);
         check(rt, (habit, wait), answer, Ok(tag));
         ends_soon(rt, start);
-        trial.noted(wait, &[WAITS_ON, last_step]);
+        if let Some(steps) = trial.stage().event.last_steps(rt) {
+            let expected = [WAITS_ON, last_step];
+            check(rt, wait, steps.as_slice(), expected.as_slice());
+        }
         // Nothing was passed on.
         trial.stage().set(Exact);
         trial.waits(behind, Timeout, Duration::ZERO, None);
         trial.has_listeners(0);
     }
+    ends_by_any_clock(trial);
 }
 
-#[test]
-fn a_wait_ends_at_once_by_its_clock(rt: HostRuntime) {
-    all(&rt, Case::EndsAtOnce);
-}
-
-pub fn ends_by_any_clock<S: Trial>(trial: &S) {
-    // The first reading fails, or one of those between parks; or the clock goes back.
+// The first reading fails, or one of those between parks; or the clock goes back.
+fn ends_by_any_clock<S: Trial>(trial: &S) {
     for readings in 0..9 {
         let habit = if readings < 8 { Fails(readings) } else { Back };
         for wait in TIMED_WAITS {
@@ -144,8 +139,8 @@ pub fn ends_by_any_clock<S: Trial>(trial: &S) {
 }
 
 #[test]
-fn a_clock_that_goes_back_or_fails_ends_a_wait(rt: HostRuntime) {
-    all(&rt, Case::EndsByAnyClock);
+fn a_clock_that_shows_the_limit_goes_back_or_fails_ends_a_wait(rt: HostRuntime) {
+    all(&rt, Case::EndsByItsClock);
 }
 
 fn short() -> Duration {
@@ -161,8 +156,6 @@ fn time_of<S: Trial>(trial: &S, wait: WaitCall) -> Duration {
     taken
 }
 
-const PARKED_ONCE: [RecordedReply<u32>; 3] = [WAITS_ON, WAITS_ON, LEAVES];
-
 // Whether a wait parks once, and ends well before twice its time. One that looked at the time again and again would read
 // its clock thousands of times.
 fn parks_once<S: Trial>(trial: &S, wait: WaitCall) -> bool {
@@ -173,7 +166,8 @@ fn parks_once<S: Trial>(trial: &S, wait: WaitCall) -> bool {
     check(trial.rt(), (wait, reads), reads < 25, true);
     let steps = stage.event.last_steps(trial.rt());
     trial.has_listeners(0);
-    is_soon && steps.is_none_or(|steps| steps.as_slice() == PARKED_ONCE.as_slice())
+    let once = [WAITS_ON, WAITS_ON, LEAVES];
+    is_soon && steps.is_none_or(|steps| steps.as_slice() == once.as_slice())
 }
 
 pub fn parks_until_its_limit<S: Trial>(trial: &S) {

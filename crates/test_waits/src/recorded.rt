@@ -2,10 +2,12 @@
 ghost use Rattle.event_listener.specs.Noting.{Owns};
 
 use crate::stage::{AnyEvent, SharedRuntime, Stage, StageClock, check};
-use crate::trial::{Polled, Refusal, Trial, Waited, answered};
+use crate::trial::{Polled, Trial, Waited, answered};
 use calls::Reply;
 use calls_records::{HandCalls, On, close, new_event};
-use event_listener::{Hand, RecordedEvent, RecordedListener, RecordedPollError, RecordedReply};
+use event_listener::{
+    Hand, RecordedEvent, RecordedListener, RecordedPollError, RecordedReply, WaitReason,
+};
 use futures::task::Context;
 use std::sync::atomic::{AtomicUsize, Ordering};
 use std::sync::{Mutex, Wait};
@@ -132,8 +134,8 @@ impl<'a, R: SharedRuntime> Trial for OfRecorded<'a, R> {
     fn poll(&self, waiter: &mut Waiter<'a, R>, cx: &mut Context<'_>) -> Polled {
         match waiter.listener.poll_in(&mut waiter.hand, cx) {
             Ok(polled) => Ok(polled),
-            Err(RecordedPollError::NeverInserted) => Err(Refusal::NeverInserted),
-            Err(RecordedPollError::Memory) => Err(Refusal::Memory),
+            Err(RecordedPollError::NeverInserted) => Err(WaitReason::NeverInserted),
+            Err(RecordedPollError::Memory) => Err(WaitReason::Memory),
         }
     }
 

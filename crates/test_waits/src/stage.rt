@@ -59,11 +59,6 @@ pub fn ends_soon<R: Clock + Abort>(rt: &R, start: Duration) {
     check(rt, taken, taken < limit() / 2, true);
 }
 
-/// When threads that race from now on are through.
-pub fn end_of_race<R: Clock + Abort>(rt: &R) -> Duration {
-    now(rt).saturating_add(Duration::from_secs(2))
-}
-
 /// An event, recorded or not. Each call has to succeed.
 pub trait AnyEvent {
     /// Notifies listeners, and answers how many were told.

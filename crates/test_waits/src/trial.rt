@@ -2,7 +2,7 @@
 use crate::recorded::{OfRecorded, Recorded};
 use crate::stage::{AnyEvent, SharedRuntime, Stage, StageClock, check};
 use crate::{limits, wakes};
-use event_listener::{Event, EventIds, Listener, RecordedReply, WaitError};
+use event_listener::{Event, EventIds, Listener, WaitError, WaitReason};
 use futures::task::{Context, Poll};
 use std::marker::PhantomData;
 use std::time::Duration;
@@ -13,36 +13,23 @@ use test_support::{Borrowing, ListenerKind, Sharing, WaitCall, WithClock, deadli
 pub enum Case {
     Told,
     Polled,
-    EndsAtOnce,
-    EndsByAnyClock,
+    EndsByItsClock,
     Parks,
-    WokenByANotification,
-    WokenByADrop,
-    Turns,
+    Woken,
     ToldAsItParks,
 }
 
-/// Why a poll or a wait gave nothing.
-#[derive(Clone, Copy, Debug, PartialEq, Eq)]
-pub enum Refusal {
-    /// The listener is not in the queue.
-    NeverInserted,
-    /// Memory was refused.
-    Memory,
-}
-
 /// What a poll answered.
-pub type Polled = Result<Poll<u32>, Refusal>;
+pub type Polled = Result<Poll<u32>, WaitReason>;
 
 /// What a wait answered.
-pub type Waited = Result<Option<u32>, Refusal>;
+pub type Waited = Result<Option<u32>, WaitReason>;
 
 /// What a wait answered. The listener that comes back where memory was refused is dropped.
-pub fn answered<A, L: Drop>(reply: Result<A, WaitError<L>>) -> Result<A, Refusal> {
+pub fn answered<A, L: Drop>(reply: Result<A, WaitError<L>>) -> Result<A, WaitReason> {
     match reply {
         Ok(answer) => Ok(answer),
-        Err(WaitError::NeverInserted) => Err(Refusal::NeverInserted),
-        Err(WaitError::Memory(_)) => Err(Refusal::Memory),
+        Err(error) => Err(error.reason()),
     }
 }
 
@@ -83,13 +70,6 @@ pub trait Trial: Sync {
         check(self.rt(), (wait, limit), answer, Ok(tag));
     }
 
-    /// The steps of the wait that ended last had these answers, if they were noted.
-    fn noted(&self, wait: WaitCall, expected: &[RecordedReply<u32>]) {
-        if let Some(steps) = self.stage().event.last_steps(self.rt()) {
-            check(self.rt(), wait, steps.as_slice(), expected);
-        }
-    }
-
     /// So many listeners are in the queue.
     fn has_listeners(&self, expected: usize) {
         let total = self.stage().event.count_listeners(self.rt());
@@ -99,10 +79,11 @@ pub trait Trial: Sync {
 
 /// Runs a case with each kind of listener. A test calls this alone: each place that names the kinds is slow to prove.
 pub fn all<R: SharedRuntime>(rt: &R, case: Case) {
-    let stage = &Stage::new(rt, new_event(rt));
+    let id = || EventIds::new().next().expect(rt, "an identity");
+    let stage = &Stage::new(rt, Event::with_tag(id()));
     let kind: PhantomData<Sharing> = PhantomData;
     run(&OfKind { stage, kind }, case);
-    let stage = &Stage::new(rt, new_event(rt));
+    let stage = &Stage::new(rt, Event::with_tag(id()));
     let kind: PhantomData<Borrowing> = PhantomData;
     run(&OfKind { stage, kind }, case);
     let stage = Stage::new(rt, Recorded::new(rt, 5));
@@ -116,19 +97,11 @@ fn run<S: Trial>(trial: &S, case: Case) {
     match case {
         Case::Told => limits::gives_its_tag_at_once(trial),
         Case::Polled => limits::is_told_once(trial),
-        Case::EndsAtOnce => limits::ends_at_once(trial),
-        Case::EndsByAnyClock => limits::ends_by_any_clock(trial),
+        Case::EndsByItsClock => limits::ends_by_its_clock(trial),
         Case::Parks => limits::parks_until_its_limit(trial),
-        Case::WokenByANotification => wakes::are_woken_by_a_notification(trial),
-        Case::WokenByADrop => wakes::is_woken_by_a_drop(trial),
-        Case::Turns => wakes::tell_each_other(trial),
+        Case::Woken => wakes::are_woken(trial),
         Case::ToldAsItParks => wakes::is_told_as_it_parks(trial),
     }
-}
-
-/// A new event, the only one of its source.
-pub fn new_event<T, R: SharedRuntime>(rt: &R) -> Event<T> {
-    Event::with_tag(EventIds::new().next().expect(rt, "an identity"))
 }
 
 // An event that is not recorded, with one kind of listeners.
@@ -161,7 +134,7 @@ where
 
     fn poll(&self, listener: &mut L, cx: &mut Context<'_>) -> Polled {
         let polled = listener.poll_in(cx);
-        polled.map_err(|_| Refusal::NeverInserted)
+        polled.map_err(|_| WaitReason::NeverInserted)
     }
 
     fn wait(&self, listener: L, wait: WaitCall, limit: Duration) -> Waited {

@@ -1,15 +1,11 @@
-//! Threads that park, and what wakes them; threads that tell each other, or one another, again and again.
-use crate::stage::{
-    AnyEvent, SharedRuntime, WAITS, check, end_of_race, ends_soon, greatest, limit, now,
-};
-use crate::trial::{Case, Trial, all, answered, new_event};
-use event_listener::{Event, IntoTagged, Listener, NotifyError};
-use std::alloc::AllocError;
+//! Threads that park, and what wakes them; a thread that is told again and again, whatever it does by then.
+use crate::stage::{AnyEvent, WAITS, check, ends_soon, greatest, limit, now};
+use crate::trial::{Case, Trial, all};
 use std::sync::Wait;
-use std::sync::atomic::{AtomicBool, AtomicU32, Ordering};
+use std::sync::atomic::{AtomicU32, Ordering};
 use std::thread;
 use std::time::{Clock, CpuClock, Duration};
-use test_support::{Borrowing, ListenerKind, Runtime, Sharing, WaitCall, spin_until};
+use test_support::{WaitCall, spin_until};
 
 // Long enough for other threads to park meanwhile. A thread that isn't parked yet needs nobody to wake it.
 fn a_while() -> Duration {
@@ -56,21 +52,11 @@ where
     trial.has_listeners(0);
 }
 
-pub fn are_woken_by_a_notification<S: Trial>(trial: &S) {
+pub fn are_woken<S: Trial>(trial: &S) {
     for wait in WAITS {
         are_woken_by(trial, 1, wait, limit(), || trial.tell(1, 7));
         are_woken_by(trial, 1, wait, greatest(trial.rt()), || trial.tell(1, 7));
         are_woken_by(trial, 3, wait, limit(), || trial.tell(3, 7));
-    }
-}
-
-#[test]
-fn a_notification_wakes_one_parked_thread_or_three(rt: HostRuntime) {
-    all(&rt, Case::WokenByANotification);
-}
-
-pub fn is_woken_by_a_drop<S: Trial>(trial: &S) {
-    for wait in WAITS {
         let told = trial.listen();
         trial.tell(1, 7);
         are_woken_by(trial, 1, wait, limit(), || trial.leave(told));
@@ -78,112 +64,22 @@ pub fn is_woken_by_a_drop<S: Trial>(trial: &S) {
 }
 
 #[test]
-fn the_drop_of_a_told_listener_wakes_a_parked_thread(rt: HostRuntime) {
-    all(&rt, Case::WokenByADrop);
-}
-
-// A tag of which one clone is made: each further one is refused.
-#[derive(Drop)]
-struct Once {
-    is_given: AtomicBool,
-}
-
-impl Clone for Once {
-    fn clone(&self) -> Result<Self, AllocError> {
-        if self.is_given.swap(true, Ordering::SeqCst) {
-            return Err(AllocError);
-        }
-        let is_given = AtomicBool::new(true);
-        Ok(Once { is_given })
-    }
-}
-
-// The first listener is told, and the one behind it is refused a tag.
-fn is_woken_where_a_tag_is_refused<L, R>(rt: &R, event: &Event<Once>, first: L)
-where
-    L: Listener<Once> + Drop,
-    R: SharedRuntime,
-{
-    let start = now(rt);
-    let (_, waited) = thread::join(
-        rt,
-        || {
-            rt.sleep(a_while());
-            let is_given = AtomicBool::new(false);
-            let answer = event.notify(rt, 2.tag(Once { is_given }));
-            check(rt, "notify", answer, Err(NotifyError { told: 1 }));
-        },
-        || answered(first.wait_timeout(limit())),
-    );
-    ends_soon(rt, start);
-    check(rt, "wait", matches!(waited, Ok(Some(_))), true);
-}
-
-fn listen<'ev, K: ListenerKind<'ev, Once, R>, R: Runtime>(
-    rt: &R,
-    event: &'ev Event<Once>,
-) -> K::Listener {
-    K::listen(rt, rt.alloc(), event).expect(rt, "a listener")
-}
-
-#[test]
-fn a_thread_told_before_a_tag_is_refused_is_woken(rt: HostRuntime) {
-    let event = new_event(&rt);
-    let first = listen::<Sharing, _>(&rt, &event);
-    let second = listen::<Borrowing, _>(&rt, &event);
-    let _third = listen::<Sharing, _>(&rt, &event);
-    is_woken_where_a_tag_is_refused(&rt, &event, first);
-    is_woken_where_a_tag_is_refused(&rt, &event, second);
+fn a_notification_and_the_drop_of_a_told_listener_wake_parked_threads(rt: HostRuntime) {
+    all(&rt, Case::Woken);
 }
 
 // The tag of the last round of a race. The others have the tag 7.
 const LAST: u32 = 8;
 
-// Waits to be told, and answers whether that was the last time.
-fn is_last<S: Trial>(trial: &S, listener: S::Listener, wait: WaitCall) -> bool {
-    let answer = trial.wait(listener, wait, limit());
-    let tag = if answer == Ok(Some(LAST)) { LAST } else { 7 };
-    check(trial.rt(), wait, answer, Ok(Some(tag)));
-    tag == LAST
-}
-
-// One of two players waits to be told by the other, and tells it, until the time of one is over. It listens for its next
-// round before it tells the other, whose listener is the first of the two in the queue.
-fn play<S: Trial>(trial: &S, first: S::Listener) {
-    let (rt, mut listener) = (trial.rt(), first);
-    let end = end_of_race(rt);
-    for _ in rt.forever() {
-        if is_last(trial, listener, WaitCall::Deadline) {
-            return;
-        }
-        listener = trial.listen();
-        let tag = if now(rt) < end { 7 } else { LAST };
-        trial.tell(1, tag);
-        if tag == LAST {
-            trial.leave(listener);
-            return;
-        }
-    }
-}
-
-pub fn tell_each_other<S: Trial>(trial: &S) {
-    let (first, second) = (trial.listen(), trial.listen());
-    trial.tell(1, 7);
-    thread::join(trial.rt(), || play(trial, first), || play(trial, second));
-}
-
-#[test]
-fn two_threads_tell_each_other_in_turn(rt: HostRuntime) {
-    all(&rt, Case::Turns);
-}
-
 // Waits again and again, and shows the other thread in which round it begins to listen.
 fn wait_again<S: Trial>(trial: &S, wait: WaitCall, reached: &AtomicU32) {
     for _ in trial.rt().forever() {
         reached.fetch_add(1, Ordering::SeqCst);
-        if is_last(trial, trial.listen(), wait) {
+        let answer = trial.wait(trial.listen(), wait, limit());
+        if answer == Ok(Some(LAST)) {
             return;
         }
+        check(trial.rt(), wait, answer, Ok(Some(7)));
     }
 }
 
@@ -191,7 +87,7 @@ fn wait_again<S: Trial>(trial: &S, wait: WaitCall, reached: &AtomicU32) {
 // half of the rounds that is a little later, and later in each than in the one before.
 fn tell_again<S: Trial>(trial: &S, reached: &AtomicU32) {
     let rt = trial.rt();
-    let end = end_of_race(rt);
+    let end = now(rt).saturating_add(Duration::from_secs(2));
     for round in 1..u32::MAX {
         let tag = if now(rt) < end { 7 } else { LAST };
         spin_until(rt, || reached.load(Ordering::SeqCst) >= round);
@@ -206,7 +102,7 @@ fn tell_again<S: Trial>(trial: &S, reached: &AtomicU32) {
 }
 
 pub fn is_told_as_it_parks<S: Trial>(trial: &S) {
-    for wait in [WaitCall::UntilTold, WaitCall::Timeout] {
+    for wait in [WaitCall::UntilTold, WaitCall::Timeout, WaitCall::Deadline] {
         let reached = AtomicU32::new(0);
         let tell = || tell_again(trial, &reached);
         thread::join(trial.rt(), tell, || wait_again(trial, wait, &reached));
