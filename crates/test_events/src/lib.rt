@@ -1,20 +1,21 @@
 //! Tests of events, listeners and recorded events by their public calls: what no clause says of who is told, with which
-//! tag, and in which order tasks wake; of how listeners are made and what they show; of the lock of an event; and of the
-//! hands of a recorded event. No clause can name what a lock held, so these show that a call asked the queue at all, that
-//! the drop of a listener is recorded, and that `close` returns a record where the notes are right.
+//! tag, and in which order tasks wake; of how listeners are made and what they show; of the lock of an event; of tasks that
+//! await listeners; and of recorded events. No clause can name what a lock held, so these show that a call asked the queue
+//! at all.
 //!
 //! | Module | What it tests |
 //! |---|---|
-//! | `rows`, as text | what each call answers, which tasks wake, and what the record has of it; both kinds of listeners in one queue; serial numbers that are used up |
-//! | `lists`, as text that a loop writes | how many listeners each notifying call tells, and which; that none is kept for the first listener; the order of a thousand wakes |
+//! | `rows`, as text | which wakers a poll keeps; serial numbers that are used up; that a record is compared |
+//! | `lists`, as text that a loop writes | how many listeners each notifying call tells, and which; that none is kept for the first listener |
 //! | `tags` | tags that are refused |
 //! | `locks` | what is called while the lock of an event is held, by its thread and by another; threads that race to make the queue |
 //! | `making` | the macro `listener!`; slots; what is shown; what threads may share; listeners that outlive their event |
-//! | `hands` | more hands than memory holds; an event that is closed with the hand of a namesake, whose notes are the same |
+//! | `awaited` | how often tasks are polled that await listeners, and move between threads |
+//! | `records` | more hands than memory holds; each call of a recorded state succeeds |
 //!
-//! Events are tested with both kinds of listener. Records alone, and tasks that await, are tested in `test_records`, waits
-//! in `test_waits`, and refused memory in `test_memory`. Not tested: a recorded queue whose serial numbers are used up. None
-//! can start late, since its record replays from the serial 0.
+//! Events are tested with both kinds of listener. Waits are tested in `test_waits`, and refused memory in `test_memory`; `fuzz`
+//! compares all calls that need no second thread, and their records, with a queue. Not tested: a recorded queue whose serial
+//! numbers are used up. None can start late, since its record replays from the serial 0.
 //!
 //! What is calls and answers is text, in the language of `calls`, which costs the prover nothing. Any other test of both kinds
 //! is a `Case`. To be proved quickly, calls that have to succeed end in `expect`, in helpers: a `?`, or a condition of several
@@ -22,13 +23,15 @@
 #![tactic(auto)]
 
 #[cfg(test)]
-mod hands;
+mod awaited;
 #[cfg(test)]
 mod lists;
 #[cfg(test)]
 mod locks;
 #[cfg(test)]
 mod making;
+#[cfg(test)]
+mod records;
 #[cfg(test)]
 mod rows;
 #[cfg(test)]

@@ -1,4 +1,4 @@
-//! Lists of calls that loops write: how many listeners a notification tells, and which, and in which order their tasks wake.
+//! Lists of calls that loops write: how many listeners a notification tells, and which.
 use crate::support::{Runtime, run_lines};
 
 // Listeners with the numbers from the first one on come.
@@ -11,23 +11,21 @@ fn listen<R: Runtime>(rt: &R, lines: &mut String, first: usize, end: usize) {
 // Of the listeners of an event the first are told, and the others wait. A notification tells of those as many as it counts:
 // an additional one does not count those that were told before. None is kept for a listener that comes.
 fn tells<R: Runtime>(rt: &R, kind: &str, told: usize, waiting: usize, count: usize) {
+    let all = told.wrapping_add(waiting);
+    let counted = if kind.starts_with('a') { 0 } else { told };
+    let newly = count.saturating_sub(counted).min(waiting);
+    let all_told = told.wrapping_add(newly);
     let mut lines = String::new(rt.alloc());
     write!(lines, "notify 2 {kind} -> told 0\n").expect(rt, "room");
     listen(rt, &mut lines, 0, told);
     write!(lines, "notify max a by name -> told {told}\n").expect(rt, "room");
-    let all = told.wrapping_add(waiting);
     listen(rt, &mut lines, told, all);
-    let counted = if kind.starts_with('a') { 0 } else { told };
-    let newly = count.saturating_sub(counted).min(waiting);
-    let is_told = told.max(newly) > 0;
     write!(lines, "notify {count} {kind} -> told {newly}\n").expect(rt, "room");
-    write!(
-        lines,
-        "total -> total {all}\nisnotified -> isnotified {is_told}\n"
-    )
-    .expect(rt, "room");
+    write!(lines, "total -> total {all}\n").expect(rt, "room");
+    let is_told = all_told > 0;
+    write!(lines, "isnotified -> isnotified {is_told}\n").expect(rt, "room");
     for number in 0..all {
-        let is_told = number < told.wrapping_add(newly);
+        let is_told = number < all_told;
         write!(lines, "discard {number} -> discarded {is_told}\n").expect(rt, "room");
     }
     run_lines(rt, "event", lines.as_str());
@@ -44,22 +42,4 @@ fn a_notification_tells_the_first_who_wait_and_no_more_than_it_counts(rt: HostRu
             }
         }
     }
-}
-
-// One notification wakes all of them under the lock. Where a task is kept, the end of the call comes too early.
-#[test]
-fn tasks_wake_in_order_of_listening(rt: HostRuntime) {
-    let (mut calls, mut end) = (String::new(rt.alloc()), String::new(rt.alloc()));
-    for n in 0..1_000 {
-        write!(calls, "listen -> listener {n}\npoll {n} {n} -> pending\n").expect(&rt, "room");
-    }
-    calls
-        .push_str("notify max d -> told 1000 wakes")
-        .expect(&rt, "room");
-    for n in 0..1_000 {
-        write!(calls, " {n}").expect(&rt, "room");
-        write!(end, "\ndrop {n} -> dropped").expect(&rt, "room");
-    }
-    write!(calls, "{end}\ntotal -> total 0\n").expect(&rt, "room");
-    run_lines(&rt, "event", calls.as_str());
 }

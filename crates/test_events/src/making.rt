@@ -2,8 +2,7 @@
 use crate::support::{Runtime, check, discard, has_listeners, new_event, shows};
 use event_listener::{
     CloseError, Event, EventIds, EventListener, IntoTagged, ListenError, Listener, NeverInserted,
-    NotifyError, RecordError, RecordedPollError, StackListener, StackSlot, WaitError, WaitReason,
-    listener,
+    NotifyError, RecordError, RecordedPollError, StackSlot, WaitError, WaitReason, listener,
 };
 use futures::task::Poll;
 use futures::test::MockTask;
@@ -63,13 +62,26 @@ fn two_listeners_in_one_body_are_polled_by_their_names(rt: HostRuntime) {
     has_listeners(&rt, &event, 0, false);
 }
 
+fn counted<T>(times: &Cell<u32>, value: T) -> T {
+    times.set(times.get().saturating_add(1));
+    value
+}
+
 // A place, a reference and an `Arc`: each is a listener of that event. Two of them have the names of variables in the
-// macro's own body, and keep them.
-fn of_each<R: Runtime>(runtime: &R, alloc: Global) -> Result<[bool; 3], ListenError> {
+// macro's own body, and keep them. The first leaves the block of its slot. How often the macro evaluates what it is given
+// there is counted.
+fn of_each<R: Runtime>(
+    runtime: &R,
+    alloc: Global,
+    times: &Cell<u32>,
+) -> Result<[bool; 3], ListenError> {
     let event: Event<u32> = new_event(runtime);
     let rt = &event;
     let slot = Arc::new(alloc, new_event::<u32, R>(runtime)).expect(runtime, "an event");
-    listener!(runtime, alloc; event => of_place);
+    let of_place = {
+        listener!(counted(times, runtime), counted(times, alloc); *counted(times, rt) => made);
+        made
+    };
     listener!(runtime, alloc; rt => of_reference);
     listener!(runtime, alloc; slot => of_shared);
     let of_reference = of_reference.listens_to(rt);
@@ -78,36 +90,11 @@ fn of_each<R: Runtime>(runtime: &R, alloc: Global) -> Result<[bool; 3], ListenEr
 }
 
 #[test]
-fn an_event_is_a_place_a_reference_or_an_arc_of_any_name(rt: HostRuntime) {
-    let listens = of_each(&rt, rt.alloc());
+fn an_event_is_a_place_a_reference_or_an_arc_and_evaluated_once(rt: HostRuntime) {
+    let times = Cell::new(0);
+    let listens = of_each(&rt, rt.alloc(), &times);
     check(&rt, "whether they listen", listens, Ok([true; 3]));
-}
-
-fn counted<T>(times: &Cell<u32>, value: T) -> T {
-    times.set(times.get().saturating_add(1));
-    value
-}
-
-// How often the macro evaluates its runtime, its allocator and its event. The slot ends here, and the listener goes on.
-fn made<'ev, R: Wait + Clock + Clone>(
-    rt: &R,
-    alloc: Global,
-    event: &'ev Event<()>,
-) -> Result<([u32; 3], StackListener<'ev, (), R>), ListenError> {
-    let (runtimes, allocators, events) = (Cell::new(0), Cell::new(0), Cell::new(0));
-    listener!(counted(&runtimes, rt), counted(&allocators, alloc); *counted(&events, event) => made);
-    Ok(([runtimes.get(), allocators.get(), events.get()], made))
-}
-
-// There is one serial number left, so a second listening would be refused.
-#[test]
-fn the_macro_listens_once_and_its_listener_may_move(rt: HostRuntime) {
-    let id = EventIds::new().next().expect(&rt, "an identity");
-    let event = Event::starting_at(rt.alloc(), id, u64::MAX - 1).expect(&rt, "an event");
-    let (times, listener) = made(&rt, rt.alloc(), &event).expect(&rt, "a listener");
-    check(&rt, "how often each is evaluated", times, [1, 1, 1]);
-    check(&rt, "told", event.notify_relaxed(&rt, 1), 1);
-    discard(&rt, listener, true);
+    check(&rt, "evaluations of three", times.get(), 3);
 }
 
 fn sharing<T: Drop, R: Runtime>(rt: &R, event: &Event<T>) -> EventListener<T, R> {
@@ -116,19 +103,6 @@ fn sharing<T: Drop, R: Runtime>(rt: &R, event: &Event<T>) -> EventListener<T, R>
 
 fn new_slot<'ev, T: Drop, R: Runtime>(rt: &R, event: &'ev Event<T>) -> StackSlot<'ev, T> {
     StackSlot::new(rt, rt.alloc(), event).expect(rt, "a slot")
-}
-
-fn is_shared_by_threads<T: Send + Sync>(_: &T) {}
-
-// A cell may be sent and not shared, and tags need no more.
-#[test]
-fn tags_that_may_be_sent_are_enough(rt: HostRuntime) {
-    let event: Event<Cell<u8>> = new_event(&rt);
-    let slot = new_slot(&rt, &event);
-    is_shared_by_threads(&event);
-    is_shared_by_threads(&slot);
-    is_shared_by_threads(&slot.listen(&rt).expect(&rt, "a listener"));
-    is_shared_by_threads(&sharing(&rt, &event));
 }
 
 // The value has this text for debugging where that takes several lines.
@@ -152,33 +126,37 @@ impl<T, R: Wait> fmt::Write for Asking<'_, T, R> {
     }
 }
 
-// A tag that shows nothing of itself.
+// A tag that shows nothing of itself. It may be sent and not shared, and tags need no more.
 #[derive(Drop)]
-struct Silent;
+struct Silent(Cell<u8>);
 
-const EMPTY: &str = "Event { listeners_notified: 0, listeners_total: 0 }";
-
-const TOLD: &str = "Event { listeners_notified: 2, listeners_total: 3 }";
-
-const TOLD_OVER_LINES: &str = "Event {\n    listeners_notified: 2,\n    listeners_total: 3,\n}";
+fn is_shared_by_threads<T: Send + Sync>(_: &T) {}
 
 // A slot changes nothing until it listens.
-fn show<R: Runtime>(rt: &R, event: &Event<Silent>) {
+fn show<R: Runtime + Send + Sync>(rt: &R, event: &Event<Silent>) {
     shows(rt, event, "Event(<uninitialized>)");
     shows_over_lines(rt, event, "Event(\n    <uninitialized>,\n)");
+    is_shared_by_threads(event);
     let (slot, unused) = (new_slot(rt, event), new_slot(rt, event));
     shows(rt, &slot, "StackSlot { .. }");
-    shows(rt, event, EMPTY);
-    check(rt, "told", event.notify(rt, 1.tag_with(|| Silent)), Ok(0));
+    is_shared_by_threads(&slot);
+    let text = "Event { listeners_notified: 0, listeners_total: 0 }";
+    shows(rt, event, text);
+    let tag = || Silent(Cell::new(0));
+    check(rt, "told", event.notify(rt, 1.tag_with(tag)), Ok(0));
     let stacked = slot.listen(rt).expect(rt, "a listener");
     drop(unused);
     has_listeners(rt, event, 1, false);
     shows(rt, &stacked, "StackListener { .. }");
+    is_shared_by_threads(&stacked);
     let (second, _third) = (sharing(rt, event), sharing(rt, event));
     shows(rt, &second, "EventListener { .. }");
-    check(rt, "told", event.notify(rt, 2.tag_with(|| Silent)), Ok(2));
-    shows(rt, event, TOLD);
-    shows_over_lines(rt, event, TOLD_OVER_LINES);
+    is_shared_by_threads(&second);
+    check(rt, "told", event.notify(rt, 2.tag_with(tag)), Ok(2));
+    let text = "Event { listeners_notified: 2, listeners_total: 3 }";
+    shows(rt, event, text);
+    let text = "Event {\n    listeners_notified: 2,\n    listeners_total: 3,\n}";
+    shows_over_lines(rt, event, text);
     // An event is written with its lock free.
     let found = 0;
     let mut writer = Asking { rt, event, found };
@@ -187,7 +165,7 @@ fn show<R: Runtime>(rt: &R, event: &Event<Silent>) {
 }
 
 #[test]
-fn events_slots_and_listeners_show_their_names_and_counts(rt: HostRuntime) {
+fn events_slots_and_listeners_are_shared_and_show_their_names(rt: HostRuntime) {
     show(&rt, &new_event(&rt));
 }
 
@@ -212,12 +190,8 @@ fn refusals_say_what_was_refused(rt: HostRuntime) {
         a tag was refused after 2 listeners; listener is not in the queue; no memory for a parker; \
         no memory for the record; serial numbers are used up; listener is not in the queue; \
         no memory for the record; hands are missing; notes differ from the record";
-    check(
-        &rt,
-        "the texts",
-        shown.expect(&rt, "a text").as_str(),
-        expected,
-    );
+    let shown = shown.expect(&rt, "a text");
+    check(&rt, "the texts", shown.as_str(), expected);
 }
 
 // The event is dropped while three listeners stand in its queue.

@@ -30,32 +30,23 @@ pub fn made<'t, R: Runtime>(rt: &R, row: Row<'t>) -> Result<(), Difference<'t>> 
     }
 }
 
-/// A row did not differ.
-pub fn holds<R: Abort>(rt: &R, made: Result<(), Difference<'_>>) {
-    if let Err(difference) = made {
-        panic!(rt; "{difference}");
-    }
-}
-
 /// The row holds.
 pub fn run<R: Runtime>(rt: &R, row: Row<'_>) {
-    holds(rt, made(rt, row));
-}
-
-/// The row of these lines.
-pub fn row_of<'t>(subject: &'t str, lines: &'t str) -> Row<'t> {
-    Row {
-        number: 0,
-        title: "",
-        subject,
-        kind: "",
-        lines,
+    if let Err(difference) = made(rt, row) {
+        panic!(rt; "{difference}");
     }
 }
 
 /// These lines hold.
 pub fn run_lines<R: Runtime>(rt: &R, subject: &str, lines: &str) {
-    run(rt, row_of(subject, lines));
+    let row = Row {
+        number: 0,
+        title: "",
+        subject,
+        kind: "",
+        lines,
+    };
+    run(rt, row);
 }
 
 /// The value has this text for debugging.

@@ -1,9 +1,11 @@
-//! Notifications with tags that are refused.
-use crate::support::{Runtime, check, discard, has_listeners, listen};
-use event_listener::{Event, IntoTagged, NotifyError};
+//! A notification whose tag is refused.
+use crate::support::{Runtime, check, discard, has_listeners, new_event};
+use event_listener::{Event, IntoTagged, Listener, NotifyError};
 use std::alloc::AllocError;
 use std::cell::Cell;
-use test_support::{Case, Trial, both};
+use std::thread::{self, Threads};
+use std::time::Duration;
+use test_support::{Borrowing, ListenerKind, Sharing, answered};
 
 // A tag that can be cloned so many times. Its clones can't be cloned.
 #[derive(Debug, Drop)]
@@ -11,17 +13,12 @@ struct Refusing {
     clones_left: Cell<u8>,
 }
 
-fn with_clones(clones_left: u8) -> Refusing {
-    Refusing {
-        clones_left: Cell::new(clones_left),
-    }
-}
-
 impl Clone for Refusing {
     fn clone(&self) -> Result<Self, AllocError> {
         let left = self.clones_left.get().checked_sub(1).ok_or(AllocError)?;
         self.clones_left.set(left);
-        Ok(with_clones(0))
+        let clones_left = Cell::new(0);
+        Ok(Refusing { clones_left })
     }
 }
 
@@ -31,48 +28,57 @@ fn notify_three<R: Runtime>(
     event: &Event<Refusing>,
     clones: u8,
 ) -> Result<usize, NotifyError> {
-    event.notify(rt, 3.tag(with_clones(clones)))
+    let clones_left = Cell::new(clones);
+    event.notify(rt, 3.tag(Refusing { clones_left }))
 }
 
-// Three wait. Of the first notification so many are told, and it is refused. Of the second the others are told.
-fn tells_then<R: Runtime, S: Trial<Tag = Refusing, Runtime = R>>(trial: &S, clones: u8) {
-    let (rt, event) = (trial.rt(), trial.event());
-    let (first, second, third) = (listen(trial), listen(trial), listen(trial));
-    let told = usize::from(clones);
-    let refused = notify_three(rt, event, clones);
-    check(rt, "refused", refused, Err(NotifyError { told }));
-    has_listeners(rt, event, 3, told > 0);
-    let others = notify_three(rt, event, 3);
-    check(rt, "the others", others, Ok(3usize.saturating_sub(told)));
-    discard(rt, first, true);
+// Of three who wait the first parks its thread. That is woken, though the second is refused a tag. Later notifications
+// begin with the second.
+fn skips_nobody<L, R>(rt: &R, event: &Event<Refusing>, first: L, second: L, third: L)
+where
+    L: Listener<Refusing> + Drop,
+    R: Runtime + Threads + Sync,
+{
+    let told = Err(NotifyError { told: 0 });
+    check(rt, "no tag", notify_three(rt, event, 0), told);
+    has_listeners(rt, event, 3, false);
+    let (refused, waited) = thread::join(
+        rt,
+        || {
+            rt.sleep(Duration::from_millis(100));
+            notify_three(rt, event, 1)
+        },
+        || answered(first.wait()).is_ok(),
+    );
+    check(rt, "one tag", refused, Err(NotifyError { told: 1 }));
+    check(rt, "whether it has it", waited, true);
+    has_listeners(rt, event, 2, false);
+    check(rt, "the others", notify_three(rt, event, 3), Ok(2));
     discard(rt, second, true);
     discard(rt, third, true);
 }
 
-struct RefusedClones;
-
-impl<R: Runtime> Case<R> for RefusedClones {
-    type Tag = Refusing;
-
-    fn run<S: Trial<Tag = Refusing, Runtime = R>>(trial: &S) {
-        for clones in 0..3 {
-            tells_then(trial, clones);
-        }
-        let (rt, event) = (trial.rt(), trial.event());
-        let (first, second, third) = (listen(trial), listen(trial), listen(trial));
-        let refused = notify_three(rt, event, 1);
-        check(rt, "refused", refused, Err(NotifyError { told: 1 }));
-        // The tag of the first can't be cloned, and is passed on.
-        drop(first);
-        has_listeners(rt, event, 2, true);
-        let refused = notify_three(rt, event, 0);
-        check(rt, "refused", refused, Err(NotifyError { told: 0 }));
-        discard(rt, second, true);
-        discard(rt, third, false);
-    }
+fn listen<'ev, K: ListenerKind<'ev, Refusing, R>, R: Runtime>(
+    rt: &R,
+    event: &'ev Event<Refusing>,
+) -> K::Listener {
+    K::listen(rt, rt.alloc(), event).expect(rt, "a listener")
 }
 
 #[test]
-fn a_refused_clone_skips_nobody_and_a_tag_is_passed_on_without_one(rt: HostRuntime) {
-    both::<RefusedClones, _>(&rt);
+fn a_refused_clone_skips_nobody_and_who_was_told_before_is_woken(rt: HostRuntime) {
+    let event = new_event(&rt);
+    let (first, second) = (
+        listen::<Sharing, _>(&rt, &event),
+        listen::<Sharing, _>(&rt, &event),
+    );
+    let third = listen::<Sharing, _>(&rt, &event);
+    skips_nobody(&rt, &event, first, second, third);
+    let event = new_event(&rt);
+    let (first, second) = (
+        listen::<Borrowing, _>(&rt, &event),
+        listen::<Borrowing, _>(&rt, &event),
+    );
+    let third = listen::<Borrowing, _>(&rt, &event);
+    skips_nobody(&rt, &event, first, second, third);
 }

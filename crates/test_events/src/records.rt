@@ -1,8 +1,24 @@
-//! The state of a recorded event, alone: its calls succeed. What they do then, clauses say, and that records replay exactly
-//! where they are a run of a queue.
+//! Recorded events: more hands than memory holds, and the state alone, whose calls succeed. What they do then, clauses say,
+//! and that records replay exactly where they are a run of a queue.
 use crate::support::{Runtime, check};
-use event_listener::{RecordedReply, RecordedState, StepCall, Task, Woken, replays};
+use event_listener::{
+    EventIds, RecordError, RecordedEvent, RecordedReply, RecordedState, StepCall, Task, Woken,
+    replays,
+};
 use test_support::any_waker;
+
+// The hands of worked row 52. Each refusal uses an identity up.
+#[test]
+fn more_hands_than_memory_holds_are_refused(rt: HostRuntime) {
+    let mut ids = EventIds::new();
+    for hands in [usize::MAX, usize::MAX - 1] {
+        let id = ids.next().expect(&rt, "an identity");
+        let refusal = RecordedEvent::<u32>::new(rt.alloc(), id, hands).err();
+        check(&rt, hands, refusal, Some(RecordError::Memory));
+    }
+    let next = ids.next().expect(&rt, "an identity");
+    check(&rt, "number", next.number(), 2);
+}
 
 fn apply<R: Runtime>(
     rt: &R,
@@ -38,7 +54,6 @@ fn each_call_of_a_state_succeeds_and_is_recorded(rt: HostRuntime) {
         apply(&rt, &mut state, call, &mut woken);
     }
     check(&rt, "woken", woken.tasks().len(), 1);
-    check(&rt, "entries", state.entries().len(), 6);
     let answer = replays(rt.alloc(), state.entries());
     check(&rt, "replays", answer, Ok(true));
 }
