@@ -44,14 +44,16 @@ impl Recorded {
         self.hands.lock(rt).push(hand).expect(rt, "room for a hand");
     }
 
-    /// Closes the event. Its record has to agree with the notes of all hands, and to have each drop of a listener.
+    /// Closes the event by its hands, in any order. Its record has to have their notes, and each drop of a listener.
     pub fn close<R: Runtime>(self, rt: &R) {
         let Recorded {
             event,
             hands,
             dropped,
         } = self;
-        let closed = close(event, hands.into_inner()).expect(rt, "hands of the event");
+        let mut hands = hands.into_inner();
+        hands.reverse();
+        let closed = close(event, hands).expect(rt, "hands of the event");
         let record = closed.expect(rt, "a record");
         let entries = record.entries().iter();
         let ends = entries.filter(|entry| entry.hand.is_none()).count();
