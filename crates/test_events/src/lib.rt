@@ -1,7 +1,6 @@
-//! Tests of events, listeners and recorded events by their public calls: what no clause says of who is told, with which
-//! tag, and in which order tasks wake; of how listeners are made and what they show; of the lock of an event; of tasks that
-//! await listeners; and of recorded events. No clause can name what a lock held, so these show that a call asked the queue
-//! at all.
+//! Tests of events, listeners and recorded events by their public calls: what no clause says of who is told, and which wakers a
+//! poll keeps; of how listeners are made and what they show; of the lock of an event; of tasks that await listeners; and of
+//! recorded events. No clause can name what a lock held: these show that a call asked the queue at all.
 //!
 //! | Module | What it tests |
 //! |---|---|

@@ -22,8 +22,7 @@ fn tells<R: Runtime>(rt: &R, kind: &str, told: usize, waiting: usize, count: usi
     listen(rt, &mut lines, told, all);
     write!(lines, "notify {count} {kind} -> told {newly}\n").expect(rt, "room");
     write!(lines, "total -> total {all}\n").expect(rt, "room");
-    let is_told = all_told > 0;
-    write!(lines, "isnotified -> isnotified {is_told}\n").expect(rt, "room");
+    write!(lines, "isnotified -> isnotified {}\n", all_told > 0).expect(rt, "room");
     for number in 0..all {
         let is_told = number < all_told;
         write!(lines, "discard {number} -> discarded {is_told}\n").expect(rt, "room");
