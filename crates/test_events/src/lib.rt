@@ -12,7 +12,7 @@
 //! | `awaited` | how often tasks are polled that await listeners, and move between threads |
 //! | `records` | more hands than memory holds; each call of a recorded state succeeds |
 //!
-//! Events are tested with both kinds of listener. Waits are tested in `test_waits`, and refused memory in `test_memory`; `fuzz`
+//! Events are tested with both kinds of listener. Waits are tested in `test_waits`, and refused memory in `test_memory`; `soak`
 //! compares all calls that need no second thread, and their records, with a queue. Not tested: a recorded queue whose serial
 //! numbers are used up. None can start late, since its record replays from the serial 0.
 //!

@@ -119,6 +119,4 @@ fn a_watch_gives_its_latest_value_to_all(rt: HostRuntime) {
     let polled = second.poll(&mut other);
     check(&rt, "ready", polled, Poll::Ready(Ok(latest)));
     check(&rt, "again", first.poll(&mut one), Poll::Pending);
-    let waited = watch.wait_newer(&rt, rt.alloc(), 2);
-    check(&rt, "waited", waited, Ok(latest));
 }

@@ -1,6 +1,4 @@
 //! Threads that call at once, half of them by futures.
-ghost use Rattle.std.specs.Prelude.{◌≡◌};
-
 use crate::support::{check, new_id, new_task};
 use event_until::{Attempt, Until, UntilError};
 use example_events::until::{Baton, Gate, OwnedBaton, Watch};
@@ -24,14 +22,6 @@ struct Counted<'a, F> {
     polls: &'a AtomicUsize,
 }
 
-impl<'a, F: Future> Counted<'a, F> {
-    fn new(future: F, polls: &'a AtomicUsize) -> Self
-        ensures { result.future ≡ future }
-    {
-        Counted { future, polls }
-    }
-}
-
 impl<F: Future> Future for Counted<'_, F> {
     type Output = F::Output;
 
@@ -53,11 +43,11 @@ fn take<R: Runtime + Drop>(
     polls: &AtomicUsize,
     thread: usize,
 ) -> Result<OwnedBaton<R>, UntilError> {
-    let mut take = Baton::take(baton, rt, rt.alloc());
+    let mut future = Baton::take(baton, rt, rt.alloc());
     if thread % 2 == 0 {
-        take.wait()?
+        future.wait()?
     } else {
-        block_on(rt, Counted::new(take, polls)).expect(rt, "an executor")?
+        block_on(rt, Counted { future, polls }).expect(rt, "an executor")?
     }
 }
 
