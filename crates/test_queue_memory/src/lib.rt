@@ -3,12 +3,11 @@
 //!
 //! - `hooks`: [`Refusing`] refuses each request for memory in its turn, [`Starving`] each that must not be made.
 //! - `memory`: a hog refuses every request until it is dropped; a budget grants what it says, and no more.
-//! - `refusals`, as text, by the hooks: each request for memory is refused in its turn, and what has to stand does, the same
-//!   call is granted with memory, and all other answers are those of the row; and each call that is to take no memory has none.
 //! - `queue`: what is dropped within a call, and with the queue, which gives every node back; 100,000 listeners, which leave in
 //!   three orders, and whose slots are used again; texts.
 //!
-//! What calls of a queue answer, and how many visits they count, clauses say, and worked rows show.
+//! What calls of a queue answer, and how many visits they count, clauses say, and worked rows show, with memory refused
+//! in the tests of `vectors`.
 //!
 //! Under `rt try --test`, which brings an allocator of its own, a hog and a budget are refused, and the tests that have one
 //! fail.
@@ -21,8 +20,6 @@ mod hooks;
 mod memory;
 #[cfg(test)]
 mod queue;
-#[cfg(test)]
-mod refusals;
 #[cfg(test)]
 mod support;
 

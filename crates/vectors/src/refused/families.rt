@@ -33,6 +33,60 @@ notify 1 a -> told 1 wakes 2
 notify 1 a -> told 1 missed 1
 ";
 
+// Rows on queues in which a call is starved: it has no memory at all.
+const RESERVED: &str = "
+Room that was made in advance serves.
+row 45 list
+reserve 3 -> ok
+has_room 3 -> true
+starved listen -> listener 0
+starved listen -> listener 1
+starved listen -> listener 2
+serial 0 -> number 0
+serial 1 -> number 1
+serial 2 -> number 2
+
+Used-up serials are refused before memory, and take no room.
+row 49 list
+start 18446744073709551615 -> ok
+starved listen -> used up
+has_room 1 -> false
+starved reserve 1 -> no memory
+reserve 1 -> ok
+has_room 2 -> false
+starved listen -> used up
+has_room 1 -> true
+starved reserve 1 -> ok
+
+Each call but a growth, with all memory taken.
+row 0 list tags
+room 8 -> ok
+reserve 4 -> ok
+starved listen -> listener 0
+starved remove 0 1 -> removed created
+starved listen -> listener 1
+serial 1 -> number 1
+starved poll 1 1 -> pending
+starved listen -> listener 2
+serial 2 -> number 2
+starved poll 2 2 -> pending
+starved listen -> listener 3
+serial 3 -> number 3
+starved poll 3 3 -> pending
+starved notify 2 d 7 -> told 2 wakes 1 2
+starved remove 1 1 -> removed lost d 7
+starved listen -> listener 4
+serial 4 -> number 4
+starved poll 4 4 -> pending
+starved notify 1 a 7 -> told 1 wakes 3
+starved poll 2 5 -> ready 7
+starved remove 3 1 -> removed passed 4 wakes 4
+starved told 4 -> true
+starved poll 3 5 -> finished
+starved total -> total 1
+starved isnotified -> isnotified true
+";
+
 // Each call is the first of its hand, which has no room for a note, and those of the first three rows are the first of their
 // event, whose record has no room for an entry. What a refused call leaves shows in its answer with memory, and in the record.
 const RECORDED: &str = "
@@ -114,7 +168,10 @@ fn refuse_each<R: Runtime + Abort>(rt: &R, hook: &mut Refusing, text: &'static s
 fn starve_each<R: Runtime + Abort>(rt: &R, family: Family<'_>) {
     let mut hook = Starving::new(new_budget(rt));
     let mut rows = 0usize;
-    while let Some(row) = Row::nth(family.text, rows) {
+    for place in 0..usize::MAX {
+        let Some(row) = Row::nth(family.text, place) else {
+            break;
+        };
         if let Err(difference) = run(row, rt, &mut hook) {
             panic!(rt; "{difference}");
         }
@@ -126,8 +183,8 @@ fn starve_each<R: Runtime + Abort>(rt: &R, family: Family<'_>) {
     check(rt, hook.starved, hook.starved >= family.starved, true);
 }
 
-// Each call that asks for memory is refused where the rows are printed, too.
-fn check_family<R: Runtime + Abort>(rt: &R, family: Family<'_>) {
+// Answers how many calls may ask for memory.
+fn check_family<R: Runtime + Abort>(rt: &R, family: Family<'_>) -> usize {
     let mut hook = Refusing::new(new_budget(rt));
     let asking = refuse_each(rt, &mut hook, family.text);
     for (request, least) in family.requests.iter() {
@@ -136,6 +193,12 @@ fn check_family<R: Runtime + Abort>(rt: &R, family: Family<'_>) {
     }
     drop(hook);
     starve_each(rt, family);
+    asking
+}
+
+// Each call that asks for memory is refused where the rows are printed, too.
+fn check_printed<R: Runtime + Abort>(rt: &R, family: Family<'_>) {
+    let asking = check_family(rt, family);
     check(rt, "printed", print_refused(rt, family.text), Ok(asking));
 }
 
@@ -155,7 +218,7 @@ fn rows_on_a_queue(rt: HostRuntime) {
         starved: 78,
         requests: &requests,
     };
-    check_family(&rt, family);
+    check_printed(&rt, family);
 }
 
 // With two kinds of listeners: 23 rows make one, and three have two waits.
@@ -168,7 +231,7 @@ fn rows_on_an_event(rt: HostRuntime) {
         starved: 296,
         requests: &[(Request::Listener, 46), (Request::Parker, 12)],
     };
-    check_family(&rt, family);
+    check_printed(&rt, family);
 }
 
 // Three rows make an event. Two of them make calls, and ask of their record whether it replays. Three records that were
@@ -186,7 +249,7 @@ fn rows_on_a_recorded_event(rt: HostRuntime) {
             (Request::Replay, 5),
         ],
     };
-    check_family(&rt, family);
+    check_printed(&rt, family);
 }
 
 #[test]
@@ -198,7 +261,7 @@ fn other_rows(rt: HostRuntime) {
         starved: 8,
         requests: &[(Request::SlotInRun, 1), (Request::Slot, 1)],
     };
-    check_family(&rt, family);
+    check_printed(&rt, family);
 }
 
 // Each row makes a world, and each schedule of its lines takes no memory.
@@ -210,6 +273,19 @@ fn rows_on_worlds(rt: HostRuntime) {
         calls: 82,
         starved: 60,
         requests: &[(Request::World, 22)],
+    };
+    check_printed(&rt, family);
+}
+
+// Four calls may ask for memory: the reservations that are not starved, and the room of a sink.
+#[test]
+fn rows_on_a_queue_with_room(rt: HostRuntime) {
+    let family = Family {
+        text: RESERVED,
+        rows: 3,
+        calls: 42,
+        starved: 38,
+        requests: &[(Request::Slot, 3), (Request::Sink, 1)],
     };
     check_family(&rt, family);
 }
