@@ -5,16 +5,16 @@
 //! | Module | What it tests |
 //! |---|---|
 //! | `rows`, as text | which wakers a poll keeps; serial numbers that are used up; that a record is compared |
-//! | `lists`, as text that a loop writes | how many listeners each notifying call tells, and which; that none is kept for the first listener |
 //! | `tags` | tags that are refused |
 //! | `locks` | what is called while the lock of an event is held, by its thread and by another; threads that race to make the queue |
 //! | `making` | the macro `listener!`; slots; what is shown; what threads may share; listeners that outlive their event |
 //! | `awaited` | how often tasks are polled that await listeners, and move between threads |
 //! | `records` | more hands than memory holds; each call of a recorded state succeeds |
 //!
-//! Events are tested with both kinds of listener. Waits are tested in `test_waits`, and refused memory in `test_memory`; `soak`
-//! compares all calls that need no second thread, and their records, with a queue. Not tested: a recorded queue whose serial
-//! numbers are used up. None can start late, since its record replays from the serial 0.
+//! Events are tested with both kinds of listener. How many each notification tells, worked rows and `soak` show, which compares
+//! all calls that need no second thread, and their records, with a queue. Waits are tested in `test_waits`, and refused memory
+//! in `test_memory`. Not tested: a recorded queue whose serial numbers are used up. None can start late, since its record
+//! replays from the serial 0.
 //!
 //! What is calls and answers is text, in the language of `calls`, which costs the prover nothing. Any other test of both kinds
 //! is a `Case`. To be proved quickly, calls that have to succeed end in `expect`, in helpers: a `?`, or a condition of several
@@ -23,8 +23,6 @@
 
 #[cfg(test)]
 mod awaited;
-#[cfg(test)]
-mod lists;
 #[cfg(test)]
 mod locks;
 #[cfg(test)]
