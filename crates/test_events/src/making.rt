@@ -9,6 +9,7 @@ use futures::test::MockTask;
 use std::alloc::{AllocGlobal, Global};
 use std::cell::Cell;
 use std::fmt::{self, Debug, Write};
+use std::mem;
 use std::process::Abort;
 use std::sync::{Arc, Wait};
 use std::time::Clock;
@@ -194,10 +195,16 @@ fn refusals_say_what_was_refused(rt: HostRuntime) {
     check(&rt, "the texts", shown.as_str(), expected);
 }
 
-// The event is dropped while three listeners stand in its queue.
+// The event is dropped while listeners stand in its queue. One that borrowed it is forgotten, and its task is woken as the
+// queue is dropped.
 fn outlive<R: Runtime>(rt: &R, event: Event<u32>) {
     let (first, mut second) = (sharing(rt, &event), sharing(rt, &event));
     let mut third = sharing(rt, &event);
+    let mut forgotten = new_slot(rt, &event).listen(rt).expect(rt, "a listener");
+    let task = MockTask::new(rt).expect(rt, "a task");
+    let polled = task.enter(|cx| forgotten.poll_in(cx));
+    check(rt, "the last", polled, Ok(Poll::Pending));
+    mem::forget(forgotten);
     check(rt, "told", event.notify(rt, 1.tag(7)), Ok(1));
     drop(event);
     let polled = third.poll(any_waker(rt).expect(rt, "a waker"));
@@ -208,6 +215,9 @@ fn outlive<R: Runtime>(rt: &R, event: Event<u32>) {
     let polled = second.poll(any_waker(rt).expect(rt, "a waker"));
     check(rt, "the second", polled, Ok(Poll::Ready(7)));
     discard(rt, third, false);
+    check(rt, "with the second", task.is_woken(), false);
+    drop(second);
+    check(rt, "with the last share", task.is_woken(), true);
 }
 
 #[test]
