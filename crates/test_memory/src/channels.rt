@@ -1,30 +1,31 @@
 //! What channels leave where memory is refused: a message is in the channel or comes back, and is never lost.
-use crate::support::{Answer, Runtime, all_memory, check, count_refused, leave, new_task};
+use crate::support::{Answer, Runtime, Starved, all_memory, check, count_refused, leave, new_task};
 use event_channel::{
-    LockError, Receiver, RecvError, RecvTimeoutError, SendError, SendReason, Sender, TryRecvError,
-    bounded, unbounded,
+    ChannelError, LockError, Receiver, RecvError, RecvTimeoutError, SendError, SendReason, Sender,
+    TryRecvError, bounded, unbounded,
 };
 use event_listener::ListenError;
 use futures::StreamExt;
 use futures::task::Poll;
 use std::alloc::AllocError;
+use std::cell::Cell;
 use std::time::Duration;
 use test_queue_memory::Budget;
 
-const NO_PLACE: LockError = LockError::Listen(ListenError::Memory);
+const LISTENING: LockError = LockError::Listen(ListenError::Memory);
 
-const NO_PARKER: LockError = LockError::Memory(AllocError);
+const NO_MEMORY: LockError = LockError::Memory(AllocError);
 
 const MAX: Duration = Duration::MAX;
 
-// A channel in which so many messages may wait, and all that it has room for do, from 0 on.
-fn full<R: Runtime>(rt: &R, capacity: usize) -> (Sender<usize, R>, Receiver<usize, R>) {
-    let made = bounded(rt, rt.alloc(), capacity);
-    let (sender, receiver) = made.expect(rt, "a channel");
-    for message in 0..capacity {
-        check(rt, "a send", sender.try_send(message), Ok(()));
+type Sides<R> = (Sender<usize, R>, Receiver<usize, R>);
+
+// A channel of numbers, with this capacity or without a limit.
+fn make<R: Runtime>(rt: &R, capacity: Option<usize>) -> Result<Sides<R>, ChannelError> {
+    match capacity {
+        Some(capacity) => bounded(rt, rt.alloc(), capacity),
+        None => unbounded(rt, rt.alloc()),
     }
-    (sender, receiver)
 }
 
 // The call is refused for this reason.
@@ -32,10 +33,10 @@ fn refused<A: Answer, E: Answer, R: Runtime>(rt: &R, answer: Result<A, E>, refus
     check(rt, "a refusal", answer, Err(refusal));
 }
 
-// The send is refused for this reason, and hands the message back.
-fn unsent<A: Answer, R: Runtime>(rt: &R, sent: Result<A, SendError<usize>>, reason: SendReason) {
-    let message = 7;
-    refused(rt, sent, SendError { message, reason });
+fn sends<R: Runtime>(rt: &R, sender: &Sender<usize, R>, messages: &[usize]) {
+    for message in messages {
+        check(rt, "a send", sender.try_send(*message), Ok(()));
+    }
 }
 
 // These messages wait, and no others. They are taken out.
@@ -46,162 +47,211 @@ fn are_left<R: Runtime>(rt: &R, receiver: &Receiver<usize, R>, messages: &[usize
     refused(rt, receiver.try_recv(), TryRecvError::Empty);
 }
 
-// A first wait with so many bytes, which counts the places in the queue that are refused.
-fn waits<R: Runtime>(rt: &R, places: &mut usize, budget: &mut Budget, bytes: usize) -> bool {
-    let (sender, receiver) = full(rt, 1);
-    leave(rt, budget, bytes);
-    // It has time to enter the queue, also on a machine that is busy.
-    let sent = sender.send_timeout(7, Duration::from_millis(500));
-    budget.give_back();
-    are_left(rt, &receiver, &[0]);
-    let SendError { message, reason } = sent.expect_err(rt, "room for a message");
-    check(rt, "the message", message, 7);
-    let SendReason::WaitFailed(refusal) = reason else {
-        check(rt, "the reason", reason, SendReason::TimedOut);
-        return true;
-    };
-    if refusal == NO_PLACE {
-        *places = places.saturating_add(1);
-    } else {
-        check(rt, "the refusal", refusal, NO_PARKER);
+fn unsent(message: usize, reason: SendReason) -> SendError<usize> {
+    SendError { message, reason }
+}
+
+// Without memory each send that would block is refused what its thread parks on, and hands the message back.
+fn sends_are_refused<R: Runtime>(rt: &R, sender: &Sender<usize, R>) {
+    let refusal = unsent(7, SendReason::WaitFailed(NO_MEMORY));
+    refused(rt, sender.send_blocking(7), refusal);
+    let refusal = unsent(8, SendReason::WaitFailed(NO_MEMORY));
+    refused(rt, sender.send_timeout(8, MAX), refusal);
+}
+
+// It notes whether a place in the queue was refused.
+#[derive(Drop)]
+struct FirstWait<'a, R> {
+    rt: &'a R,
+    needs_place: &'a Cell<bool>,
+}
+
+impl<R: Runtime> Starved for FirstWait<'_, R> {
+    fn is_granted(&self, budget: &mut Budget, bytes: usize) -> bool {
+        let rt = self.rt;
+        let (sender, receiver) = make(rt, Some(1)).expect(rt, "a channel");
+        sends(rt, &sender, &[0]);
+        leave(rt, budget, bytes);
+        // It has time to enter the queue, also on a machine that is busy.
+        let sent = sender.send_timeout(7, Duration::from_millis(500));
+        budget.give_back();
+        are_left(rt, &receiver, &[0]);
+        let SendError { message, reason } = sent.expect_err(rt, "room for a message");
+        check(rt, "the message", message, 7);
+        let SendReason::WaitFailed(refusal) = reason else {
+            check(rt, "the reason", reason, SendReason::TimedOut);
+            return true;
+        };
+        if refusal == LISTENING {
+            self.needs_place.set(true);
+        } else {
+            check(rt, "the refusal", refusal, NO_MEMORY);
+        }
+        false
     }
-    false
 }
 
 #[test]
 fn each_request_of_a_first_wait_is_refused(rt: HostRuntime) {
-    let mut places = 0;
-    let refused = count_refused(&rt, |budget, bytes| waits(&rt, &mut places, budget, bytes));
-    check(&rt, "whether some are refused", refused > 0, true);
-    check(&rt, "whether a place is", places > 0, true);
+    let rt = &rt;
+    let needs_place = &Cell::new(false);
+    let refused = count_refused(rt, &FirstWait { rt, needs_place });
+    check(rt, "whether some are refused", refused > 0, true);
+    check(rt, "whether a place is", needs_place.get(), true);
 }
 
-// A send that would block is refused what its thread parks on. One that is polled is refused a place in the queue, or
-// waits if a place is there, which an earlier send made, for which it had time.
 #[test]
 fn a_send_that_cannot_wait_hands_back(rt: HostRuntime) {
     let rt = &rt;
-    for has_place in [false, true] {
-        let (sender, receiver) = full(rt, 2);
-        if has_place {
-            let timed_out = sender.send_timeout(7, Duration::from_millis(500));
-            unsent(rt, timed_out, SendReason::TimedOut);
-        }
-        let (task, mut sending) = (new_task(rt), sender.send(7));
-        let hog = all_memory(rt);
-        let reason = SendReason::WaitFailed(NO_PARKER);
-        unsent(rt, sender.send_blocking(7), reason);
-        unsent(rt, sender.send_timeout(7, MAX), reason);
-        match task.poll(&mut sending) {
-            Poll::Ready(answer) => {
-                check(rt, "whether it waits", has_place, false);
-                unsent(rt, answer, SendReason::WaitFailed(NO_PLACE));
-                drop(hog);
-                are_left(rt, &receiver, &[0, 1]);
-            }
-            Poll::Pending => {
-                check(rt, "whether it waits", has_place, true);
-                check(rt, "a receive", receiver.try_recv(), Ok(0));
-                let polled = task.poll(&mut sending);
-                check(rt, "the poll after it", polled, Poll::Ready(Ok(())));
-                drop(hog);
-                are_left(rt, &receiver, &[1, 7]);
-            }
-        }
-    }
+    let (sender, receiver) = make(rt, Some(2)).expect(rt, "a channel");
+    sends(rt, &sender, &[0, 1]);
+    let task = new_task(rt);
+    let hog = all_memory(rt);
+    sends_are_refused(rt, &sender);
+    let polled = task.poll(&mut sender.send(9));
+    let refusal = unsent(9, SendReason::WaitFailed(LISTENING));
+    check(rt, "a poll", polled, Poll::Ready(Err(refusal)));
+    drop(hog);
+    are_left(rt, &receiver, &[0, 1]);
 }
 
-// The same of receives. Polls made the places that are there.
+// A first send makes a place in the queue, for which it has time. One that waits there needs no memory.
+#[test]
+fn a_send_at_a_place_that_is_there_waits(rt: HostRuntime) {
+    let rt = &rt;
+    let (sender, receiver) = make(rt, Some(2)).expect(rt, "a channel");
+    sends(rt, &sender, &[0, 1]);
+    let task = new_task(rt);
+    let timed_out = sender.send_timeout(5, Duration::from_millis(500));
+    refused(rt, timed_out, unsent(5, SendReason::TimedOut));
+    let mut sending = sender.send(9);
+    let hog = all_memory(rt);
+    sends_are_refused(rt, &sender);
+    let Poll::Pending = task.poll(&mut sending) else {
+        panic!(rt; "there is no room");
+    };
+    check(rt, "a receive", receiver.try_recv(), Ok(0));
+    let polled = task.poll(&mut sending);
+    check(rt, "the poll after it", polled, Poll::Ready(Ok(())));
+    drop(hog);
+    are_left(rt, &receiver, &[1, 9]);
+}
+
+// Without memory each receive that would block is refused what its thread parks on.
+fn receives_are_refused<R: Runtime>(rt: &R, receiver: &Receiver<usize, R>) {
+    let refusal = RecvError::WaitFailed(NO_MEMORY);
+    refused(rt, receiver.recv_blocking(), refusal);
+    let refusal = RecvTimeoutError::WaitFailed(NO_MEMORY);
+    refused(rt, receiver.recv_timeout(MAX), refusal);
+}
+
 #[test]
 fn a_receive_that_cannot_wait_loses_nothing(rt: HostRuntime) {
     let rt = &rt;
-    for has_place in [false, true] {
-        let (sender, receiver) = full(rt, 3);
-        are_left(rt, &receiver, &[0, 1, 2]);
-        let (task, mut many) = (new_task(rt), Vec::new(rt.alloc()));
-        let mut stream = receiver.clone().expect(rt, "a receiver");
-        let mut receiving = receiver.recv();
-        if has_place {
-            check(rt, "a poll", task.poll(&mut receiving), Poll::Pending);
-            check(rt, "no item", task.poll(&mut stream.next()), Poll::Pending);
-            check(rt, "a send", sender.try_send(6), Ok(()));
-            let polled = task.poll(&mut receiving);
-            check(rt, "a poll", polled, Poll::Ready(Ok(6)));
-        }
-        let hog = all_memory(rt);
-        let refusal = RecvError::WaitFailed(NO_PARKER);
-        refused(rt, receiver.recv_blocking(), refusal);
-        let timed = receiver.recv_timeout(MAX);
-        refused(rt, timed, RecvTimeoutError::WaitFailed(NO_PARKER));
-        let item = receiver.iter().next();
-        check(rt, "an item", item, Some(Err(NO_PARKER)));
-        let (polled, item) = if has_place {
-            (Poll::Pending, Poll::Pending)
-        } else {
-            let refusal = RecvError::WaitFailed(NO_PLACE);
-            (Poll::Ready(Err(refusal)), Poll::Ready(Some(Err(NO_PLACE))))
-        };
-        check(rt, "a poll", task.poll(&mut receiving), polled);
-        check(rt, "an item", task.poll(&mut stream.next()), item);
-        for message in [7, 8, 5] {
-            check(rt, "a send", sender.try_send(message), Ok(()));
-        }
-        // An item that says so is not the end of the stream.
-        let item = task.poll(&mut stream.next());
-        check(rt, "an item", item, Poll::Ready(Some(Ok(7))));
-        let polled = task.poll(&mut receiving);
-        check(rt, "a poll", polled, Poll::Ready(Ok(8)));
-        refused(rt, receiver.recv_many(&mut many, 2), refusal);
-        are_left(rt, &receiver, &[5]);
-        drop(hog);
-        let polled = task.poll(&mut receiving);
-        check(rt, "a poll with memory", polled, Poll::Pending);
-    }
+    let (sender, receiver) = make(rt, Some(2)).expect(rt, "a channel");
+    let task = new_task(rt);
+    let mut stream = receiver.clone().expect(rt, "a receiver");
+    let mut many = Vec::new(rt.alloc());
+    let mut receiving = receiver.recv();
+    let hog = all_memory(rt);
+    receives_are_refused(rt, &receiver);
+    let refusal = RecvError::WaitFailed(LISTENING);
+    let polled = task.poll(&mut receiving);
+    check(rt, "a poll", polled, Poll::Ready(Err(refusal)));
+    // An item that says so is not the end of the stream.
+    let item = task.poll(&mut stream.next());
+    check(rt, "an item", item, Poll::Ready(Some(Err(LISTENING))));
+    let item = Poll::Ready(receiver.iter().next());
+    check(rt, "an item", item, Poll::Ready(Some(Err(NO_MEMORY))));
+    sends(rt, &sender, &[5]);
+    let refusal = RecvError::WaitFailed(NO_MEMORY);
+    refused(rt, receiver.recv_many(&mut many, 2), refusal);
+    are_left(rt, &receiver, &[5]);
+    drop(hog);
+    let polled = task.poll(&mut receiving);
+    check(rt, "a poll with memory", polled, Poll::Pending);
+}
+
+// Two polls make places in the queue. A receive that waits there needs no memory, nor does one that takes such a place.
+#[test]
+fn a_receive_at_a_place_that_is_there_waits(rt: HostRuntime) {
+    let rt = &rt;
+    let (sender, receiver) = make(rt, Some(2)).expect(rt, "a channel");
+    let task = new_task(rt);
+    let mut stream = receiver.clone().expect(rt, "a receiver");
+    let mut receiving = receiver.recv();
+    let polled = task.poll(&mut receiving);
+    check(rt, "a poll", polled, Poll::Pending);
+    let item = task.poll(&mut stream.next());
+    check(rt, "no item", item, Poll::Pending);
+    sends(rt, &sender, &[6]);
+    let polled = task.poll(&mut receiving);
+    check(rt, "a poll", polled, Poll::Ready(Ok(6)));
+    let hog = all_memory(rt);
+    receives_are_refused(rt, &receiver);
+    let item = task.poll(&mut stream.next());
+    check(rt, "no item", item, Poll::Pending);
+    sends(rt, &sender, &[7, 8]);
+    let item = task.poll(&mut stream.next());
+    check(rt, "an item", item, Poll::Ready(Some(Ok(7))));
+    let polled = task.poll(&mut receiving);
+    check(rt, "a poll", polled, Poll::Ready(Ok(8)));
+    drop(hog);
+    are_left(rt, &receiver, &[]);
 }
 
 // Room for one message is there, and room for more is refused.
 #[test]
 fn many_without_room_for_more_are_one(rt: HostRuntime) {
-    let (sender, receiver) = full(&rt, 3);
-    let mut many = Vec::with_capacity(rt.alloc(), 1).expect(&rt, "room");
-    let hog = all_memory(&rt);
-    let count = receiver.recv_many(&mut many, 3);
+    let rt = &rt;
+    let (sender, receiver) = make(rt, Some(64)).expect(rt, "a channel");
+    for message in 0..64 {
+        sends(rt, &sender, &[message]);
+    }
+    let mut many = Vec::with_capacity(rt.alloc(), 1).expect(rt, "room");
+    let hog = all_memory(rt);
+    let count = receiver.recv_many(&mut many, 64);
     drop(hog);
-    check(&rt, "how many are received", count, Ok(1));
-    check(&rt, "them", many.as_slice(), [0].as_slice());
-    check(&rt, "how many are left", sender.len(), 2);
-    are_left(&rt, &receiver, &[1, 2]);
+    check(rt, "how many are received", count, Ok(1));
+    check(rt, "them", many.as_slice(), [0].as_slice());
+    check(rt, "how many are left", receiver.len(), 63);
+    for message in 1..64 {
+        check(rt, "the next", receiver.try_recv(), Ok(message));
+    }
 }
 
 // A message that was not taken in wakes nobody, and comes back. Those before it are all there.
 #[test]
 fn a_send_that_finds_no_memory_hands_back(rt: HostRuntime) {
     let rt = &rt;
-    let (sender, receiver) = unbounded(rt, rt.alloc()).expect(rt, "a channel");
+    let (sender, receiver) = make(rt, None).expect(rt, "a channel");
     let (task, other) = (new_task(rt), new_task(rt));
     let mut receiving = receiver.recv();
     check(rt, "a poll", task.poll(&mut receiving), Poll::Pending);
     let hog = all_memory(rt);
-    unsent(rt, sender.try_send(7), SendReason::Memory);
-    unsent(rt, sender.force_send(7), SendReason::Memory);
-    unsent(rt, sender.send_blocking(7), SendReason::Memory);
-    unsent(rt, sender.send_timeout(7, MAX), SendReason::Memory);
-    let Poll::Ready(sent) = other.poll(&mut sender.send(7)) else {
-        panic!(rt; "it waits");
-    };
-    unsent(rt, sent, SendReason::Memory);
+    refused(rt, sender.try_send(6), unsent(6, SendReason::Memory));
+    refused(rt, sender.force_send(5), unsent(5, SendReason::Memory));
+    refused(rt, sender.send_blocking(7), unsent(7, SendReason::Memory));
+    refused(
+        rt,
+        sender.send_timeout(8, MAX),
+        unsent(8, SendReason::Memory),
+    );
+    let polled = other.poll(&mut sender.send(9));
+    let refusal = Poll::Ready(Err(unsent(9, SendReason::Memory)));
+    check(rt, "a poll", polled, refusal);
     drop(hog);
     check(rt, "whether it was woken", task.is_woken(), false);
     check(rt, "messages", sender.len(), 0);
     drop(receiving);
 
-    check(rt, "a send", sender.try_send(0), Ok(()));
+    sends(rt, &sender, &[0]);
     let hog = all_memory(rt);
     let mut sent = 1usize;
     for _ in 1..1000 {
         sent = sent.saturating_add(usize::from(sender.try_send(sent).is_ok()));
     }
-    unsent(rt, sender.try_send(7), SendReason::Memory);
+    refused(rt, sender.try_send(sent), unsent(sent, SendReason::Memory));
     drop(hog);
     check(rt, "messages", sender.len(), sent);
     for message in 0..sent {
@@ -214,13 +264,12 @@ fn a_send_that_finds_no_memory_hands_back(rt: HostRuntime) {
 #[test]
 fn calls_that_need_no_memory(rt: HostRuntime) {
     let rt = &rt;
-    let (sender, receiver) = full(rt, 2);
-    are_left(rt, &receiver, &[0, 1]);
+    let (sender, receiver) = make(rt, Some(2)).expect(rt, "a channel");
     let task = new_task(rt);
     let hog = all_memory(rt);
-    check(rt, "a send", sender.try_send(1), Ok(()));
+    sends(rt, &sender, &[1]);
     check(rt, "a send", sender.send_blocking(2), Ok(()));
-    unsent(rt, sender.try_send(7), SendReason::Full);
+    refused(rt, sender.try_send(9), unsent(9, SendReason::Full));
     check(rt, "a send by force", sender.force_send(3), Ok(Some(1)));
     check(rt, "one more", sender.force_send(1), Ok(Some(2)));
     check(rt, "a receive", receiver.recv_blocking(), Ok(3));
@@ -233,6 +282,10 @@ fn calls_that_need_no_memory(rt: HostRuntime) {
     let cloned = sender.clone().is_ok() && receiver.clone().is_ok();
     check(rt, "clones", cloned, true);
     check(rt, "whether it was open", sender.close(), true);
-    unsent(rt, sender.send_timeout(7, MAX), SendReason::Closed);
+    refused(
+        rt,
+        sender.send_timeout(8, MAX),
+        unsent(8, SendReason::Closed),
+    );
     drop(hog);
 }

@@ -1,7 +1,7 @@
 //! Locks that are held, and semaphores whose permits are taken, while their callers are refused memory, and the example
 //! programs.
 use crate::support::{
-    Answer, Runtime, all_memory, check, count_refused, leave, new_budget, new_id, new_task,
+    Answer, Runtime, Starved, all_memory, check, count_refused, leave, new_budget, new_id, new_task,
 };
 use example_events::meeting::{MeetingError, wait_for_setter};
 use example_locks::{
@@ -13,8 +13,33 @@ use std::time::Duration;
 use test_queue_memory::Budget;
 use test_support::{any_waker, waker_of};
 
+// Whether it was given. There is no answer where memory was refused.
+fn is_given<G: Drop, E: Answer, R: Runtime>(
+    rt: &R,
+    answer: Result<Option<G>, E>,
+    no_memory: E,
+) -> Option<bool> {
+    match answer {
+        Ok(given) => Some(given.is_some()),
+        Err(refusal) => {
+            check(rt, "the refusal", refusal, no_memory);
+            None
+        }
+    }
+}
+
+fn poll<R: Runtime>(rt: &R, lock: &mut PolledLock<'_, u64, R>, waker: Waker) -> Option<bool> {
+    match lock.poll(waker) {
+        Ok(polled) => Some(polled.is_ready()),
+        Err(refusal) => {
+            check(rt, "the refusal", refusal, MutexError::Memory);
+            None
+        }
+    }
+}
+
 // The calls that wait: two that end at their limit, and a poll.
-#[derive(Clone, Copy, Debug, PartialEq, Eq)]
+#[derive(Clone, Copy, Debug)]
 enum Call {
     Lock,
     Acquire,
@@ -38,34 +63,18 @@ impl<R: Runtime> Wanted<'_, R> {
         }
     }
 
-    // Whether it was given. There is no answer where memory was refused.
-    fn is_given<E: Answer>(&self, answer: Result<bool, E>, no_memory: E) -> Option<bool> {
-        match answer {
-            Ok(is_given) => Some(is_given),
-            Err(refusal) => {
-                check(self.rt, "the refusal", refusal, no_memory);
-                None
-            }
-        }
-    }
-
-    fn poll(&self, lock: &mut PolledLock<'_, u64, R>, waker: Waker) -> Option<bool> {
-        let polled = lock.poll(waker).map(|polled| polled.is_ready());
-        self.is_given(polled, MutexError::Memory)
-    }
-
     fn make(&self, call: Call, waker: Waker) -> Option<bool> {
         let (rt, alloc, now) = (self.rt, self.rt.alloc(), Duration::ZERO);
         match call {
             Call::Lock => {
-                let given = self.mutex.lock_timeout(rt, alloc, now);
-                self.is_given(given.map(|it| it.is_some()), MutexError::Memory)
+                let answer = self.mutex.lock_timeout(rt, alloc, now);
+                is_given(rt, answer, MutexError::Memory)
             }
             Call::Acquire => {
-                let given = self.permits.acquire_timeout(rt, alloc, now);
-                self.is_given(given.map(|it| it.is_some()), SemaphoreError::Memory)
+                let answer = self.permits.acquire_timeout(rt, alloc, now);
+                is_given(rt, answer, SemaphoreError::Memory)
             }
-            Call::Poll => self.poll(&mut self.mutex.polled_lock(rt, alloc), waker),
+            Call::Poll => poll(rt, &mut self.mutex.polled_lock(rt, alloc), waker),
         }
     }
 
@@ -81,52 +90,61 @@ impl<R: Runtime> Wanted<'_, R> {
         budget.give_back();
         let (mut next, task) = (self.mutex.polled_lock(rt, rt.alloc()), new_task(rt));
         let waker = waker_of(&task).expect(rt, "a waker");
-        check(rt, call, self.poll(&mut next, waker), Some(false));
+        check(rt, call, poll(rt, &mut next, waker), Some(false));
         drop(lock);
         drop(permit);
         check(rt, "whether it is woken", task.is_woken(), true);
         let waker = waker_of(&task).expect(rt, "a waker");
-        check(rt, call, self.poll(&mut next, waker), Some(true));
+        check(rt, call, poll(rt, &mut next, waker), Some(true));
         answer
     }
 }
 
-// Refuses each request of a call on what is taken, for which somebody has waited before if there is to be a slot in its queue.
-fn refuse_each<R: Runtime>(rt: &R, call: Call, has_slot: bool) -> usize {
-    count_refused(
-        rt,
-        |budget, bytes| is_in_vain(rt, call, has_slot, budget, bytes),
-    )
-}
-
-fn is_in_vain<R: Runtime>(
-    rt: &R,
+// A call on what is taken, for which somebody has waited before if there is to be a slot in its queue.
+#[derive(Drop)]
+struct InVain<'a, R> {
+    rt: &'a R,
     call: Call,
     has_slot: bool,
-    budget: &mut Budget,
-    bytes: usize,
-) -> bool {
-    let wanted = Wanted::new(rt, 1);
-    if has_slot {
-        let answer = wanted.make_in_vain(call, budget, Budget::MOST);
-        check(rt, call, answer, Some(false));
-    }
-    let answer = wanted.make_in_vain(call, budget, bytes);
-    if answer.is_none() {
-        let again = wanted.make_in_vain(call, budget, Budget::MOST);
-        check(rt, call, again, Some(false));
-    }
-    answer.is_some()
 }
 
-// Where there is a slot, only what the thread parks on is asked for. A task waits without a parker.
+impl<R: Runtime> Starved for InVain<'_, R> {
+    fn is_granted(&self, budget: &mut Budget, bytes: usize) -> bool {
+        let (rt, call, wanted) = (self.rt, self.call, Wanted::new(self.rt, 1));
+        if self.has_slot {
+            let answer = wanted.make_in_vain(call, budget, Budget::MOST);
+            check(rt, call, answer, Some(false));
+        }
+        let answer = wanted.make_in_vain(call, budget, bytes);
+        if answer.is_none() {
+            let again = wanted.make_in_vain(call, budget, Budget::MOST);
+            check(rt, call, again, Some(false));
+        }
+        answer.is_some()
+    }
+}
+
 #[test]
 fn each_request_of_a_wait_for_a_lock_or_a_permit_is_refused(rt: HostRuntime) {
-    for call in [Call::Lock, Call::Acquire, Call::Poll] {
-        let parker = refuse_each(&rt, call, true);
-        check(&rt, "a parker", parker > 0, call != Call::Poll);
-        let queue = refuse_each(&rt, call, false);
-        check(&rt, "a queue", queue > parker, true);
+    let rt = &rt;
+    for call in [Call::Lock, Call::Acquire] {
+        // Where there is a slot, only what the thread parks on is asked for.
+        let has_slot = true;
+        let parker = count_refused(rt, &InVain { rt, call, has_slot });
+        check(rt, "whether a parker was refused", parker > 0, true);
+        let has_slot = false;
+        let queue = count_refused(rt, &InVain { rt, call, has_slot });
+        check(rt, "whether a queue was refused", queue > parker, true);
+    }
+}
+
+// A task waits without a parker.
+#[test]
+fn a_polled_lock_needs_memory_for_its_slot_alone(rt: HostRuntime) {
+    let (rt, call) = (&rt, Call::Poll);
+    for has_slot in [false, true] {
+        let refused = count_refused(rt, &InVain { rt, call, has_slot });
+        check(rt, "whether it needs none", refused == 0, has_slot);
     }
 }
 

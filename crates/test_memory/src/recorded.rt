@@ -1,10 +1,13 @@
 //! Calls on recorded events that have room for note and entry, or none for the note, and each request of a wait. Afterwards the
 //! record agrees with the notes.
-use crate::support::{Runtime, all_memory, check, count_refused, leave, new_task};
+use crate::support::{
+    Runtime, Starved, all_memory, check, count_refused, leave, new_budget, new_task,
+};
 use calls::{Reply, reads};
 use calls_records::{HandCalls, On, close, new_event};
 use event_listener::{Hand, RecordedEvent, RecordedPollError, WaitError};
 use std::alloc::AllocError;
+use std::cell::Cell;
 use std::process::Abort;
 use std::time::Duration;
 use test_queue_memory::Budget;
@@ -64,52 +67,68 @@ fn answered<A, L: Drop, R: Abort>(rt: &R, reply: Result<A, WaitError<L>>) -> Res
     }
 }
 
-// A wait of a listener that nobody tells, whose limit has passed, with so many bytes. The hand has called so often before,
-// which decides when it needs room for more notes. It adds the steps that were made by a wait that was refused.
-fn waits<R: Runtime>(
-    rt: &R,
-    calls: usize,
-    refused_steps: &mut usize,
-    budget: &mut Budget,
-    bytes: usize,
-) -> bool {
-    let (event, mut hands) = new_event(rt.alloc(), 1).expect(rt, "an event");
-    let hand = hands.first_mut().expect(rt, "a hand");
-    ask(rt, &On { rt, event: &event }, hand, calls);
-    if !event.owns(hand) {
-        panic!(rt; "the hand is another event's");
+// A wait of a listener that nobody tells, whose limit has passed.
+#[derive(Drop)]
+struct TimedWait<'a, R> {
+    rt: &'a R,
+    // How often the hand has called before, which decides when it needs room for more notes.
+    calls: Cell<usize>,
+    // How many steps were made by waits that were refused.
+    refused_steps: Cell<usize>,
+}
+
+impl<R: Runtime> Starved for TimedWait<'_, R> {
+    fn is_granted(&self, budget: &mut Budget, bytes: usize) -> bool {
+        let (rt, calls) = (self.rt, self.calls.get());
+        let (event, mut hands) = new_event(rt.alloc(), 1).expect(rt, "an event");
+        let hand = hands.first_mut().expect(rt, "a hand");
+        ask(rt, &On { rt, event: &event }, hand, calls);
+        if !event.owns(hand) {
+            panic!(rt; "the hand is another event's");
+        }
+        let Ok(listener) = event.listen(rt, hand) else {
+            panic!(rt; "nobody listens");
+        };
+        leave(rt, budget, bytes);
+        let answer = answered(rt, listener.wait_timeout(hand, Duration::ZERO));
+        budget.give_back();
+        let is_granted = answer == Ok(None);
+        if !is_granted {
+            check(rt, bytes, answer, Err(AllocError));
+        }
+        let notes = hand.notes().len();
+        let steps = notes.saturating_sub(calls).saturating_sub(1);
+        check(rt, (bytes, steps), steps == 2, is_granted);
+        // The drop of a listener that came back is an entry, too.
+        let drops = usize::from(!is_granted);
+        check(
+            rt,
+            bytes,
+            entries_of(rt, event, hands),
+            notes.saturating_add(drops),
+        );
+        let refused = self
+            .refused_steps
+            .get()
+            .saturating_add(drops.saturating_mul(steps));
+        self.refused_steps.set(refused);
+        is_granted
     }
-    let Ok(listener) = event.listen(rt, hand) else {
-        panic!(rt; "nobody listens");
-    };
-    leave(rt, budget, bytes);
-    let answer = answered(rt, listener.wait_timeout(hand, Duration::ZERO));
-    budget.give_back();
-    let is_granted = answer == Ok(None);
-    if !is_granted {
-        check(rt, bytes, answer, Err(AllocError));
-    }
-    let notes = hand.notes().len();
-    let steps = notes.saturating_sub(calls).saturating_sub(1);
-    check(rt, (bytes, steps), steps == 2, is_granted);
-    // The drop of a listener that came back is an entry, too.
-    let drops = usize::from(!is_granted);
-    let entries = notes.saturating_add(drops);
-    check(rt, bytes, entries_of(rt, event, hands), entries);
-    *refused_steps = refused_steps.saturating_add(drops.saturating_mul(steps));
-    is_granted
 }
 
 #[test]
 fn a_refused_wait_keeps_the_notes_of_its_steps(rt: HostRuntime) {
-    let mut steps = 0;
+    let (calls, refused_steps) = (Cell::new(0), Cell::new(0));
+    let wait = TimedWait {
+        rt: &rt,
+        calls,
+        refused_steps,
+    };
     for calls in 0..8 {
-        let refused = count_refused(
-            &rt,
-            |budget, bytes| waits(&rt, calls, &mut steps, budget, bytes),
-        );
+        wait.calls.set(calls);
         // Each first try has no parker.
-        check(&rt, calls, refused > 0, true);
+        check(&rt, calls, count_refused(&rt, &wait) > 0, true);
     }
+    let steps = wait.refused_steps.get();
     check(&rt, "refused after a step", steps > 0, true);
 }

@@ -43,19 +43,19 @@ pub fn leave<R: Abort>(rt: &R, budget: &mut Budget, bytes: usize) {
     budget.leave(bytes).expect(rt, "so much of the reserve");
 }
 
+/// A call that is made with little memory.
+pub trait Starved {
+    /// Makes the call on something new with so many bytes, and answers whether it was granted. Where it was refused, it has
+    /// looked at what stands.
+    fn is_granted(&self, budget: &mut Budget, bytes: usize) -> bool;
+}
+
 /// Makes the call with no memory, and with more each time until it is granted, so that each of its requests is refused in
 /// its turn. Answers how often it was refused.
-///
-/// The call is made on something new with so many bytes, and answers whether it was granted. Where it was refused, it has
-/// looked at what stands.
-pub fn count_refused<F, R: Abort + AllocGlobal>(rt: &R, mut is_granted: F) -> usize
-where
-    F: FnMut(&mut Budget, usize) -> bool,
-    requires { F.IsAlwaysCallable is_granted }
-{
+pub fn count_refused<S: Starved, R: Abort + AllocGlobal>(rt: &R, call: &S) -> usize {
     let mut budget = new_budget(rt);
     for (refused, bytes) in (0..).zip((0..Budget::MOST).step_by(Budget::STEP)) {
-        if is_granted(&mut budget, bytes) {
+        if call.is_granted(&mut budget, bytes) {
             return refused;
         }
     }

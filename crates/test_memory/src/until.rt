@@ -3,28 +3,74 @@ use crate::support::{Runtime, all_memory, check, new_id};
 use event_listener::{Event, EventListener, ListenError, Listener};
 use event_until::{Attempt, Until, UntilError};
 use std::cell::Cell;
+use std::sync::Wait;
 use std::time::Duration;
 
-// An attempt that never succeeds. It notes how many were made, and how many listeners there were at the last. Where it is to
-// be told and its listener is there, another one comes after that, and the first of both is told.
+// An attempt that never succeeds. It notes how many were made, and how many listeners there were at the last.
 #[derive(Drop)]
-struct Never<'a, R: Runtime> {
-    rt: &'a R,
-    event: &'a Event<()>,
-    seen: &'a Cell<(usize, usize)>,
-    is_told: bool,
-    next: &'a Cell<Option<EventListener<(), R>>>,
+struct Never<'r, 'e, 's, R> {
+    rt: &'r R,
+    event: &'e Event<()>,
+    seen: &'s Cell<(usize, usize)>,
 }
 
-impl<R: Runtime> Attempt for Never<'_, R> {
+impl<R: Wait> Attempt for Never<'_, '_, '_, R> {
+    type Output = ();
+
+    fn attempt(&mut self) -> Option<()> {
+        let attempts = self.seen.get().0.saturating_add(1);
+        let listeners = self.event.total_listeners(self.rt);
+        self.seen.set((attempts, listeners));
+        None
+    }
+}
+
+// Without memory each wait is refused for this reason, after so many attempts, and leaves no listener.
+fn waits_are_refused<R: Runtime>(rt: &R, has_room: bool, refusal: UntilError, attempts: usize) {
+    let event = &Event::new(new_id(rt));
+    if has_room {
+        drop(event.listen(rt, rt.alloc()).expect(rt, "a listener"));
+    }
+    let seen = &Cell::new((0, 0));
+    let mut until = Until::new(rt, rt.alloc(), event, Never { rt, event, seen });
+    let hog = all_memory(rt);
+    check(rt, "the wait", until.wait(), Err(refusal));
+    let listeners = usize::from(has_room);
+    check(rt, "attempts", seen.replace((0, 0)), (attempts, listeners));
+    check(
+        rt,
+        "a timed wait",
+        until.wait_timeout(Duration::MAX),
+        Err(refusal),
+    );
+    check(rt, "attempts", seen.get(), (attempts, listeners));
+    check(rt, "listeners left", event.total_listeners(rt), 0);
+    drop(hog);
+    let answer = until.wait_timeout(Duration::ZERO);
+    check(rt, "a wait after it", answer, Ok(None));
+}
+
+#[test]
+fn a_refused_listening_or_parker_leaves_no_listener(rt: HostRuntime) {
+    let listening = UntilError::Listen(ListenError::Memory);
+    waits_are_refused(&rt, false, listening, 1);
+    waits_are_refused(&rt, true, UntilError::Parker, 2);
+}
+
+// An attempt that fails. If its listener is there, another one comes after that, and the first of both is told.
+#[derive(Drop)]
+struct IsTold<'r, 'e, 'n, R: Runtime> {
+    rt: &'r R,
+    event: &'e Event<()>,
+    next: &'n Cell<Option<EventListener<(), R>>>,
+}
+
+impl<R: Runtime> Attempt for IsTold<'_, '_, '_, R> {
     type Output = ();
 
     fn attempt(&mut self) -> Option<()> {
         let (rt, event) = (self.rt, self.event);
-        let listeners = event.total_listeners(rt);
-        self.seen
-            .set((self.seen.get().0.saturating_add(1), listeners));
-        if self.is_told && listeners > 0 {
+        if event.total_listeners(rt) > 0 {
             let next = event.listen(rt, rt.alloc()).expect(rt, "a place");
             drop(self.next.replace(Some(next)));
             check(rt, "told", event.notify_relaxed(rt, 1), 1);
@@ -33,51 +79,30 @@ impl<R: Runtime> Attempt for Never<'_, R> {
     }
 }
 
-// Waits without memory, where so many listeners have left places in the queue. Each wait is refused for this reason, after so
-// many attempts, and leaves no listener. With two places it is told each time, and its notification goes to the one after it.
-fn waits_are_refused<R: Runtime>(rt: &R, places: usize, refusal: UntilError, attempts: usize) {
+// Its listener leaves the queue, and its notification goes to the one after it.
+fn is_refused_and_passes_on<R: Runtime>(rt: &R, is_timed: bool) {
     let event = &Event::new(new_id(rt));
-    let mut listeners = Vec::new(rt.alloc());
-    for _ in 0..places {
-        let listener = event.listen(rt, rt.alloc()).expect(rt, "a listener");
-        listeners.push(listener).expect(rt, "room");
-    }
-    drop(listeners);
-    let (seen, is_told, next) = (&Cell::new((0, 0)), places == 2, &Cell::new(None));
-    let never = Never {
-        rt,
-        event,
-        seen,
-        is_told,
-        next,
-    };
-    let mut until = Until::new(rt, rt.alloc(), event, never);
+    let listen = || event.listen(rt, rt.alloc()).expect(rt, "a listener");
+    let places = (listen(), listen());
+    drop(places);
+    let next = &Cell::new(None);
+    let mut until = Until::new(rt, rt.alloc(), event, IsTold { rt, event, next });
     let hog = all_memory(rt);
-    for is_timed in [false, true] {
-        let refused = if is_timed {
-            until.wait_timeout(Duration::MAX).err()
-        } else {
-            until.wait().err()
-        };
-        check(rt, "the refusal", refused, Some(refusal));
-        let seen = seen.replace((0, 0));
-        check(rt, "attempts", seen, (attempts, places.min(1)));
-        let left = event.total_listeners(rt);
-        check(rt, "listeners left", left, usize::from(is_told));
-        let told = next.replace(None).map(|next| next.discard());
-        check(rt, "the next", told, is_told.then_some(true));
-    }
+    let refusal = if is_timed {
+        until.wait_timeout(Duration::MAX).err()
+    } else {
+        until.wait().err()
+    };
     drop(hog);
-    if !is_told {
-        let answer = until.wait_timeout(Duration::ZERO);
-        check(rt, "a wait after it", answer, Ok(None));
-    }
+    check(rt, "the refusal", refusal, Some(UntilError::Parker));
+    check(rt, "listeners left", event.total_listeners(rt), 1);
+    let next = next.replace(None).expect(rt, "the next");
+    check(rt, "whether the next is told", next.discard(), true);
 }
 
 #[test]
-fn a_refused_listening_or_parker_leaves_no_listener_and_passes_on(rt: HostRuntime) {
-    let listening = UntilError::Listen(ListenError::Memory);
-    waits_are_refused(&rt, 0, listening, 1);
-    waits_are_refused(&rt, 1, UntilError::Parker, 2);
-    waits_are_refused(&rt, 2, UntilError::Parker, 2);
+fn who_is_told_and_refused_a_parker_passes_on(rt: HostRuntime) {
+    for is_timed in [false, true] {
+        is_refused_and_passes_on(&rt, is_timed);
+    }
 }

@@ -1,8 +1,9 @@
 //! Waits for each lock of `event_locks` that are refused memory, and calls there that need none.
-use crate::support::{Runtime, all_memory, check, count_refused, leave, new_task};
+use crate::support::{Runtime, Starved, all_memory, check, count_refused, leave, new_task};
 use event_listener::ListenError;
 use event_locks::{Barrier, LockError};
 use futures::task::Poll;
+use std::cell::Cell;
 use std::io;
 use std::sync::atomic::{AtomicU64, Ordering};
 use std::time::{Duration, Instant};
@@ -23,45 +24,45 @@ impl OwnClock for Ticks {
     }
 }
 
-// How often a place in the queue was refused, and what a thread parks on.
-#[derive(Default, Drop)]
-struct Refusals {
-    places: usize,
-    parkers: usize,
+// A wait that ends at its limit, or a poll. It counts the refusals of a place in the queue, and of what a thread parks on.
+#[derive(Drop)]
+struct InVain<'a, R, K> {
+    rt: &'a R,
+    kind: &'a K,
+    is_polled: bool,
+    places: Cell<usize>,
+    parkers: Cell<usize>,
 }
 
-// A wait that ends at its limit, or a poll, with so many bytes. It counts what was refused.
-fn waits<R: Runtime, K: Kind>(
-    rt: &R,
-    kind: &K,
-    is_polled: bool,
-    refusals: &mut Refusals,
-    budget: &mut Budget,
-    bytes: usize,
-) -> bool {
-    let (task, mut waits) = (new_task(rt), kind.waits().expect(rt, "a share"));
-    waits.can_be_polled();
-    leave(rt, budget, bytes);
-    let refusal = if is_polled {
-        let polled = task.poll(&mut waits);
-        drop(waits);
-        match polled {
-            Poll::Ready(answer) => answer.err(),
-            Poll::Pending => None,
+impl<R: Runtime, K: Kind> Starved for InVain<'_, R, K> {
+    fn is_granted(&self, budget: &mut Budget, bytes: usize) -> bool {
+        let (rt, task) = (self.rt, new_task(self.rt));
+        let mut waits = self.kind.waits().expect(rt, "a share");
+        waits.can_be_polled();
+        leave(rt, budget, bytes);
+        let refusal = if self.is_polled {
+            let polled = task.poll(&mut waits);
+            drop(waits);
+            match polled {
+                Poll::Ready(answer) => answer.err(),
+                Poll::Pending => None,
+            }
+        } else {
+            waits.wait_timeout(Duration::from_millis(1500)).err()
+        };
+        budget.give_back();
+        match refusal {
+            Some(LockError::Listen(ListenError::Memory)) => {
+                self.places.set(self.places.get().saturating_add(1));
+            }
+            Some(LockError::Memory(_)) => {
+                self.parkers.set(self.parkers.get().saturating_add(1));
+            }
+            Some(_) => panic!(rt; "another refusal"),
+            None => {}
         }
-    } else {
-        waits.wait_timeout(Duration::from_millis(1500)).err()
-    };
-    budget.give_back();
-    match refusal {
-        Some(LockError::Listen(ListenError::Memory)) => {
-            refusals.places = refusals.places.saturating_add(1);
-        }
-        Some(LockError::Memory(_)) => refusals.parkers = refusals.parkers.saturating_add(1),
-        Some(_) => panic!(rt; "another refusal"),
-        None => {}
+        refusal.is_none()
     }
-    refusal.is_none()
 }
 
 #[derive(Drop)]
@@ -75,17 +76,23 @@ impl<R: Runtime> Case<R> for EachIsRefused {
     }
 
     fn run<K: Kind>(&self, rt: &R, kind: &K) {
-        let (held, is_polled) = (kind.hold(), self.is_polled);
-        let mut refusals = Refusals::default();
-        count_refused(rt, |budget, bytes| {
-            waits(rt, kind, is_polled, &mut refusals, budget, bytes)
-        });
-        check(rt, "a place", refusals.places > 0, true);
-        check(rt, "a parker", refusals.parkers > 0, !is_polled);
+        let held = kind.hold();
+        let is_polled = self.is_polled;
+        let (places, parkers) = (Cell::new(0), Cell::new(0));
+        let in_vain = InVain {
+            rt,
+            kind,
+            is_polled,
+            places,
+            parkers,
+        };
+        let refused = count_refused(rt, &in_vain);
+        check(rt, "a place", in_vain.places.get() > 0, true);
+        check(rt, "a parker", in_vain.parkers.get() > 0, !is_polled);
         // Nobody is left in the queue who would be handed it.
         let (task, mut waits) = (new_task(rt), kind.waits().expect(rt, "a share"));
         waits.can_be_polled();
-        check(rt, "waits", task.poll(&mut waits).is_pending(), true);
+        check(rt, refused, task.poll(&mut waits).is_pending(), true);
         drop(held);
         check(rt, "woken", task.is_woken(), true);
         waits.can_be_polled();
@@ -96,10 +103,14 @@ impl<R: Runtime> Case<R> for EachIsRefused {
 #[test]
 fn each_request_of_a_wait_for_a_lock_is_refused(rt: HostRuntime) {
     let reads = AtomicU64::new(0);
-    let (rt, clock) = (&rt, &Ticks { reads });
+    let clock = Ticks { reads };
+    let own = WithClock {
+        rt: &rt,
+        clock: &clock,
+    };
     for is_polled in [false, true] {
-        let ran = each(rt, &WithClock { rt, clock }, &EachIsRefused { is_polled });
-        ran.expect(rt, "memory");
+        let ran = each(&rt, &own, &EachIsRefused { is_polled });
+        ran.expect(&rt, "memory");
     }
 }
 
