@@ -5,7 +5,8 @@
 //! - [`flag`]: a flag that threads wait for: look, listen, look again, wait; set, then notify all; a listener for
 //!   callers that wait otherwise, which is one of the flag's event. Two flags of one `EventIds` have different events,
 //!   and making them fails only if fewer than two identities are left.
-//! - [`meeting`]: a thread that waits for such a flag until another one has set it, for `program_examples`.
+//! - [`meeting`]: a thread that waits for such a flag until another one has set it.
+//! - [`locks`]: a mutex and a semaphore, whose clients keep to the places of `event_worlds`.
 //! - [`tagged`]: default and additional notifications with tags, each of which notifies one listener at most and does
 //!   not fail.
 //! - [`timed`]: a wait against a deadline, over any kind of listener; a failed wait is retried. One on a finished
@@ -34,6 +35,7 @@
 pub mod desk;
 pub mod flag;
 pub mod heard;
+pub mod locks;
 pub mod meeting;
 pub mod polled;
 pub mod queue;

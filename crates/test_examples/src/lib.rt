@@ -1,5 +1,4 @@
-//! Tests of what callers write, `example_events` and `example_locks`, by their public calls: of what the clauses of these
-//! crates leave open. `test_memory` has the tests in which memory is refused.
+//! Tests of what callers write, `example_events`, by its public calls: of what its clauses leave open. `test_memory` has the tests in which memory is refused.
 //!
 //! | Module | What it tests |
 //! |---|---|

@@ -3,7 +3,7 @@ mod clients;
 mod permits;
 
 use crate::support::{check, is_woken, new_id, new_task};
-use example_locks::{Mutex, MutexError, MutexGuard, PolledLock};
+use example_events::locks::{Mutex, MutexError, MutexGuard, PolledLock};
 use futures::task::Poll;
 use futures::test::MockTask;
 use std::process::Abort;

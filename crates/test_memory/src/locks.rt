@@ -3,10 +3,10 @@
 use crate::support::{
     Answer, Runtime, Starved, all_memory, check, count_refused, leave, new_budget, new_id, new_task,
 };
-use example_events::meeting::{MeetingError, wait_for_setter};
-use example_locks::{
+use example_events::locks::{
     CountError, Mutex, MutexError, PolledLock, Semaphore, SemaphoreError, count, count_with_permits,
 };
+use example_events::meeting::{MeetingError, wait_for_setter};
 use futures::task::Waker;
 use std::alloc::AllocError;
 use std::time::Duration;

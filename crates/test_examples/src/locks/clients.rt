@@ -2,8 +2,8 @@
 //! client that is told waits on.
 use super::{Polled, hold, new_mutex};
 use crate::support::{check, is_woken};
-use example_locks::Mutex;
-use example_locks::contended::{Clients, Contended, Owed, Taken, take, try_once};
+use example_events::locks::Mutex;
+use example_events::locks::contended::{Clients, Contended, Owed, Taken, take, try_once};
 use std::cell::Cell;
 use std::io;
 use std::sync::{self, Wait};
@@ -18,7 +18,7 @@ struct Owes<'a> {
 }
 
 impl Taken for Owes<'_> {
-    ghost use Rattle.example_locks.specs.declared.contended.held.Owed.TheVariants.{Additional};
+    ghost use Rattle.example_events.specs.declared.locks.contended.held.Owed.TheVariants.{Additional};
 
     ghost owed = { λ owes. Additional owes.count };
 

@@ -1,6 +1,6 @@
 //! Permits of a semaphore. One waits for them as for a lock.
 use crate::support::{check, new_id};
-use example_locks::Semaphore;
+use example_events::locks::Semaphore;
 use std::process::Abort;
 use std::sync::atomic::{AtomicUsize, Ordering};
 use std::sync::{Barrier, Wait};

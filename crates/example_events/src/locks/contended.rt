@@ -7,7 +7,7 @@
 ghost use Rattle.std.specs.Prelude.{◌≡◌, IsSome, IsNone, IfOk, IfSome, Some};
 ghost use Rattle.event_worlds.specs.ClientTable.{place_after};
 ghost use Rattle.event_worlds.specs.declared.world.place.News.TheVariants as news;
-ghost use Rattle.example_locks.specs.Turn.{IfHolds};
+ghost use Rattle.example_events.specs.Turn.{IfHolds};
 
 mod client;
 mod held;

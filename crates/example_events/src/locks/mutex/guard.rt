@@ -1,5 +1,5 @@
 //! What has the lock.
-use crate::contended::Held;
+use crate::locks::contended::Held;
 use std::ops::{Deref, DerefMut};
 use std::sync::{self, Wait};
 

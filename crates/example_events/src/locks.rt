@@ -1,12 +1,11 @@
 //! A lock and a semaphore over an event of `event_listener`: a client that finds the lock held, or no permit free,
-//! listens, tries again, and waits until a notification makes it try anew. `program_examples` runs
-//! threads over both.
+//! listens, tries again, and waits until a notification makes it try anew.
 //!
 //! [`Mutex::lock`] blocks the calling thread, [`Mutex::lock_timeout`] does so for some time at most, and a
 //! [`PolledLock`] is polled by a task. A [`Semaphore`] has several permits; a [`Permit`] is one, or several: `more`
 //! takes one more. The drop of a [`MutexGuard`] frees the lock, and then notifies one listener, unless one is notified
 //! already; that of a permit frees all of it in one step, and then notifies as many listeners more. [`count`] and
-//! [`count_with_permits`] are what the programs do: threads that each add 1 under one lock. The value stands in the
+//! [`count_with_permits`] start threads that each add 1 under one lock. The value stands in the
 //! standard library's lock, which is only tried; the free permits are an atomic number. A client waits by its listener
 //! alone.
 //!
@@ -27,8 +26,6 @@
 //! For a lock of your own, implement `Contended`, whose `try_take` is one try, and `Taken`, whose `free` frees what was
 //! taken and says how many to notify; then call `try_once`, `take` and `take_timeout`. `docs/PROMISES.md` says what is
 //! proved, and what only `test_examples` and `test_memory` show.
-#![tactic(auto)]
-
 pub mod contended;
 mod counter;
 mod mutex;

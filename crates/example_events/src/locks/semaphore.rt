@@ -4,7 +4,7 @@ ghost use Rattle.std.specs.Prelude.{◌≡◌, IfOk, IfSome};
 mod error;
 mod permit;
 
-use crate::contended::{Clients, Contended, take, take_timeout, try_once};
+use crate::locks::contended::{Clients, Contended, take, take_timeout, try_once};
 pub use error::SemaphoreError;
 use event_listener::EventId;
 pub use permit::{Permit, Permits};

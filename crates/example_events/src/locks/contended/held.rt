@@ -19,7 +19,7 @@ pub enum Owed {
 
 /// What a client takes.
 pub trait Taken {
-    ghost use Rattle.example_locks.specs.declared.contended.held.Owed.{Owed};
+    ghost use Rattle.example_events.specs.declared.locks.contended.held.Owed.{Owed};
 
     // Whom to notify once it is freed.
     ghost owed: { Self → Owed };

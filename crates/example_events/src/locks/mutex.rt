@@ -5,7 +5,7 @@ mod error;
 mod guard;
 mod polled_lock;
 
-use crate::contended::{Clients, Contended, Owed, Taken, take, take_timeout, try_once};
+use crate::locks::contended::{Clients, Contended, Owed, Taken, take, take_timeout, try_once};
 pub use error::MutexError;
 use event_listener::EventId;
 pub use guard::MutexGuard;
@@ -115,7 +115,7 @@ impl<'a, T> Contended<'a> for &'a Mutex<T> {
 }
 
 impl<T> Taken for sync::MutexGuard<'_, T> {
-    ghost use Rattle.example_locks.specs.declared.contended.held.Owed.TheVariants.{One};
+    ghost use Rattle.example_events.specs.declared.locks.contended.held.Owed.TheVariants.{One};
 
     ghost owed = { λ _. One };
 

@@ -2,7 +2,7 @@
 use super::Mutex;
 use super::error::MutexError;
 use super::guard::MutexGuard;
-use crate::contended::{Parked, Registered, Trying, Turn, Waiting, try_twice};
+use crate::locks::contended::{Parked, Registered, Trying, Turn, Waiting, try_twice};
 use futures::task::{Poll, Waker};
 use std::alloc::Global;
 use std::mem;

@@ -2,7 +2,7 @@
 ghost use Rattle.std.specs.Prelude.{◌≡◌, ◌+◌, ◌≤◌, true, false};
 
 use super::Semaphore;
-use crate::contended::{Held, Owed, Taken};
+use crate::locks::contended::{Held, Owed, Taken};
 use std::marker::Model;
 use std::sync::Wait;
 
@@ -98,7 +98,7 @@ impl<'a> Permits<'a> {
 }
 
 impl Taken for Permits<'_> {
-    ghost use Rattle.example_locks.specs.declared.contended.held.Owed.TheVariants.{Additional};
+    ghost use Rattle.example_events.specs.declared.locks.contended.held.Owed.TheVariants.{Additional};
 
     ghost owed = { λ permits. Additional permits };
 

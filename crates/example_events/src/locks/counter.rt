@@ -1,6 +1,6 @@
 //! Threads that count.
-use crate::mutex::{Mutex, MutexError};
-use crate::semaphore::{Semaphore, SemaphoreError};
+use crate::locks::mutex::{Mutex, MutexError};
+use crate::locks::semaphore::{Semaphore, SemaphoreError};
 use event_listener::EventId;
 use std::alloc::{AllocError, Global};
 use std::sync::{self, Arc, Wait};
