@@ -33,38 +33,22 @@ fn on_each_kind<'t, T: EventTag + Drop, R: Runtime, H: Hook>(
     count: usize,
     first: u64,
 ) -> Result<(), Difference<'t>> {
-    with_sharing::<T, R, H>(row, rt, hook, count, first)?;
-    with_borrowing::<T, R, H>(row, rt, hook, count, first)
-}
-
-fn with_sharing<'t, T: EventTag + Drop, R: Runtime, H: Hook>(
-    row: Row<'t>,
-    rt: &R,
-    hook: &mut H,
-    count: usize,
-    first: u64,
-) -> Result<(), Difference<'t>> {
-    let kind = "sharing listeners";
-    let row = Row { kind, ..row };
-    match new_events::<T, R, H>(rt, hook, count, first) {
-        Ok(events) => { on_kinds::<Sharing, Borrowing, T, R, H>(row, rt, hook, events.as_slice()) }
-        Err(_) => Err(row.differs(0, None)),
-    }
-}
-
-fn with_borrowing<'t, T: EventTag + Drop, R: Runtime, H: Hook>(
-    row: Row<'t>,
-    rt: &R,
-    hook: &mut H,
-    count: usize,
-    first: u64,
-) -> Result<(), Difference<'t>> {
-    let kind = "borrowing listeners";
-    let row = Row { kind, ..row };
-    match new_events::<T, R, H>(rt, hook, count, first) {
-        Ok(events) => { on_kinds::<Borrowing, Sharing, T, R, H>(row, rt, hook, events.as_slice()) }
-        Err(_) => Err(row.differs(0, None)),
-    }
+    let Ok(events) = new_events::<T, R, H>(rt, hook, count, first) else {
+        return Err(row.differs(0, None));
+    };
+    let row = Row {
+        kind: "sharing listeners",
+        ..row
+    };
+    on_kinds::<Sharing, Borrowing, T, R, H>(row, rt, hook, events.as_slice())?;
+    let Ok(events) = new_events::<T, R, H>(rt, hook, count, first) else {
+        return Err(row.differs(0, None));
+    };
+    let row = Row {
+        kind: "borrowing listeners",
+        ..row
+    };
+    on_kinds::<Borrowing, Sharing, T, R, H>(row, rt, hook, events.as_slice())
 }
 
 fn on_kinds<'t, 'ev, A, B, T, R, H>(
