@@ -1,8 +1,10 @@
-//! Tests of `event_locks`, by its public calls: many threads and tasks at each lock, and the orders in which callers use it.
-//! `test_lock_waits` has those of single waits.
+//! Each kind of wait that the locks of `event_locks` have, with cases that are run with each of them, which other crates of tests
+//! use too; and tests of these locks, by their public calls: many threads and tasks at each lock, and the orders in which
+//! callers use it. `test_lock_waits` has those of single waits.
 //!
-//! | Module | What it tests |
+//! | Module | What it has, or tests |
 //! |---|---|
+//! | `waits`, `kinds`, `cases` | what waits have in common; each kind of wait; a case, which is a test that is run with each kind |
 //! | `threads` | threads that wait in each way, and are woken once they are let in |
 //! | `races` | one lets go while another one goes into the queue |
 //! | `stress` | threads and tasks at these locks, which give up at times |
@@ -12,6 +14,8 @@
 
 #[cfg(test)]
 mod behaviours;
+mod cases;
+mod kinds;
 #[cfg(test)]
 mod monitor;
 #[cfg(test)]
@@ -22,3 +26,8 @@ mod stress;
 mod support;
 #[cfg(test)]
 mod threads;
+mod waits;
+
+pub use cases::{Case, each};
+pub use kinds::{Arrives, Kind, Of, Read, See, Sets, Sharing, Write, numbers};
+pub use waits::Waits;

@@ -7,7 +7,7 @@ use std::cell::Cell;
 use std::io;
 use std::sync::Wait;
 use std::time::{Clock, Duration, Instant};
-use test_lock_support::{Case, Kind, Waits, each};
+use test_event_locks::{Case, Kind, Waits, each};
 use test_support::{CountedClock, NoClock, OwnClock, Runtime, WithClock, deadline_after};
 
 // One waits for some time, and one until a moment, in vain. Then another one comes first.

@@ -2,7 +2,7 @@
 use crate::support::check;
 use crate::waits::Polled;
 use std::time::Duration;
-use test_lock_support::{Case, Kind, Waits, each, numbers};
+use test_event_locks::{Case, Kind, Waits, each, numbers};
 use test_support::Runtime;
 
 // One is notified and finds the lock taken twice. It starves, and waits.

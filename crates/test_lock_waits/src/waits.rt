@@ -6,7 +6,7 @@ use futures::test::MockTask;
 use std::sync::Arc;
 use std::thread;
 use std::time::Duration;
-use test_lock_support::{Case, Kind, Sharing, Waits, each};
+use test_event_locks::{Case, Kind, Sharing, Waits, each};
 use test_support::Runtime;
 
 /// A wait that a task of its own polls.

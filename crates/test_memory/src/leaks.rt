@@ -3,7 +3,7 @@ use crate::support::{Runtime, check, leave, new_budget, new_id, new_task};
 use event_listener::{Event, Listener};
 use event_locks::{Mutex, RwLock, Semaphore};
 use std::sync::Arc;
-use test_lock_support::Waits;
+use test_event_locks::Waits;
 
 // Does it so often that it would run out of memory if each time left a few bytes behind.
 fn comes_back<F: Fn(), R: Runtime>(rt: &R, make_and_drop: F)

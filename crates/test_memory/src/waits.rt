@@ -7,7 +7,7 @@ use std::cell::Cell;
 use std::io;
 use std::sync::atomic::{AtomicU64, Ordering};
 use std::time::{Duration, Instant};
-use test_lock_support::{Case, Kind, Sharing, Waits, each};
+use test_event_locks::{Case, Kind, Sharing, Waits, each};
 use test_queue_memory::Budget;
 use test_support::{OwnClock, WithClock};
 
