@@ -8,7 +8,7 @@ use std::sync::Wait;
 use std::sync::atomic::{AtomicUsize, Ordering};
 use std::time::{Clock, Duration, Instant};
 use std::{io, thread};
-use test_support::{NoClock, OwnClock, WithClock, spin_until};
+use test_support::{Change, Changed, NoClock, spin_until};
 
 const MAX: Duration = Duration::MAX;
 
@@ -38,12 +38,13 @@ fn a_call_that_has_time_waits_so_long(rt: HostRuntime) {
 
 #[test]
 fn a_clock_that_cannot_be_read_is_past_the_limit(rt: HostRuntime) {
-    let made = bounded(&NoClock { rt: &rt }, rt.alloc(), 1);
-    let (sender, receiver) = made.expect(&rt, "a channel");
-    check(&rt, "room", sender.send_timeout(7usize, MAX).is_ok(), true);
-    check(&rt, "no room", sender.send_timeout(8, MAX).is_ok(), false);
-    check(&rt, "a message", receiver.recv_timeout(MAX).ok(), Some(7));
-    check(&rt, "no message", receiver.recv_timeout(MAX).ok(), None);
+    let rt = &rt;
+    let blind = Changed { rt, by: &NoClock };
+    let (sender, receiver) = bounded(&blind, rt.alloc(), 1).expect(rt, "a channel");
+    check(rt, "room", sender.send_timeout(7usize, MAX).is_ok(), true);
+    check(rt, "no room", sender.send_timeout(8, MAX).is_ok(), false);
+    check(rt, "a message", receiver.recv_timeout(MAX).ok(), Some(7));
+    check(rt, "no message", receiver.recv_timeout(MAX).ok(), None);
 }
 
 // A clock that shows the time once another thread has made its call: at 2 it is read, at 3 the call is made. If it begins
@@ -54,8 +55,8 @@ struct Meets<'a, R> {
     step: &'a AtomicUsize,
 }
 
-impl<'a, R: Runtime> OwnClock for Meets<'a, R> {
-    fn read(&self) -> io::Result<Duration> {
+impl<R: Runtime> Change for Meets<'_, R> {
+    fn read<C: Clock>(&self, _rt: &C) -> io::Result<Duration> {
         if self.step.fetch_add(1, Ordering::SeqCst) == 0 {
             return Ok(Duration::ZERO);
         }
@@ -110,7 +111,6 @@ where
 #[test]
 fn what_comes_while_the_clock_is_read_is_taken(rt: HostRuntime) {
     let (rt, step) = (&rt, &AtomicUsize::new(0));
-    let clock = &Meets { rt, step };
-    let clock = &WithClock { rt, clock };
-    each_is_taken(rt, clock, step);
+    let by = &Meets { rt, step };
+    each_is_taken(rt, &Changed { rt, by }, step);
 }

@@ -3,7 +3,9 @@
 ghost use Rattle.std.specs.Prelude.{All};
 
 use crate::support::{Runtime, check, listen_as, new_event};
-use event_listener::{Event, IntoNotification, IntoTagged, NeverInserted};
+use event_listener::{
+    Event, EventListener, IntoNotification, IntoTagged, NeverInserted, StackListener,
+};
 use futures::Future;
 use futures::executor::{TaskSet, block_on};
 use futures::future::{Either, join_all, select};
@@ -13,7 +15,22 @@ use std::sync::Wait;
 use std::sync::atomic::{AtomicU32, Ordering};
 use std::thread::{self, Threads};
 use std::time::{Clock, Duration};
-use test_support::{Awaited, Borrowing, ListenerKind, Sharing};
+use test_support::{Borrowing, ListenerKind, Sharing};
+
+// A listener that can be awaited at any time.
+trait Awaited: Future<Output = Result<u32, NeverInserted>> {
+    // It may be polled now.
+    fn can_be_polled(&self)
+        ensures { Self.can_poll self.now };
+}
+
+impl<R: Wait + Clock + Clone> Awaited for EventListener<u32, R> {
+    fn can_be_polled(&self) {}
+}
+
+impl<R: Wait + Clock + Clone> Awaited for StackListener<'_, u32, R> {
+    fn can_be_polled(&self) {}
+}
 
 // A listener that counts its polls.
 #[derive(Drop)]

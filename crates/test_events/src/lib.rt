@@ -7,8 +7,8 @@
 //! | `rows`, as text | which wakers a poll keeps; serial numbers that are used up; that a record is compared |
 //! | `tags` | tags that are refused |
 //! | `locks` | what is called while the lock of an event is held, by its thread and by another; threads that race to make the queue |
-//! | `making` | the macro `listener!`; slots; what is shown; what threads may share; listeners that outlive their event |
-//! | `awaited` | how often tasks are polled that await listeners, and move between threads |
+//! | `making` | the macro `listener!`; slots; a refused clone; what is shown; what threads may share; listeners that outlive their event |
+//! | `awaited` | tasks that await listeners, and move between threads: that they are woken, and how often they are polled |
 //! | `records` | more hands than memory holds; each call of a recorded state succeeds |
 //!
 //! Events are tested with both kinds of listener. How many each notification tells, worked rows and `soak` show, which compares
@@ -17,8 +17,8 @@
 //! replays from the serial 0.
 //!
 //! What is calls and answers is text, in the language of `calls`, which costs the prover nothing. Any other test of both kinds
-//! is a `Case`. To be proved quickly, calls that have to succeed end in `expect`, in helpers: a `?`, or a condition of several
-//! parts, is a branch at which every listener alive is dropped.
+//! is a generic function. To be proved quickly, calls that have to succeed end in `expect`, in helpers: a `?`, or a condition of
+//! several parts, is a branch at which every listener alive is dropped.
 #![tactic(auto)]
 
 #[cfg(test)]

@@ -1,15 +1,12 @@
-//! What the tests share: the one assertion, rows that have to hold, and the calls that have to succeed. Each ends the test
-//! where it does not.
-use calls::{Difference, Row, Undisturbed};
-use calls_events::run_on_events;
-use calls_records::run_on_records;
-use event_listener::{Event, EventIds, Listener};
-use std::alloc::AllocGlobal;
+//! What the tests share: the one assertion, and the calls that have to succeed. Each ends the test where it does not.
+use event_listener::{Event, EventIds, EventListener, Listener};
+use futures::test::MockTask;
+use std::alloc::{AllocError, AllocGlobal};
 use std::fmt::Debug;
 use std::process::Abort;
 use std::sync::Wait;
+use test_support::ListenerKind;
 pub use test_support::Runtime;
-use test_support::{ListenerKind, Trial};
 
 /// The answer is the expected one. Where it is not, the message has both, and what was asked. The assertion stands here
 /// once, in a generic function, and is proved once.
@@ -22,42 +19,25 @@ where
     assert_eq!(rt; answer, expected, "{asked:?}");
 }
 
-/// How a row differs on its subject, with each kind of listener where that is an event.
-pub fn made<'t, R: Runtime>(rt: &R, row: Row<'t>) -> Result<(), Difference<'t>> {
-    match run_on_events(row, rt, &mut Undisturbed) {
-        Some(made) => made,
-        None => run_on_records(row, rt, &mut Undisturbed).expect(rt, "a subject"),
-    }
-}
-
-/// The row holds.
-pub fn run<R: Runtime>(rt: &R, row: Row<'_>) {
-    if let Err(difference) = made(rt, row) {
-        panic!(rt; "{difference}");
-    }
-}
-
-/// These lines hold.
-pub fn run_lines<R: Runtime>(rt: &R, subject: &str, lines: &str) {
-    let row = Row {
-        number: 0,
-        title: "",
-        subject,
-        kind: "",
-        lines,
-    };
-    run(rt, row);
+/// What was written is this text.
+pub fn reads<R: Abort>(rt: &R, written: Result<String, AllocError>, text: &str) {
+    let written = written.expect(rt, "a text");
+    check(rt, "the text", written.as_str(), text);
 }
 
 /// The value has this text for debugging.
 pub fn shows<V: Debug, R: Abort + AllocGlobal>(rt: &R, value: &V, text: &str) {
-    let shown = format!(in rt.alloc(); "{value:?}").expect(rt, "a text");
-    check(rt, "the text", shown.as_str(), text);
+    reads(rt, format!(in rt.alloc(); "{value:?}"), text);
 }
 
 /// A new event, the only one of its source.
 pub fn new_event<T, R: Abort>(rt: &R) -> Event<T> {
     Event::with_tag(EventIds::new().next().expect(rt, "an identity"))
+}
+
+/// A new task.
+pub fn new_task<R: Runtime>(rt: &R) -> MockTask {
+    MockTask::new(rt).expect(rt, "a task")
 }
 
 /// A new listener of this kind.
@@ -69,9 +49,9 @@ where
     K::listen(rt, rt.alloc(), event).expect(rt, "a listener")
 }
 
-/// A new listener.
-pub fn listen<R: Abort, S: Trial<Runtime = R>>(trial: &S) -> S::Listener {
-    trial.try_listen().expect(trial.rt(), "a listener")
+/// A new listener that shares the queue of its event.
+pub fn sharing<T: Drop, R: Runtime>(rt: &R, event: &Event<T>) -> EventListener<T, R> {
+    event.listen(rt, rt.alloc()).expect(rt, "a listener")
 }
 
 /// Discards a listener. Whether it is told.

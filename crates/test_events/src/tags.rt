@@ -1,11 +1,10 @@
 //! A notification whose tag is refused.
-use crate::support::{Runtime, check, discard, has_listeners, new_event};
+use crate::support::{Runtime, check, discard, has_listeners, new_event, sharing};
 use event_listener::{Event, IntoTagged, Listener, NotifyError};
 use std::alloc::AllocError;
 use std::cell::Cell;
 use std::thread::{self, Threads};
 use std::time::Duration;
-use test_support::{Borrowing, ListenerKind, Sharing, answered};
 
 // A tag that can be cloned so many times. Its clones can't be cloned.
 #[derive(Debug, Drop)]
@@ -34,11 +33,9 @@ fn notify_three<R: Runtime>(
 
 // Of three who wait the first parks its thread. That is woken, though the second is refused a tag. Later notifications
 // begin with the second.
-fn skips_nobody<L, R>(rt: &R, event: &Event<Refusing>, first: L, second: L, third: L)
-where
-    L: Listener<Refusing> + Drop,
-    R: Runtime + Threads + Sync,
-{
+fn skips_nobody<R: Runtime + Threads + Sync>(rt: &R, event: &Event<Refusing>) {
+    let next = || sharing(rt, event);
+    let (first, second, third) = (next(), next(), next());
     let told = Err(NotifyError { told: 0 });
     check(rt, "no tag", notify_three(rt, event, 0), told);
     has_listeners(rt, event, 3, false);
@@ -48,7 +45,7 @@ where
             rt.sleep(Duration::from_millis(100));
             notify_three(rt, event, 1)
         },
-        || answered(first.wait()).is_ok(),
+        || first.wait().is_ok(),
     );
     check(rt, "one tag", refused, Err(NotifyError { told: 1 }));
     check(rt, "whether it has it", waited, true);
@@ -58,27 +55,7 @@ where
     discard(rt, third, true);
 }
 
-fn listen<'ev, K: ListenerKind<'ev, Refusing, R>, R: Runtime>(
-    rt: &R,
-    event: &'ev Event<Refusing>,
-) -> K::Listener {
-    K::listen(rt, rt.alloc(), event).expect(rt, "a listener")
-}
-
 #[test]
 fn a_refused_clone_skips_nobody_and_who_was_told_before_is_woken(rt: HostRuntime) {
-    let event = new_event(&rt);
-    let (first, second) = (
-        listen::<Sharing, _>(&rt, &event),
-        listen::<Sharing, _>(&rt, &event),
-    );
-    let third = listen::<Sharing, _>(&rt, &event);
-    skips_nobody(&rt, &event, first, second, third);
-    let event = new_event(&rt);
-    let (first, second) = (
-        listen::<Borrowing, _>(&rt, &event),
-        listen::<Borrowing, _>(&rt, &event),
-    );
-    let third = listen::<Borrowing, _>(&rt, &event);
-    skips_nobody(&rt, &event, first, second, third);
+    skips_nobody(&rt, &new_event(&rt));
 }

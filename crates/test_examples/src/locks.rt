@@ -9,7 +9,7 @@ use futures::test::MockTask;
 use std::process::Abort;
 use std::sync::{self, Wait};
 use std::time::{Clock, Duration};
-use test_support::{Interrupted, Runtime, waker_of};
+use test_support::{Changed, Runtime, waker_of};
 
 // A free lock round the value 7.
 fn new_mutex<R: Abort>(rt: &R) -> Mutex<u64> {
@@ -117,7 +117,7 @@ fn a_told_lock_that_is_dropped_passes_its_turn_on(rt: HostRuntime) {
 fn the_second_try_takes_a_lock_that_was_freed_meanwhile(rt: HostRuntime) {
     let (rt, mutex) = (&rt, &new_mutex(&rt));
     let held = sync::Mutex::new(Some(hold(rt, mutex)));
-    let frees = Interrupted { rt, by: &held };
+    let frees = Changed { rt, by: &held };
     let given = mutex.lock_timeout(&frees, rt.alloc(), Duration::MAX);
     let guard = given.expect(rt, "an answer").expect(rt, "the lock");
     check(rt, "held", mutex.try_lock(rt).is_none(), true);

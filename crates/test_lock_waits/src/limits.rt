@@ -8,7 +8,7 @@ use std::io;
 use std::sync::Wait;
 use std::time::{Clock, Duration, Instant};
 use test_event_locks::{Case, Kind, Waits, each};
-use test_support::{CountedClock, NoClock, OwnClock, Runtime, WithClock, deadline_after};
+use test_support::{Change, Changed, NoClock, Runtime, deadline_after};
 
 // One waits for some time, and one until a moment, in vain. Then another one comes first.
 #[derive(Drop)]
@@ -56,12 +56,12 @@ fn is_given<R: Runtime, C: Wait + Clock>(
 // The waits of all locks look at the clock in one function. `test_channel` has limits that such a clock makes no moments of.
 #[test]
 fn a_clock_that_cannot_be_read_ends_a_wait(rt: HostRuntime) {
-    let (semaphore, blind) = (new_semaphore(&rt, 0), NoClock { rt: &rt });
-    let moment = deadline_after(&rt, Duration::from_secs(3600));
-    let moment = moment.expect(&rt, "a moment");
+    let (rt, semaphore) = (&rt, new_semaphore(&rt, 0));
+    let blind = Changed { rt, by: &NoClock };
+    let moment = deadline_after(rt, Duration::from_secs(3600)).expect(rt, "a moment");
     let given = semaphore.acquire(&blind, rt.alloc()).wait_deadline(moment);
-    let given = given.expect(&rt, "an answer").is_some();
-    check(&rt, "whether it is granted", given, false);
+    let given = given.expect(rt, "an answer").is_some();
+    check(rt, "whether it is granted", given, false);
 }
 
 // A clock that goes on by a millisecond at each reading, whatever time that takes. At the third reading and later, one that waits
@@ -79,8 +79,8 @@ struct Steps<'a, R> {
 // No such reading.
 const NEVER: u64 = u64::MAX;
 
-impl<R: Runtime> OwnClock for Steps<'_, R> {
-    fn read(&self) -> io::Result<Duration> {
+impl<R: Runtime> Change for Steps<'_, R> {
+    fn read<C: Clock>(&self, _rt: &C) -> io::Result<Duration> {
         let read = self.reads.get();
         self.reads.set(read.saturating_add(1));
         for added in self.added {
@@ -106,7 +106,7 @@ fn ends<R: Runtime>(rt: &R, limit: u64, added: [u64; 2], taken: u64, expected: (
         taken,
         reads: Cell::new(0),
     };
-    let clock = WithClock { rt, clock: &steps };
+    let clock = Changed { rt, by: &steps };
     let given = is_given(rt, &clock, semaphore, Duration::from_millis(limit));
     let answer = (given, steps.reads.get());
     check(rt, "given, after looks", answer, expected);
@@ -132,9 +132,9 @@ fn a_timed_wait_parks_until_its_limit(rt: HostRuntime) {
     let (semaphore, limit) = (new_semaphore(&rt, 0), Duration::from_millis(50));
     for _ in 0..30u32 {
         let reads = Cell::new(0);
-        let clock = CountedClock {
+        let clock = Changed {
             rt: &rt,
-            reads: &reads,
+            by: &reads,
         };
         let began = Instant::now(&rt).expect(&rt, "the time");
         let given = is_given(&rt, &clock, &semaphore, limit);

@@ -5,9 +5,7 @@ use std::io;
 use std::sync::atomic::{AtomicBool, Ordering};
 use std::thread::{self, Threads};
 use std::time::{Clock, Duration};
-use test_support::{
-    Borrowing, ListenerKind, OwnClock, Sharing, WithClock, answered, deadline_after, spin_until,
-};
+use test_support::{Borrowing, Change, Changed, ListenerKind, Sharing, deadline_after, spin_until};
 
 // What a test of two threads asks of its runtime value.
 trait SharedRuntime: Runtime + Threads + Sync + Copy {}
@@ -21,17 +19,19 @@ struct SeenClock<'a, R> {
     is_read: AtomicBool,
 }
 
-impl<R: Clock> OwnClock for SeenClock<'_, R> {
-    fn read(&self) -> io::Result<Duration> {
+impl<R> Change for SeenClock<'_, R> {
+    fn read<C: Clock>(&self, rt: &C) -> io::Result<Duration> {
         self.is_read.store(true, Ordering::SeqCst);
-        self.rt.monotonic()
+        rt.monotonic()
     }
 }
 
 // Waits until the listener is told, and sets the mark.
 fn wait<L: Listener<u32> + Drop, R: SharedRuntime>(rt: &R, listener: L, is_over: &AtomicBool) {
     let deadline = deadline_after(rt, Duration::from_secs(20)).expect(rt, "a moment");
-    let answer = answered(listener.wait_deadline(deadline));
+    let answer = listener
+        .wait_deadline(deadline)
+        .map_err(|error| error.reason());
     is_over.store(true, Ordering::SeqCst);
     check(rt, "the wait", answer, Ok(Some(7)));
 }
@@ -72,7 +72,7 @@ fn a_notification_and_a_drop_without_memory_wake_a_thread(rt: HostRuntime) {
     let (rt, is_read) = (&rt, AtomicBool::new(false));
     let event = &Event::with_tag(new_id(rt));
     let clock = &SeenClock { rt, is_read };
-    let seen = &WithClock { rt, clock };
+    let seen = &Changed { rt, by: clock };
     let first = Sharing::listen(seen, rt.alloc(), event).expect(rt, "a listener");
     is_woken(clock, event, None, first);
     let first = Borrowing::listen(seen, rt.alloc(), event).expect(rt, "a listener");

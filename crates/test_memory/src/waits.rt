@@ -6,10 +6,10 @@ use futures::task::Poll;
 use std::cell::Cell;
 use std::io;
 use std::sync::atomic::{AtomicU64, Ordering};
-use std::time::{Duration, Instant};
+use std::time::{Clock, Duration, Instant};
 use test_event_locks::{Case, Kind, Sharing, Waits, each};
 use test_queue_memory::Budget;
-use test_support::{OwnClock, WithClock};
+use test_support::{Change, Changed};
 
 // A clock that shows a second more each time it is read: a wait of one and a half looks at it once, waits, and is over.
 #[derive(Drop)]
@@ -17,8 +17,8 @@ struct Ticks {
     reads: AtomicU64,
 }
 
-impl OwnClock for Ticks {
-    fn read(&self) -> io::Result<Duration> {
+impl Change for Ticks {
+    fn read<C: Clock>(&self, _rt: &C) -> io::Result<Duration> {
         let reads = self.reads.fetch_add(1, Ordering::SeqCst);
         Ok(Duration::from_secs(reads))
     }
@@ -104,9 +104,9 @@ impl<R: Runtime> Case<R> for EachIsRefused {
 fn each_request_of_a_wait_for_a_lock_is_refused(rt: HostRuntime) {
     let reads = AtomicU64::new(0);
     let clock = Ticks { reads };
-    let own = WithClock {
+    let own = Changed {
         rt: &rt,
-        clock: &clock,
+        by: &clock,
     };
     for is_polled in [false, true] {
         let ran = each(&rt, &own, &EachIsRefused { is_polled });

@@ -5,8 +5,8 @@ use event_until::{Attempt, Until, UntilError};
 use std::alloc::{AllocGlobal, Global};
 use std::sync::Wait;
 use std::time::{Clock, Duration};
-use test_support::WaitCall::{self, Deadline, GreatestTimeout, Timeout, UntilTold};
-use test_support::{NoClock, Runtime, deadline_after};
+use test_support::WaitCall::{self, Deadline, Timeout, UntilTold};
+use test_support::{Changed, NoClock, Runtime, deadline_after};
 
 // A wait with this limit, by this clock, whose n-th attempt would succeed gives that output. It makes no more than three
 // attempts, with so many listeners at each, and leaves none.
@@ -28,7 +28,6 @@ where
         Timeout => until.wait_timeout(limit),
         Deadline => until.wait_deadline(deadline_after(rt, limit).expect(rt, "a deadline")),
         UntilTold => until.wait().map(Some),
-        GreatestTimeout => until.wait_timeout(Duration::MAX),
     };
     check(rt, wait, given, Ok(output));
     notes.check(rt, n.min(3), listeners);
@@ -45,8 +44,8 @@ fn attempts_are_made_before_it_listens_then_and_at_the_limit(rt: HostRuntime) {
     gives(rt, rt, 9, (Timeout, soon), None, [0, 1, 0]);
     gives(rt, rt, 9, (Deadline, now), None, [0, 1, 0]);
     // A clock that can't be read is past the deadline.
-    let blind = NoClock { rt };
-    gives(rt, &blind, 9, (GreatestTimeout, now), None, [0, 1, 0]);
+    let blind = Changed { rt, by: &NoClock };
+    gives(rt, &blind, 9, (Timeout, Duration::MAX), None, [0, 1, 0]);
 }
 
 // An attempt whose second makes another one listen, tells the first listener, and gives the other one.

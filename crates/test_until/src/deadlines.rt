@@ -4,9 +4,9 @@ use event_listener::Event;
 use example_events::until::Gate;
 use std::cell::Cell;
 use std::sync::Wait;
-use std::time::Duration;
+use std::time::{Clock, Duration};
 use std::{io, thread};
-use test_support::{OwnClock, Runtime, WithClock};
+use test_support::{Change, Changed, Runtime};
 
 // A clock that goes on by a second at each reading. From the second reading to the last that it is told to, it notifies.
 #[derive(Drop)]
@@ -17,8 +17,8 @@ struct Notifies<'a, R> {
     reads: Cell<u32>,
 }
 
-impl<'a, R: Wait> OwnClock for Notifies<'a, R> {
-    fn read(&self) -> io::Result<Duration> {
+impl<R: Wait> Change for Notifies<'_, R> {
+    fn read<C: Clock>(&self, _rt: &C) -> io::Result<Duration> {
         let reads = self.reads.get();
         self.reads.set(reads.saturating_add(1));
         if reads > 0 && reads <= self.last {
@@ -38,10 +38,7 @@ fn waits<R: Runtime>(rt: &R, seconds: u64, n: usize, last: u32) -> (Option<usize
         last,
         reads: Cell::new(0),
     };
-    let clock = WithClock {
-        rt,
-        clock: &notifies,
-    };
+    let clock = Changed { rt, by: &notifies };
     let mut until = until_nth(rt, &clock, &event, &notes, n);
     let output = until.wait_timeout(Duration::from_secs(seconds));
     let output = output.expect(rt, "an answer");

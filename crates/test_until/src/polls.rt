@@ -2,7 +2,6 @@
 use crate::support::{Notes, Nth, check, check_woken, new_id, new_task, until_nth};
 use event_listener::{Event, Listener};
 use event_until::Until;
-use example_events::until::{Version, Watch};
 use futures::task::Poll;
 use std::time::Duration;
 use test_support::{Runtime, deadline_after};
@@ -96,27 +95,4 @@ fn who_is_told_and_goes_or_blocks_passes_on(rt: HostRuntime) {
     ] {
         passes_on(&rt, end);
     }
-}
-
-#[test]
-fn a_watch_gives_its_latest_value_to_all(rt: HostRuntime) {
-    let watch = Watch::new(new_id(&rt), 'a');
-    let (number, value) = (1, 'a');
-    let initial = watch.wait_newer(&rt, rt.alloc(), 0);
-    check(&rt, "the first", initial, Ok(Version { number, value }));
-    let (first, second) = (new_task(&rt), new_task(&rt));
-    let mut one = watch.newer(&rt, rt.alloc(), 1);
-    let mut other = watch.newer(&rt, rt.alloc(), 1);
-    check(&rt, "pending", first.poll(&mut one), Poll::Pending);
-    check(&rt, "pending", second.poll(&mut other), Poll::Pending);
-    watch.replace(&rt, 'b');
-    watch.replace(&rt, 'c');
-    check_woken(&rt, &first, true);
-    check_woken(&rt, &second, true);
-    let (number, value) = (3, 'c');
-    let latest = Version { number, value };
-    check(&rt, "ready", first.poll(&mut one), Poll::Ready(Ok(latest)));
-    let polled = second.poll(&mut other);
-    check(&rt, "ready", polled, Poll::Ready(Ok(latest)));
-    check(&rt, "again", first.poll(&mut one), Poll::Pending);
 }

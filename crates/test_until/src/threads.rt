@@ -1,11 +1,12 @@
 //! Threads that call at once, half of them by futures.
 use crate::support::{check, new_id, new_task};
 use event_until::{Attempt, Until, UntilError};
-use example_events::until::{Baton, Gate, OwnedBaton, Watch};
+use example_events::until::{Baton, Gate, OwnedBaton, Version, Watch};
 use futures::Future;
 use futures::executor::block_on;
 use futures::task::{Context, Poll};
 use futures::test::MockTask;
+use std::fmt::Debug;
 use std::sync::Arc;
 use std::sync::atomic::{AtomicBool, AtomicUsize, Ordering};
 use std::thread::{self, Threads};
@@ -127,6 +128,21 @@ where
     line.push(until).expect(rt, "room");
 }
 
+// All who wait there were woken, and are given this.
+fn all_are_given<A, V, R>(rt: &R, task: &MockTask, line: Vec<Until<'_, A, R>>, expected: V)
+where
+    A: Attempt<Output = V> + Drop,
+    V: Copy + PartialEq + Debug,
+    R: Runtime,
+{
+    check(rt, "woken", task.is_woken(), true);
+    for until in line {
+        let mut until = until;
+        let polled = task.poll(&mut until);
+        check(rt, "given", polled, Poll::Ready(Ok(expected)));
+    }
+}
+
 // How many wait behind the one whose task is looked at.
 const BEHIND: usize = 100;
 
@@ -139,23 +155,27 @@ fn opens_and_then_wakes<R: Runtime + Threads + Sync>(rt: &R) {
     }
     let pass = gate.pass(rt, rt.alloc()).into_attempt();
     who_is_woken_succeeds(rt, &task, pass, || gate.open(rt));
-    // All who wait there are told, and pass.
-    check(rt, "woken", other.is_woken(), true);
-    for until in line {
-        let mut until = until;
-        check(rt, "passes", other.poll(&mut until).is_ready(), true);
-    }
+    all_are_given(rt, &other, line, ());
 }
 
 fn replaces_and_then_wakes<R: Runtime + Threads + Sync>(rt: &R) {
     let watch = Watch::new(new_id(rt), 'a');
+    let (number, value) = (1, 'a');
+    let initial = watch.wait_newer(rt, rt.alloc(), 0);
+    check(rt, "the first", initial, Ok(Version { number, value }));
     let (task, other, mut line) = (new_task(rt), new_task(rt), Vec::new(rt.alloc()));
     wait_in_line(rt, &mut line, &task, watch.newer(rt, rt.alloc(), 1));
     for _ in 0..BEHIND {
         wait_in_line(rt, &mut line, &other, watch.newer(rt, rt.alloc(), 1));
     }
     let newer = watch.newer(rt, rt.alloc(), 1).into_attempt();
-    who_is_woken_succeeds(rt, &task, newer, || watch.replace(rt, 'b'));
+    let replace = || {
+        watch.replace(rt, 'b');
+        watch.replace(rt, 'c');
+    };
+    who_is_woken_succeeds(rt, &task, newer, replace);
+    let (number, value) = (3, 'c');
+    all_are_given(rt, &other, line, Version { number, value });
 }
 
 fn frees_and_then_wakes<R: Runtime + Threads + Sync + Send + Drop>(rt: &R) {

@@ -7,7 +7,7 @@ use futures::task::Poll;
 use futures::test::MockTask;
 use std::sync::atomic::Ordering;
 use std::time::Duration;
-use test_support::WaitCall::{self, Deadline, GreatestTimeout, Timeout};
+use test_support::WaitCall::{self, Deadline, Timeout};
 
 // What a step of a wait answers: the listener was told with the tag 7, or waits; it leaves untold or told.
 const TOLD: RecordedReply<u32> = RecordedReply::Registered(RegisterResult::Notified(7));
@@ -37,10 +37,11 @@ fn gives_its_tag<S: Trial>(trial: &S, wait: WaitCall, limit: Duration) {
 
 pub fn gives_its_tag_at_once<S: Trial>(trial: &S) {
     let (ahead, greatest) = (an_hour_ahead(trial), greatest(trial.rt()));
+    let (zero, nanosecond) = (Duration::ZERO, Duration::from_nanos(1));
     for habit in [Exact, ahead, Fails(0)] {
         trial.stage().set(habit);
         for wait in WAITS {
-            for limit in [Duration::ZERO, Duration::from_nanos(1), long(), greatest] {
+            for limit in [zero, nanosecond, long(), greatest, Duration::MAX] {
                 gives_its_tag(trial, wait, limit);
             }
         }
@@ -78,8 +79,9 @@ fn gives_one_tag<S: Trial>(trial: &S, task: &MockTask, wait: WaitCall, limit: Du
 pub fn is_told_once<S: Trial>(trial: &S) {
     let task = MockTask::new(trial.rt()).expect(trial.rt(), "a task");
     for wait in WAITS {
-        gives_one_tag(trial, &task, wait, Duration::ZERO);
-        gives_one_tag(trial, &task, wait, long());
+        for limit in [Duration::ZERO, long(), Duration::MAX] {
+            gives_one_tag(trial, &task, wait, limit);
+        }
     }
 }
 
@@ -98,7 +100,7 @@ pub fn ends_by_its_clock<S: Trial>(trial: &S) {
         (ahead, Deadline, zero, None, LEAVES),
         (Fails(0), Timeout, long(), None, LEAVES),
         (Fails(0), Deadline, long(), None, LEAVES),
-        (Fails(0), GreatestTimeout, zero, None, LEAVES),
+        (Fails(0), Timeout, Duration::MAX, None, LEAVES),
         // The reading that notifies comes after the wait last registered, and before the listener leaves. A timeout
         // has one reading before, which fixes its deadline.
         (Notifies(0), Deadline, zero, Some(7), LEAVES_TOLD),

@@ -1,8 +1,8 @@
 //! Recorded events with their hands, and listeners with theirs.
 ghost use Rattle.event_listener.specs.Noting.{Owns};
 
-use crate::stage::{AnyEvent, SharedRuntime, Stage, StageClock, check};
-use crate::trial::{Polled, Trial, Waited, answered};
+use crate::stage::{AnyEvent, SharedRuntime, Stage, StageClock, check, moment_after};
+use crate::trial::{Polled, Trial, Waited};
 use calls::Reply;
 use calls_records::{HandCalls, On, close, new_event};
 use event_listener::{
@@ -12,7 +12,7 @@ use futures::task::Context;
 use std::sync::atomic::{AtomicUsize, Ordering};
 use std::sync::{Mutex, Wait};
 use std::time::Duration;
-use test_support::{Runtime, WaitCall, WithClock, deadline_after};
+use test_support::{Changed, Runtime, WaitCall};
 
 /// A recorded event, with those of its hands that make no call at present.
 #[derive(Drop)]
@@ -125,10 +125,10 @@ impl<'a, R: SharedRuntime> Trial for OfRecorded<'a, R> {
     }
 
     fn listen(&self) -> Waiter<'a, R> {
-        let (rt, clock, event) = (&self.stage.rt, self.stage, &self.stage.event.event);
-        let mut hand = clock.event.take(rt);
+        let (rt, by, event) = (&self.stage.rt, self.stage, &self.stage.event.event);
+        let mut hand = by.event.take(rt);
         assert!(rt; event.owns(&hand), "a hand of another event");
-        let listener = event.listen(&WithClock { rt, clock }, &mut hand);
+        let listener = event.listen(&Changed { rt, by }, &mut hand);
         let listener = listener.expect(rt, "a listener");
         Waiter { listener, hand }
     }
@@ -145,16 +145,12 @@ impl<'a, R: SharedRuntime> Trial for OfRecorded<'a, R> {
         let Stage { rt, event, .. } = self.stage;
         let Waiter { listener, mut hand } = waiter;
         let answer = match wait {
-            WaitCall::Timeout => answered(listener.wait_timeout(&mut hand, limit)),
-            WaitCall::Deadline => {
-                let deadline = deadline_after(rt, limit).expect(rt, "a moment");
-                answered(listener.wait_deadline(&mut hand, deadline))
-            }
-            WaitCall::UntilTold => answered(listener.wait(&mut hand)).map(Some),
-            WaitCall::GreatestTimeout => answered(listener.wait_timeout(&mut hand, Duration::MAX)),
+            WaitCall::Timeout => listener.wait_timeout(&mut hand, limit),
+            WaitCall::Deadline => listener.wait_deadline(&mut hand, moment_after(rt, limit)),
+            WaitCall::UntilTold => listener.wait(&mut hand).map(Some),
         };
         event.give_back(rt, hand);
-        answer
+        Ok(answer?)
     }
 
     fn leave(&self, waiter: Waiter<'a, R>) {

@@ -6,9 +6,9 @@ use std::process::Abort;
 use std::sync::atomic::{AtomicU32, Ordering};
 use std::sync::{Mutex, Wait};
 use std::thread::Threads;
-use std::time::{Clock, CpuClock, Duration};
-use test_support::WaitCall::{self, Deadline, GreatestTimeout, Timeout, UntilTold};
-use test_support::{OwnClock, Runtime, WithClock};
+use std::time::{Clock, CpuClock, Duration, Instant};
+use test_support::WaitCall::{self, Deadline, Timeout, UntilTold};
+use test_support::{Change, Changed, Runtime, deadline_after};
 
 /// What the tests ask of a runtime value that several threads use.
 pub trait SharedRuntime: Runtime + CpuClock + Threads + Send + Sync {}
@@ -27,7 +27,7 @@ where
 }
 
 /// All waits.
-pub const WAITS: [WaitCall; 4] = [Timeout, Deadline, UntilTold, GreatestTimeout];
+pub const WAITS: [WaitCall; 3] = [Timeout, Deadline, UntilTold];
 
 /// Those that end at a limit.
 pub const TIMED_WAITS: [WaitCall; 2] = [Timeout, Deadline];
@@ -46,6 +46,12 @@ pub fn long() -> Duration {
 pub fn greatest<R: Clock + Abort>(rt: &R) -> Duration {
     let last = Duration::from_secs(u64::MAX / 2);
     last.saturating_sub(now(rt)).saturating_sub(long())
+}
+
+/// The moment so long after the present one, but none after the greatest limit.
+pub fn moment_after<R: Clock + Abort>(rt: &R, limit: Duration) -> Instant {
+    let limit = limit.min(greatest(rt));
+    deadline_after(rt, limit).expect(rt, "a moment")
 }
 
 /// Where a wait ends that should be woken and is not.
@@ -108,7 +114,7 @@ pub struct Stage<R, E> {
 }
 
 /// The runtime value of the listeners.
-pub type StageClock<'a, R, E> = WithClock<'a, R, Stage<R, E>>;
+pub type StageClock<'a, R, E> = Changed<'a, R, Stage<R, E>>;
 
 impl<R: Runtime, E: AnyEvent> Stage<R, E> {
     pub fn new(rt: &R, event: E) -> Self {
@@ -127,9 +133,9 @@ impl<R: Runtime, E: AnyEvent> Stage<R, E> {
     }
 }
 
-impl<R: Runtime, E: AnyEvent> OwnClock for Stage<R, E> {
-    fn read(&self) -> io::Result<Duration> {
-        let now = self.rt.monotonic()?;
+impl<R: Runtime, E: AnyEvent> Change for Stage<R, E> {
+    fn read<C: Clock>(&self, rt: &C) -> io::Result<Duration> {
+        let now = rt.monotonic()?;
         let reads = self.reads.fetch_add(1, Ordering::SeqCst);
         let habit = *self.habit.lock(&self.rt);
         match habit {

@@ -1,12 +1,12 @@
 //! What a case is, and what it makes its calls on.
 use crate::recorded::{OfRecorded, Recorded};
-use crate::stage::{AnyEvent, SharedRuntime, Stage, StageClock, check};
+use crate::stage::{AnyEvent, SharedRuntime, Stage, StageClock, check, moment_after};
 use crate::{limits, wakes};
-use event_listener::{Event, EventIds, Listener, WaitError, WaitReason};
+use event_listener::{Event, EventIds, Listener, WaitReason};
 use futures::task::{Context, Poll};
 use std::marker::PhantomData;
 use std::time::Duration;
-use test_support::{Borrowing, ListenerKind, Sharing, WaitCall, WithClock, deadline_after};
+use test_support::{Borrowing, Changed, ListenerKind, Sharing, WaitCall};
 
 /// A test that runs with each kind of listener.
 #[derive(Clone, Copy)]
@@ -25,14 +25,6 @@ pub type Polled = Result<Poll<u32>, WaitReason>;
 /// What a wait answered.
 pub type Waited = Result<Option<u32>, WaitReason>;
 
-/// What a wait answered. The listener that comes back where memory was refused is dropped.
-pub fn answered<A, L: Drop>(reply: Result<A, WaitError<L>>) -> Result<A, WaitReason> {
-    match reply {
-        Ok(answer) => Ok(answer),
-        Err(error) => Err(error.reason()),
-    }
-}
-
 /// An event and its listeners, which are of one kind.
 pub trait Trial: Sync {
     type Runtime: SharedRuntime;
@@ -48,7 +40,7 @@ pub trait Trial: Sync {
 
     fn poll(&self, listener: &mut Self::Listener, cx: &mut Context<'_>) -> Polled;
 
-    /// Waits, with this limit from now on by the system's clock if the wait has one.
+    /// Waits, with this limit from now on by the system's clock if the wait has one. No moment is later than the greatest.
     fn wait(&self, listener: Self::Listener, wait: WaitCall, limit: Duration) -> Waited;
 
     /// Drops a listener, which is in the queue.
@@ -128,8 +120,8 @@ where
     }
 
     fn listen(&self) -> L {
-        let (rt, clock) = (&self.stage.rt, self.stage);
-        K::listen(&WithClock { rt, clock }, rt.alloc(), &clock.event).expect(rt, "a listener")
+        let (rt, by) = (&self.stage.rt, self.stage);
+        K::listen(&Changed { rt, by }, rt.alloc(), &by.event).expect(rt, "a listener")
     }
 
     fn poll(&self, listener: &mut L, cx: &mut Context<'_>) -> Polled {
@@ -138,15 +130,12 @@ where
     }
 
     fn wait(&self, listener: L, wait: WaitCall, limit: Duration) -> Waited {
-        match wait {
-            WaitCall::Timeout => answered(listener.wait_timeout(limit)),
-            WaitCall::Deadline => {
-                let deadline = deadline_after(self.rt(), limit).expect(self.rt(), "a moment");
-                answered(listener.wait_deadline(deadline))
-            }
-            WaitCall::UntilTold => answered(listener.wait()).map(Some),
-            WaitCall::GreatestTimeout => answered(listener.wait_timeout(Duration::MAX)),
-        }
+        let answer = match wait {
+            WaitCall::Timeout => listener.wait_timeout(limit),
+            WaitCall::Deadline => listener.wait_deadline(moment_after(self.rt(), limit)),
+            WaitCall::UntilTold => listener.wait().map(Some),
+        };
+        Ok(answer?)
     }
 
     fn leave(&self, listener: L) {

@@ -54,8 +54,9 @@ where
 
 pub fn are_woken<S: Trial>(trial: &S) {
     for wait in WAITS {
-        are_woken_by(trial, 1, wait, limit(), || trial.tell(1, 7));
-        are_woken_by(trial, 1, wait, greatest(trial.rt()), || trial.tell(1, 7));
+        for most in [limit(), greatest(trial.rt()), Duration::MAX] {
+            are_woken_by(trial, 1, wait, most, || trial.tell(1, 7));
+        }
         are_woken_by(trial, 3, wait, limit(), || trial.tell(3, 7));
         let told = trial.listen();
         trial.tell(1, 7);
@@ -102,7 +103,7 @@ fn tell_again<S: Trial>(trial: &S, reached: &AtomicU32) {
 }
 
 pub fn is_told_as_it_parks<S: Trial>(trial: &S) {
-    for wait in [WaitCall::UntilTold, WaitCall::Timeout, WaitCall::Deadline] {
+    for wait in WAITS {
         let reached = AtomicU32::new(0);
         let tell = || tell_again(trial, &reached);
         thread::join(trial.rt(), tell, || wait_again(trial, wait, &reached));

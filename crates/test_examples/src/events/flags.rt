@@ -3,16 +3,18 @@ use crate::support::check;
 use event_listener::{Entry, EventIds, Listener, RecordedCall, RecordedReply};
 use example_events::flag::{Flag, pair};
 use example_events::record_table::write_table;
+use std::alloc::AllocError;
 use std::sync::Wait;
-use test_support::{InBetween, Interrupted};
+use test_support::{Change, Changed};
 
 // Somebody sets the flag.
 #[derive(Drop)]
 struct Sets<'a>(&'a Flag);
 
-impl InBetween for Sets<'_> {
-    fn happens<R: Wait>(&self, rt: &R) {
+impl Change for Sets<'_> {
+    fn before_clone<R: Wait>(&self, rt: &R) -> Result<(), AllocError> {
         self.0.set(rt);
+        Ok(())
     }
 }
 
@@ -30,7 +32,7 @@ fn a_flag_tells_all_who_listen_and_is_seen_by_who_listens_late(rt: HostRuntime) 
     check(rt, "who is told", told, (true, true));
     check(rt, "the wait", flag.wait(rt, rt.alloc()), Ok(()));
     // Were there no second look, the wait would never end: nobody tells the listener.
-    let late = Interrupted {
+    let late = Changed {
         rt,
         by: &Sets(&other),
     };

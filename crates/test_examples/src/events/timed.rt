@@ -5,24 +5,26 @@ use example_events::timed::tag_within;
 use futures::task::{Context, Poll, Waker};
 use std::cell::Cell;
 use std::time::{Clock, Duration, Instant};
-use test_support::{CountedClock, NoClock, Runtime, answered};
+use test_support::{Changed, NoClock, Runtime};
 
 // Of two listeners one is told. That one gets its tag, however short the limit is, and the other one waits until then.
 fn give_a_tag_or_none<R: Runtime, C: Clock>(rt: &R, clock: &C, limit: Duration) {
     let event = Event::with_tag(new_id(rt));
     let (told, untold) = (listen(rt, &event), listen(rt, &event));
     tell(rt, &event);
-    let tag = answered(tag_within(clock, told, Duration::ZERO));
+    let tag = tag_within(clock, told, Duration::ZERO).map_err(|error| error.reason());
     check(rt, "the tag", tag, Ok(Some(7)));
-    let tag = answered(tag_within(clock, untold, limit));
+    let tag = tag_within(clock, untold, limit).map_err(|error| error.reason());
     check(rt, "no tag", tag, Ok(None));
 }
 
 #[test]
 fn a_listener_gives_its_tag_or_none_at_its_limit(rt: HostRuntime) {
-    give_a_tag_or_none(&rt, &rt, Duration::from_millis(50));
+    let rt = &rt;
+    give_a_tag_or_none(rt, rt, Duration::from_millis(50));
     // A clock that can't be read is past every deadline.
-    give_a_tag_or_none(&rt, &NoClock { rt: &rt }, Duration::MAX);
+    let blind = Changed { rt, by: &NoClock };
+    give_a_tag_or_none(rt, &blind, Duration::MAX);
 }
 
 // A listener whose first waits are refused, and that notes the deadline of the last one. Then it gives its tag.
@@ -97,7 +99,7 @@ fn gives<R: Runtime>(rt: &R, refused: u32, limit: Duration, tag: Result<u32, Wai
         deadline: &deadline,
     };
     tell(rt, &event);
-    let clock = CountedClock { rt, reads: &reads };
+    let clock = Changed { rt, by: &reads };
     let end = || Instant::now(rt).expect(rt, "the time").checked_add(limit);
     let earliest = end();
     let answer = tag_within(&clock, listener, limit).map_err(|error| error.reason());

@@ -8,7 +8,7 @@ use std::cell::Cell;
 use std::io;
 use std::sync::{self, Wait};
 use std::time::{Clock, Duration};
-use test_support::{NoClock, OwnClock, Runtime, WithClock};
+use test_support::{Change, Changed, NoClock, Runtime};
 
 // Something that a lock's clients are notified of, that is always free, and that owes them so many notifications more.
 #[derive(Clone, Copy)]
@@ -127,8 +127,8 @@ struct Tells<'a, R> {
     reads: Cell<u32>,
 }
 
-impl<R: Runtime> OwnClock for Tells<'_, R> {
-    fn read(&self) -> io::Result<Duration> {
+impl<R: Runtime> Change for Tells<'_, R> {
+    fn read<C: Clock>(&self, _rt: &C) -> io::Result<Duration> {
         let reads = self.reads.get();
         self.reads.set(reads.saturating_add(1));
         if reads < BEFORE {
@@ -149,13 +149,13 @@ fn a_timed_lock_keeps_the_deadline_that_it_began_with(rt: HostRuntime) {
         mutex,
         reads: Cell::new(0),
     };
-    let clock = WithClock { rt, clock: &tells };
+    let clock = Changed { rt, by: &tells };
     let limit = Duration::from_secs(u64::from(BEFORE));
     let given = mutex.lock_timeout(&clock, rt.alloc(), limit);
     let is_given = given.expect(rt, "an answer").is_some();
     check(rt, "whether it is given", is_given, false);
     check(rt, "readings", tells.reads.get(), BEFORE + 1);
-    let blind = NoClock { rt };
+    let blind = Changed { rt, by: &NoClock };
     let given = mutex.lock_timeout(&blind, rt.alloc(), Duration::MAX);
     let is_given = given.expect(rt, "an answer").is_some();
     check(rt, "whether it is given", is_given, false);
