@@ -19,56 +19,47 @@ struct Share {
     longest: Duration,
 }
 
-pub fn longest_wait<R: Runtime>(run: &Run<'_, R>) -> Result<Measured> {
-    let mut longest = Duration::ZERO;
-    let threads = shares(run, false)?;
-    for share in threads.iter() {
-        longest = longest.max(share.longest);
+/// The longest wait of a thread; the smallest share, in hundredths of what each has where all have the same; or how often
+/// one thread has the mutex that comes every millisecond, beside others that hold it again and again.
+pub fn measure<R: Runtime>(run: &Run<'_, R>) -> Result<Measured> {
+    let (mut seldom, mut least, mut all) = (None, u64::MAX, 0u64);
+    let mut most = Duration::ZERO;
+    for share in shares(run)? {
+        let Share { locks, longest } = share?;
+        seldom = seldom.or(Some(locks));
+        least = least.min(locks);
+        all = all.wrapping_add(locks);
+        most = most.max(longest);
     }
-    Ok(measured(run, longest.as_nanos() / 100, "us at most"))
-}
-
-/// In hundredths of what each thread has where all have the same.
-pub fn smallest_share<R: Runtime>(run: &Run<'_, R>) -> Result<Measured> {
-    let (mut least, mut all) = (u64::MAX, 0u64);
-    let threads = shares(run, false)?;
-    for share in threads.iter() {
-        least = least.min(share.locks);
-        all = all.wrapping_add(share.locks);
-    }
-    let of_fair = (least as u128).saturating_mul((run.n as u128).saturating_mul(1000))
-        / all.max(1) as u128;
-    Ok(measured(run, of_fair, "percent"))
-}
-
-/// How often one thread has the mutex that comes every millisecond, beside others that hold it again and again.
-pub fn seldom<R: Runtime>(run: &Run<'_, R>) -> Result<Measured> {
-    let threads = shares(run, true)?;
-    match threads.first() {
-        Some(share) => Ok(measured(run, (share.locks as u128).saturating_mul(10), "locks")),
-        None => Err(OtherAnswer.into()),
-    }
-}
-
-fn measured<R: Runtime>(run: &Run<'_, R>, tenths: u128, unit: &'static str) -> Measured {
-    Measured {
+    let (tenths, unit) = match run.name {
+        "longest_wait" => (most.as_nanos() / 100, "us at most"),
+        "smallest_share" => (of_fair(least, all, run.n), "percent"),
+        _ => (u128::from(seldom.unwrap_or(0)).saturating_mul(10), "locks"),
+    };
+    Ok(Measured {
         done: run.rounds,
         of: "milliseconds",
         tenths,
         unit,
-    }
+    })
+}
+
+// In tenths of a hundredth of what each of so many has where all have the same.
+fn of_fair(least: u64, all: u64, n: usize) -> u128 {
+    u128::from(least).saturating_mul((n as u128).saturating_mul(1000)) / u128::from(all.max(1))
 }
 
 // What each thread has of a mutex that all hold again and again, a millisecond for each round. The first may come seldom,
 // and lets it go at once.
-fn shares<R: Runtime>(run: &Run<'_, R>, comes_seldom: bool) -> Result<Vec<Share>> {
+fn shares<R: Runtime>(run: &Run<'_, R>) -> Result<Vec<Result<Share>>> {
     let (rt, alloc) = (run.rt, run.rt.alloc());
     let mutex = &Mutex::new(alloc, 0u64)?;
     let Some(ends) = Instant::now(rt)?.checked_add(Duration::from_millis(run.rounds)) else {
         return Err(OtherAnswer.into());
     };
+    let comes_seldom = run.name == "seldom";
     let (holds, away) = (Duration::from_micros(HOLDS), Duration::from_micros(AWAY));
-    let answers = thread::map_indices(
+    let shares = thread::map_indices(
         rt,
         alloc,
         run.n,
@@ -80,28 +71,20 @@ fn shares<R: Runtime>(run: &Run<'_, R>, comes_seldom: bool) -> Result<Vec<Share>
             }
         },
     )?;
-    let mut shares = Vec::new(alloc);
-    for share in answers.iter() {
-        let Some(share) = share else {
-            return Err(OtherAnswer.into());
-        };
-        shares.push(*share)?;
-    }
     Ok(shares)
 }
 
-// A thread has the mutex again and again, for so long each time, and stays away for so long in between. `None` says that a
-// call gave another answer than it should.
+// A thread has the mutex again and again, for so long each time, and stays away for so long in between.
 fn hammer<R: Runtime>(
     rt: &R,
     mutex: &Mutex<u64>,
     ends: Instant,
     holds: Duration,
     away: Duration,
-) -> Option<Share> {
+) -> Result<Share> {
     let mut share = Share::default();
     for _ in rt.forever() {
-        let asked = Instant::now(rt).ok()?;
+        let asked = Instant::now(rt)?;
         if asked >= ends {
             break;
         }
@@ -112,19 +95,19 @@ fn hammer<R: Runtime>(
             thread::sleep(rt, away);
         }
     }
-    Some(share)
+    Ok(share)
 }
 
 // Has the mutex for so long, and answers since when.
-fn hold<R: Runtime>(rt: &R, mutex: &Mutex<u64>, holds: Duration) -> Option<Instant> {
-    let mut count = mutex.lock(rt, rt.alloc()).wait().ok()?;
+fn hold<R: Runtime>(rt: &R, mutex: &Mutex<u64>, holds: Duration) -> Result<Instant> {
+    let mut count = mutex.lock(rt, rt.alloc()).wait()?;
     *count = count.wrapping_add(1);
-    let had = Instant::now(rt).ok()?;
+    let had = Instant::now(rt)?;
     for _ in rt.forever() {
-        if had.elapsed(rt).ok()? >= holds {
+        if had.elapsed(rt)? >= holds {
             break;
         }
         spin_loop();
     }
-    Some(had)
+    Ok(had)
 }

@@ -3,19 +3,18 @@ mod events;
 mod lists;
 mod recorded;
 
-use event_listener::ListenError;
 pub use events::{OnEvent, events};
 use futures::task::{Context, Poll, Source, Waker};
 pub use lists::OnList;
-pub use recorded::{OnRecorded, recorded_events};
+pub use recorded::OnRecorded;
 
 /// A queue: by an event and its listeners, by a recorded event, or as a value.
 pub trait Queue: Drop {
     /// What stands in the queue.
     type Listener: Drop;
 
-    /// A new listener.
-    fn listen(&mut self) -> Result<Self::Listener, ListenError>;
+    /// A new listener, if it is not refused.
+    fn listen(&mut self) -> Option<Self::Listener>;
 
     /// Polls a listener in this task, and answers whether it was told.
     fn poll(&mut self, listener: &mut Self::Listener, cx: &mut Context<'_>) -> bool;
@@ -25,12 +24,6 @@ pub trait Queue: Drop {
 
     /// Drops a listener.
     fn leave(&mut self, listener: Self::Listener);
-
-    /// Whether some listener is told.
-    fn is_notified(&mut self) -> bool;
-
-    /// How many listeners there are.
-    fn total_listeners(&mut self) -> usize;
 }
 
 /// A new waker of this task. There is none where its count of wakers is used up.

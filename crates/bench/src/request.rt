@@ -1,6 +1,6 @@
 //! What is asked for on the command line.
 use crate::run::{Measured, Runtime};
-use crate::workload::{ACTS, KINDS, OTHERS, Workload};
+use crate::workload::{NAMES, measure, rounds_of};
 use anyhow::Result;
 use std::env::{self, Env};
 use std::io::Write;
@@ -25,39 +25,33 @@ pub fn answer<R: Runtime + Env, W: Write>(rt: &R, output: &mut W) -> Result<bool
         run_all(rt, output)?;
         return Ok(true);
     }
-    let Some((workload, n, rounds)) = read(words.as_slice()) else {
+    let Some((name, n, rounds)) = read(words.as_slice()) else {
         writeln!(output, "{USAGE}")?;
         return Ok(false);
     };
-    let measured = workload.run(rt, n, rounds)?;
+    let measured = measure(name, rt, n, rounds)?;
     writeln!(output, "{measured}")?;
     Ok(true)
 }
 
 // The workload, how many listeners or threads, and how many rounds. The first word is the name of the program.
-fn read(words: &[String]) -> Option<(Workload, usize, u64)> {
+fn read(words: &[String]) -> Option<(&str, usize, u64)> {
     let word = |index: usize| words.get(index).map(|word| word.as_str());
-    let workload = Workload::named(word(1)?)?;
+    let name = word(1)?;
+    if words.len() > 4 || !NAMES.split(' ').any(|it| it == name) {
+        return None;
+    }
     let n = word(2)?.parse().ok()?;
     let rounds = match word(3) {
         Some(rounds) => rounds.parse().ok()?,
-        None => workload.rounds(n),
+        None => rounds_of(name, n),
     };
-    if words.len() > 4 {
-        return None;
-    }
-    Some((workload, n, rounds))
+    Some((name, n, rounds))
 }
 
 fn run_all<R: Runtime, W: Write>(rt: &R, output: &mut W) -> Result<()> {
-    for (suffix, kind) in &KINDS {
-        for (name, act) in &ACTS {
-            let Measured { done, of, .. } = Workload::Queue(*kind, *act).run(rt, FEW, MOMENT)?;
-            writeln!(output, "{name}{suffix}/{FEW}: {done} {of}")?;
-        }
-    }
-    for (name, workload) in &OTHERS {
-        let Measured { done, of, .. } = workload.run(rt, FEW, MOMENT)?;
+    for name in NAMES.split(' ') {
+        let Measured { done, of, .. } = measure(name, rt, FEW, MOMENT)?;
         writeln!(output, "{name}/{FEW}: {done} {of}")?;
     }
     Ok(())

@@ -33,6 +33,8 @@ pub fn expect(are_right: bool) -> Result<()> {
 #[derive(Drop)]
 pub struct Run<'a, R> {
     pub rt: &'a R,
+    /// The name of the workload.
+    pub name: &'a str,
     /// How many listeners, or threads.
     pub n: usize,
     pub rounds: u64,
@@ -41,9 +43,10 @@ pub struct Run<'a, R> {
 }
 
 impl<'a, R: Runtime> Run<'a, R> {
-    pub fn new(rt: &'a R, n: usize, rounds: u64) -> Self {
+    pub fn new(rt: &'a R, name: &'a str, n: usize, rounds: u64) -> Self {
         Run {
             rt,
+            name,
             n,
             rounds,
             operations: 0,
@@ -59,6 +62,17 @@ impl<'a, R: Runtime> Run<'a, R> {
         let are_right = region(work, rounds);
         self.add(began, rounds, each)?;
         expect(are_right)
+    }
+
+    /// Does work once, and measures it if that is the workload.
+    pub fn part<F: FnMut() -> bool>(&mut self, name: &str, each: usize, mut work: F) -> Result<()>
+        requires { F.IsAlwaysCallable work }
+    {
+        if self.name == name {
+            self.alone(1, each, work)
+        } else {
+            expect(work())
+        }
     }
 
     /// So many threads do work, each in all rounds. The work of a round by all threads is so many operations.

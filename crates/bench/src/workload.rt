@@ -3,187 +3,65 @@ use crate::run::{Measured, Run, Runtime};
 use crate::{acts, channels, fairness, threads};
 use anyhow::Result;
 
-/// What is measured.
-#[derive(Clone, Copy, Debug, PartialEq, Eq)]
-pub enum Workload {
-    /// Calls on a queue of this kind.
-    Queue(Kind, Act),
-    /// A waker is made and dropped.
-    Waker,
-    /// Two threads wait for each other in turn: by events, by semaphores.
-    PingPong,
-    Handover,
-    Mutex,
-    MutexTry,
-    /// With so many permits.
-    Semaphore(usize),
-    Read,
-    Write,
-    Barrier,
-    /// In which so many messages may wait, or any number.
-    Channel(Option<usize>),
-    ChannelAlone,
-    ChannelTasks,
-    /// How threads share a mutex.
-    LongestWait,
-    SmallestShare,
-    Seldom,
-}
+/// All names.
+pub const NAMES: &str = "listen_drop burst burst_listen burst_poll_pending burst_notify \
+    burst_poll_ready burst_drop_finished churn remove_fifo remove_middle notify_none notify_told \
+    is_notified total_listeners listen_drop_stack burst_stack churn_stack remove_fifo_stack \
+    listen_drop_recorded burst_recorded churn_recorded listen_drop_list burst_list churn_list \
+    remove_fifo_list remove_middle_list base_waker ping_pong handover mutex_lock mutex_try semaphore \
+    semaphore_3 read write barrier channel_1 channel_128 channel_unbounded channel_alone \
+    channel_tasks longest_wait smallest_share seldom";
 
-/// How a queue is reached.
-#[derive(Clone, Copy, Debug, PartialEq, Eq)]
-pub enum Kind {
-    /// By an event and listeners that share its queue.
-    Shared,
-    /// By an event and listeners that borrow it.
-    Stack,
-    /// By a recorded event and its listeners.
-    Recorded,
-    /// As a value.
-    List,
-}
-
-/// Calls on a queue.
-#[derive(Clone, Copy, Debug, PartialEq, Eq)]
-pub enum Act {
-    ListenDrop,
-    Burst,
-    BurstListen,
-    BurstPollPending,
-    BurstNotify,
-    BurstPollReady,
-    BurstDropFinished,
-    Churn,
-    RemoveFifo,
-    RemoveMiddle,
-    NotifyNone,
-    NotifyTold,
-    IsNotified,
-    TotalListeners,
-}
-
-/// What the names of workloads end in.
-pub const KINDS: [(&str, Kind); 4] = [
-    ("", Kind::Shared),
-    ("_stack", Kind::Stack),
-    ("_recorded", Kind::Recorded),
-    ("_list", Kind::List),
-];
-
-/// What the names of workloads begin with.
-pub const ACTS: [(&str, Act); 14] = [
-    ("listen_drop", Act::ListenDrop),
-    ("burst", Act::Burst),
-    ("burst_listen", Act::BurstListen),
-    ("burst_poll_pending", Act::BurstPollPending),
-    ("burst_notify", Act::BurstNotify),
-    ("burst_poll_ready", Act::BurstPollReady),
-    ("burst_drop_finished", Act::BurstDropFinished),
-    ("churn", Act::Churn),
-    ("remove_fifo", Act::RemoveFifo),
-    ("remove_middle", Act::RemoveMiddle),
-    ("notify_none", Act::NotifyNone),
-    ("notify_told", Act::NotifyTold),
-    ("is_notified", Act::IsNotified),
-    ("total_listeners", Act::TotalListeners),
-];
-
-/// The workloads that are on no queue.
-pub const OTHERS: [(&str, Workload); 18] = [
-    ("base_waker", Workload::Waker),
-    ("ping_pong", Workload::PingPong),
-    ("handover", Workload::Handover),
-    ("mutex_lock", Workload::Mutex),
-    ("mutex_try", Workload::MutexTry),
-    ("semaphore", Workload::Semaphore(1)),
-    ("semaphore_3", Workload::Semaphore(3)),
-    ("read", Workload::Read),
-    ("write", Workload::Write),
-    ("barrier", Workload::Barrier),
-    ("channel_1", Workload::Channel(Some(1))),
-    ("channel_128", Workload::Channel(Some(128))),
-    ("channel_unbounded", Workload::Channel(None)),
-    ("channel_alone", Workload::ChannelAlone),
-    ("channel_tasks", Workload::ChannelTasks),
-    ("longest_wait", Workload::LongestWait),
-    ("smallest_share", Workload::SmallestShare),
-    ("seldom", Workload::Seldom),
-];
-
-impl Workload {
-    /// The workload of that name.
-    pub fn named(name: &str) -> Option<Workload> {
-        for (its_name, workload) in &OTHERS {
-            if *its_name == name {
-                return Some(*workload);
-            }
+/// How many rounds a run of a workload has that is asked for no number: as many as take some hundredths of a second. Where
+/// threads share a mutex, so many milliseconds.
+pub fn rounds_of(name: &str, n: usize) -> u64 {
+    let n = n.max(1) as u64;
+    let rounds = match name {
+        "longest_wait" | "smallest_share" => 2_000,
+        "seldom" => 3_000,
+        "ping_pong" | "handover" | "barrier" => 20_000,
+        "channel_1" | "channel_128" | "channel_unbounded" => 100_000 / n,
+        "channel_tasks" => 100_000,
+        "mutex_lock" | "mutex_try" | "semaphore" | "semaphore_3" | "read" | "write" if n > 1 => {
+            200_000 / n
         }
-        for (suffix, kind) in &KINDS {
-            for (its_name, act) in &ACTS {
-                if name.strip_suffix(*suffix) == Some(*its_name) {
-                    return Some(Workload::Queue(*kind, *act));
-                }
-            }
+        "burst" | "burst_stack" | "burst_recorded" | "burst_list" => 1_000_000 / n,
+        name if name.starts_with("burst_") || name.starts_with("remove_") => {
+            1_000_000 / n.max(1_000)
         }
-        None
-    }
-
-    /// How many rounds a run has that is asked for no number: as many as take some hundredths of a second. Where threads
-    /// share a mutex, so many milliseconds.
-    pub fn rounds(self, n: usize) -> u64 {
-        let n = n.max(1) as u64;
-        let rounds = match self {
-            Workload::LongestWait | Workload::SmallestShare => 2_000,
-            Workload::Seldom => 3_000,
-            Workload::PingPong | Workload::Handover | Workload::Barrier => 20_000,
-            Workload::Channel(_) => 100_000 / n,
-            Workload::ChannelTasks => 100_000,
-            Workload::Queue(_, Act::Burst) => 1_000_000 / n,
-            Workload::Queue(_, act) if act.wants_new_queues() => 1_000_000 / n.max(1_000),
-            Workload::Queue(..) | Workload::Waker | Workload::ChannelAlone => 1_000_000,
-            _ if n == 1 => 1_000_000,
-            _ => 200_000 / n,
-        };
-        rounds.max(1)
-    }
-
-    /// Runs the workload once.
-    pub fn run<R: Runtime>(self, rt: &R, n: usize, rounds: u64) -> Result<Measured> {
-        let mut run = Run::new(rt, n, rounds);
-        match self {
-            Workload::Queue(kind, act) => acts::measure(&mut run, kind, act)?,
-            Workload::Waker => acts::make_wakers(&mut run)?,
-            Workload::PingPong => threads::ping_pong(&mut run)?,
-            Workload::Handover => threads::hand_over(&mut run)?,
-            Workload::Mutex => threads::lock_mutex(&mut run)?,
-            Workload::MutexTry => threads::try_mutex(&mut run)?,
-            Workload::Semaphore(permits) => threads::acquire(&mut run, permits)?,
-            Workload::Read => threads::read(&mut run)?,
-            Workload::Write => threads::write(&mut run)?,
-            Workload::Barrier => threads::meet(&mut run)?,
-            Workload::Channel(capacity) => channels::pass(&mut run, capacity)?,
-            Workload::ChannelAlone => channels::pass_alone(&mut run)?,
-            Workload::ChannelTasks => channels::pass_in_tasks(&mut run)?,
-            Workload::LongestWait => return fairness::longest_wait(&run),
-            Workload::SmallestShare => return fairness::smallest_share(&run),
-            Workload::Seldom => return fairness::seldom(&run),
-        }
-        Ok(run.measured())
-    }
+        _ => 1_000_000,
+    };
+    rounds.max(1)
 }
 
-impl Act {
-    /// Whether each round is measured on new queues.
-    pub fn wants_new_queues(self) -> bool {
-        matches!(
-            self,
-            Act::BurstListen
-                | Act::BurstPollPending
-                | Act::BurstNotify
-                | Act::BurstPollReady
-                | Act::BurstDropFinished
-                | Act::RemoveFifo
-                | Act::RemoveMiddle
-        )
+/// Runs the workload once.
+pub fn measure<R: Runtime>(name: &str, rt: &R, n: usize, rounds: u64) -> Result<Measured> {
+    let mut run = Run::new(rt, name, n, rounds);
+    if matches!(name, "longest_wait" | "smallest_share" | "seldom") {
+        return fairness::measure(&run);
+    }
+    run_timed(&mut run)?;
+    Ok(run.measured())
+}
+
+fn run_timed<R: Runtime>(run: &mut Run<'_, R>) -> Result<()> {
+    match run.name {
+        "base_waker" => acts::make_wakers(run),
+        "ping_pong" => threads::ping_pong(run),
+        "handover" => threads::hand_over(run),
+        "mutex_lock" => threads::lock_mutex(run),
+        "mutex_try" => threads::try_mutex(run),
+        "semaphore" => threads::acquire(run, 1),
+        "semaphore_3" => threads::acquire(run, 3),
+        "read" => threads::read(run),
+        "write" => threads::write(run),
+        "barrier" => threads::meet(run),
+        "channel_1" => channels::pass(run, Some(1)),
+        "channel_128" => channels::pass(run, Some(128)),
+        "channel_unbounded" => channels::pass(run, None),
+        "channel_alone" => channels::pass_alone(run),
+        "channel_tasks" => channels::pass_in_tasks(run),
+        "notify_none" | "notify_told" | "is_notified" | "total_listeners" => acts::ask(run),
+        _ => acts::measure(run),
     }
 }

@@ -1,7 +1,7 @@
 //! The calls on one recorded event, each with its reply.
 ghost use Rattle.std.specs.Prelude.{◌≡◌};
 
-use calls::Reply;
+use calls::{Act, Reply};
 use event_listener::{
     Hand, RecordError, RecordedEvent, RecordedListener, RecordedPollError, WaitError,
 };
@@ -31,19 +31,12 @@ pub trait HandCalls {
     /// Polls a listener.
     fn poll(&self, hand: &mut Hand<u32>, listener: &mut Self::Listener, waker: Waker) -> Reply;
 
-    /// Discards a listener. It comes back if it is in the queue still.
-    fn discard(
+    /// What a listener does last: a drop, a discard or a wait. It comes back if it is in the queue still.
+    fn end(
         &self,
         hand: &mut Hand<u32>,
         listener: Self::Listener,
-    ) -> (Reply, Option<Self::Listener>);
-
-    /// Waits, for so long at most where there is a limit. The listener comes back if it is in the queue still.
-    fn wait(
-        &self,
-        hand: &mut Hand<u32>,
-        listener: Self::Listener,
-        limit: Option<Duration>,
+        act: Act,
     ) -> (Reply, Option<Self::Listener>);
 }
 
@@ -73,6 +66,11 @@ fn refused(error: RecordError) -> Reply {
 
 fn ready(tag: u32) -> Reply {
     Reply::Ready(Some(u64::from(tag)))
+}
+
+// What a wait that ends at a limit gave.
+fn timed(tag: Option<u32>) -> Reply {
+    tag.map_or(Reply::TimedOut, ready)
 }
 
 impl<'ev, R: Wait + Clock + Clone> HandCalls for On<'ev, R> {
@@ -131,41 +129,29 @@ impl<'ev, R: Wait + Clock + Clone> HandCalls for On<'ev, R> {
         }
     }
 
-    fn discard(
+    fn end(
         &self,
         hand: &mut Hand<u32>,
         own: OwnListener<'ev, R>,
+        act: Act,
     ) -> (Reply, Option<OwnListener<'ev, R>>) {
         if !own.event.owns(hand) {
             return (Reply::Invalid, Some(own));
         }
         let OwnListener { event, listener } = own;
-        match listener.discard(hand) {
-            Ok(was_told) => (Reply::Discarded(was_told), None),
-            Err(WaitError::NeverInserted) => (Reply::Finished, None),
-            Err(WaitError::Memory(listener)) => {
-                (Reply::NoMemory, Some(OwnListener { event, listener }))
+        let answer = match act {
+            Act::Drop => {
+                drop(listener);
+                return (Reply::Dropped, None);
             }
-        }
-    }
-
-    fn wait(
-        &self,
-        hand: &mut Hand<u32>,
-        own: OwnListener<'ev, R>,
-        limit: Option<Duration>,
-    ) -> (Reply, Option<OwnListener<'ev, R>>) {
-        if !own.event.owns(hand) {
-            return (Reply::Invalid, Some(own));
-        }
-        let OwnListener { event, listener } = own;
-        let answer = match limit {
-            Some(limit) => listener.wait_timeout(hand, limit),
-            None => listener.wait(hand).map(Some),
+            Act::Discard => listener.discard(hand).map(Reply::Discarded),
+            Act::Wait => listener.wait(hand).map(ready),
+            Act::Timeout(limit) => listener.wait_timeout(hand, limit).map(timed),
+            Act::Expire => listener.wait_timeout(hand, Duration::ZERO).map(timed),
+            _ => return (Reply::Invalid, Some(OwnListener { event, listener })),
         };
         match answer {
-            Ok(Some(tag)) => (ready(tag), None),
-            Ok(None) => (Reply::TimedOut, None),
+            Ok(reply) => (reply, None),
             Err(WaitError::NeverInserted) => (Reply::Finished, None),
             Err(WaitError::Memory(listener)) => {
                 (Reply::NoMemory, Some(OwnListener { event, listener }))

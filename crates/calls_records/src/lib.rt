@@ -33,7 +33,5 @@ mod row;
 mod written;
 
 pub use hand_calls::{HandCalls, On, OwnListener};
-pub use record::{Closed, close, new_event};
-pub use recorded::Recorded;
+pub use record::{close, new_event, reply_of};
 pub use row::run_on_records;
-pub use written::Written;

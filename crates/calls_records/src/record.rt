@@ -85,7 +85,8 @@ fn write_call<W: Write>(f: &mut Formatter<W>, call: RecordedCall<u32>) -> fmt::R
     }
 }
 
-fn reply_of(reply: RecordedReply<u32>) -> Reply {
+/// What a reply of a record is in a text.
+pub fn reply_of(reply: RecordedReply<u32>) -> Reply {
     match reply {
         RecordedReply::Listened(Ok(key)) => Reply::Listener(key.serial as usize),
         RecordedReply::Listened(Err(ListenError::Memory)) => Reply::NoMemory,

@@ -5,7 +5,6 @@ use calls_events::{Runtime, Wakes};
 use event_listener::Hand;
 use futures::task::Waker;
 use std::alloc::AllocError;
-use std::time::Duration;
 
 /// A recorded event, whose calls are made by one of its hands.
 #[derive(Drop)]
@@ -46,66 +45,6 @@ where
             waker: None,
         })
     }
-
-    fn listen(&mut self) -> Reply {
-        let Some(hand) = self.hands.get_mut(self.hand) else {
-            return Reply::Invalid;
-        };
-        let number = self.listeners.len();
-        match self.on.listen(hand) {
-            Ok(listener) => match self.listeners.push(Some(listener)) {
-                Ok(()) => Reply::Listener(number),
-                Err(_) => Reply::NoMemory,
-            },
-            Err(reply) => reply,
-        }
-    }
-
-    fn act(&mut self, number: usize, act: Act) -> Reply {
-        let waker = self.waker.take();
-        let Some(hand) = self.hands.get_mut(self.hand) else {
-            return Reply::Invalid;
-        };
-        let Some(place) = self.listeners.get_mut(number) else {
-            return Reply::Invalid;
-        };
-        if let (Some(waker), Some(listener)) = (waker, place.as_mut()) {
-            return self.on.poll(hand, listener, waker);
-        }
-        let Some(listener) = place.take() else {
-            return Reply::Invalid;
-        };
-        let (reply, back) = match act {
-            Act::Drop => {
-                drop(listener);
-                (Reply::Dropped, None)
-            }
-            Act::Discard => self.on.discard(hand, listener),
-            Act::Wait => self.on.wait(hand, listener, None),
-            Act::Timeout(limit) => self.on.wait(hand, listener, Some(limit)),
-            Act::Expire => self.on.wait(hand, listener, Some(Duration::ZERO)),
-            _ => (Reply::Invalid, Some(listener)),
-        };
-        *place = back;
-        reply
-    }
-
-    fn notify(&mut self, notice: Notice) -> Reply {
-        match (kind_and_tag(notice), self.hands.get_mut(self.hand)) {
-            (Some((additional, tag)), Some(hand)) => {
-                self.on.notify(hand, notice.count, additional, tag)
-            }
-            _ => Reply::Invalid,
-        }
-    }
-
-    fn ask(&mut self, question: Call<'_>) -> Reply {
-        match (question, self.hands.get_mut(self.hand)) {
-            (Call::Total, Some(hand)) => self.on.total_listeners(hand),
-            (Call::IsNotified, Some(hand)) => self.on.is_notified(hand),
-            _ => Reply::Invalid,
-        }
-    }
 }
 
 /// Whether a notification of a recorded event is additional, and its tag. No other has such a kind and a tag.
@@ -119,6 +58,33 @@ pub fn kind_and_tag(notice: Notice) -> Option<(bool, u32)> {
         Tags::Clones(tag) => Some((additional, u32::try_from(tag).ok()?)),
         _ => None,
     }
+}
+
+fn keep<L: Drop>(listeners: &mut Vec<Option<L>>, listener: L) -> Reply {
+    let number = listeners.len();
+    match listeners.push(Some(listener)) {
+        Ok(()) => Reply::Listener(number),
+        Err(_) => Reply::NoMemory,
+    }
+}
+
+// What is called on the listener of that place, which is polled where there is a waker for it.
+fn act_on<C: HandCalls>(
+    on: &C,
+    hand: &mut Hand<u32>,
+    place: &mut Option<C::Listener>,
+    act: Act,
+    waker: Option<Waker>,
+) -> Reply {
+    if let (Some(waker), Some(listener)) = (waker, place.as_mut()) {
+        return on.poll(hand, listener, waker);
+    }
+    let Some(listener) = place.take() else {
+        return Reply::Invalid;
+    };
+    let (reply, back) = on.end(hand, listener, act);
+    *place = back;
+    reply
 }
 
 impl<'h, 'ev, C, L, R> Subject for Recorded<'h, 'ev, C, L, R>
@@ -142,15 +108,30 @@ where
     }
 
     fn make(&mut self, call: Call<'_>) -> Reply {
+        if let Call::At(hand) = call {
+            self.hand = hand;
+            return Reply::Done;
+        }
+        let waker = self.waker.take();
+        let Some(hand) = self.hands.get_mut(self.hand) else {
+            return Reply::Invalid;
+        };
         match call {
-            Call::Listen { .. } => self.listen(),
-            Call::On(number, act) => self.act(number, act),
-            Call::Notify(notice) => self.notify(notice),
-            Call::At(hand) => {
-                self.hand = hand;
-                Reply::Done
-            }
-            call => self.ask(call),
+            Call::Listen { .. } => match self.on.listen(hand) {
+                Ok(listener) => keep(&mut self.listeners, listener),
+                Err(reply) => reply,
+            },
+            Call::On(number, act) => match self.listeners.get_mut(number) {
+                Some(place) => act_on(&self.on, hand, place, act, waker),
+                None => Reply::Invalid,
+            },
+            Call::Notify(notice) => match kind_and_tag(notice) {
+                Some((additional, tag)) => self.on.notify(hand, notice.count, additional, tag),
+                None => Reply::Invalid,
+            },
+            Call::Total => self.on.total_listeners(hand),
+            Call::IsNotified => self.on.is_notified(hand),
+            _ => Reply::Invalid,
         }
     }
 
@@ -168,8 +149,8 @@ where
 
     fn note(&mut self, answer: &mut Answer) -> Result<(), AllocError> {
         if self.in_turn {
-            let next = self.hand.saturating_add(1);
-            self.hand = if next < self.hands.len() { next } else { 0 };
+            let next = self.hand.wrapping_add(1);
+            self.hand = next.checked_rem(self.hands.len()).unwrap_or(0);
         }
         self.waker = None;
         self.wakes.end(&mut answer.woken)

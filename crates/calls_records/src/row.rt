@@ -68,7 +68,7 @@ where
     }
 }
 
-// Closes the event as the line of that number says, and looks at its record.
+// Closes the event as the line of that number says, or by all hands where there is none, and looks at its record.
 fn close_at<'t, H: Hook>(
     row: Row<'t>,
     alloc: Global,
@@ -79,33 +79,27 @@ fn close_at<'t, H: Hook>(
     closing: Option<&'t str>,
 ) -> Result<(), Difference<'t>> {
     let mut hands = hands;
-    let (kept, wanted) = match closing {
-        Some(closing) => closing.split_once(" -> ").unwrap_or((closing, "")),
-        None => ("", ""),
-    };
-    if closing.is_some() {
-        for _ in kept.parse().unwrap_or(0)..hands.len() {
-            drop(hands.pop());
-        }
+    let mut wanted = None;
+    if let Some(text) = closing {
+        let (kept, answer) = text.split_once(" -> ").unwrap_or((text, ""));
+        hands.truncate(kept.parse().unwrap_or(0));
+        wanted = Some(answer);
     }
     hook.before(None);
     let closed = Closed(close(event, hands));
     hook.after();
-    if closing.is_some() && !reads(&closed, wanted) {
+    if !wanted.is_none_or(|wanted| reads(&closed, wanted)) {
         return Err(row.differs(line, format!(in alloc; "{closed}").ok()));
     }
     let replays = match closed.0 {
         Some(Ok(record)) => hooked(hook, Request::Replay, || record.replays(alloc).ok()),
-        _ => Some(closing.is_some()),
+        _ => Some(wanted.is_some()),
     };
-    match replays {
-        Some(true) => Ok(()),
-        Some(false) => {
-            let answer = String::from_str(alloc, "a record that does not replay");
-            Err(row.differs(line, answer.ok()))
-        }
-        None => Err(row.differs(line, None)),
+    if replays == Some(true) {
+        return Ok(());
     }
+    let answer = replays.and_then(|_| String::from_str(alloc, "no record that replays").ok());
+    Err(row.differs(line, answer))
 }
 
 // Makes a call that is refused memory again, where it is back.

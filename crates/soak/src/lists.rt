@@ -1,13 +1,13 @@
 //! Random lists of calls as rows: a queue gives the answers, and events have to give the same.
+use crate::random::take_at;
 use crate::run::Request;
-use crate::steps::{Listeners, Step, random_steps};
-use anyhow::Result;
-use calls::{Difference, Interpreter, Queues, Row, Undisturbed};
+use crate::steps::{Listeners, Step, random_list};
+use anyhow::{Result, bail};
+use calls::{Interpreter, Queues, Row, Undisturbed};
 use calls_events::{Runtime, run_on_events};
 use calls_records::run_on_records;
 use std::alloc::Global;
 use std::io::Print;
-use std::time::Instant;
 
 // How many lists that differ are printed.
 const PRINTED: u64 = 5;
@@ -15,10 +15,8 @@ const PRINTED: u64 = 5;
 // So many lists bring about each kind of answer.
 const LISTS_FOR_EACH_KIND: u64 = 1_000;
 
-const KIND_COUNT: usize = 13;
-
 // The kinds of answers of events, and a woken task. A kind that no list brings about is compared nowhere.
-const KINDS: [&str; KIND_COUNT] = [
+const KINDS: [&str; 13] = [
     " -> listener ",
     " -> ready ",
     " -> pending",
@@ -36,29 +34,29 @@ const KINDS: [&str; KIND_COUNT] = [
 
 /// Makes a run of lists, and prints how they differ. Answers whether none does, and each kind of answer came up.
 pub fn run_lists<R: Runtime + Print>(rt: &R, request: Request) -> Result<bool> {
-    println!(rt; "seed {}", request.seed)?;
-    let start = Instant::now(rt)?;
-    let mut lists = Lists::new(rt);
-    let (mut made, mut differing) = (0u64, 0u64);
-    for times in 0..u64::MAX {
-        if !request.goes_on(rt, start, times)? {
-            break;
+    let mut lists = Lists {
+        rt,
+        missing: Vec::from_array(rt.alloc(), KINDS)?,
+        printed: 0,
+    };
+    let (made, differing) = request.run(rt, |seed| lists.differs(seed))?;
+    let mut is_right = differing == 0;
+    if made >= LISTS_FOR_EACH_KIND {
+        for kind in lists.missing {
+            println!(rt; "no list has '{kind}'")?;
+            is_right = false;
         }
-        let differs = lists.differs(request.seed.wrapping_add(times))?;
-        made = made.saturating_add(1);
-        differing = differing.saturating_add(u64::from(differs));
     }
-    let is_whole = lists.is_whole(made)?;
     println!(rt; "{made} lists, {differing} differ")?;
-    Ok(is_whole && differing == 0)
+    Ok(is_right)
 }
 
 // Random lists of calls on events.
 #[derive(Drop)]
 struct Lists<'a, R> {
     rt: &'a R,
-    // Which kinds came up.
-    came_up: [bool; KIND_COUNT],
+    // The kinds that have not come up.
+    missing: Vec<&'static str>,
     // How many lists were printed.
     printed: u64,
 }
@@ -66,7 +64,7 @@ struct Lists<'a, R> {
 impl<'a, R: Runtime + Print> Lists<'a, R> {
     // Makes a list, and prints how it differs. Answers whether it does.
     fn differs(&mut self, seed: u64) -> Result<bool> {
-        let steps = random_steps(self.rt.alloc(), seed)?;
+        let steps = random_list(self.rt.alloc(), seed)?;
         let Some(difference) = self.difference(steps.as_slice())? else {
             return Ok(false);
         };
@@ -78,48 +76,13 @@ impl<'a, R: Runtime + Print> Lists<'a, R> {
         Ok(true)
     }
 
-    // Prints which kinds so many lists have not brought about. Answers whether there is none.
-    fn is_whole(&self, times: u64) -> Result<bool> {
-        let mut is_whole = true;
-        if times >= LISTS_FOR_EACH_KIND {
-            for (kind, came_up) in KINDS.iter().zip(self.came_up.iter()) {
-                if !*came_up {
-                    println!(self.rt; "no list has '{kind}'")?;
-                    is_whole = false;
-                }
-            }
-        }
-        Ok(is_whole)
-    }
-}
-
-impl<'a, R: Runtime> Lists<'a, R> {
-    // No list was made.
-    fn new(rt: &'a R) -> Self {
-        Lists {
-            rt,
-            came_up: [false; KIND_COUNT],
-            printed: 0,
-        }
-    }
-
-    // The kind of that place came up.
-    fn note(&mut self, place: usize) {
-        if let Some(came_up) = self.came_up.get_mut(place) {
-            *came_up = true;
-        }
-    }
-
     // The row of these steps and how it differs, if it does.
     fn difference(&mut self, steps: &[Step]) -> Result<Option<String>> {
         let lines = lines_of(self.rt.alloc(), steps)?;
-        for (place, kind) in KINDS.iter().enumerate() {
-            if lines.as_str().contains(*kind) {
-                self.note(place);
-            }
-        }
+        let lines = lines.as_str();
+        self.missing.retain(|kind| !lines.contains(*kind));
         for subject in ["event tags", "recorded by 3 in turn"] {
-            if let Some(text) = difference_on(self.rt, subject, lines.as_str())? {
+            if let Some(text) = difference_on(self.rt, subject, lines)? {
                 return Ok(Some(text));
             }
         }
@@ -134,7 +97,8 @@ impl<'a, R: Runtime> Lists<'a, R> {
         for _ in 0..steps.len() {
             let before = steps.len();
             for place in (0..before).rev() {
-                let fewer = without(self.rt.alloc(), steps.as_slice(), place)?;
+                let mut fewer = Vec::from_slice(self.rt.alloc(), steps.as_slice())?;
+                take_at(&mut fewer, place);
                 if let Some(text) = self.difference(fewer.as_slice())? {
                     steps = fewer;
                     difference = text;
@@ -174,29 +138,13 @@ fn difference_on<R: Runtime>(rt: &R, subject: &str, lines: &str) -> Result<Optio
         kind: "",
         lines,
     };
-    match made_on(row, rt) {
-        Ok(()) => Ok(None),
-        Err(difference) => Ok(Some(format!(in rt.alloc(); "{row}{difference}")?)),
+    let made = match run_on_events(row, rt, &mut Undisturbed) {
+        Some(made) => Some(made),
+        None => run_on_records(row, rt, &mut Undisturbed),
+    };
+    match made {
+        Some(Ok(())) => Ok(None),
+        Some(Err(difference)) => Ok(Some(format!(in rt.alloc(); "{row}{difference}")?)),
+        None => bail!("no subject is '{subject}'"),
     }
-}
-
-fn made_on<'t, R: Runtime>(row: Row<'t>, rt: &R) -> Result<(), Difference<'t>> {
-    if let Some(made) = run_on_events(row, rt, &mut Undisturbed) {
-        return made;
-    }
-    match run_on_records(row, rt, &mut Undisturbed) {
-        Some(made) => made,
-        None => Err(row.has_no_subject()),
-    }
-}
-
-// The steps but for the one at that place.
-fn without(alloc: Global, steps: &[Step], place: usize) -> Result<Vec<Step>> {
-    let mut left = Vec::new(alloc);
-    for (at, step) in steps.iter().enumerate() {
-        if at != place {
-            left.push(*step)?;
-        }
-    }
-    Ok(left)
 }

@@ -27,36 +27,31 @@
 //! # Threads
 //!
 //! The threads call one event and one recorded event at once, round after round, each time on new ones. Each thread makes
-//! 300 random steps of a round, from the seed: it listens, with listeners that share the queue of the event, that borrow
-//! it, or that are recorded; it polls, waits for 0 to 2 milliseconds, notifies 0 to 3 by either kind of notification,
-//! discards and drops. At the end it drops the listeners that are left. The system chooses how the threads interleave, so
-//! one seed does not give one run. When all have ended, this has to hold:
+//! 600 random steps of a round, from the seed, on listeners that share the queue of the event, that borrow it, or that are
+//! recorded: the calls that lists have, with waits for 0 to 2 milliseconds. At the end it drops the listeners that are left.
+//! The system chooses how the threads interleave, so one seed does not give one run. When all have ended, this has to hold:
 //!
-//! - of the event: no listener is left; as many tags were made as listeners notified; each tag given was made, and none
-//!   was given twice; no more tags were lost than listeners dropped;
+//! - of the event: no listener is left; some tag was taken; as many tags were made as listeners notified; each tag given
+//!   was made, and none was given twice; no more tags were lost than listeners dropped;
 //! - of the recorded event: `close` gives its record, and the record replays; it has as many listenings, notified
 //!   listeners and taken tags as the threads counted; its calls notify as many as take their tag or lose it.
-//!
-//! The error output has the sums: `told` are those that a notification notified, `taken` the tags that a poll or a wait
-//! gave or that a discarded listener had, and `lost` those of a dropped listener that were propagated to none. How many
-//! were propagated is known of recorded events alone.
 //!
 //! No step waits for another thread for longer than 2 milliseconds. Should a round not end within 60 seconds all the
 //! same, the program ends with status 1, and its error is `the round of seed SEED does not end`.
 #![tactic(auto)]
 
 mod callee;
-mod counts;
 mod lists;
 mod random;
 mod round;
 mod run;
+mod seen;
 mod steps;
 mod worker;
 
 use anyhow::Result;
 use lists::run_lists;
-use round::watch_rounds;
+use round::run_rounds;
 use run::{Kind, Request};
 use std::process::ExitCode;
 
@@ -65,7 +60,7 @@ fn main(rt: HostRuntime) -> Result<ExitCode> {
     for request in Request::read_all(&rt)? {
         let made = match request.kind {
             Kind::Lists => run_lists(&rt, request)?,
-            Kind::Threads => watch_rounds(rt, request)?,
+            Kind::Threads => run_rounds(rt, request)?,
         };
         is_right &= made;
     }

@@ -1,4 +1,4 @@
-//! Random numbers from a seed, and listeners by a random place.
+//! Random numbers from a seed, and what stands at a random place.
 ghost use Rattle.std.specs.Prelude.{◌<◌};
 
 use rand_core::Rng;
@@ -32,11 +32,11 @@ impl RandomNumbers {
     }
 }
 
-/// Takes out the listener at that place, if there are any. A place that is too great begins again at the first.
-pub fn take_listener<L>(listeners: &mut Vec<L>, place: usize) -> Option<L> {
-    let at = place.checked_rem(listeners.len())?;
-    if at < listeners.len() {
-        Some(listeners.remove(at))
+/// Takes out what stands at that place, if anything does. A place that is too great begins again at the first.
+pub fn take_at<L>(items: &mut Vec<L>, place: usize) -> Option<L> {
+    let at = place.checked_rem(items.len())?;
+    if at < items.len() {
+        Some(items.remove(at))
     } else {
         None
     }

@@ -1,7 +1,8 @@
-//! What the command line asks for, and how it is done.
+//! What the command line asks for, and how often it is done.
 use anyhow::{Result, bail, ensure};
 use std::alloc::AllocGlobal;
 use std::env::{self, Env};
+use std::io::Print;
 use std::time::{Clock, Duration, Instant};
 
 const USAGE: &str =
@@ -12,8 +13,8 @@ const USAGE: &str =
 pub struct Request {
     /// What is compared.
     pub kind: Kind,
-    /// What all random numbers come from.
-    pub seed: u64,
+    // What all random numbers come from.
+    seed: u64,
     limit: Limit,
 }
 
@@ -77,11 +78,28 @@ impl Request {
         })
     }
 
-    /// Whether the run that began then goes on after so many comparisons.
-    pub fn goes_on<R: Clock>(self, rt: &R, start: Instant, times: u64) -> Result<bool> {
-        Ok(match self.limit {
-            Limit::Times(limit) => times < limit,
-            Limit::Time(limit) => start.elapsed(rt)? < limit,
-        })
+    /// Prints the seed, and compares with one seed after another from there on, for as long as it lasts. Answers how often
+    /// that was, and how often something differed.
+    pub fn run<R, F>(self, rt: &R, mut differs: F) -> Result<(u64, u64)>
+    where
+        R: Clock + Print,
+        F: FnMut(u64) -> Result<bool>,
+        requires { F.IsAlwaysCallable differs }
+    {
+        println!(rt; "seed {}", self.seed)?;
+        let start = Instant::now(rt)?;
+        let mut differing = 0u64;
+        for times in 0..u64::MAX {
+            let goes_on = match self.limit {
+                Limit::Times(limit) => times < limit,
+                Limit::Time(limit) => start.elapsed(rt)? < limit,
+            };
+            if !goes_on {
+                return Ok((times, differing));
+            }
+            let differs_now = differs(self.seed.wrapping_add(times))?;
+            differing = differing.saturating_add(u64::from(differs_now));
+        }
+        Ok((u64::MAX, differing))
     }
 }

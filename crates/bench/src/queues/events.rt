@@ -2,7 +2,7 @@
 use super::Queue;
 use anyhow::Result;
 use calls_events::ListenerKind;
-use event_listener::{Event, EventIds, ListenError, Listener};
+use event_listener::{Event, EventIds, Listener};
 use futures::task::{Context, Poll};
 use std::alloc::Global;
 use std::marker::PhantomData;
@@ -43,8 +43,8 @@ impl<'ev, K: ListenerKind<'ev, (), R>, R: Wait> Queue for OnEvent<'ev, '_, K, R>
     type Listener = K::Listener;
 
     #[inline(always)]
-    fn listen(&mut self) -> Result<K::Listener, ListenError> {
-        K::listen(self.rt, self.alloc, self.event)
+    fn listen(&mut self) -> Option<K::Listener> {
+        K::listen(self.rt, self.alloc, self.event).ok()
     }
 
     #[inline(always)]
@@ -60,14 +60,4 @@ impl<'ev, K: ListenerKind<'ev, (), R>, R: Wait> Queue for OnEvent<'ev, '_, K, R>
     // It is dropped at the end of the scope: a call of `drop` is never inlined.
     #[inline(always)]
     fn leave(&mut self, _listener: K::Listener) {}
-
-    #[inline(always)]
-    fn is_notified(&mut self) -> bool {
-        self.event.is_notified(self.rt)
-    }
-
-    #[inline(always)]
-    fn total_listeners(&mut self) -> usize {
-        self.event.total_listeners(self.rt)
-    }
 }

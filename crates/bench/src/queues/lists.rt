@@ -3,7 +3,7 @@ ghost use Rattle.std.specs.Prelude.{◌≡◌};
 
 use super::Queue;
 use event_listener::RegisterResult::Notified;
-use event_listener::{IntoNotification, Key, List, ListenError, WakeSink};
+use event_listener::{IntoNotification, Key, List, WakeSink};
 use futures::task::Context;
 use std::alloc::Global;
 
@@ -36,8 +36,8 @@ impl Queue for OnList {
     type Listener = Key;
 
     #[inline(always)]
-    fn listen(&mut self) -> Result<Key, ListenError> {
-        self.list.insert_uncounted()
+    fn listen(&mut self) -> Option<Key> {
+        self.list.insert_uncounted().ok()
     }
 
     #[inline(always)]
@@ -56,15 +56,5 @@ impl Queue for OnList {
     #[inline(always)]
     fn leave(&mut self, listener: Key) {
         self.list.remove_uncounted(listener, true, &mut Unheard);
-    }
-
-    #[inline(always)]
-    fn is_notified(&mut self) -> bool {
-        self.list.is_notified()
-    }
-
-    #[inline(always)]
-    fn total_listeners(&mut self) -> usize {
-        self.list.total_listeners()
     }
 }
