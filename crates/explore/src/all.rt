@@ -3,7 +3,6 @@ use crate::table::take;
 use anyhow::Result;
 use calls::worlds::{Act, Step, World};
 use std::alloc::{AllocError, Global};
-use std::io::Print;
 
 /// What was found.
 #[derive(Drop)]
@@ -34,7 +33,7 @@ impl<'a> Search<'a> {
     }
 
     /// Goes on from the path by every schedule of so many steps more. A step that is not taken is not followed further.
-    pub fn go_on<V: World, P: Print>(&mut self, depth: usize, progress: &P) -> Result<()> {
+    pub fn go_on<V: World, P: Eprint>(&mut self, depth: usize, progress: &P) -> Result<()> {
         if depth == 0 {
             self.schedules = self.schedules.saturating_add(1);
             return Ok(());
@@ -79,9 +78,9 @@ impl<'a> Search<'a> {
     }
 
     // Writes how many steps were taken, now and then.
-    fn report<P: Print>(&self, progress: &P) -> Result<()> {
+    fn report<P: Eprint>(&self, progress: &P) -> Result<()> {
         if self.taken % 100_000 == 0 {
-            progress.println(self.taken)?;
+            progress.eprintln(self.taken)?;
         }
         Ok(())
     }

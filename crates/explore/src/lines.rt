@@ -5,11 +5,11 @@ use anyhow::Result;
 use calls::worlds::{World, no_step, steps_of};
 use event_worlds::{ChannelWorld, FlagWorld, MutexWorld, SemaphoreWorld};
 use std::alloc::Global;
-use std::io::{BufRead, Print, Write};
+use std::io::{BufRead, Write};
 
 /// Answers each line of the input, in order: the line itself, what it asks for, and an empty line. A line that asks for
 /// nothing is answered `invalid`, and what of it is wrong. Answers whether each of them asked for something.
-pub fn answer_all<P: Print, R: BufRead + Drop, W: Write>(
+pub fn answer_all<P: Eprint, R: BufRead + Drop, W: Write>(
     progress: &P,
     alloc: Global,
     input: R,
@@ -27,7 +27,7 @@ pub fn answer_all<P: Print, R: BufRead + Drop, W: Write>(
     Ok(all_are_valid)
 }
 
-fn answer<P: Print, W: Write>(
+fn answer<P: Eprint, W: Write>(
     progress: &P,
     alloc: Global,
     line: &str,
@@ -49,7 +49,7 @@ fn answer<P: Print, W: Write>(
 }
 
 // None where there is no world of this size.
-fn answer_in<V: World, P: Print, W: Write>(
+fn answer_in<V: World, P: Eprint, W: Write>(
     progress: &P,
     alloc: Global,
     size: &str,
