@@ -53,9 +53,8 @@ impl<L: Tries<Q, Refusal = LockError>, Q: Drop, H: Hold<L> + Drop> Obtaining<L, 
             IfSome answer (λ got. Obtained L.succeeds L.leaves (H.held got.0) got.1)) }
     {
         let limit = match &self.hold {
-            // No time at all has passed already, and no clock is read.
-            Some(hold) if !timeout.is_zero() => Limit::after(hold.rt(), timeout),
-            _ => Limit::Past,
+            Some(hold) => Limit::after(hold.rt(), timeout),
+            None => Limit::Past,
         };
         self.wait_until(limit)
     }

@@ -1,6 +1,7 @@
 //! Until when a wait goes on.
 ghost use Rattle.std.specs.Prelude.{◌≡◌, false, None};
-ghost use Rattle.event_wait.specs.declared.lock.limit.Limit.TheVariants.{Never};
+ghost use Rattle.std.specs.Duration.{as_nanos};
+ghost use Rattle.event_wait.specs.declared.lock.limit.Limit.TheVariants.{Never, Past};
 
 use std::time::{Clock, Duration, Instant};
 
@@ -18,9 +19,15 @@ pub enum Limit {
 impl Limit {
     /// The limit of a wait that begins now and has this timeout.
     ///
-    /// It is [`Never`](Limit::Never) if the present moment and the timeout add up to one that can't be represented, and
-    /// [`Past`](Limit::Past) if the clock can't be read. The call neither allocates nor waits.
-    pub fn after<R: Clock>(clock: &R, timeout: Duration) -> Self {
+    /// A timeout of zero is [`Past`](Limit::Past), and the clock is not read. Else the limit is [`Never`](Limit::Never) if
+    /// the present moment and the timeout add up to one that can't be represented, and `Past` if the clock can't be read.
+    /// The call neither allocates nor waits.
+    pub fn after<R: Clock>(clock: &R, timeout: Duration) -> Self
+        ensures zero { as_nanos timeout ≡ 0 → result ≡ Past }
+    {
+        if timeout.is_zero() {
+            return Limit::Past;
+        }
         match Instant::now(clock) {
             Ok(now) => match now.checked_add(timeout) {
                 Some(moment) => Limit::At(moment),
