@@ -51,7 +51,7 @@ pub struct NeverInserted;
 /// [`wait`](Listener::wait), [`wait_timeout`](Listener::wait_timeout) and [`wait_deadline`](Listener::wait_deadline) are
 /// calls of it. They go in this order:
 ///
-/// 1. `wait_timeout` reads the clock, which fixes its limit.
+/// 1. `wait_timeout` reads the clock, which fixes its limit, unless its timeout is zero.
 /// 2. The wait allocates what the thread parks on, and takes a share of that.
 /// 3. If the listener was notified, the wait takes the tag and returns it. Else it stores the share in the queue.
 /// 4. It reads the clock, if its limit is a moment. If the limit has passed, it removes the listener and propagates
@@ -64,7 +64,8 @@ pub struct NeverInserted;
 ///
 /// If step 2 or a new share fails, the wait returns [`WaitError::Memory`] with the same listener. It is where it
 /// was: no wait removes a listener, or takes its tag, before it returns that error. A task that the wait stored in the
-/// queue stays there. A wait on a finished listener returns [`WaitError::NeverInserted`], before all this but step 1.
+/// queue stays there. A wait on a finished listener returns [`WaitError::NeverInserted`] after step 2, so it can be refused
+/// memory, too.
 pub trait Listener<T>: Sized {
     ghost standing: { Self → Standing };
 

@@ -1,5 +1,5 @@
 //! The listener that shares the queue of its event, and the one that borrows it.
-ghost use Rattle.std.specs.Prelude.{◌≡◌, ◌≢◌, ◌+◌, ◌<◌, ◌^◌, ⊤, true, false, Bool, Err, IfErr, IfOk, IsErr, IsSome};
+ghost use Rattle.std.specs.Prelude.{◌≡◌, ◌≢◌, ◌⊎◌, ◌+◌, ◌<◌, ◌^◌, ⊤, true, false, Bool, Err, IfErr, IfOk, IsErr, IsSome};
 ghost use Rattle.futures.specs.Poll.{OnPending};
 ghost use Rattle.futures.specs.Task.{Covers, Keeps};
 ghost use Rattle.event_listener.specs.Listening.{Known};
@@ -28,6 +28,7 @@ use std::alloc::Global;
 use std::fmt;
 use std::marker::{Model, PhantomData};
 use std::sync::{Arc, Wait};
+use std::thread::Parker;
 use std::time::{Clock, Duration, Instant};
 
 /// A listener that shares the queue of its event, and so can outlive the event.
@@ -136,7 +137,7 @@ impl<T, H: Hold<T>, R: Wait + Clock + Clone> QueueListener<T, H, R> {
     where
         T: Drop,
         ensures finished { self.old.standing.is_finished ≡ true
-            → result ≡ Err because.NeverInserted }
+            → result ≡ Err because.NeverInserted ⊎ result ≡ Err because.Memory }
         ensures memory { result ≡ Err because.Memory → self.new.standing ≡ self.old.standing }
         ensures left { result ≢ Err because.Memory → self.new.standing.is_finished ≡ true }
         ensures unlimited { limit ≡ Never → IfOk result IsSome }
@@ -145,7 +146,7 @@ impl<T, H: Hold<T>, R: Wait + Clock + Clone> QueueListener<T, H, R> {
         ensures table { self.new.table ≡ self.old.table }
     {
         if self.membership.is_finished() {
-            return Err(WaitReason::NeverInserted);
+            return Err(reason_of_finished(self.alloc));
         }
         let mut hand = self.hand.take();
         let waited = self.held.queue().wait(
@@ -261,6 +262,16 @@ impl<T, H: Hold<T>, R: Wait + Clock + Clone> QueueListener<T, H, R> {
             }
             Some(State::Created) | None => false,
         }
+    }
+}
+
+// Why a finished listener does not wait. It asks for what the thread would park on first, as any wait does, so that whoever
+// has no memory hears that and keeps its listener.
+#[cold]
+fn reason_of_finished(alloc: Global) -> WaitReason {
+    match Arc::new(alloc, Parker::new()) {
+        Ok(_) => WaitReason::NeverInserted,
+        Err(_) => WaitReason::Memory,
     }
 }
 

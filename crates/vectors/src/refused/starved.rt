@@ -47,7 +47,7 @@ discard 3 -> discarded true
 total -> total 0
 
 A wait that is refused what its thread parks on hands the listener back as it was, told or not. One that comes back passes \
-its notification on where it is dropped. That a listener is finished is found without memory.
+its notification on where it is dropped. Memory is looked at first, and then whether a listener is finished.
 row 102 event tags
 listen -> listener 0
 listen -> listener 1
@@ -68,7 +68,12 @@ total -> total 2
 isnotified -> isnotified true
 drop 0 -> dropped
 poll 1 1 -> ready 7 wakes 1
-starved wait 1 -> finished
+starved wait 1 -> no memory
+starved timeout 1 0 -> no memory
+starved timeout 1 1000 -> no memory
+starved timeout 1 max -> no memory
+starved expire 1 -> no memory
+wait 1 -> finished
 ";
 
 #[test]
