@@ -1,5 +1,5 @@
 //! The queue: listeners in order of listening, a front of them notified.
-ghost use Rattle.std.specs.Prelude.{◌≡◌, ◌+◌, ◌<◌, ◌≤◌, ◌↔◌, [], ◌∷◌, length, take, IsTrue, IsFalse, IsOk, IsSome, OnOk, IfOk, IfErr, Err};
+ghost use Rattle.std.specs.Prelude.{◌≡◌, ◌+◌, ◌<◌, ◌≤◌, ◌↔◌, [], ◌∷◌, length, take, IsTrue, IsFalse, IsOk, IsSome, OnOk, OnErr, IfOk, IfErr, Err};
 ghost use Rattle.std.specs.List.{FoldsTo};
 ghost use Rattle.std.specs.Map.{keys_of, lookup};
 ghost use Rattle.event_queue.specs.Key.{is_key};
@@ -89,12 +89,14 @@ impl<T, W> List<T, W> {
     /// are used up.
     ///
     /// It allocates only if fewer than `n` slots are spare. An error leaves the listeners and the next serial as
-    /// they were, and no fewer slots spare; a number that no memory has room for fails too.
+    /// they were, and fewer than `n` slots spare, but no fewer than before: those that were made stay. A number that no
+    /// memory has room for fails too.
     pub fn reserve(&mut self, n: usize) -> Result<(), AllocError>
         ensures room { OnOk result (n ≤ self.new.spare) }
         ensures listeners { self.new ≡ record self.old { spare = self.new.spare } }
         ensures kept { self.old.spare ≤ self.new.spare }
         ensures succeeds { n ≤ self.old.spare → IsOk result }
+        ensures too_few { OnErr result (self.new.spare < n) }
         ensures queue { IsQueue self.new }
     {
         self.chain.reserve(n)

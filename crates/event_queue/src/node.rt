@@ -7,6 +7,7 @@ ghost use Rattle.event_queue.specs.Nodes.{nodes_of, IsStarted, Takes, TakesOrCha
 
 use crate::key::Key;
 use crate::node::entries::Entries;
+use crate::node::granted::Blocks;
 use crate::node::table::Table;
 use std::alloc::{AllocError, Global};
 use std::marker::Model;
@@ -15,6 +16,7 @@ use std::sync::ledger::Ledger;
 
 mod change;
 mod entries;
+mod granted;
 mod ring;
 mod serial;
 mod table;
@@ -129,7 +131,8 @@ impl<A, B> Chain<A, B> {
             self.new.after + self.new.spare < 2 ^ 64 }
     {
         start(&mut self.entries, self.table.allocator())?;
-        self.table.grow(n)
+        let mut blocks = Blocks::of(self.table.allocator());
+        self.table.grow(n, &mut blocks)
     }
 
     /// How many entries there are.

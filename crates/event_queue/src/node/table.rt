@@ -5,11 +5,11 @@ ghost use Rattle.event_queue.specs.Counts.{counted_on};
 ghost use Rattle.event_queue.specs.Nodes.{place_of, shown, shown_in, node_at, spare_entry, GrowsTo};
 
 use super::entries::Entry;
+use super::granted::Blocks;
 use super::ring::{NodePtr, NodeRef, Ring, Room, Spares, Steps};
 use crate::key::Key;
 use std::alloc::{AllocError, Global};
 use std::sync::ledger::Ledger;
-use std_alloc::room::Vacant;
 
 /// A slot: the serial of the entry that uses it, and the place of its node. While the node is spare the serial is
 /// `u64::MAX`, which no entry gets, so no key leads to the place.
@@ -149,33 +149,37 @@ impl<A, B> Table<A, B> {
     }
 
     /// Makes `n` more spare nodes. If it fails it keeps those that it made.
-    pub(super) fn grow(&mut self, n: usize) -> Result<(), AllocError>
+    pub(super) fn grow(&mut self, n: usize, blocks: &mut Blocks) -> Result<(), AllocError>
+        requires { blocks.old.granted + n < 2 ^ 64 }
         ensures grows { GrowsTo (shown_in self.old.slots.items) self.old.spares
             (shown_in self.new.slots.items) self.new.spares }
         ensures kept { length self.old.spares ≤ length self.new.spares }
         ensures ok { OnOk result (length self.new.spares ≡ length self.old.spares + n) }
         ensures err { OnErr result (length self.new.spares < length self.old.spares + n) }
+        ensures keeps_what_was_granted { length self.new.spares + blocks.old.granted
+            ≡ length self.old.spares + blocks.new.granted }
     {
         self.slots.reserve(n)?;
         for _ in 0..n {
-            self.make_spare()?;
+            self.make_spare(blocks)?;
         }
         Ok(())
     }
 
     // Makes one more spare node, with a slot of its own at the end of the table.
-    fn make_spare(&mut self) -> Result<(), AllocError>
+    fn make_spare(&mut self, blocks: &mut Blocks) -> Result<(), AllocError>
         requires slots_room { vec_len self.old.slots < vec_capacity self.old.slots }
+        requires count { blocks.old.granted + 1 < 2 ^ 64 }
         ensures grows { GrowsTo (shown_in self.old.slots.items) self.old.spares
             (shown_in self.new.slots.items) self.new.spares }
         ensures slots { OnOk result (vec_len self.new.slots ≡ vec_len self.old.slots + 1) }
         ensures spares { OnOk result (length self.new.spares ≡ length self.old.spares + 1) }
         ensures err { OnErr result (self.new ≡ self.old) }
         ensures slots_capacity { vec_capacity self.new.slots ≡ vec_capacity self.old.slots }
+        ensures granted { OnOk result (blocks.new.granted ≡ blocks.old.granted + 1) }
+        ensures refused { OnErr result (blocks.new.granted ≡ blocks.old.granted) }
     {
-        let Ok(room) = Vacant::take(self.allocator()) else {
-            return Err(AllocError);
-        };
+        let room = blocks.take()?;
         let place = self.spares.push(room, Entry::spare(self.slots.len()));
         self.slots.push_reserved(Slot {
             serial: u64::MAX,

@@ -9,3 +9,4 @@ invariant-loop g l =
     × (length l.self.spares ≡ length l.fn.self.spares + l.counter)
     × (vec_len l.self.slots ≡ vec_len l.fn.self.slots + l.counter)
     × (vec_len l.fn.self.slots + l.n ≤ vec_capacity l.self.slots)
+    × (l.blocks.granted ≡ l.fn.blocks.granted + l.counter)
