@@ -1,5 +1,6 @@
 //! Locks: those that are polled by hand, and what their tests share. `races` has threads that block.
 mod clients;
+mod limits;
 mod permits;
 
 use crate::support::{check, is_woken, new_id, new_task};
