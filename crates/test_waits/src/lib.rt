@@ -7,6 +7,8 @@
 //!   only once its listener is told, and a finished listener does not wait.
 //! - `wakes`: a notification and the drop of a told listener wake parked threads; a thread is told before it looks for its
 //!   listener, before it parks, as it does so, or after.
+//! - `threads`: eight threads with a hand each make one record, which has each of their calls and of their drops once; two
+//!   threads tell each other by two recorded events.
 //!
 //! `stage` is the event of a case, with the clock of its listeners, `trial` what a case makes its calls on, and `recorded`
 //! that of a recorded event, which each test closes with all its hands: their notes have to be those of its record.
@@ -14,8 +16,7 @@
 //! The machine may be busy, so "soon" means that of up to twenty waits of 50 milliseconds one ends within 87. No contract
 //! says that a thread wakes: the tests show that it woke within ten seconds here. One that is not woken ends at a limit of
 //! 20 seconds, and fails. A wait that should end at once and does not, or that has no limit, fails at the limit that the
-//! toolchain has for every test. Threads that race do so for two seconds. Eight threads that call one
-//! recorded event make one history: the program `soak` shows it.
+//! toolchain has for every test. Threads that race do so for two seconds.
 #![tactic(auto)]
 
 #[cfg(test)]
@@ -24,6 +25,8 @@ mod limits;
 mod recorded;
 #[cfg(test)]
 mod stage;
+#[cfg(test)]
+mod threads;
 #[cfg(test)]
 mod trial;
 #[cfg(test)]
