@@ -7,6 +7,8 @@
 //! | `rows`, as text | which wakers a poll keeps; serial numbers that are used up; that a record is compared |
 //! | `tags` | tags that are refused |
 //! | `locks` | what is called while the lock of an event is held, by its thread and by another; threads that race to make the queue |
+//! | `meetings` | threads that sleep for the lock of an event: each is woken, and uses no processor time until then |
+//! | `wakes` | a task and a parked thread behind a notification of a hand, a task behind a told listener that is dropped |
 //! | `making` | the macro `listener!`; slots; a refused clone; what is shown; what threads may share; listeners that outlive their event |
 //! | `awaited` | tasks that await listeners, and move between threads: that they are woken, and how often they are polled |
 //! | `records` | more hands than memory holds; each call of a recorded state succeeds |
@@ -28,6 +30,8 @@ mod locks;
 #[cfg(test)]
 mod making;
 #[cfg(test)]
+mod meetings;
+#[cfg(test)]
 mod records;
 #[cfg(test)]
 mod rows;
@@ -35,3 +39,5 @@ mod rows;
 mod support;
 #[cfg(test)]
 mod tags;
+#[cfg(test)]
+mod wakes;

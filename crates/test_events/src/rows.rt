@@ -31,6 +31,7 @@ listen -> used up
 total -> total 2
 isnotified -> isnotified false
 notify 3 d 7 -> told 2
+isnotified -> isnotified true
 await 0 0 -> ready 7
 await 1 0 -> ready 7
 listen -> used up
