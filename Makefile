@@ -25,7 +25,7 @@
 #           program's proof
 # diff      compares the queue with the Rust crate, if its answers are at hand: `make diff ORACLE=FOLDER`, with
 #           a folder as crates/vectors/src/replies.rt says
-.PHONY: help run test gate prove vectors check refused quoted api explore fuzz soak starved fmt bench diff
+.PHONY: help run test tests gate prove vectors check refused quoted api explore fuzz soak starved fmt bench diff
 
 # So that a target fails where the first command of a pipe does.
 SHELL := bash
@@ -44,6 +44,9 @@ run:
 
 test:
 	$(needs_rt)@scripts/test
+
+# A folder has this name.
+tests: test
 
 gate:
 	$(needs_rt)@rt ci
