@@ -105,8 +105,8 @@ impl<T: Drop, R: Wait + Clock + Clone> Sender<T, R> {
         Sender { link }
     }
 
-    /// A hand of this channel, which made no call yet, and has seen its history so far. It has no bytes, and the call is one
-    /// load. It does not wait.
+    /// A hand of this channel, which made no call yet, and has seen a beginning of its history: how much, no clause says. It has
+    /// no bytes, and the call is one load. It does not wait.
     #[inline(always)]
     pub fn hand(&self) -> ChannelHand<T>
         ensures { (result.seat.table_id ≡ self.now.channel.table)

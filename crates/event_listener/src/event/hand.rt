@@ -52,7 +52,8 @@ impl<T> Model for EventHand<T> {
 }
 
 impl<T> Event<T> {
-    /// A hand of this event, which made no call yet, and knows the history so far.
+    /// A hand of this event, which made no call yet, and knows a beginning of the history. How much that is, no clause says,
+    /// nor that the hands of two such calls have one queue: they cannot meet, so [`tell`](EventHand::tell) the others from one.
     ///
     /// The call allocates the queue, if there is none yet, and returns an error if that fails or a share of it does. It may
     /// wait for a thread that is making the queue.
@@ -192,7 +193,7 @@ impl<T> EventHand<T> {
         })
     }
 
-    /// Knows from here on what a listener's hand knows.
+    /// Knows from here on what a listener's hand knows. Which of these calls are the listener's own, no clause says.
     pub fn hear<H: Hold<T>, R: Wait + Clock + Clone>(
         &mut self,
         listener: &mut QueueListener<T, H, R>,
