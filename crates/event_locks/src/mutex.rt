@@ -25,8 +25,8 @@ use std::time::Clock;
 /// nobody waits.
 ///
 /// Those that wait are notified in order, and compete with newcomers. One that is notified and finds the value taken goes to
-/// the end of the queue; where that happens to one twice, newcomers are shut out until it has come again, and then finds the
-/// value.
+/// the end of the queue; where that happens to one wait twice, newcomers are shut out until it has come again, and then finds
+/// the value.
 ///
 /// The value is in the lock while nobody has it, and else in the guard of the one that has it: a large one is better boxed.
 #[derive(Drop)]

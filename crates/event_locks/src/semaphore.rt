@@ -23,7 +23,8 @@ use std::time::Clock;
 /// Permits that threads and tasks share. A free one is taken by one atomic step, and given back by another where nobody waits.
 ///
 /// Those that wait are notified in order, and compete with newcomers. One that is notified and finds no permit goes to the
-/// end of the queue; where that happens to one twice, newcomers are shut out until it has come again, and then finds a permit.
+/// end of the queue; where that happens to one wait twice, newcomers are shut out until it has come again, and then finds a
+/// permit.
 #[derive(Drop)]
 pub struct Semaphore {
     word: Word<Competing<Permits>, ()>,
