@@ -28,6 +28,9 @@ use std::time::Clock;
 /// the end of the queue; where that happens to one wait twice, newcomers are shut out until it has come again, and then finds
 /// the value.
 ///
+/// Losses belong to one wait: whoever makes a new one after each limit may find nothing for ever. A wait for which newcomers
+/// are shut out, and that is neither polled, waited on nor dropped, or is forgotten, keeps them out.
+///
 /// The value is in the lock while nobody has it, and else in the guard of the one that has it: a large one is better boxed.
 #[derive(Drop)]
 pub struct Mutex<T> {

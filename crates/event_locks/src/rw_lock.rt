@@ -20,8 +20,8 @@ use std::time::Clock;
 /// A value that one writer at a time can use, or several readers. One that comes in where nobody waits makes one atomic step, and
 /// so does one that goes.
 ///
-/// No reader comes in while a writer waits, and a writer that goes lets in all readers that wait; after them it is a writer's
-/// turn. So neither is passed over.
+/// No reader comes in or becomes a writer while a writer waits, and a writer that goes or becomes a reader lets in all readers
+/// that wait; after them it is a writer's turn. So neither is passed over.
 #[derive(Drop)]
 pub struct RwLock<T> {
     word: Word<Queues<Task>, ()>,

@@ -25,6 +25,9 @@ use std::time::Clock;
 /// Those that wait are notified in order, and compete with newcomers. One that is notified and finds no permit goes to the
 /// end of the queue; where that happens to one wait twice, newcomers are shut out until it has come again, and then finds a
 /// permit.
+///
+/// Losses belong to one wait: whoever makes a new one after each limit may find nothing for ever. A wait for which newcomers
+/// are shut out, and that is neither polled, waited on nor dropped, or is forgotten, keeps them out.
 #[derive(Drop)]
 pub struct Semaphore {
     word: Word<Competing<Permits>, ()>,

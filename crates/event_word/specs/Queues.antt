@@ -43,6 +43,12 @@ module _ {W : Type 0} where
   abbrev pub SomebodyWaits : Queues W → Type 0
   SomebodyWaits q = 0 < length q.read_line.waiting + length q.write_line.waiting
 
+  -- one reader is in, no other one was let in, and no writer waits
+  pub record MayUpgrade (n : ℕ) (q : Queues W) : Type 0 where
+    pub alone : n ≡ 2
+    pub nobody : length q.read_line.told ≡ 0
+    pub no_writer : length q.write_line.waiting ≡ 0
+
   -- nobody waits, and nobody was let in who has not come yet
   abbrev pub IsQuiet : Queues W → Type 0
   IsQuiet q = listeners_of q.read_line + listeners_of q.write_line ≡ 0

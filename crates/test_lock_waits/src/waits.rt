@@ -131,19 +131,21 @@ fn a_task_that_comes_last_wakes_all(rt: HostRuntime) {
     second.is_granted(&rt);
 }
 
-// A writer that reads lets in all readers that wait. Beside one of them it does not write again, and alone it does, though a
-// writer waits, which comes in after it.
+// Where nobody waits, a writer that reads writes again. One that reads lets in all readers that wait; beside one of them it does
+// not write again, nor alone while a writer waits, which comes in after it.
 macro_rules! reads_and_writes {
     ($rt:expr, $lock:expr, $writer:expr) => {{
+        let writer = $writer.downgrade().try_upgrade();
+        let writer = writer.ok().expect($rt, "the writer");
         let mut first = Polled::new($rt, $lock.read($rt, $rt.alloc()));
         let mut second = Polled::new($rt, $lock.read($rt, $rt.alloc()));
         let behind = Polled::new($rt, $lock.write($rt, $rt.alloc()));
-        let reader = $writer.downgrade();
+        let reader = writer.downgrade();
         first.is_granted($rt);
         let reader = reader.try_upgrade().err().expect($rt, "the reader");
         second.is_granted($rt);
-        let writer = reader.try_upgrade().ok().expect($rt, "the writer");
-        behind.let_in($rt, writer);
+        let reader = reader.try_upgrade().err().expect($rt, "the reader");
+        behind.let_in($rt, reader);
     }};
 }
 

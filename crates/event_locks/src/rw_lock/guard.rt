@@ -72,8 +72,8 @@ impl<'a, T, R: Wait + Clock> RwLockReadGuard<'a, T, R> {
         RwLockReadGuard { value, hold, share }
     }
 
-    /// Writes from here on, if nobody else reads; else the guard comes back. Writers that wait do not keep it from that. Where
-    /// others wait it may wait for the queues.
+    /// Writes from here on, if nobody else reads and no writer waits; else the guard comes back. Where others wait it may wait
+    /// for the queues. It takes no memory.
     pub fn try_upgrade(self) -> Result<RwLockWriteGuard<'a, T, R>, RwLockReadGuard<'a, T, R>> {
         let RwLockReadGuard { value, hold, share } = self;
         drop(value);

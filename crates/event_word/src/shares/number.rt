@@ -131,6 +131,7 @@ pub(crate) fn writer_reads(word: u64) -> Option<u64>
 #[inline(always)]
 pub(crate) fn reader_writes(word: u64) -> Option<u64>
     ensures step { IfSome result (Recounts word) }
+    ensures passes_nobody { IfSome result (λ _. word % 4 ≡ 0) }
     ensures counts { IfSome result (λ new. (number_of word ≡ 2) × (number_of new ≡ 1)) }
     ensures refused { result ≡ None → word % 4 ≡ 0 → number_of word ≢ 2 }
 {

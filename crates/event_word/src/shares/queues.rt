@@ -4,7 +4,7 @@ ghost use Rattle.event_queue.specs.Exchange.{JoinsWithTask, RegistersWith};
 ghost use Rattle.event_word.specs.Attempted.{CannotJoin};
 ghost use Rattle.event_word.specs.Count.{readers_of, writers_of};
 ghost use Rattle.event_word.specs.Line.{HasLeft, IsNotIn, IsNotInUnlessWaits, Looked, left_by};
-ghost use Rattle.event_word.specs.Queues.{HasNoRoom, IsAWriterThere, IsExclusive, IsNext, IsQuiet, LetsNextIn, LetsReadersIn, NoWriterIsThere, NobodyWaitsInVain, ReadersStay, RefusesReader, WritersStay, joined_by, reading, writing};
+ghost use Rattle.event_word.specs.Queues.{HasNoRoom, IsAWriterThere, IsExclusive, IsNext, IsQuiet, LetsNextIn, LetsReadersIn, MayUpgrade, NoWriterIsThere, NobodyWaitsInVain, ReadersStay, RefusesReader, WritersStay, joined_by, reading, writing};
 
 use super::counts::RwLockCounts;
 use super::number;
@@ -155,12 +155,12 @@ impl<W> Queues<W> {
         number == 0 && self.is_quiet()
     }
 
-    /// Whether the reader that asks may write from here on: it is the only one, and no other one was let in.
+    /// Whether the reader that asks may write from here on: it is the only one, no other one was let in, and no writer waits.
     pub fn may_upgrade(&self, number: u64) -> bool
-        ensures yes { IsTrue result ↔ ((number ≡ 2) × (length self.now.read_line.told ≡ 0)) }
+        ensures yes { IsTrue result ↔ MayUpgrade number self.now }
         ensures counted { IsTrue result → IsExclusive number self.now → IsExclusive 1 self.now }
     {
-        number == ONE_READER && !self.read_line.is_notified()
+        number == ONE_READER && !self.read_line.is_notified() && !somebody_waits(&self.write_line)
     }
 
     /// A newcomer waits in its queue to read, with the task that the exchange makes. It may allocate. An error leaves all as it

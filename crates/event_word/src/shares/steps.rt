@@ -4,7 +4,7 @@ ghost use Rattle.atomic_table.specs.Table.{rest};
 ghost use Rattle.event_word.specs.Count.{readers_of, writers_of};
 ghost use Rattle.event_wait.specs.declared.lock.task.Task.{Task};
 ghost use Rattle.event_word.specs.Leaving.{IfGoing, IfTaking};
-ghost use Rattle.event_word.specs.Queues.{Admits, CountsAsReader, CountsAsWriter, CountsMore, HasNoRoom, IsExclusive, IsQuiet, NoWriterIsThere, Recounts, RecountsAndTakes, given, lock_rules};
+ghost use Rattle.event_word.specs.Queues.{Admits, CountsAsReader, CountsAsWriter, CountsMore, HasNoRoom, IsExclusive, IsQuiet, MayUpgrade, NoWriterIsThere, Recounts, RecountsAndTakes, given, lock_rules};
 ghost use Rattle.event_word.specs.Word.{EasesFrom, HasNothing, HasState, number_of};
 
 use super::number::{self, Leaving, READER, WRITER};
@@ -216,10 +216,9 @@ impl Word<Queues<Task>, ()> {
         requires alone { HasState (λ n q. (n ≡ number_of seen) × IsExclusive n q) held.old.seat.me }
         ensures seat { (held.new.seat.table_id ≡ held.old.seat.table_id)
             × (held.new.seat.me ≡ held.old.seat.me) }
-        ensures yes { IsTrue result → HasState (λ n q. (n ≡ 2) × (number_of seen ≡ 2)
+        ensures yes { IsTrue result → HasState (λ n q. MayUpgrade n q × (number_of seen ≡ 2)
             × IsExclusive 1 q) held.new.seat.me }
-        ensures no { IsFalse result
-            → HasState (λ n q. n ≡ 2 → 0 < length q.read_line.told) held.new.seat.me }
+        ensures no { IsFalse result → HasState (λ n q. MayUpgrade n q → ⊥) held.new.seat.me }
     {
         state!(held.seat, self).may_upgrade(seen / ONE)
     }
@@ -330,7 +329,7 @@ impl Word<Queues<Task>, ()> {
         WriteShare::counted(self.count_in(rt, held, WRITER))
     }
 
-    /// The reader writes from here on, if it is the only one and nobody was let in. Writers that wait do not keep it from that.
+    /// The reader writes from here on, if it is the only one, nobody was let in, and no writer waits.
     pub fn try_upgrade<R: Wait>(&self, rt: &R, share: ReadShare) -> Result<WriteShare, ReadShare> {
         let (seen, mut seat) = self.look();
         if let Some(new) = number::reader_writes(seen) {
@@ -359,8 +358,10 @@ impl Word<Queues<Task>, ()> {
         ensures counts { MatchResult result
             (λ _. CountsAsWriter held.old.seat.me.0 held.new.seat.me.0)
             (λ _. CountsMore 0 held.old.seat.me.0 held.new.seat.me.0) }
-        ensures refused { IfErr result (λ _. HasState (λ n q. n ≡ 2
-            → 0 < length q.read_line.told) held.new.seat.me) }
+        ensures passes_nobody { IfOk result (λ _. HasState (λ _ q.
+            length q.write_line.waiting ≡ 0) held.new.seat.me) }
+        ensures refused { IfErr result (λ _. HasState (λ n q. MayUpgrade n q
+            → ⊥) held.new.seat.me) }
     {
         for _ in rt.forever() {
             let seen = self.look_alone(held);
