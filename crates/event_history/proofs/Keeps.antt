@@ -1,5 +1,5 @@
 -- Each step on the word keeps the rule.
-use Rattle.std.proofs.Common.{◌≡◌, ◌≢◌, ℕ, ◌<◌, ◌≤◌, eqb, true, false, List, [], ◌∷◌, ◌++◌, length, get_or, set, sym, refl, ap, ◌∙◌, subst, ⊎_elim, arith, le_refl, length-set, length-append, true≢false, get_or-set_same, append-nil}
+use Rattle.std.proofs.Common.{◌≡◌, ◌≢◌, ℕ, ◌<◌, ◌≤◌, eqb, Bool, true, false, List, [], ◌∷◌, ◌++◌, length, get_or, set, sym, refl, ap, ◌∙◌, subst, ⊎_elim, arith, le_refl, length-set, length-append, true≢false, get_or-set_same, append-nil, eq-eqb, ne_eqb}
 use Rattle.std.proofs.Math.Seq.{set-append_seam}
 use mathlib.Core.Option.{none, some, some-ne-none}
 use mathlib.Core.Option as home
@@ -12,12 +12,15 @@ use Rattle.atomic_table.proofs.Lists.{exchanged, at_last, at_set, set_again, set
 use Rattle.event_history.specs.declared.history.Entry.{Entry}
 use Rattle.event_history.specs.declared.history.View.{View}
 use Rattle.event_history.specs.History.{entry, calls_by, StartsWith, AreAmong, EachRests, newcomer, met_of, both_views, Runs, LeadsTo}
-use Rattle.event_history.specs.Rule.{IsOut, spent_view, Knows, Fits, Stands, Kept, Sat, arrived, entered, taken, extended, looked}
+use Rattle.event_history.specs.Rule.{IsOut, spent_view, Knows, Fits, Stands, Kept, Sat, Holds, arrived, entered, owing, marked, taken, extended, looked}
 use Rattle.event_history.proofs.RestsOnLemmas.{rests_none, rests_more}
 use Rattle.event_history.proofs.Views.{at_below, all_set, all_more, calls_own, calls_other, Goes_on, each_on, each_stood, fits_on, alive_is_none, set_on, call_on, newcomer_fits, fits_set, fits_more}
 
 nothing_spent : true ≡ false → ⊥
 nothing_spent e = true≢false e
+
+not_two_and_zero : (n : ℕ) → n ≡ 2 → n ≡ 0 → ⊥
+not_two_and_zero n two zero = omega (arith, two, zero)
 
 module _ {S C : Type 0} (starts : S → Type 0) (goes : S → C → S → Type 0) (rests : C → List C) where
   abbrev V : Type 0
@@ -91,25 +94,25 @@ module _ {S C : Type 0} (starts : S → Type 0) (goes : S → C → S → Type 0
   pub tells : (id : ℕ) (v : V) → v.out ≡ [] → Splits Law id v v (newcomer v.seen)
   tells id v out s k me = subst (λ (vs : List V). Law (record { words = s.words; homes = s.homes; views = vs ++ newcomer v.seen ∷ [] })) (sym (set_again s.views id v me)) (welcomes s k v.seen (k.fits id v me).begins)
 
-  abbrev takes_out : M → S → V
-  takes_out m q = record m.0 { out = q ∷ [] }
+  abbrev takes_out : Bool → M → S → V
+  takes_out owes m q = record (owing owes m.0) { out = q ∷ [] }
 
-  hits : (st : Step S) (s : St) (k : Law s) (id : ℕ) (m : M) (new : ℕ) → new ≢ 0 → m.1 ≡ [] → m.0.spent ≡ false → get_elem? s.views id ≡ some m.0 → get_or s.words 0 0 ≡ 0 → (hs : List (home.Option S)) → hs ≡ s.homes → There 0 hs s.views k.log
-      → Goes s id m (taken st m) new
-  hits st s k id m new locks empty alive me hit [] is h = absurd h
-  hits st s k id m new locks empty alive me hit (none ∷ hs) is h = absurd (h.0 refl)
-  hits st s k id m new locks empty alive me hit (some q ∷ hs) is h = (
-    takes_out m q,
+  hits : (owes : Bool) (st : Step S) (s : St) (k : Law s) (id : ℕ) (m : M) (new : ℕ) → new ≢ 0 → m.1 ≡ [] → m.0.spent ≡ false → get_elem? s.views id ≡ some m.0 → get_or s.words 0 0 ≡ 0 → (hs : List (home.Option S)) → hs ≡ s.homes → There 0 hs s.views k.log
+      → Goes s id m (taken st (owing owes m.0, m.1)) new
+  hits owes st s k id m new locks empty alive me hit [] is h = absurd h
+  hits owes st s k id m new locks empty alive me hit (none ∷ hs) is h = absurd (h.0 refl)
+  hits owes st s k id m new locks empty alive me hit (some q ∷ hs) is h = (
+    takes_out owes m q,
     takes 0 q,
     subst (λ (l : List (home.Option S)). get_elem? l 0 ≡ some (some q)) is refl,
-    placed s k new (set s.homes 0 none) (set s.views id (takes_out m q)) k.log
-        (subst (λ (l : List (home.Option S)). There new (set l 0 none) (set s.views id (takes_out m q)) k.log) is
-        (locks, id, q, h.1, all_set (λ by v. IsOut id q by v.out) s.views id (takes_out m q) (refl, refl) (λ by v _ at. subst (λ (o : List S). IsOut id q by o) (sym (h.2 by v at)) tt)))
-        (fits_set s.views k.log id m.0 (takes_out m q) me alive k.fits (λ f. record { number = f.number; begins = f.begins; own = f.own; others = f.others; met = f.met; differ = f.differ }))
-        (λ by le. k.others by (omega (arith, length-set s.views id (takes_out m q), le)))
+    placed s k new (set s.homes 0 none) (set s.views id (takes_out owes m q)) k.log
+        (subst (λ (l : List (home.Option S)). There new (set l 0 none) (set s.views id (takes_out owes m q)) k.log) is
+        (locks, id, q, h.1, all_set (λ by v. IsOut id q by v.out) s.views id (takes_out owes m q) (refl, refl) (λ by v _ at. subst (λ (o : List S). IsOut id q by o) (sym (h.2 by v at)) tt)))
+        (fits_set s.views k.log id m.0 (takes_out owes m q) me alive k.fits (λ f. record { number = f.number; begins = f.begins; own = f.own; others = f.others; met = f.met; differ = f.differ }))
+        (λ by le. k.others by (omega (arith, length-set s.views id (takes_out owes m q), le)))
         k.rested,
     (
-      (λ _. (q, λ i. (takes_out m q, (0, q) ∷ empty i))),
+      (λ _. (q, λ i. (takes_out owes m q, (0, q) ∷ empty i))),
       λ miss. absurd (miss hit),
     ),
   )
@@ -117,7 +120,7 @@ module _ {S C : Type 0} (starts : S → Type 0) (goes : S → C → S → Type 0
   -- a seat takes the state that is at home
   pub locks : (n id : ℕ) (m : M) (new : ℕ) → new ≢ 0 → m.1 ≡ [] → m.0.spent ≡ false → Allows Law n id m 0 (λ y. either (eqb y 0) new y) (taken (step n 0 0 new none) m)
   locks n id m new out empty alive s k wide me fits = let st = step n 0 0 new none in exchanged (get_or s.words 0 0) 0 new (Goes s id m (taken st m))
-      (λ hit. hits st s k id m new out empty alive me hit s.homes refl (subst (λ (x : ℕ). There x s.homes s.views k.log) hit k.stands))
+      (λ hit. hits m.0.owes st s k id m new out empty alive me hit s.homes refl (subst (λ (x : ℕ). There x s.homes s.views k.log) hit k.stands))
       (λ miss. (m.0, keeps, tt, unmoved_to s k (get_or s.words 0 0) k.stands id m me, ((λ hit. absurd (miss hit)), λ _. refl)))
 
   still_out : (x new : ℕ) (hs : List (home.Option S)) (vs : List V) (log : List (Entry C)) → x ≢ 0 → new ≢ 0 → There x hs vs log → There new hs vs log
@@ -125,25 +128,51 @@ module _ {S C : Type 0} (starts : S → Type 0) (goes : S → C → S → Type 0
   still_out x new (none ∷ hs) vs log away out h = (out, h.1, h.2, h.3, h.4)
   still_out x new (some q ∷ hs) vs log away out h = absurd (away h.0)
 
-  -- the same by a swap, which leaves the word at `new` for whoever has the state
-  pub swaps : (n id : ℕ) (m : M) (new : ℕ) → new ≢ 0 → m.1 ≡ [] → m.0.spent ≡ false → Allows Law n id m 0 (λ _. new) (taken (step n 0 new 0 none) m)
-  swaps n id m new out empty alive s k wide me fits = let st = step n 0 new 0 none in dite (ℕ_discrete (get_or s.words 0 0) 0)
-      (λ hit. hits st s k id m new out empty alive me hit s.homes refl (subst (λ (x : ℕ). There x s.homes s.views k.log) hit k.stands))
-      (λ miss. (m.0, keeps, tt, unmoved_to s k new (still_out (get_or s.words 0 0) new s.homes s.views k.log miss out k.stands) id m me, ((λ hit. absurd (miss hit)), λ _. refl)))
+  -- the word becomes n, and a seat owes the mark or not
+  owing_to : (owes : Bool) (s : St) (k : Law s) (n : ℕ) → There n s.homes s.views k.log → (id : ℕ) (m : M) → m.0.spent ≡ false → get_elem? s.views id ≡ some m.0 → Law (stepped s 0 n id m.1 (owing owes m.0) keeps)
+  owing_to owes s k n there id m alive me =
+      let w : V = owing owes m.0 in
+      placed s k n s.homes (set s.views id w) k.log (stands_set n s.homes s.views id m.0 w k.log me refl there)
+      (fits_set s.views k.log id m.0 w me alive k.fits (λ f. record { number = f.number; begins = f.begins; own = f.own; others = f.others; met = f.met; differ = f.differ }))
+      (λ by le. k.others by (omega (arith, length-set s.views id w, le)))
+      k.rested
+
+  -- a look, at which a seat owes the mark or not from then on
+  pub turns : (owes : Bool) (n id : ℕ) (m : M) → m.0.spent ≡ false → Allows Law n id m 0 (λ y. y) (λ _ r. r ≡ (owing owes m.0, m.1))
+  turns owes n id m alive s k wide me fits = (owing owes m.0, keeps, tt, owing_to owes s k (get_or s.words 0 0) k.stands id m alive me, refl)
+
+  -- the state is taken by a swap, which leaves the word at `new` for whoever has it
+  swapped : (owes : Bool) (st : Step S) (s : St) (k : Law s) (id : ℕ) (m : M) (new : ℕ) → new ≢ 0 → m.1 ≡ [] → m.0.spent ≡ false → get_elem? s.views id ≡ some m.0 → Goes s id m (taken st (owing owes m.0, m.1)) new
+  swapped owes st s k id m new out empty alive me = dite (ℕ_discrete (get_or s.words 0 0) 0)
+      (λ hit. hits owes st s k id m new out empty alive me hit s.homes refl (subst (λ (x : ℕ). There x s.homes s.views k.log) hit k.stands))
+      (λ miss. (owing owes m.0, keeps, tt, owing_to owes s k new (still_out (get_or s.words 0 0) new s.homes s.views k.log miss out k.stands) id m alive me, ((λ hit. absurd (miss hit)), λ _. refl)))
+
+  pub marks : (n id : ℕ) (m : M) (new : ℕ) → new ≢ 0 → m.1 ≡ [] → m.0.spent ≡ false → Allows Law n id m 0 (λ _. new) (marked (step n 0 new 0 none) m)
+  marks n id m new out empty alive s k wide me fits = swapped false (step n 0 new 0 none) s k id m new out empty alive me
+
+  -- what a new seat has that found this word
+  comes : (st : Step S) (m : M) (seen : List (Entry C)) (r : ℕ) (n : M) → taken st (owing (eqb r 2) (newcomer seen), []) r n → arrived st m r n
+  comes st m seen r n t = (
+    seen,
+    (λ is. subst (λ (b : Bool). Holds (owing b (newcomer seen)) n) (subst (λ (x : ℕ). eqb x 2 ≡ false) (sym is) refl) (t.0 is)),
+    (λ is. subst (λ (b : Bool). n ≡ (owing b (newcomer seen), [])) (eq-eqb r 2 is) (t.1 (λ zero. not_two_and_zero r is zero))),
+    (λ away isnt. subst (λ (b : Bool). n ≡ (owing b (newcomer seen), [])) (ne_eqb r 2 isnt) (t.1 away)),
+  )
 
   -- a new seat takes the state that is at home, or has seen the history so far
   pub arrives : (n : ℕ) (m : M) (new : ℕ) → new ≢ 0 → Arrives Law n 0 (λ _. new) (arrived (step n 0 new 0 none) m)
   arrives n m new out s k wide fits =
       let first : V = newcomer k.log in
       let at_end = length s.views in
+      let found = get_or s.words 0 0 in
       let seated : St = record { words = s.words; homes = s.homes; views = s.views ++ first ∷ [] } in
       let kept : Law seated = welcomes s k k.log ([], sym (append-nil k.log)) in
-      let goes = swaps n at_end (first, []) new out refl refl seated kept wide (at_last s.views first at_end refl) fits in (
+      let goes = swapped (eqb found 2) (step n 0 new 0 none) seated kept at_end (first, []) new out refl refl (at_last s.views first at_end refl) in (
         goes.0,
         goes.1,
         goes.2,
         subst (λ (vs : List V). Law (record { words = set s.words 0 new; homes = homes_after s.homes [] goes.1; views = vs })) (set-append_seam s.views first [] goes.0) goes.3,
-        (k.log, goes.4),
+        comes (step n 0 new 0 none) m k.log found (goes.0, carried_after [] goes.1) goes.4,
       )
 
   not_out : (owner : ℕ) (p : S) (by : ℕ) (o : List S) → IsOut owner p by o → by ≢ owner → o ≡ []
@@ -151,22 +180,22 @@ module _ {S C : Type 0} (starts : S → Type 0) (goes : S → C → S → Type 0
   not_out owner p by (x ∷ xs) h ne = absurd (ne h.0)
 
   abbrev brings : List (Entry C) → ℕ → M → C → V
-  brings log id m call = record { by = id ∷ []; seen = log ++ entry id call ∷ []; mine = m.0.mine ++ call ∷ []; out = []; met = m.0.met; spent = false }
+  brings log id m call = record { by = id ∷ []; seen = log ++ entry id call ∷ []; mine = m.0.mine ++ call ∷ []; out = []; met = m.0.met; spent = false; owes = false }
 
   nonempty : (q : S) → (q ∷ []) ≡ [] → ⊥
   nonempty q e = search (arith, e)
 
-  returned : (s : St) (k : Law s) (id : ℕ) (m : M) (q r : S) (call : C) → m.0.out ≡ q ∷ [] → goes q call r → get_elem? s.views id ≡ some m.0 → (x : ℕ) (hs : List (home.Option S)) → There x hs s.views k.log
-      → There 0 (put_back hs ((0, r) ∷ [])) (set s.views id (brings k.log id m call)) (k.log ++ entry id call ∷ [])
-  returned s k id m q r call has g me x [] h = absurd h
-  returned s k id m q r call has g me x (some p ∷ hs) h = absurd (nonempty q (sym has ∙ h.2 id m.0 me))
-  returned s k id m q r call has g me x (none ∷ hs) h =
+  returned : (owes : Bool) (s : St) (k : Law s) (id : ℕ) (m : M) (q r : S) (call : C) → m.0.out ≡ q ∷ [] → goes q call r → get_elem? s.views id ≡ some m.0 → (x : ℕ) (hs : List (home.Option S)) → There x hs s.views k.log
+      → There 0 (put_back hs ((0, r) ∷ [])) (set s.views id (owing owes (brings k.log id m call))) (k.log ++ entry id call ∷ [])
+  returned owes s k id m q r call has g me x [] h = absurd h
+  returned owes s k id m q r call has g me x (some p ∷ hs) h = absurd (nonempty q (sym has ∙ h.2 id m.0 me))
+  returned owes s k id m q r call has g me x (none ∷ hs) h =
       let owner = h.1 in
       let p = h.2 in
       let own : IsOut owner p id (q ∷ []) = subst (λ (o : List S). IsOut owner p id o) has (h.4 id m.0 me) in (
         refl,
         leads_snoc k.log p (entry id call) r h.3 (subst (λ (y : S). goes y call r) own.1 g),
-        all_set (λ _ v. v.out ≡ []) s.views id (brings k.log id m call) refl (λ by v ne at. not_out owner p by v.out (h.4 by v at) (λ e. ne (e ∙ sym own.0))),
+        all_set (λ _ v. v.out ≡ []) s.views id (owing owes (brings k.log id m call)) refl (λ by v ne at. not_out owner p by v.out (h.4 by v at) (λ e. ne (e ∙ sym own.0))),
       )
 
   outside : (id : ℕ) (m : M) (q : S) → m.0.out ≡ q ∷ [] → (x : ℕ) (hs : List (home.Option S)) (vs : List V) (log : List (Entry C)) → get_elem? vs id ≡ some m.0 → There x hs vs log → LeadsTo goes starts log q
@@ -181,13 +210,15 @@ module _ {S C : Type 0} (starts : S → Type 0) (goes : S → C → S → Type 0
   puts n id m made q r call is has holds g alive among s k wide me word =
       let e : Entry C = entry id call in
       let log' : List (Entry C) = k.log ++ e ∷ [] in
-      let w : V = brings k.log id m call in
+      let found = get_or s.words 0 0 in
+      let came : V = brings k.log id m call in
+      let w : V = owing (eqb found 2) came in
       let vs' : List V = set s.views id w in
       let fit = k.fits id m.0 me in
       let own : calls_by id log' ≡ m.0.mine ++ call ∷ [] = calls_own id k.log e refl ∙ ap (λ (l : List C). l ++ call ∷ []) (fit.own alive) in
       let rested : EachRests rests log' = rests_more rests k.log e k.rested (subst (λ (l : List C). AreAmong (rests call) l) (sym (fit.own alive)) among) in
       let there : There 0 (put_back s.homes m.1) vs' log' =
-      subst (λ (c : List (ℕ × S)). There 0 (put_back s.homes c) vs' log') (sym holds) (returned s k id m q r call has g me (get_or s.words 0 0) s.homes k.stands) in
+      subst (λ (c : List (ℕ × S)). There 0 (put_back s.homes c) vs' log') (sym holds) (returned (eqb found 2) s k id m q r call has g me found s.homes k.stands) in
       let on : Goes_on s.views vs' k.log log' = call_on s.views k.log id m.0 w e me alive refl in (
         w,
         gives,
@@ -201,6 +232,7 @@ module _ {S C : Type 0} (starts : S → Type 0) (goes : S → C → S → Type 0
           refl,
           call,
           is,
+          came,
           (
             q,
             r,
@@ -213,12 +245,14 @@ module _ {S C : Type 0} (starts : S → Type 0) (goes : S → C → S → Type 0
               seen = ap (λ (l : List (Entry C)). l ++ e ∷ []) fit.begins.1;
               mine = refl;
               each_once = own;
-              idle = (refl, refl, refl);
+              idle = (refl, refl, refl, refl);
               runs = subst (λ (l : List (Entry C)). LeadsTo goes starts l q) fit.begins.1 (outside id m q has (get_or s.words 0 0) s.homes s.views k.log me k.stands);
               step = g;
               rested = rested;
             },
           ),
+          (λ is2. λ i. owing (eq-eqb found 2 is2 i) came),
+          (λ isnt. λ i. owing (ne_eqb found 2 isnt i) came),
         ),
       )
 
@@ -248,7 +282,7 @@ module _ {S C : Type 0} (starts : S → Type 0) (goes : S → C → S → Type 0
             seen = fit.begins;
             mine = refl;
             each_once = fit.own alive;
-            idle = (refl, refl, refl);
+            idle = (refl, refl, refl, refl);
             led = end.0;
             runs = end.1;
             rested = k.rested;

@@ -51,7 +51,7 @@ AllDiffer (x ∷ xs) = IsNoneOf x xs × AllDiffer xs
 module _ {S C : Type 0} where
   -- a hand that made no call yet
   abbrev pub newcomer : List (Entry C) → View S C
-  newcomer seen = record { by = []; seen = seen; mine = []; out = []; met = []; spent = false }
+  newcomer seen = record { by = []; seen = seen; mine = []; out = []; met = []; spent = false; owes = false }
 
   -- what another hand learns of it
   abbrev pub met_of : View S C → Met C
@@ -97,7 +97,7 @@ module _ {S C : Type 0} (goes : S → C → S → Type 0) where
         pub seen : w.seen ≡ (v.seen ++ between) ++ entry number call ∷ []
         pub mine : w.mine ≡ v.mine ++ call ∷ []
         pub each_once : calls_by number w.seen ≡ w.mine
-        pub idle : (w.out ≡ []) × (w.spent ≡ false) × (w.met ≡ v.met)
+        pub idle : (w.out ≡ []) × (w.spent ≡ false) × (w.met ≡ v.met) × (w.owes ≡ false)
         pub runs : LeadsTo (v.seen ++ between) before
         pub step : goes before call after
         pub rested : EachRests rests w.seen
@@ -121,7 +121,7 @@ module _ {S C : Type 0} (goes : S → C → S → Type 0) where
         pub seen : StartsWith w.seen v.seen
         pub mine : w.mine ≡ v.mine
         pub each_once : calls_by number w.seen ≡ w.mine
-        pub idle : (w.out ≡ v.out) × (w.spent ≡ v.spent) × (w.met ≡ v.met)
+        pub idle : (w.out ≡ v.out) × (w.spent ≡ v.spent) × (w.met ≡ v.met) × (w.owes ≡ v.owes)
         pub led : S
         pub runs : LeadsTo w.seen led
         pub rested : EachRests rests w.seen

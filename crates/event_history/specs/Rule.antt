@@ -17,7 +17,7 @@ IsOut owner q by (o ∷ os) = (by ≡ owner) × (o ≡ q)
 module _ {S C : Type 0} where
   -- a hand that another one took in
   abbrev pub spent_view : View S C
-  spent_view = record { by = []; seen = []; mine = []; out = []; met = []; spent = true }
+  spent_view = record { by = []; seen = []; mine = []; out = []; met = []; spent = true; owes = false }
 
   module _ (views : List (View S C)) (log : List (Entry C)) where
     -- the seat of that number is spent, and this is what was known of it
@@ -74,9 +74,25 @@ module _ {S C : Type 0} where
   abbrev pub taken : Step S → Sat S C → ℕ → Sat S C → Type 0
   taken st m r n = (r ≡ 0 → Holds m.0 n) × (r ≢ 0 → n ≡ m)
 
-  -- a new seat has seen some history, and where the word was 0, it has the state
+  -- the hand owes the mark, or not
+  abbrev pub owing : Bool → View S C → View S C
+  owing owes v = record v { owes = owes }
+
+  -- a new seat has seen some history. Where the word was 0, it has the state; where it was 2, it owes the mark that it wrote over
   abbrev pub arrived : Step S → Sat S C → ℕ → Sat S C → Type 0
-  arrived st m r n = (seen : List (Entry C)) × taken st (newcomer seen, []) r n
+  arrived st m r n = (seen : List (Entry C)) × (r ≡ 0 → Holds (newcomer seen) n) × (r ≡ 2 → n ≡ (owing true (newcomer seen), [])) × (r ≢ 0 → r ≢ 2 → n ≡ (newcomer seen, []))
+
+  -- the word has the mark, so the seat does not owe it; where the word was 0, the seat has the state
+  abbrev pub marked : Step S → Sat S C → ℕ → Sat S C → Type 0
+  marked st m r n = taken st (owing false m.0, m.1) r n
+
+  -- the seat owes the mark from here on
+  abbrev pub slept : Step S → Sat S C → ℕ → Sat S C → Type 0
+  slept st m r n = n ≡ (owing true m.0, m.1)
+
+  -- the seat owes it no longer
+  abbrev pub woke : Step S → Sat S C → ℕ → Sat S C → Type 0
+  woke st m r n = n ≡ (owing false m.0, m.1)
 
   -- a new seat has the state alone, or has just seen some history
   abbrev pub Arrived : Bool → Sat S C → Type 0
@@ -87,9 +103,9 @@ module _ {S C : Type 0} where
     abbrev pub Returns : Sat S C → C → View S C → Type 0
     Returns m call w = (q : S) × (r : S) × (m.0.out ≡ q ∷ []) × (m.1 ≡ (0, r) ∷ []) × Leads goes starts rests m.0 call q r w
 
-    -- by a call of which this was said
+    -- by a call of which this was said; where the word was 2, the seat owes the mark that it wrote over
     abbrev pub extended : (C → Type 0) → Step S → Sat S C → ℕ → Sat S C → Type 0
-    extended made st m r n = (n.1 ≡ rest m.1) × (c : C) × made c × Returns m c n.0
+    extended made st m r n = (n.1 ≡ rest m.1) × (c : C) × made c × (w : View S C) × Returns m c w × (r ≡ 2 → n.0 ≡ owing true w) × (r ≢ 2 → n.0 ≡ w)
 
     abbrev pub looked : Step S → Sat S C → ℕ → Sat S C → Type 0
     looked st m r n = (n.1 ≡ m.1) × Looks goes starts rests m.0 n.0

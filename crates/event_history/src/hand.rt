@@ -9,11 +9,12 @@ use std::mem;
 /// A caller's right to call, of no bytes, on a state of type `S` by calls of type `C`. It belongs to one
 /// [`Traced`](crate::Traced) state, whose `table_id` it has.
 ///
-/// `seat.me.0` is what it knows. Between two calls it has no state out.
+/// `seat.me.0` is what it knows. Between two calls it has no state out, and owes nobody a wake.
 #[derive(Drop)]
 pub struct Hand<S, C> {
     pub seat: Seat<S, View<S, C>>,
-    ghost idle: { (seat.me.1 ≡ []) × (seat.me.0.out ≡ []) × (seat.me.0.spent ≡ false) },
+    ghost idle: { (seat.me.1 ≡ []) × (seat.me.0.out ≡ []) × (seat.me.0.spent ≡ false)
+        × (seat.me.0.owes ≡ false) },
 }
 
 impl<S, C> Hand<S, C> {
@@ -21,7 +22,8 @@ impl<S, C> Hand<S, C> {
     #[doc(hidden)]
     #[inline(always)]
     pub fn of(seat: Seat<S, View<S, C>>) -> Hand<S, C>
-        requires { (seat.me.1 ≡ []) × (seat.me.0.out ≡ []) × (seat.me.0.spent ≡ false) }
+        requires { (seat.me.1 ≡ []) × (seat.me.0.out ≡ []) × (seat.me.0.spent ≡ false)
+            × (seat.me.0.owes ≡ false) }
         ensures { result.seat ≡ seat }
     {
         Hand { seat }
@@ -47,7 +49,8 @@ impl<S, C> Hand<S, C> {
 #[derive(Drop)]
 pub struct Resting<S, C> {
     pub rest: Rest<View<S, C>>,
-    ghost idle: { All (λ v. (v.out ≡ []) × (v.spent ≡ false)) rest.badge.views },
+    ghost idle: { All (λ v. (v.out ≡ []) × (v.spent ≡ false) × (v.owes ≡ false))
+        rest.badge.views },
 }
 
 impl<S, C> Resting<S, C> {

@@ -52,7 +52,8 @@ pub struct Met<C> {
 }
 
 /// What a hand knows: its number once it made a call, the history that it has seen, its own calls in it, the state that
-/// it took out, the hands that it took in, and whether another one took it in.
+/// it took out, the hands that it took in, whether another one took it in, and whether it owes the mark of the lock's word:
+/// others may sleep that it keeps no mark of.
 pub struct View<S, C> {
     pub by: LinkedList<u64>,
     pub seen: LinkedList<Entry<C>>,
@@ -60,4 +61,5 @@ pub struct View<S, C> {
     pub out: LinkedList<S>,
     pub met: LinkedList<Met<C>>,
     pub spent: bool,
+    pub owes: bool,
 }

@@ -1,7 +1,7 @@
 //! What holds between any two steps of any threads, and what each kind of step tells.
 ghost use Rattle.std.specs.Prelude.{[]};
 ghost use Rattle.event_history.specs.History.{both_views, newcomer};
-ghost use Rattle.event_history.specs.Rule.{Kept, arrived, entered, extended, looked, spent_view, taken};
+ghost use Rattle.event_history.specs.Rule.{Kept, arrived, entered, extended, looked, marked, slept, spent_view, taken, woke};
 
 use crate::history::{Made, Steps, View};
 use atomic_table::{Join, Play, Split, TableRule};
@@ -27,7 +27,7 @@ impl<S, C> Play<S, View<S, C>> for Enter {
     ghost then = { entered };
 }
 
-// A new hand looks at the history, and takes the state out if it is at home.
+// A new hand looks at the history, and takes the state out if it is at home. Where it wrote over the mark it owes that.
 pub(crate) struct Arrive;
 
 impl<S, C> Play<S, View<S, C>> for Arrive {
@@ -41,7 +41,28 @@ impl<S, C> Play<S, View<S, C>> for Take {
     ghost then = { taken };
 }
 
-// A hand gives the state back, after the call that `K` picks.
+// A hand takes the state out, if it is at home, and the word has the mark.
+pub(crate) struct Mark;
+
+impl<S, C> Play<S, View<S, C>> for Mark {
+    ghost then = { marked };
+}
+
+// A hand slept, and others may sleep still: it owes the mark.
+pub(crate) struct Sleep;
+
+impl<S, C> Play<S, View<S, C>> for Sleep {
+    ghost then = { slept };
+}
+
+// A hand woke one that slept, which owes the mark in its place.
+pub(crate) struct Wake;
+
+impl<S, C> Play<S, View<S, C>> for Wake {
+    ghost then = { woke };
+}
+
+// A hand gives the state back, after the call that `K` picks. Where it wrote over the mark it owes that.
 pub(crate) struct GiveBack<S, K> {
     of: PhantomData<(S, K)>,
 }

@@ -139,6 +139,7 @@ impl<S: Steps> Traced<S> {
         requires seat { seat.old.table_id ≡ self.now.table.shared.table_id }
         requires made { (q : S) × (r : S) × (seat.old.me.0.out ≡ q ∷ [])
             × (seat.old.me.1 ≡ (0, r) ∷ []) × (seat.old.me.0.spent ≡ false)
+            × (seat.old.me.0.owes ≡ false)
             × S.goes q (K.call step.value reply.now) r
             × K.does step.value q before.value reply.now r after.now }
         requires rests { AreAmong (S.rests (K.call step.value reply.now)) seat.old.me.0.mine }

@@ -1,11 +1,11 @@
 //! A state under a lock of one word.
-ghost use Rattle.std.specs.Prelude.{◌≡◌, ◌∷◌, [], false, IfOk, MatchBool};
+ghost use Rattle.std.specs.Prelude.{◌≡◌, ◌∷◌, [], false, true, IfOk, MatchBool};
 ghost use Rattle.event_history.specs.History.{AreAmong, Looks, both_views, newcomer};
-ghost use Rattle.event_history.specs.Rule.{Arrived, Holds, Returns};
+ghost use Rattle.event_history.specs.Rule.{Arrived, Holds, Returns, owing};
 
 use crate::hand::Hand;
 use crate::history::{Made, Steps, View};
-use crate::rule::{Absorb, Arrive, Enter, GiveBack, Look, Rule, Take, Tell};
+use crate::rule::{Absorb, Arrive, Enter, GiveBack, Look, Mark, Rule, Sleep, Take, Tell, Wake};
 use atomic_table::{Refused, Seat, Table};
 use std::alloc::{AllocError, Global};
 use std::hint;
@@ -62,12 +62,13 @@ impl<S: Steps> Traced<S> {
         }
     }
 
-    /// Takes the state out, if no other hand has it.
+    /// Takes the state out, if no other hand has it. It leaves no mark, so the hand may owe none.
     #[doc(hidden)]
     #[inline(always)]
     pub fn try_take(&self, seat: &mut Seat<S, View<S, S::Call>>) -> bool
-        requires { (seat.old.table_id ≡ self.now.table.shared.table_id) × (seat.old.me.1 ≡ [])
+        requires seat { (seat.old.table_id ≡ self.now.table.shared.table_id) × (seat.old.me.1 ≡ [])
             × (seat.old.me.0.out ≡ []) × (seat.old.me.0.spent ≡ false) }
+        requires marked { seat.old.me.0.owes ≡ false }
         ensures seat { (seat.new.table_id ≡ seat.old.table_id) × (seat.new.id ≡ seat.old.id) }
         ensures takes { MatchBool result (Holds seat.old.me.0 seat.new.me)
             (seat.new.me ≡ seat.old.me) }
@@ -93,17 +94,28 @@ impl<S: Steps> Traced<S> {
         (takes, seat)
     }
 
-    // Takes the state out, if no other hand has it, and leaves the mark that others may sleep.
+    // Takes the state out, if no other hand has it, and leaves the mark that others may sleep, which the hand may owe.
     #[cold]
     #[inline(never)]
     fn take_awaited(&self, seat: &mut Seat<S, View<S, S::Call>>) -> bool
         requires { (seat.old.table_id ≡ self.now.table.shared.table_id) × (seat.old.me.1 ≡ [])
             × (seat.old.me.0.out ≡ []) × (seat.old.me.0.spent ≡ false) }
         ensures seat { (seat.new.table_id ≡ seat.old.table_id) × (seat.new.id ≡ seat.old.id) }
-        ensures takes { MatchBool result (Holds seat.old.me.0 seat.new.me)
-            (seat.new.me ≡ seat.old.me) }
+        ensures takes { MatchBool result (Holds (owing false seat.old.me.0) seat.new.me)
+            (seat.new.me ≡ (owing false seat.old.me.0, [])) }
     {
-        self.table.shared.swap::<Take>(seat, 0, AWAITED) == FREE
+        self.table.shared.swap::<Mark>(seat, 0, AWAITED) == FREE
+    }
+
+    // Sleeps while the word has the mark. Whoever is woken owes the mark: others may sleep still.
+    fn sleep<R: Wait>(&self, rt: &R, seat: &mut Seat<S, View<S, S::Call>>)
+        requires { (seat.old.table_id ≡ self.now.table.shared.table_id)
+            × (seat.old.me.0.spent ≡ false) }
+        ensures { (seat.new.table_id ≡ seat.old.table_id) × (seat.new.id ≡ seat.old.id)
+            × (seat.new.me ≡ (owing true seat.old.me.0, seat.old.me.1)) }
+    {
+        self.table.shared.park(rt, 0, AWAITED as u32);
+        self.table.shared.load::<Sleep>(seat, 0);
     }
 
     /// Gives the state back, after the call that `K` picks of its answer and of who made it.
@@ -119,20 +131,28 @@ impl<S: Steps> Traced<S> {
         requires step { (c : S.Call) × (q : S) × (r : S) × K.made c × (seat.old.me.0.out ≡ q ∷ [])
             × (seat.old.me.1 ≡ (0, r) ∷ []) × S.goes q c r × (seat.old.me.0.spent ≡ false)
             × AreAmong (S.rests c) seat.old.me.0.mine }
+        requires marked { seat.old.me.0.owes ≡ false }
         ensures seat { (seat.new.table_id ≡ seat.old.table_id) × (seat.new.id ≡ seat.old.id)
             × (seat.new.me.1 ≡ []) }
         ensures extends { (c : S.Call) × K.made c
             × Returns S.starts S.goes S.rests seat.old.me c seat.new.me.0 }
     {
         if self.table.shared.swap::<GiveBack<S, K>>(seat, 0, FREE) == AWAITED {
-            self.wake_one();
+            self.wake_one(seat);
         }
     }
 
+    // Wakes one that sleeps, which owes the mark in place of this hand.
     #[cold]
     #[inline(never)]
-    fn wake_one(&self) {
+    fn wake_one(&self, seat: &mut Seat<S, View<S, S::Call>>)
+        requires { (seat.old.table_id ≡ self.now.table.shared.table_id)
+            × (seat.old.me.0.spent ≡ false) }
+        ensures { (seat.new.table_id ≡ seat.old.table_id) × (seat.new.id ≡ seat.old.id)
+            × (seat.new.me ≡ (owing false seat.old.me.0, seat.old.me.1)) }
+    {
         self.table.shared.wake_one(0);
+        self.table.shared.load::<Wake>(seat, 0);
     }
 
     /// A new hand, which has seen as much as this one. It is one load.
@@ -185,8 +205,9 @@ pub fn wait_to_take<S: Steps, R: Wait>(
     rt: &R,
     seat: &mut Seat<S, View<S, S::Call>>,
 )
-    requires { (seat.old.table_id ≡ traced.now.table.shared.table_id) × (seat.old.me.1 ≡ [])
+    requires seat { (seat.old.table_id ≡ traced.now.table.shared.table_id) × (seat.old.me.1 ≡ [])
         × (seat.old.me.0.out ≡ []) × (seat.old.me.0.spent ≡ false) }
+    requires marked { seat.old.me.0.owes ≡ false }
     ensures { (seat.new.table_id ≡ seat.old.table_id) × (seat.new.id ≡ seat.old.id)
         × Holds seat.old.me.0 seat.new.me }
 {
@@ -201,7 +222,7 @@ pub fn wait_to_take<S: Steps, R: Wait>(
         if traced.take_awaited(seat) {
             return;
         }
-        shared.park(rt, 0, AWAITED as u32);
+        traced.sleep(rt, seat);
     }
     unreachable!()
 }
