@@ -2,8 +2,12 @@
 use crate::support::{Runtime, Sides, check, sides};
 use crate::waiting::Waiting;
 use crate::ways::Answer;
-use event_channel::{LockError, SendError, SendReason};
+use event_channel::{LockError, SendError, SendReason, bounded};
+use futures::test::MockTask;
 use std::alloc::{AllocError, AllocGlobal};
+use std::cell::Cell;
+use std::sync::{Arc, Wait};
+use test_support::{Change, Changed};
 
 // Both sides say that there are so many of each.
 fn counts<R: Runtime>(rt: &R, sides: &Sides<R>, expected: (usize, usize)) {
@@ -43,6 +47,65 @@ fn handles_are_counted(rt: HostRuntime) {
         counts(&rt, &third, (1, 1));
         check(&rt, "whether it is closed", third.0.is_closed(), false);
     }
+}
+
+// Its runtime value is cloned so often, and then no more.
+#[derive(Drop)]
+struct Clones(Cell<u32>);
+
+impl Change for Clones {
+    fn before_clone<R: Wait>(&self, _rt: &R) -> Result<(), AllocError> {
+        let left = self.0.get();
+        self.0.set(left.saturating_sub(1));
+        if left == 0 { Err(AllocError) } else { Ok(()) }
+    }
+}
+
+// Four clones make a sender, a receiver and the weak ones. Were a refused handle counted, the channel would never close.
+#[test]
+fn a_handle_that_is_refused_is_not_counted(rt: HostRuntime) {
+    let (rt, by) = (&rt, &Clones(Cell::new(4)));
+    let (sender, receiver) = bounded::<usize, _>(&Changed { rt, by }, rt.alloc(), 1).expect(
+        rt,
+        "a channel",
+    );
+    let weak_sender = sender.downgrade().expect(rt, "a weak handle");
+    let weak_receiver = receiver.downgrade().expect(rt, "a weak handle");
+    check(rt, "clones left", by.0.get(), 0);
+    let refused = [
+        sender.clone().is_err(),
+        receiver.clone().is_err(),
+        weak_sender.upgrade().is_err(),
+        weak_receiver.upgrade().is_err(),
+    ];
+    check(rt, "refused", refused, [true; 4]);
+    let counted = (receiver.sender_count(), sender.receiver_count());
+    check(rt, "handles", counted, (1, 1));
+    drop(sender);
+    check(rt, "whether it is closed", receiver.is_closed(), true);
+}
+
+// Messages are shares of one value: one that is sent, one of a send that is dropped at once, and one of a send that waited.
+#[test]
+fn a_channel_goes_with_its_last_handle_and_a_message_with_its_send(rt: HostRuntime) {
+    let value = Arc::new(rt.alloc(), 7u64).expect(&rt, "memory");
+    let share = || Arc::try_clone(&value).expect(&rt, "a share");
+    let (sender, receiver) = bounded(&rt, rt.alloc(), 1).expect(&rt, "a channel");
+    check(&rt, "a send", sender.try_send(share()).is_ok(), true);
+    drop(sender.send(share()));
+    check(&rt, "shares", Arc::strong_count(&value), 2);
+    let (mut waits, task) = (
+        sender.send(share()),
+        MockTask::new(&rt).expect(&rt, "a task"),
+    );
+    check(&rt, "a poll", task.poll(&mut waits).is_pending(), true);
+    drop(waits);
+    check(&rt, "shares", Arc::strong_count(&value), 2);
+    drop(sender.clone().expect(&rt, "a sender"));
+    drop(receiver.clone().expect(&rt, "a receiver"));
+    drop(sender);
+    drop(receiver);
+    check(&rt, "shares", Arc::strong_count(&value), 1);
 }
 
 // Who waits on the other side is woken, and told that none is left.

@@ -36,6 +36,39 @@ fn a_call_that_has_time_waits_so_long(rt: HostRuntime) {
     }
 }
 
+// Whether a receive from an empty channel, and a send into a full one, ends well before twice its limit.
+fn end_soon<R: Runtime>(rt: &R, way: Way) -> [bool; 2] {
+    let (limit, soon) = (Duration::from_millis(50), Duration::from_millis(87));
+    let (sender, receiver) = sides(rt, Some(1));
+    let before = now(rt);
+    check(rt, way, way.receive(rt, &receiver, limit), Answer::Late);
+    let between = now(rt);
+    check(rt, "a send", sender.try_send(7), Ok(()));
+    check(rt, way, way.send(rt, &sender, 8, limit), Answer::Late);
+    let after = now(rt);
+    [
+        between.saturating_duration_since(before) < soon,
+        after.saturating_duration_since(between) < soon,
+    ]
+}
+
+// Each of many calls would have to end late, and not only one, which a busy machine may bring about.
+#[test]
+fn a_call_that_waits_ends_soon_after_its_limit(rt: HostRuntime) {
+    for way in [Way::Timed, Way::Due, Way::WaitedTimed, Way::WaitedDue] {
+        let (mut received, mut sent) = (false, false);
+        for _ in 0..20u32 {
+            let [is_received, is_sent] = end_soon(&rt, way);
+            received = received || is_received;
+            sent = sent || is_sent;
+            if received && sent {
+                break;
+            }
+        }
+        check(&rt, way, (received, sent), (true, true));
+    }
+}
+
 #[test]
 fn a_clock_that_cannot_be_read_is_past_the_limit(rt: HostRuntime) {
     let rt = &rt;

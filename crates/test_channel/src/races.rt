@@ -1,10 +1,15 @@
-//! Two threads that make their calls at the same time, on one channel after another.
+//! Threads that make their calls at the same time, on one channel after another.
 use crate::support::{Runtime, SharedRuntime, Sides, check, sides};
+use crate::waiting::Waiting;
+use crate::ways::Answer;
 use event_channel::{Receiver, Sender};
 use std::alloc::AllocGlobal;
+use std::cell::Cell;
 use std::sync::atomic::{AtomicUsize, Ordering};
+use std::sync::{Barrier, Wait};
 use std::thread;
-use test_support::for_two_seconds;
+use std::time::Clock;
+use test_support::{for_two_seconds, spin_until};
 
 // A thread makes its call so many looks later at most.
 const SKEW: usize = 16;
@@ -77,6 +82,126 @@ fn drop_last_two<R: SharedRuntime>(rt: &R) {
 #[test]
 fn the_last_two_of_a_side_close_at_once(rt: HostRuntime) {
     for_two_seconds(&rt, || drop_last_two(&rt)).expect(&rt, "the time");
+}
+
+// How many threads make handles of one side and drop them, and how many each.
+const THREADS: usize = 4;
+
+const HANDLES: usize = 64;
+
+#[derive(Drop)]
+enum Handle<R: Wait + Clock + Clone> {
+    Sender(Sender<usize, R>),
+    Receiver(Receiver<usize, R>),
+}
+
+impl<R: Runtime> Handle<R> {
+    // Another one, by a clone or by a weak handle.
+    fn more(&self, rt: &R, by_weak: bool) -> Self {
+        match self {
+            Handle::Sender(sender) if by_weak => {
+                let weak = sender.downgrade().expect(rt, "a weak handle");
+                let made = weak.upgrade().expect(rt, "memory");
+                Handle::Sender(made.expect(rt, "a sender"))
+            }
+            Handle::Receiver(receiver) if by_weak => {
+                let weak = receiver.downgrade().expect(rt, "a weak handle");
+                let made = weak.upgrade().expect(rt, "memory");
+                Handle::Receiver(made.expect(rt, "a receiver"))
+            }
+            Handle::Sender(sender) => Handle::Sender(sender.clone().expect(rt, "a sender")),
+            Handle::Receiver(receiver) => {
+                Handle::Receiver(receiver.clone().expect(rt, "a receiver"))
+            }
+        }
+    }
+}
+
+// Makes its handles as the others do. Once they are counted it drops them, with the one that it was given.
+fn make_and_drop<R: Runtime>(rt: &R, own: Handle<R>, come: &AtomicUsize, made: &Barrier) {
+    let mut more = Vec::with_capacity(rt.alloc(), HANDLES).expect(rt, "room");
+    meet(rt, come, THREADS, 0);
+    for number in 0..HANDLES {
+        more.push(own.more(rt, number % 2 == 1)).expect(rt, "room");
+    }
+    made.wait(rt);
+    made.wait(rt);
+    come.fetch_add(1, Ordering::SeqCst);
+    spin_until(rt, || come.load(Ordering::SeqCst) >= 2 * THREADS);
+    drop(more);
+    drop(own);
+}
+
+// All handles of one side are made and dropped by the threads. The other side counts them, and is told that none is left.
+fn count_and_close<R: SharedRuntime>(rt: &R, is_senders: bool) {
+    let ((sender, receiver), come) = (sides(rt, None), &AtomicUsize::new(0));
+    let (first, other) = if is_senders {
+        (Handle::Sender(sender), Handle::Receiver(receiver))
+    } else {
+        (Handle::Receiver(receiver), Handle::Sender(sender))
+    };
+    let count = || match &other {
+        Handle::Sender(sender) => (sender.receiver_count(), sender.is_closed()),
+        Handle::Receiver(receiver) => (receiver.sender_count(), receiver.is_closed()),
+    };
+    let mut own = Vec::new(rt.alloc());
+    for _ in 1..THREADS {
+        own.push(first.more(rt, false)).expect(rt, "room");
+    }
+    own.push(first).expect(rt, "room");
+    let made = &Barrier::new(THREADS + 1);
+    let each = |own| make_and_drop(rt, own, come, made);
+    let counts = || {
+        made.wait(rt);
+        let counted = count();
+        made.wait(rt);
+        counted
+    };
+    let (ended, counted) = thread::join(rt, || thread::map_vec(rt, own, &each), counts);
+    ended.expect(rt, "the threads");
+    check(rt, is_senders, counted, (THREADS * (HANDLES + 1), false));
+    check(rt, is_senders, count(), (0, true));
+}
+
+#[test]
+fn handles_that_are_made_and_dropped_at_once_are_counted(rt: HostRuntime) {
+    for is_senders in [true, false] {
+        for_two_seconds(&rt, || count_and_close(&rt, is_senders)).expect(&rt, "the time");
+    }
+}
+
+// How many receives wait as a channel is closed. They are woken under its lock, one after the other, which takes a while.
+const WAITING: usize = 4_000;
+
+// Meanwhile a thread sleeps for the lock, and as the last are woken another one comes.
+fn close_while_others_come<R: SharedRuntime>(rt: &R, before_the_end: usize) {
+    let (sender, receiver) = &sides(rt, None);
+    let mut waiting = Vec::with_capacity(rt.alloc(), WAITING).expect(rt, "room");
+    for _ in 0..WAITING {
+        let mut stream = Waiting::stream(rt, receiver);
+        check(rt, "a poll", stream.poll(), Answer::Waits);
+        waiting.push(stream).expect(rt, "room");
+    }
+    let waiting = waiting.as_slice();
+    let asks_after = |number: usize| {
+        spin_until(rt, || waiting.get(number).is_none_or(|one| one.is_woken()));
+        receiver.is_closed()
+    };
+    let late = WAITING.saturating_sub(before_the_end);
+    let come = || thread::join(rt, || asks_after(0), || asks_after(late));
+    let (closes, found) = thread::join(rt, || sender.close(), come);
+    check(rt, "a close", closes, true);
+    check(rt, "whether it is closed", found, (true, true));
+}
+
+#[test]
+fn who_sleeps_for_the_lock_is_woken_whoever_comes_after_it(rt: HostRuntime) {
+    let rounds = Cell::new(0usize);
+    let ended = for_two_seconds(&rt, || {
+        rounds.set(rounds.get().wrapping_add(1));
+        close_while_others_come(&rt, rounds.get() % 64 + 2);
+    });
+    ended.expect(&rt, "the time");
 }
 
 // Each sends the last message of its channel.

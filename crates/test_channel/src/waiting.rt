@@ -3,14 +3,14 @@ ghost use Rattle.std.specs.Prelude.{IsSome};
 ghost use Rattle.std.proofs.Props.{props};
 
 use crate::support::Runtime;
-use crate::ways::{Answer, of_item, of_recv, of_send};
+use crate::ways::{Answer, of_item, of_recv, of_recv_in_time, of_send};
 use event_channel::{Receiver, Recv, Send, Sender};
 use futures::StreamExt;
 use futures::task::Poll;
 use futures::test::MockTask;
 use std::mem;
 use std::sync::Wait;
-use std::time::Clock;
+use std::time::{Clock, Duration};
 
 // A send that is not done.
 #[derive(Drop)]
@@ -96,6 +96,15 @@ impl<'a, R: Runtime> Waiting<'a, R> {
     pub fn give_up(&mut self) {
         self.awaited = Awaited::Over;
         self.task.enter(|_| ());
+    }
+
+    /// What a send or a receive answers that is at its limit. A stream is dropped.
+    pub fn end(&mut self) -> Answer {
+        match mem::replace(&mut self.awaited, Awaited::Over) {
+            Awaited::Send(Unsent { send }) => of_send(send.wait_timeout(Duration::ZERO)),
+            Awaited::Receive(recv) => of_recv_in_time(recv.wait_timeout(Duration::ZERO)),
+            Awaited::Stream(_) | Awaited::Over => Answer::Failed,
+        }
     }
 
     /// Whether its task was woken since its last poll began, or since it gave up.

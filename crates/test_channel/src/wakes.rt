@@ -3,6 +3,7 @@
 use crate::support::{SharedRuntime, check, sides};
 use crate::waiting::Waiting;
 use crate::ways::{Answer, Way, of_recv_in_time};
+use event_channel::{Receiver, Sender};
 use futures::test::MockTask;
 use std::thread;
 use std::time::Duration;
@@ -68,5 +69,145 @@ fn waits_at_its_place<R: SharedRuntime>(rt: &R, pause: u64) {
 fn one_that_was_polled_waits_at_its_place(rt: HostRuntime) {
     for pause in PAUSES {
         waits_at_its_place(&rt, pause);
+    }
+}
+
+// How one ends that was told: it is dropped, or it comes to its limit.
+#[derive(Clone, Copy, Debug, PartialEq, Eq)]
+enum End {
+    Dropped,
+    Late,
+}
+
+// One waits, a send or a receive, and is told as soon as another call makes room or sends. If it is dropped, the next one of its
+// side is told. If it comes to its limit, it is done still, and one of the other side is told.
+#[derive(Clone, Copy, Debug)]
+struct Told {
+    is_send: bool,
+    end: End,
+    next_is_thread: bool,
+}
+
+impl Told {
+    fn next_sends(self) -> bool {
+        self.is_send == (self.end == End::Dropped)
+    }
+
+    // Tells the one that waits.
+    fn tell<R: SharedRuntime>(
+        self,
+        rt: &R,
+        sender: &Sender<usize, R>,
+        receiver: &Receiver<usize, R>,
+    ) {
+        if self.is_send {
+            check(rt, self, receiver.try_recv(), Ok(7));
+        } else {
+            check(rt, self, sender.try_send(7), Ok(()));
+        }
+    }
+
+    // It ends, which tells the next one.
+    fn end<R: SharedRuntime>(
+        self,
+        rt: &R,
+        sender: &Sender<usize, R>,
+        receiver: &Receiver<usize, R>,
+        told: Waiting<'_, R>,
+    ) {
+        let mut told = told;
+        if self.end == End::Dropped {
+            self.tell(rt, sender, receiver);
+            check(rt, self, told.is_woken(), true);
+            told.give_up();
+        } else {
+            let done = if self.is_send {
+                Answer::Sent
+            } else {
+                Answer::Received(7)
+            };
+            check(rt, self, told.end(), done);
+        }
+    }
+
+    fn run<R: SharedRuntime>(self, rt: &R) {
+        let (sender, receiver) = &sides(rt, Some(1));
+        let mut told = if self.is_send {
+            check(rt, self, sender.try_send(7), Ok(()));
+            Waiting::send(rt, sender, 8)
+        } else {
+            Waiting::receive(rt, receiver)
+        };
+        check(rt, self, told.poll(), Answer::Waits);
+        if self.end == End::Late {
+            self.tell(rt, sender, receiver);
+        }
+        let answer = if self.next_is_thread {
+            self.thread_goes_on(rt, sender, receiver, told)
+        } else {
+            self.task_goes_on(rt, sender, receiver, told)
+        };
+        let expected = if self.next_sends() {
+            Answer::Sent
+        } else {
+            Answer::Received(if self.is_send { 8 } else { 7 })
+        };
+        check(rt, self, answer, expected);
+    }
+
+    fn task_goes_on<R: SharedRuntime>(
+        self,
+        rt: &R,
+        sender: &Sender<usize, R>,
+        receiver: &Receiver<usize, R>,
+        told: Waiting<'_, R>,
+    ) -> Answer {
+        let mut next = if self.next_sends() {
+            Waiting::send(rt, sender, 9)
+        } else {
+            Waiting::receive(rt, receiver)
+        };
+        check(rt, self, next.poll(), Answer::Waits);
+        self.end(rt, sender, receiver, told);
+        check(rt, self, next.is_woken(), true);
+        next.poll()
+    }
+
+    fn thread_goes_on<R: SharedRuntime>(
+        self,
+        rt: &R,
+        sender: &Sender<usize, R>,
+        receiver: &Receiver<usize, R>,
+        told: Waiting<'_, R>,
+    ) -> Answer {
+        let goes_on = || {
+            if self.next_sends() {
+                Way::Timed.send(rt, sender, 9, limit())
+            } else {
+                Way::Timed.receive(rt, receiver, limit())
+            }
+        };
+        let ends = move || {
+            thread::sleep(rt, Duration::from_millis(100));
+            self.end(rt, sender, receiver, told);
+        };
+        let (answer, ()) = thread::join(rt, goes_on, ends);
+        answer
+    }
+}
+
+#[test]
+fn one_that_is_told_and_ends_tells_the_next(rt: HostRuntime) {
+    for is_send in [false, true] {
+        for end in [End::Dropped, End::Late] {
+            for next_is_thread in [false, true] {
+                Told {
+                    is_send,
+                    end,
+                    next_is_thread,
+                }
+                .run(&rt);
+            }
+        }
     }
 }
