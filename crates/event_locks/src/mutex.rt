@@ -11,6 +11,7 @@ mod lock;
 
 pub use self::guard::{MutexGuard, MutexGuardArc};
 pub use self::lock::{Lock, LockArc};
+use crate::taker::Taker;
 use event_monitor::{Borrowed, Obtaining, Shared};
 use event_queue::TaskExchange;
 use event_wait::{Attempted, LineSource, Serves, Task, Tries};
@@ -86,7 +87,7 @@ impl<T: Drop> Mutex<T> {
     /// A wait for the value.
     #[inline(always)]
     pub fn lock<'a, R: Wait + Clock>(&'a self, rt: &'a R, alloc: Global) -> Lock<'a, T, R> {
-        Lock::new(Obtaining::new(Borrowed { lock: self, rt }, alloc, Competitor::new()))
+        Lock::new(Obtaining::new(Borrowed { lock: self, rt }, alloc, Taker::new()))
     }
 
     /// A wait for the value by a guard that may go to another thread. It returns an error if no share of the mutex can be
@@ -97,7 +98,7 @@ impl<T: Drop> Mutex<T> {
         alloc: Global,
     ) -> Result<LockArc<T, R>, AllocError> {
         let lock = Arc::try_clone(this)?;
-        Ok(LockArc::new(Obtaining::new(Shared { lock, rt }, alloc, Competitor::new())))
+        Ok(LockArc::new(Obtaining::new(Shared { lock, rt }, alloc, Taker::new())))
     }
 
     /// The value. `None` says that a guard was forgotten, and the value with it.
@@ -151,7 +152,7 @@ impl<T: Drop> Mutex<T> {
     }
 }
 
-impl<T: Drop> Serves<Competitor> for Mutex<T> {
+impl<T: Drop> Serves<Taker> for Mutex<T> {
     type Output = Lent<T>;
 
     type Refusal = LockError;
@@ -159,7 +160,7 @@ impl<T: Drop> Serves<Competitor> for Mutex<T> {
     ghost succeeds = { λ mutex before lent after. (after ≡ before)
         × (lent.table_id ≡ mutex.word.table.shared.table_id) × HasValue lent.me };
 
-    ghost waits = { LosesOnceAtMost };
+    ghost waits = { λ before after. LosesOnceAtMost before.competitor after.competitor };
 
     ghost leaves = { λ mutex before answer after. (after ≡ before)
         × IfSome answer (λ lent. (lent.table_id ≡ mutex.word.table.shared.table_id)
@@ -175,12 +176,12 @@ impl<T: Drop> Serves<Competitor> for Mutex<T> {
     fn attempt_or_wait<C, X: TaskExchange<Task, C>, R: Wait>(
         &self,
         rt: &R,
-        request: &mut Competitor,
+        request: &mut Taker,
         exchange: &X,
         on: &mut C,
     ) -> Attempted<Lent<T>, LockError> {
         let (_, mut held) = self.word.take(rt);
-        let attempted = self.attempt_held(rt, &mut held, request, exchange, on);
+        let attempted = self.attempt_held(rt, &mut held, &mut request.competitor, exchange, on);
         let lent = self.word.put_back(rt, held);
         match attempted {
             Attempted::Done(()) => Attempted::Done(lent),
@@ -190,34 +191,33 @@ impl<T: Drop> Serves<Competitor> for Mutex<T> {
         }
     }
 
-    fn leave<R: Wait>(
-        &self,
-        rt: &R,
-        request: &mut Competitor,
-    ) -> Result<Option<Lent<T>>, LockError> {
+    fn leave<R: Wait>(&self, rt: &R, request: &mut Taker) -> Result<Option<Lent<T>>, LockError> {
         let (_, mut held) = self.word.take(rt);
-        let coming = self.word.leave(&mut held, &mut request.place).coming();
+        let coming = self
+            .word
+            .leave(&mut held, &mut request.competitor.place)
+            .coming();
         let took = self.word.take_value(rt, &mut held, coming.is_notified());
         let lent = self.word.put_back(rt, held);
         Ok(if took { Some(lent) } else { None })
     }
 }
 
-impl<T: Drop> Tries<Competitor> for Mutex<T> {
+impl<T: Drop> Tries<Taker> for Mutex<T> {
     #[inline(always)]
-    fn is_waiting(&self, request: &Competitor) -> bool {
+    fn is_waiting(&self, request: &Taker) -> bool {
         request.is_waiting()
     }
 
     #[inline(always)]
-    fn attempt<R: Wait>(&self, _rt: &R, _request: &mut Competitor) -> Option<Lent<T>> {
+    fn attempt<R: Wait>(&self, _rt: &R, _request: &mut Taker) -> Option<Lent<T>> {
         self.word.try_value()
     }
 
-    fn give_up<R: Wait>(&self, rt: &R, request: &mut Competitor) {
+    fn give_up<R: Wait>(&self, rt: &R, request: &mut Taker) {
         if request.is_waiting() {
             let (_, mut held) = self.word.take(rt);
-            self.word.leave(&mut held, &mut request.place);
+            self.word.leave(&mut held, &mut request.competitor.place);
             drop(self.word.put_back(rt, held));
         }
     }

@@ -1,5 +1,5 @@
 //! A semaphore.
-ghost use Rattle.std.specs.Prelude.{◌≡◌, ◌<◌, true};
+ghost use Rattle.std.specs.Prelude.{◌≡◌, ◌<◌, true, IfSome};
 ghost use Rattle.event_wait.specs.Attempted.{Attempts, OnDone, OnRefused, OnUndone};
 ghost use Rattle.event_locks.specs.Losses.{LosesOnceAtMost};
 ghost use Rattle.event_word.specs.Free.{ServesTheStarving, Stands};
@@ -10,6 +10,7 @@ mod guard;
 
 pub use self::acquire::{Acquire, AcquireArc};
 pub use self::guard::{SemaphoreGuard, SemaphoreGuardArc};
+use crate::taker::Taker;
 use event_monitor::{Borrowed, Obtaining, Shared};
 use event_queue::TaskExchange;
 use event_wait::{Attempted, LineSource, Serves, Task, Tries};
@@ -87,7 +88,7 @@ impl Semaphore {
     /// A wait for a permit.
     #[inline(always)]
     pub fn acquire<'a, R: Wait + Clock>(&'a self, rt: &'a R, alloc: Global) -> Acquire<'a, R> {
-        Acquire::new(Obtaining::new(Borrowed { lock: self, rt }, alloc, Competitor::new()))
+        Acquire::new(Obtaining::new(Borrowed { lock: self, rt }, alloc, Taker::new()))
     }
 
     /// A wait for a permit that may go to another thread. It returns an error if no share of the semaphore can be made.
@@ -97,7 +98,7 @@ impl Semaphore {
         alloc: Global,
     ) -> Result<AcquireArc<R>, AllocError> {
         let lock = Arc::try_clone(this)?;
-        Ok(AcquireArc::new(Obtaining::new(Shared { lock, rt }, alloc, Competitor::new())))
+        Ok(AcquireArc::new(Obtaining::new(Shared { lock, rt }, alloc, Taker::new())))
     }
 
     /// Adds permits, all free at once, and notifies the first that wait of them. As many as
@@ -107,7 +108,9 @@ impl Semaphore {
     }
 
     #[inline(always)]
-    fn give_back<R: Wait>(&self, rt: &R, permit: Permit) {
+    fn give_back<R: Wait>(&self, rt: &R, permit: Permit)
+        requires { permit ≡ self.now.word.table.shared.table_id }
+    {
         self.word.give_permit(rt, permit);
     }
 
@@ -123,6 +126,7 @@ impl Semaphore {
         requires seat { held.old.seat.table_id ≡ self.now.word.table.shared.table_id }
         requires stands { HasState (λ n q. Stands n q.line) held.old.seat.me }
         ensures seat { held.new.seat.table_id ≡ held.old.seat.table_id }
+        ensures own { OnDone result (λ permit. permit ≡ self.now.word.table.shared.table_id) }
         ensures serves { HasState (λ n q. ServesTheStarving n q.line) held.new.seat.me }
         ensures done { OnDone result (λ _. request.new ≡ request.old) }
         ensures waits { OnUndone result (LosesOnceAtMost request.old request.new) }
@@ -144,16 +148,18 @@ impl Semaphore {
     }
 }
 
-impl Serves<Competitor> for Semaphore {
+impl Serves<Taker> for Semaphore {
     type Output = Permit;
 
     type Refusal = LockError;
 
-    ghost succeeds = { λ _ before _ after. after ≡ before };
+    ghost succeeds = { λ semaphore before permit after. (after ≡ before)
+        × (permit ≡ semaphore.word.table.shared.table_id) };
 
-    ghost waits = { LosesOnceAtMost };
+    ghost waits = { λ before after. LosesOnceAtMost before.competitor after.competitor };
 
-    ghost leaves = { λ _ before _ after. after ≡ before };
+    ghost leaves = { λ semaphore before answer after. (after ≡ before)
+        × IfSome answer (λ permit. permit ≡ semaphore.word.table.shared.table_id) };
 
     ghost source = { λ semaphore. semaphore.source };
 
@@ -165,44 +171,43 @@ impl Serves<Competitor> for Semaphore {
     fn attempt_or_wait<C, X: TaskExchange<Task, C>, R: Wait>(
         &self,
         rt: &R,
-        request: &mut Competitor,
+        request: &mut Taker,
         exchange: &X,
         on: &mut C,
     ) -> Attempted<Permit, LockError> {
         let (_, mut held) = self.word.take(rt);
-        let attempted = self.attempt_held(rt, &mut held, request, exchange, on);
+        let attempted = self.attempt_held(rt, &mut held, &mut request.competitor, exchange, on);
         drop(self.word.put_back(rt, held));
         attempted
     }
 
-    fn leave<R: Wait>(
-        &self,
-        rt: &R,
-        request: &mut Competitor,
-    ) -> Result<Option<Permit>, LockError> {
+    fn leave<R: Wait>(&self, rt: &R, request: &mut Taker) -> Result<Option<Permit>, LockError> {
         let (_, mut held) = self.word.take(rt);
-        let coming = self.word.leave(&mut held, &mut request.place).coming();
+        let coming = self
+            .word
+            .leave(&mut held, &mut request.competitor.place)
+            .coming();
         let permit = self.word.take_permit(rt, &mut held, coming.is_notified());
         drop(self.word.put_back(rt, held));
         Ok(permit)
     }
 }
 
-impl Tries<Competitor> for Semaphore {
+impl Tries<Taker> for Semaphore {
     #[inline(always)]
-    fn is_waiting(&self, request: &Competitor) -> bool {
+    fn is_waiting(&self, request: &Taker) -> bool {
         request.is_waiting()
     }
 
     #[inline(always)]
-    fn attempt<R: Wait>(&self, _rt: &R, _request: &mut Competitor) -> Option<Permit> {
+    fn attempt<R: Wait>(&self, _rt: &R, _request: &mut Taker) -> Option<Permit> {
         self.word.try_permit()
     }
 
-    fn give_up<R: Wait>(&self, rt: &R, request: &mut Competitor) {
+    fn give_up<R: Wait>(&self, rt: &R, request: &mut Taker) {
         if request.is_waiting() {
             let (_, mut held) = self.word.take(rt);
-            self.word.leave(&mut held, &mut request.place);
+            self.word.leave(&mut held, &mut request.competitor.place);
             drop(self.word.put_back(rt, held));
         }
     }

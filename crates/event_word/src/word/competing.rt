@@ -12,7 +12,7 @@ use crate::error::LockError;
 use crate::line::competing::{Competing, Counted, SHUT, free};
 use crate::line::competitor::{Arrival, Competitor};
 use crate::line::counts::Counts;
-use crate::state;
+use crate::word::held::state;
 use event_queue::{Key, TaskExchange};
 use event_wait::Task;
 use std::sync::Wait;
