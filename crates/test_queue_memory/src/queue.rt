@@ -1,9 +1,11 @@
-//! What no clause says of a queue: when tags and tasks are dropped, that many listeners come and leave in any order, that a
-//! dropped queue gives its memory back, and texts.
+//! What no clause says of a queue: when tags and tasks are dropped, that a refused `reserve` keeps what it made, that many
+//! listeners come and leave in any order, that a dropped queue gives its memory back, and texts; and that a key is that of a
+//! listener by its slot and serial alone, whatever queue gave it.
 use crate::support::{check, leave, new_budget};
 use crate::{Budget, Hog};
 use event_queue::{
-    Call, IntoNotification, IntoTagged, List, ListenError, NotifyError, State, Woken,
+    Call, IntoNotification, IntoTagged, Key, List, ListenError, NotifyError, RegisterResult, State,
+    Woken,
 };
 use std::alloc::AllocGlobal;
 use std::cell::Cell;
@@ -109,11 +111,172 @@ fn a_dropped_queue_gives_every_node_back(rt: HostRuntime) {
     }
 }
 
+const ROOM: usize = 3;
+
+// Makes room for three in a queue of so many listeners, which has no other room, with so many bytes. After that without
+// memory each place of the room takes a listener, and then none comes. Answers how much room that was, if it was refused.
+fn refused_room<R: Abort + AllocGlobal>(
+    rt: &R,
+    budget: &mut Budget,
+    listeners: usize,
+    bytes: usize,
+) -> Option<usize> {
+    let mut list: List<(), u32> = List::new(rt.alloc());
+    for _ in 0..listeners {
+        list.insert_uncounted().expect(rt, "a listener");
+    }
+    leave(rt, budget, bytes);
+    let is_granted = list.reserve(ROOM).is_ok();
+    leave(rt, budget, 0);
+    let room = list.spare();
+    check(rt, (bytes, room), room >= ROOM, is_granted);
+    for left in (0..room).rev() {
+        list.insert_uncounted()
+            .expect(rt, "a listener without memory");
+        check(rt, "spare", list.spare(), left);
+    }
+    let refused = list.insert_uncounted().err();
+    check(rt, "one more", refused, Some(ListenError::Memory));
+    let total = listeners.saturating_add(room);
+    check(rt, "listeners", list.total_listeners(), total);
+    budget.give_back();
+    if is_granted {
+        return None;
+    }
+    list.reserve(ROOM).expect(rt, "room, with memory");
+    Some(room)
+}
+
+// The most room that there is after a refusal, with more and more bytes until there is none. The bytes lie so close that
+// each place is the first to be refused once.
+fn most_refused_room<R: Abort + AllocGlobal>(
+    rt: &R,
+    budget: &mut Budget,
+    listeners: usize,
+) -> usize {
+    let mut most = 0;
+    for bytes in (0..Budget::MOST).step_by(Budget::STEP) {
+        let Some(room) = refused_room(rt, budget, listeners, bytes) else {
+            return most;
+        };
+        let is_next = room == most || most.checked_add(1) == Some(room);
+        check(rt, (bytes, room, "after", most), is_next, true);
+        most = room;
+    }
+    panic!(rt; "no budget serves")
+}
+
+// Room that was granted is that of worked row 45: three listeners take it without memory, and then it is three less.
+#[test]
+fn a_reserve_refused_in_the_middle_keeps_what_was_made(rt: HostRuntime) {
+    let mut budget = new_budget(&rt);
+    for listeners in [0, 2] {
+        let most = most_refused_room(&rt, &mut budget, listeners);
+        check(&rt, listeners, most, ROOM - 1);
+    }
+}
+
+// Inserts a listener that stores this task.
+fn insert<R: Abort>(rt: &R, list: &mut List<u32, usize>, task: usize) -> Key {
+    let key = list.insert_uncounted().expect(rt, "a listener");
+    list.register_uncounted(key, task);
+    key
+}
+
+// What the listener of that place was, when it is removed.
+fn was(place: usize) -> State<u32, usize> {
+    let (additional, tag) = (false, 7);
+    match place {
+        0 => State::Notified { additional, tag },
+        _ => State::Task(place),
+    }
+}
+
+// What the queue answers to that key when it registers a listener with the task 9.
+fn registers(place: usize) -> RegisterResult<u32> {
+    match place {
+        0 => RegisterResult::Notified(7),
+        _ => RegisterResult::Registered,
+    }
+}
+
+// Four listeners, each with its place as its task. The first is told, and the last is in the slot of one that has left.
+fn four<R: Abort + AllocGlobal>(
+    rt: &R,
+    list: &mut List<u32, usize>,
+    woken: &mut Woken<usize>,
+) -> [Key; 4] {
+    let gone = insert(rt, list, 9);
+    let (first, second, third) = (
+        insert(rt, list, 0),
+        insert(rt, list, 1),
+        insert(rt, list, 2),
+    );
+    let left = list.remove_uncounted(gone, false, woken);
+    check(rt, "one that leaves", left, Some(State::Task(9)));
+    let last = insert(rt, list, 3);
+    check(rt, "its slot", last.slot, gone.slot);
+    check(
+        rt,
+        "told",
+        list.notify_uncounted(&mut 1.tag(7), woken),
+        Ok(1),
+    );
+    [first, second, third, last]
+}
+
+// By that key calls find the listener that has its slot and serial, if there is one, and no other.
+fn finds<R: Abort + AllocGlobal>(rt: &R, key: Key, is_removed: bool) {
+    let mut woken = Woken::with_room(rt.alloc(), 1).expect(rt, "a sink");
+    let mut list = List::new(rt.alloc());
+    let keys = four(rt, &mut list, &mut woken);
+    let same = |own: &Key| own.slot == key.slot && own.serial == key.serial;
+    let found = keys.iter().position(same);
+    check(rt, key, list.is_told_uncounted(key), found == Some(0));
+    if is_removed {
+        let left = list.remove_uncounted(key, false, &mut woken);
+        check(rt, key, left, found.map(was));
+    } else {
+        let registered = list.register_uncounted(key, 9);
+        let expected = found.map_or(RegisterResult::NeverInserted, registers);
+        check(rt, key, registered, expected);
+    }
+    for (place, own) in keys.iter().enumerate() {
+        let expected = match found {
+            Some(0) if place == 0 => None,
+            Some(_) if found == Some(place) && is_removed => None,
+            Some(_) if found == Some(place) => Some(State::Task(9)),
+            _ => Some(was(place)),
+        };
+        let left = list.remove_uncounted(*own, false, &mut woken);
+        check(rt, (key, place), left, expected);
+    }
+    check(rt, "listeners", list.total_listeners(), 0);
+}
+
+#[test]
+fn a_key_of_another_list_is_that_of_the_listener_with_its_slot_and_serial(rt: HostRuntime) {
+    let mut other: List<(), ()> = List::new(rt.alloc());
+    for _ in 0..6 {
+        let key = other.insert_uncounted().expect(&rt, "a listener");
+        finds(&rt, key, false);
+        finds(&rt, key, true);
+    }
+    for slot in [0, 1, 2, 3, 4, 5, usize::MAX - 1, usize::MAX] {
+        for serial in [0, 1, 2, 3, 4, 5, 6, u64::MAX - 1, u64::MAX] {
+            let key = Key { slot, serial };
+            finds(&rt, key, false);
+            finds(&rt, key, true);
+        }
+    }
+}
+
 const MANY: usize = 100_000;
 
-// Many listeners come and leave, each so many places after the one before. Then as many come again, into the slots that were
-// left.
-fn many_leave<R: Abort + AllocGlobal>(rt: &R, stride: usize) {
+// Many listeners come, and leave in this order of their places. Then as many come again, into the slots that were left.
+fn many_leave<F: Fn(usize) -> usize, R: Abort + AllocGlobal>(rt: &R, place_of: F)
+    requires { F.IsAlwaysCallable place_of }
+{
     let mut list: List<(), usize> = List::new(rt.alloc());
     let mut woken = Woken::with_room(rt.alloc(), 0).expect(rt, "a sink");
     let mut keys = Vec::new(rt.alloc());
@@ -124,7 +287,7 @@ fn many_leave<R: Abort + AllocGlobal>(rt: &R, stride: usize) {
     }
     let slots = list.spare().saturating_add(MANY);
     for step in 0..MANY {
-        let place = step.wrapping_mul(stride) % MANY;
+        let place = place_of(step);
         let key = keys.get(place).copied().expect(rt, "a key");
         let left = list.remove_uncounted(key, false, &mut woken);
         check(rt, step, left, Some(State::Task(place)));
@@ -136,12 +299,16 @@ fn many_leave<R: Abort + AllocGlobal>(rt: &R, stride: usize) {
     }
 }
 
-// The first is the first to leave, or the last is, or they leave from everywhere.
+// Those that leave are first in, first out; last in, first out; from the middle outwards; from everywhere.
 #[test]
 fn many_listeners_leave_in_any_order_and_their_slots_are_used_again(rt: HostRuntime) {
-    for stride in [1, MANY - 1, 61_803] {
-        many_leave(&rt, stride);
-    }
+    many_leave(&rt, |step| step);
+    many_leave(&rt, |step| (MANY - 1).wrapping_sub(step));
+    many_leave(&rt, |step| match step % 2 {
+        0 => (MANY / 2).wrapping_add(step / 2),
+        _ => (MANY / 2 - 1).wrapping_sub(step / 2),
+    });
+    many_leave(&rt, |step| step.wrapping_mul(61_803) % MANY);
 }
 
 // A function that makes tags.
