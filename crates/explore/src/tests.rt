@@ -1,5 +1,5 @@
-//! What no clause of `event_worlds` says: that what is no schedule changes nothing, and that a row which is wrong is found, and
-//! where.
+//! What no clause of `event_worlds` says: how many clients a world may have; that what is no schedule changes nothing, and that a
+//! row which is wrong is found, and where.
 use calls::worlds::run_on_worlds;
 use calls::{Difference, Row, Undisturbed};
 use std::alloc::AllocGlobal;
@@ -11,6 +11,68 @@ row 1 mutex 1
 0:Gob -> no step `0:Gob`
 new two -> invalid
 0:2 -> 2: 0 Holding, lock 0
+";
+
+const GREATEST: &str = "
+No memory has room for so many clients. The world that was stays.
+row 52 mutex 2
+new 18446744073709551615 -> no memory
+new 18446744073709551615 from 18446744073709551615 -> no memory
+new 9223372036854775808 -> no memory
+state -> 0 Idle, 1 Idle, lock free
+0:2 -> 2: 0 Holding, lock 0
+
+Nor for so many clients and setters of a flag together.
+row 1 flag 1 1
+new 18446744073709551615 0 -> no memory
+new 18446744073709551615 1 -> no memory
+new 1 18446744073709551615 -> no memory
+new 18446744073709551615 18446744073709551615 -> no memory
+state -> 0 Check1, 1 ToSet, flag false
+
+Nor for so many of a semaphore, whatever its permits are. The greatest number of permits needs none.
+row 2 semaphore 2 1
+new 18446744073709551615 0 -> no memory
+new 18446744073709551615 18446744073709551615 -> no memory
+state -> 0 Idle, 1 Idle, free 1/1
+new 2 18446744073709551615 -> ok
+0:2 -> 2: 0 Holding has 1, free 18446744073709551614/18446744073709551615
+
+Nor for so many senders, receivers or messages.
+row 3 channel 1 1 1
+new 18446744073709551615 1 1 -> no memory
+new 1 18446744073709551615 1 -> no memory
+new 18446744073709551615 18446744073709551615 1 -> no memory
+new 1 1 18446744073709551615 -> no memory
+state -> s0 Idle, r0 Idle, closer ToClose, messages 0/1
+";
+
+const LARGE: &str = "
+The last of 2,000 has the lock, and the first waits for it.
+row 1 mutex 2000
+1999:2 0:5 -> 7: 0 Parked, 1999 Holding, lock 1999
+1999:2 -> 2: 0 Parked told wake, 1999 Idle, lock free
+0:3 -> 3: 0 Holding, lock 0
+2000:Go -> 0
+
+The last client of a flag finds it set by the last setter.
+row 2 flag 2000 2000
+1999:2 3999:1 1999:2 3999:1 -> 6: 1999 Done, 3999 Done, flag true
+4000:Go -> 0
+
+The last has the permit, and the first waits for it.
+row 3 semaphore 2000 1
+1999:2 0:5 -> 7: 0 Parked, 1999 Holding has 1, free 0/1
+1999:2 -> 2: 0 Parked told wake, 1999 Idle, free 1/1
+0:3 -> 3: 0 Holding has 1, free 0/1
+2000:Go -> 0
+
+The last sender notifies the last receiver.
+row 4 channel 2000 2000 2000
+r1999:5 -> 5: r1999 Parked
+s1999:Send7 s1999:2 -> 3: s1999 Idle has 7, r1999 Parked told wake, messages 1/2000 7
+r1999:3 -> 3: r1999 Holding has 7 owes 1, messages 0/2000
+s2000:Send7 r2000:Go -> 0
 ";
 
 const WRONG: &str = "
@@ -57,11 +119,29 @@ fn difference<'t, R: Abort + AllocGlobal>(
     run.expect(rt, row.subject).err()
 }
 
+// All of the first so many rows of the text hold.
+fn hold<R: Abort + AllocGlobal>(rt: &R, text: &str, rows: usize) {
+    for place in 0..rows {
+        if let Some(difference) = difference(rt, text, place) {
+            panic!(rt; "{difference}");
+        }
+    }
+}
+
 #[test]
 fn what_is_no_schedule_changes_nothing(rt: HostRuntime) {
-    if let Some(difference) = difference(&rt, RIGHT, 0) {
-        panic!(&rt; "{difference}");
-    }
+    hold(&rt, RIGHT, 1);
+}
+
+// Worked row 52, and the other worlds.
+#[test]
+fn a_world_of_the_greatest_size_is_refused(rt: HostRuntime) {
+    hold(&rt, GREATEST, 4);
+}
+
+#[test]
+fn a_world_of_two_thousand_works(rt: HostRuntime) {
+    hold(&rt, LARGE, 4);
 }
 
 #[test]
