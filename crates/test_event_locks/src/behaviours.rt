@@ -1,11 +1,11 @@
 //! What each lock does in the order in which callers of other crates' locks use it.
-use crate::support::{check, new_lock, new_mutex, new_semaphore, new_task, sum};
+use crate::support::{check, new_lock, new_mutex, new_semaphore, new_task, sum, wait_until};
 use event_locks::{Barrier, LockError, Mutex, OnceCell, Semaphore, SetError, SetReason};
 use std::fmt::Debug;
 use std::sync::Arc;
 use std::sync::atomic::{AtomicUsize, Ordering};
-use std::thread;
-use test_support::Runtime;
+use std::thread::{self, Threads};
+use test_support::{Runtime, for_two_seconds};
 
 #[test]
 fn a_future_that_gave_its_output_is_over(rt: HostRuntime) {
@@ -109,21 +109,31 @@ fn a_cell_is_set_once(rt: HostRuntime) {
     check(&rt, "seen", *seen, 7);
 }
 
-// Of eight threads one makes the value, and all have it.
-#[test]
-fn a_value_is_made_once(rt: HostRuntime) {
-    let (cell, made) = (OnceCell::new(rt.alloc()), AtomicUsize::new(0));
+// Of four threads one makes the value, and all have it.
+fn make_once<R: Runtime + Threads + Sync>(rt: &R) {
+    let (cell, made, come) = (
+        OnceCell::new(rt.alloc()),
+        AtomicUsize::new(0),
+        AtomicUsize::new(0),
+    );
     let gets = |_| {
+        come.fetch_add(1, Ordering::SeqCst);
+        wait_until(rt, || come.load(Ordering::SeqCst) >= 4);
         let make = || -> Result<u64, LockError> {
             made.fetch_add(1, Ordering::SeqCst);
             thread::yield_now();
             Ok(7)
         };
-        let value = cell.get_or_try_init(&rt, rt.alloc(), make);
+        let value = cell.get_or_try_init(rt, rt.alloc(), make);
         value.copied().unwrap_or(0)
     };
-    let values = thread::map_indices(&rt, rt.alloc(), 8, &gets);
-    let values = values.expect(&rt, "the threads");
-    check(&rt, "values", values.as_slice(), [7; 8].as_slice());
-    check(&rt, "made", made.load(Ordering::SeqCst), 1);
+    let values = thread::map_indices(rt, rt.alloc(), 4, &gets);
+    let values = values.expect(rt, "the threads");
+    check(rt, "values", values.as_slice(), [7; 4].as_slice());
+    check(rt, "made", made.load(Ordering::SeqCst), 1);
+}
+
+#[test]
+fn a_value_is_made_once(rt: HostRuntime) {
+    for_two_seconds(&rt, || make_once(&rt)).expect(&rt, "the time");
 }

@@ -9,7 +9,7 @@
 //! | `races` | one lets go while another one goes into the queue |
 //! | `stress` | threads and tasks at these locks, which give up at times |
 //! | `behaviours` | what each lock does when it is called in the order that its users know from other crates |
-//! | `monitor` | a value that threads and tasks wait for, and that a thread parks until it changes |
+//! | `monitor` | a value that threads and tasks wait for: that a thread parks until it changes, whatever changes it, or until its limit, and until the lock is free |
 #![tactic(auto)]
 
 #[cfg(test)]
