@@ -3,7 +3,8 @@
 //!
 //! | Module | What it tests |
 //! |---|---|
-//! | `waits` | tasks that wait for each lock, and are woken once they are let in; one that is told and dropped, which gives on what it was handed |
+//! | `waits` | tasks that wait for each lock, and are woken once they are let in; one that is told and dropped, which gives on what it was handed; one that is over; permits that share their semaphore |
+//! | `wakes` | threads that have parked, and are let in by a writer that reads, by the last task at a barrier, by a turn given up |
 //! | `limits` | waits that end at their limit, at one that has passed and by a clock that can't be read |
 //! | `turns` | when newcomers are shut out |
 //! | `words` | threads that meet at the word of a lock, whose state another one has out |
@@ -17,5 +18,7 @@ mod support;
 mod turns;
 #[cfg(test)]
 mod waits;
+#[cfg(test)]
+mod wakes;
 #[cfg(test)]
 mod words;

@@ -47,6 +47,11 @@ impl<R: Runtime> Case<R> for Starving {
             Starving::Granted => {
                 drop(held);
                 let newcomer = kind.hold();
+                let late = kind
+                    .waits()
+                    .expect(rt, "a share")
+                    .wait_timeout(Duration::ZERO);
+                check(rt, "in vain", late.expect(rt, "an answer").is_none(), true);
                 check(rt, "shut", kind.counts().map(numbers), Some([1, 1, 0, 1]));
                 check(rt, "whether it is granted", one.is_ready(), true);
                 drop(newcomer);

@@ -1,12 +1,13 @@
 //! Tasks that wait in each way, and are woken once they are let in. One that gives up hands on what it was handed, and lets in
 //! who waited for it alone.
 use crate::support::{check, new_lock, new_semaphore, new_task};
-use event_locks::{Barrier, Mutex, RwLock};
+use event_locks::{Barrier, LockError, Mutex, OnceCell, RwLock, Semaphore};
+use futures::task::Poll;
 use futures::test::MockTask;
 use std::sync::Arc;
 use std::thread;
 use std::time::Duration;
-use test_event_locks::{Case, Kind, Sharing, Waits, each};
+use test_event_locks::{Case, Kind, Sharing, Waits, each, numbers};
 use test_support::Runtime;
 
 /// A wait that a task of its own polls.
@@ -54,6 +55,23 @@ impl<W: Waits> Polled<W> {
         waits
     }
 
+    /// Whether it answers at this poll that it is over.
+    pub fn is_over(&mut self) -> bool {
+        self.waits.can_be_polled();
+        matches!(
+            self.task.poll(&mut self.waits),
+            Poll::Ready(Err(LockError::Finished))
+        )
+    }
+
+    /// Drops the wait. Its task is left, and counts as not woken.
+    pub fn give_up(self) -> MockTask {
+        let Polled { task, waits } = self;
+        drop(waits);
+        task.enter(|_| ());
+        task
+    }
+
     /// It is let in once this is dropped.
     pub fn let_in<R: Runtime, G: Drop>(self, rt: &R, held: G) {
         let mut polled = self;
@@ -63,8 +81,9 @@ impl<W: Waits> Polled<W> {
     }
 }
 
-// Four tasks wait, and all are woken once they are let in, or one after the other. One that is dropped then passes it on. A poll
-// before changes nothing, and threads go on in the place of two tasks, without a limit and at one that has come.
+// Four tasks wait, and all are woken once they are let in, or one after the other. One that is dropped then passes it on; those
+// that gave up before count for nothing. A poll before changes nothing, and threads go on in the place of two tasks, without a
+// limit and at one that has come. One that was granted is over.
 #[derive(Drop)]
 struct AllAreWoken;
 
@@ -75,6 +94,7 @@ impl<R: Runtime> Case<R> for AllAreWoken {
 
     fn run<K: Kind>(&self, rt: &R, kind: &K) {
         let held = kind.hold();
+        let gave_up = Polled::new(rt, kind.waits().expect(rt, "a share")).give_up();
         let first = Polled::new(rt, kind.waits().expect(rt, "a share"));
         let second = Polled::new(rt, kind.waits().expect(rt, "a share"));
         let third = Polled::new(rt, kind.waits().expect(rt, "a share"));
@@ -94,6 +114,8 @@ impl<R: Runtime> Case<R> for AllAreWoken {
         let given = given.expect(rt, "an answer").is_some();
         check(rt, "whether it is granted", given, true);
         last.is_granted(rt);
+        check(rt, "whether it is over", last.is_over(), true);
+        check(rt, "who gave up", gave_up.is_woken(), false);
         if matches!(kind.sharing(), Sharing::One | Sharing::All) {
             // Nobody is left in the queue to whom it could go in the place of this one.
             let held = kind.hold();
@@ -105,6 +127,61 @@ impl<R: Runtime> Case<R> for AllAreWoken {
 #[test]
 fn all_tasks_are_woken_in_their_turn(rt: HostRuntime) {
     each(&rt, &rt, &AllAreWoken).expect(&rt, "memory");
+}
+
+// The value of a cell is at hand: who asks for it waits in no queue.
+#[test]
+fn one_that_gave_a_value_at_hand_is_over(rt: HostRuntime) {
+    let (cell, task) = (OnceCell::new(rt.alloc()), new_task(&rt));
+    let set = cell.set(&rt, rt.alloc(), 7u64).is_ok();
+    check(&rt, "whether it is set", set, true);
+    let mut claims = cell.claim(&rt, rt.alloc());
+    let mut sees = cell.wait(&rt, rt.alloc());
+    let is_ready = [
+        task.poll(&mut claims).is_ready(),
+        task.poll(&mut sees).is_ready(),
+    ];
+    check(&rt, "whether it is there", is_ready, [true, true]);
+    let claimed = matches!(
+        task.poll(&mut claims),
+        Poll::Ready(Err(LockError::Finished))
+    );
+    let seen = matches!(task.poll(&mut sees), Poll::Ready(Err(LockError::Finished)));
+    check(&rt, "whether both are over", [claimed, seen], [true, true]);
+}
+
+// The first is notified of a permit. The second, which polls before it, is not, and leaves no place behind.
+#[test]
+fn one_that_is_not_notified_waits_at_its_place(rt: HostRuntime) {
+    let semaphore = new_semaphore(&rt, 1);
+    let held = semaphore.try_acquire(&rt);
+    let first = Polled::new(&rt, semaphore.acquire(&rt, rt.alloc()));
+    let mut second = Polled::new(&rt, semaphore.acquire(&rt, rt.alloc()));
+    drop(held);
+    check(&rt, "whether it is woken", first.is_woken(), true);
+    second.waits_on(&rt);
+    drop(first);
+    check(&rt, "whether it is woken", second.is_woken(), true);
+    drop(second);
+    let counts = numbers(semaphore.counts(&rt));
+    check(&rt, "free, and nobody waits", counts, [1, 0, 0, 0]);
+}
+
+// Whoever tries for a permit and is given none, or too late, keeps no share. One that is forgotten keeps no share either, and
+// its permit is gone.
+#[test]
+fn permits_that_share_their_semaphore_are_given_up(rt: HostRuntime) {
+    let semaphore = Arc::new(rt.alloc(), new_semaphore(&rt, 1)).expect(&rt, "memory");
+    let owned = Semaphore::try_acquire_arc(&semaphore, rt).expect(&rt, "a share");
+    let other = Semaphore::try_acquire_arc(&semaphore, rt).expect(&rt, "a share");
+    check(&rt, "another", other.is_none(), true);
+    let late = Semaphore::acquire_arc(&semaphore, rt, rt.alloc()).expect(&rt, "a share");
+    let late = late.wait_timeout(Duration::ZERO).expect(&rt, "an answer");
+    check(&rt, "a late one", late.is_none(), true);
+    check(&rt, "shares", Arc::strong_count(&semaphore), 2);
+    owned.expect(&rt, "a permit").forget();
+    check(&rt, "shares", Arc::strong_count(&semaphore), 1);
+    check(&rt, "free", semaphore.available(), 0);
 }
 
 #[test]
@@ -178,6 +255,22 @@ fn an_owned_guard_goes_to_another_thread(rt: HostRuntime) {
     check(&rt, "whether it is woken", reads.is_woken(), true);
     let reader = reads.into_waits().wait().expect(&rt, "the value");
     check(&rt, "the value", reader.with(|value| *value), 8);
+}
+
+// A reader that was let in reads beside any other, before it is polled, too.
+#[test]
+fn one_reads_beside_a_reader_that_was_let_in(rt: HostRuntime) {
+    let shared = new_lock(&rt, 7);
+    let writer = shared.try_write(&rt);
+    let let_in = Polled::new(&rt, shared.read(&rt, rt.alloc()));
+    drop(writer);
+    check(&rt, "whether it is woken", let_in.is_woken(), true);
+    check(
+        &rt,
+        "whether another one reads",
+        shared.try_read(&rt).is_some(),
+        true,
+    );
 }
 
 #[test]

@@ -4,10 +4,10 @@ ghost use Rattle.event_word.specs.Rules.{Rules};
 use event_queue::WakeSink;
 use event_wait::Task;
 use event_word::{Kept, Word};
-use std::sync::Wait;
+use std::sync::{Barrier, Wait};
 use std::test::Fail;
 use std::thread;
-use std::time::{Clock, Duration};
+use std::time::{Clock, CpuClock, Duration};
 
 const THREADS: usize = 4;
 
@@ -71,5 +71,28 @@ fn threads_that_meet_all_get_the_state(rt: HostRuntime) -> Result<(), Fail> {
         let sum = add(&rt, &tally, 0, Duration::ZERO);
         assert!(rt; sum == rounds.saturating_mul(THREADS as u64));
     }
+    Ok(())
+}
+
+// A thread waits for the state, which another one has out for 300 milliseconds. One that looked at the word again and again
+// would use most of the time.
+#[test]
+fn a_thread_that_waits_for_the_state_uses_no_processor_time(rt: HostRuntime) -> Result<(), Fail> {
+    let tally = &Word::new(rt.alloc(), 0, Tally { sum: 0 }, ())?;
+    let meeting = &Barrier::new(2);
+    let holds = || {
+        let (_, held) = tally.take(&rt);
+        meeting.wait(&rt);
+        thread::sleep(&rt, Duration::from_millis(300));
+        drop(tally.put_back(&rt, held));
+    };
+    let adds = || {
+        meeting.wait(&rt);
+        let before = rt.thread_cpu_time();
+        add(&rt, tally, 1, Duration::ZERO);
+        (before, rt.thread_cpu_time())
+    };
+    let ((), (before, after)) = thread::join(&rt, holds, adds);
+    assert!(rt; after?.saturating_sub(before?) < Duration::from_millis(75));
     Ok(())
 }

@@ -1,0 +1,60 @@
+//! Threads that have parked, and calls that let them in which no other test makes with a thread behind.
+use crate::support::{check, new_lock, new_task};
+use crate::waits::Polled;
+use event_locks::{Barrier, Claim, OnceCell, RwLock};
+use std::sync::Arc;
+use std::thread::{self, Threads};
+use std::time::Duration;
+use test_support::Runtime;
+
+// The thread waits, and is let in by this call. What the call gives is kept until then.
+fn is_let_in<R, W, C, G>(rt: &R, waits: W, call: C)
+where
+    R: Runtime + Threads + Sync,
+    W: FnOnce() -> bool + Send,
+    C: FnOnce() -> G + Send,
+    G: Drop + Send,
+    requires waits { W.pre waits }
+    requires call { C.pre call }
+{
+    let calls = || {
+        thread::sleep(rt, Duration::from_millis(100));
+        call()
+    };
+    let (granted, kept) = thread::join(rt, waits, calls);
+    check(rt, "whether it is granted", granted, true);
+    drop(kept);
+}
+
+#[test]
+fn a_writer_that_reads_lets_a_thread_in(rt: HostRuntime) {
+    let lock = &Arc::new(rt.alloc(), new_lock(&rt, 7)).expect(&rt, "memory");
+    let writer = RwLock::try_write_arc(lock, rt).expect(&rt, "a share");
+    let writer = writer.expect(&rt, "the value");
+    let reads = || lock.read(&rt, rt.alloc()).wait().is_ok();
+    is_let_in(&rt, reads, move || writer.downgrade());
+}
+
+#[test]
+fn a_task_that_comes_last_lets_a_thread_in(rt: HostRuntime) {
+    let (barrier, task) = (&Barrier::new(rt.alloc(), 2), &new_task(&rt));
+    let waits = || barrier.wait(&rt, rt.alloc()).wait().is_ok();
+    let comes = || {
+        let mut last = barrier.wait(&rt, rt.alloc());
+        let has_ended = task.poll(&mut last).is_ready();
+        check(&rt, "whether the round has ended", has_ended, true);
+    };
+    is_let_in(&rt, waits, comes);
+}
+
+// One that waits is given the turn to make the value, and gives it up.
+#[test]
+fn a_turn_that_is_given_up_goes_to_a_thread(rt: HostRuntime) {
+    let cell: &OnceCell<u64> = &OnceCell::new(rt.alloc());
+    let turn = cell.claim(&rt, rt.alloc()).wait().expect(&rt, "the turn");
+    let next = Polled::new(&rt, cell.claim(&rt, rt.alloc()));
+    drop(turn);
+    check(&rt, "whether it is woken", next.is_woken(), true);
+    let claims = || matches!(cell.claim(&rt, rt.alloc()).wait(), Ok(Claim::Vacant(_)));
+    is_let_in(&rt, claims, move || drop(next));
+}
