@@ -7,6 +7,7 @@ use futures::test::MockTask;
 use std::alloc::{AllocError, AllocGlobal};
 use std::cell::Cell;
 use std::sync::{Arc, Wait};
+use std::time::Clock;
 use test_support::{Change, Changed};
 
 // Both sides say that there are so many of each.
@@ -61,17 +62,13 @@ impl Change for Clones {
     }
 }
 
-// Four clones make a sender, a receiver and the weak ones. Were a refused handle counted, the channel would never close.
-#[test]
-fn a_handle_that_is_refused_is_not_counted(rt: HostRuntime) {
-    let (rt, by) = (&rt, &Clones(Cell::new(4)));
-    let (sender, receiver) = bounded::<usize, _>(&Changed { rt, by }, rt.alloc(), 1).expect(
-        rt,
-        "a channel",
-    );
+// Four clones of its runtime value make a sender, a receiver and the weak ones, and no more are made. Were a refused handle
+// counted, the channel would never close.
+fn refuses_more<R: Runtime, C: Wait + Clock + Clone>(rt: &R, clones: &C) {
+    let (sender, receiver) = bounded(clones, rt.alloc(), 1).expect(rt, "a channel");
+    check(rt, "a send", sender.try_send(7usize), Ok(()));
     let weak_sender = sender.downgrade().expect(rt, "a weak handle");
     let weak_receiver = receiver.downgrade().expect(rt, "a weak handle");
-    check(rt, "clones left", by.0.get(), 0);
     let refused = [
         sender.clone().is_err(),
         receiver.clone().is_err(),
@@ -83,6 +80,12 @@ fn a_handle_that_is_refused_is_not_counted(rt: HostRuntime) {
     check(rt, "handles", counted, (1, 1));
     drop(sender);
     check(rt, "whether it is closed", receiver.is_closed(), true);
+}
+
+#[test]
+fn a_handle_that_is_refused_is_not_counted(rt: HostRuntime) {
+    let (rt, by) = (&rt, &Clones(Cell::new(4)));
+    refuses_more(rt, &Changed { rt, by });
 }
 
 // Messages are shares of one value: one that is sent, one of a send that is dropped at once, and one of a send that waited.

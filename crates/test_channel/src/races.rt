@@ -1,8 +1,8 @@
 //! Threads that make their calls at the same time, on one channel after another.
 use crate::support::{Runtime, SharedRuntime, Sides, check, sides};
-use crate::waiting::Waiting;
-use crate::ways::Answer;
 use event_channel::{Receiver, Sender};
+use futures::StreamExt;
+use futures::test::MockTask;
 use std::alloc::AllocGlobal;
 use std::cell::Cell;
 use std::sync::atomic::{AtomicUsize, Ordering};
@@ -171,24 +171,38 @@ fn handles_that_are_made_and_dropped_at_once_are_counted(rt: HostRuntime) {
 }
 
 // How many receives wait as a channel is closed. They are woken under its lock, one after the other, which takes a while.
-const WAITING: usize = 4_000;
+const WAITING: usize = 3_000;
 
-// Meanwhile a thread sleeps for the lock, and as the last are woken another one comes.
-fn close_while_others_come<R: SharedRuntime>(rt: &R, before_the_end: usize) {
+// A receive by a stream of its own, for which this task waits.
+fn waits<R: Runtime>(rt: &R, receiver: &Receiver<usize, R>, task: &MockTask) -> Receiver<usize, R> {
+    let mut stream = receiver.clone().expect(rt, "a receiver");
+    let is_pending = task.poll(&mut stream.next()).is_pending();
+    check(rt, "whether it waits", is_pending, true);
+    stream
+}
+
+// A channel is closed. As its lock is taken for that a thread comes, and sleeps for it. As so many are still to be woken another
+// thread comes, and writes over the mark that the first one sleeps.
+fn close_while_others_come<R: SharedRuntime>(rt: &R, still: usize) {
     let (sender, receiver) = &sides(rt, None);
+    let new_task = || MockTask::new(rt).expect(rt, "a task");
+    let (first, others, late) = (new_task(), new_task(), new_task());
     let mut waiting = Vec::with_capacity(rt.alloc(), WAITING).expect(rt, "room");
-    for _ in 0..WAITING {
-        let mut stream = Waiting::stream(rt, receiver);
-        check(rt, "a poll", stream.poll(), Answer::Waits);
-        waiting.push(stream).expect(rt, "room");
+    for number in 0..WAITING {
+        let task = if number == 0 {
+            &first
+        } else if number == WAITING.saturating_sub(still) {
+            &late
+        } else {
+            &others
+        };
+        waiting.push(waits(rt, receiver, task)).expect(rt, "room");
     }
-    let waiting = waiting.as_slice();
-    let asks_after = |number: usize| {
-        spin_until(rt, || waiting.get(number).is_none_or(|one| one.is_woken()));
+    let asks_after = |task: &MockTask| {
+        spin_until(rt, || task.is_woken());
         receiver.is_closed()
     };
-    let late = WAITING.saturating_sub(before_the_end);
-    let come = || thread::join(rt, || asks_after(0), || asks_after(late));
+    let come = || thread::join(rt, || asks_after(&first), || asks_after(&late));
     let (closes, found) = thread::join(rt, || sender.close(), come);
     check(rt, "a close", closes, true);
     check(rt, "whether it is closed", found, (true, true));
@@ -196,10 +210,10 @@ fn close_while_others_come<R: SharedRuntime>(rt: &R, before_the_end: usize) {
 
 #[test]
 fn who_sleeps_for_the_lock_is_woken_whoever_comes_after_it(rt: HostRuntime) {
-    let rounds = Cell::new(0usize);
+    let rounds = Cell::new(0u32);
     let ended = for_two_seconds(&rt, || {
         rounds.set(rounds.get().wrapping_add(1));
-        close_while_others_come(&rt, rounds.get() % 64 + 2);
+        close_while_others_come(&rt, 2usize << (rounds.get() % 10));
     });
     ended.expect(&rt, "the time");
 }
