@@ -7,6 +7,8 @@
 //!   and making them fails only if fewer than two identities are left.
 //! - [`meeting`]: a thread that waits for such a flag until another one has set it.
 //! - [`locks`]: a mutex and a semaphore, whose clients keep to the places of `event_worlds`.
+//! - [`threads`]: threads that are joined in the order in which they were started, whose first fault is the one returned.
+//! - [`program`]: how a program over these threads ends, as `program_mutex` does: what it prints, and its status.
 //! - [`tagged`]: default and additional notifications with tags, each of which notifies one listener at most and does
 //!   not fail.
 //! - [`timed`]: a wait against a deadline, over any kind of listener; a failed wait is retried. One on a finished
@@ -29,7 +31,7 @@
 //! that the recorded listener dropped then stands in the record without a hand; that an awaited tag comes, either event
 //! wakes the future's task, and a second poll wakes no task; that those who wait for the desk sit one after another;
 //! that a listener which an error held propagates its notification; that each listener of a race ends by its tag or is
-//! dropped; the lines of a table and the texts of errors.
+//! dropped; whose fault is returned; what a program prints, the lines of a table and the texts of errors.
 #![tactic(auto)]
 
 pub mod desk;
@@ -38,11 +40,13 @@ pub mod heard;
 pub mod locks;
 pub mod meeting;
 pub mod polled;
+pub mod program;
 pub mod queue;
 pub mod race;
 pub mod record_table;
 pub mod recorded_flag;
 pub mod relayed;
 pub mod tagged;
+pub mod threads;
 pub mod timed;
 pub mod until;

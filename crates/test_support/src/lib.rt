@@ -5,6 +5,7 @@
 //!   [`any_waker`].
 //! - Runtimes: [`Runtime`] is what a test asks of its runtime value. [`Changed`] is one with a [`Change`]: of what its
 //!   clock shows, as by [`NoClock`], or of what happens when that is read or the runtime value is cloned.
+//! - Programs: a [`Screen`] keeps what one prints.
 //! - Threads: [`for_two_seconds`], as long as a race takes, and [`spin_until`].
 //!
 //! No clause says that anything is woken: the tests show it.
@@ -13,6 +14,7 @@
 mod changed;
 mod loops;
 mod runtimes;
+mod screen;
 mod waits;
 mod wakers;
 
@@ -20,5 +22,6 @@ pub use calls_events::{Borrowing, ListenerKind, Sharing, waker_of};
 pub use changed::{Change, Changed, NoClock};
 pub use loops::{for_two_seconds, spin_until};
 pub use runtimes::Runtime;
+pub use screen::Screen;
 pub use waits::{WaitCall, deadline_after};
 pub use wakers::any_waker;

@@ -1,10 +1,11 @@
 //! Threads that count.
 use crate::locks::mutex::{Mutex, MutexError};
 use crate::locks::semaphore::{Semaphore, SemaphoreError};
+use crate::threads::{Work, run_threads};
 use event_listener::EventId;
 use std::alloc::{AllocError, Global};
 use std::sync::{self, Arc, Wait};
-use std::thread::{self, JoinHandle, Threads};
+use std::thread::Threads;
 use std::time::Clock;
 use thiserror::Error;
 
@@ -28,7 +29,9 @@ pub fn count<R>(rt: R, alloc: Global, id: EventId, threads: usize) -> Result<u64
 where
     R: Threads + Wait + Clock + Copy + Send + Sync + 'static,
 {
-    count_on(rt, alloc, Mutex::new(id, 0), threads)
+    let counter = share(alloc, Mutex::new(id, 0u64))?;
+    run_threads(rt, alloc, &counter, threads)?;
+    Ok(*counter.lock(&rt, alloc)?)
 }
 
 /// Starts that many threads, each of which takes a permit, and one more if one is free, and adds 1 to a counter.
@@ -47,35 +50,25 @@ where
         semaphore: Semaphore::new(id, permits),
         count: sync::Mutex::new(0),
     };
-    count_on(rt, alloc, counter, threads)
+    let counter = share(alloc, counter)?;
+    run_threads(rt, alloc, &counter, threads)?;
+    Ok(*counter.count.lock(&rt))
 }
 
-// A counter that threads share.
-trait Counter: Drop + Send + Sync + 'static {
-    fn add_one<R>(&self, rt: &R, alloc: Global) -> Result<(), CountError>
-    where
-        R: Wait + Clock + Clone;
-
-    fn value<R>(&self, rt: &R, alloc: Global) -> Result<u64, CountError>
-    where
-        R: Wait + Clock + Clone;
+// A counter that threads can share.
+fn share<C: Drop>(alloc: Global, counter: C) -> Result<Arc<C>, AllocError> {
+    Ok(Arc::new(alloc, counter)?)
 }
 
-impl Counter for Mutex<u64> {
-    fn add_one<R>(&self, rt: &R, alloc: Global) -> Result<(), CountError>
+// Each thread adds 1.
+impl Work<CountError> for Mutex<u64> {
+    fn work<R>(&self, rt: &R, alloc: Global, _place: usize) -> Result<(), CountError>
     where
         R: Wait + Clock + Clone,
     {
         let mut count = self.lock(rt, alloc)?;
         *count = count.saturating_add(1);
         Ok(())
-    }
-
-    fn value<R>(&self, rt: &R, alloc: Global) -> Result<u64, CountError>
-    where
-        R: Wait + Clock + Clone,
-    {
-        Ok(*self.lock(rt, alloc)?)
     }
 }
 
@@ -86,8 +79,8 @@ struct PermitCounter {
     count: sync::Mutex<u64>,
 }
 
-impl Counter for PermitCounter {
-    fn add_one<R>(&self, rt: &R, alloc: Global) -> Result<(), CountError>
+impl Work<CountError> for PermitCounter {
+    fn work<R>(&self, rt: &R, alloc: Global, _place: usize) -> Result<(), CountError>
     where
         R: Wait + Clock + Clone,
     {
@@ -97,55 +90,4 @@ impl Counter for PermitCounter {
         *count = count.saturating_add(1);
         Ok(())
     }
-
-    fn value<R>(&self, rt: &R, _alloc: Global) -> Result<u64, CountError>
-    where
-        R: Wait + Clock + Clone,
-    {
-        Ok(*self.count.lock(rt))
-    }
-}
-
-fn count_on<R, C: Counter>(
-    rt: R,
-    alloc: Global,
-    counter: C,
-    threads: usize,
-) -> Result<u64, CountError>
-where
-    R: Threads + Wait + Clock + Copy + Send + Sync + 'static,
-{
-    let Ok(counter) = Arc::new(alloc, counter) else {
-        return Err(CountError::from(AllocError));
-    };
-    let mut started = Vec::new(alloc);
-    let all_started = start(rt, alloc, &counter, threads, &mut started);
-    // Whatever was refused, each thread that was started is joined.
-    let mut ended = Ok(());
-    for thread in started {
-        ended = ended.and(thread.join(&rt));
-    }
-    ended?;
-    all_started?;
-    counter.value(&rt, alloc)
-}
-
-// Starts that many threads, which add 1 each. The list has those that were started, also if a later one did not start.
-fn start<R, C: Counter>(
-    rt: R,
-    alloc: Global,
-    counter: &Arc<C>,
-    threads: usize,
-    started: &mut Vec<JoinHandle<Result<(), CountError>>>,
-) -> Result<(), AllocError>
-where
-    R: Threads + Wait + Clock + Copy + Send + Sync + 'static,
-{
-    for _ in 0..threads {
-        started.reserve(1)?;
-        let share = Arc::try_clone(counter)?;
-        let thread = thread::spawn(&rt, move || share.add_one(&rt, alloc))?;
-        started.push_reserved(thread);
-    }
-    Ok(())
 }
