@@ -1,7 +1,7 @@
 # help      prints these lines. Times are those of an idle machine with four processors, from nothing. What a check proves is
 #           kept, so the next one of the same sources takes seconds
-# run       compiles and runs the worked rows, with every check at run time, and proves nothing: under a minute. `make run
-#           V=1` prints the text of each, too
+# run       compiles and runs the program of the worked rows, with every check at run time, and proves nothing: under a
+#           minute. `make run V=1` shows the text of each, too
 # test      proves the libraries, runs all tests and programs, and tries what must not compile: a quarter of an hour
 # gate      proves every crate with its tests, and tries the wrong bodies that the prover must refuse: an hour. A merge
 #           asks for `make test` and `make gate`, as .ci/run runs them
@@ -24,7 +24,7 @@
 #           scripts/bench says. It writes the tables and the chart of docs/BENCHMARKS.md: a quarter of an hour, and the
 #           program's proof
 # diff      compares the queue with the Rust crate, if its answers are at hand: `make diff ORACLE=FOLDER`, with
-#           a folder as crates/vectors/src/replies.rt says
+#           a folder as crates/replies/src/main.rt says
 .PHONY: help run test tests gate prove vectors check refused quoted api explore fuzz soak starved fmt bench diff
 
 # So that a target fails where the first command of a pipe does.
@@ -39,7 +39,8 @@ help:
 
 run:
 	$(needs_rt)@echo "Compiling the worked rows, without proof. They run in about a minute."
-	@cd crates/vectors && rt try $(if $(V),-- -v) < /dev/null | awk '{ print; rows[$$NF]++ } END { print rows["ok"] + 0 " rows hold, " rows["differs"] + 0 " differ" }'
+	@echo "A row is a list of calls with the answers that they must give: it is ok if they give them, and differs if one does not."
+	@(cd crates/vectors && rt try < /dev/null) | scripts/rows $(V)
 	@echo "Nothing was proved: the rows ran with every check at run time. 'make gate' proves all."
 
 test:

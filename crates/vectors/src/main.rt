@@ -1,8 +1,5 @@
-//! Runs the worked rows, and prints `row N ok` or `row N differs` for each, in order of number; with the argument `-v`, the
-//! text of each before that. The status is 0 if none differs.
-//!
-//! With the argument `replies` it answers the lists of operations on its input instead, as the Rust crate does ([`replies`]).
-//! With `rows` and `replies` it does both, the rows first: so it runs in `make test` and in the gate.
+//! Runs the worked rows, and prints `row N ok` or `row N differs` for each, in order of number. The status is 0 if none
+//! differs, else 1. Words on the command line are ignored: `args` has some.
 //!
 //! A row is a short list of calls, each with the answer that it must give, as text in the language of `calls`. It ends at
 //! the first line that answers otherwise, or for which there is no memory: then the row differs, and the standard error
@@ -11,15 +8,16 @@
 //! The table of rows and its printing do not allocate, so a row that ran out of memory has its line, too: the tests of the
 //! crate ([`refused`]) have each request of a row fail in turn, and `make starved` runs the program with too few addresses.
 //!
-//! `make run` runs it without proof, in under a minute. `make vectors` proves it and all below it, runs it, and keeps the
-//! program as `crates/vectors/out/vectors`. What the rows show, they show when they run.
+//! `make run` runs it without proof, in under a minute; `make run V=1` shows the text of each row above its line. `make
+//! vectors` proves it and all below it, runs it, and keeps the program as `crates/vectors/out/vectors`. What the rows show,
+//! they show when they run.
 //!
 //! # Another row
 //!
 //! - Write its title, which says what it shows, its head and its lines into the text of its family: [`queue`], [`events`],
 //!   [`records`] or [`calls::worlds`]. No two rows have one number. `calls` has the calls and the subjects.
-//! - Add its line to the rows of `crates/vectors/stdout`, and its calls to the counts of [`refused`]. `make run` shows
-//!   whether its answers are right.
+//! - Add its line to `crates/vectors/stdout`, and its calls to the counts of [`refused`]. `make run` shows whether its answers
+//!   are right.
 //!
 //! A call that no row has made yet is a variant of `Call` in `calls`, with an arm where its subject makes calls. Another
 //! subject is a type with `calls::Subject`, and an arm of [`rows`].
@@ -34,51 +32,13 @@ mod queue;
 mod records;
 #[cfg(test)]
 mod refused;
-mod replies;
 mod rows;
 
-use anyhow::Result;
 use calls::Undisturbed;
 use print::print_rows;
 use rows::TEXTS;
-use std::alloc::AllocGlobal;
-use std::env::{self, Env};
-use std::io::{self, BufReader, BufWriter, Write};
+use std::io;
 use std::process::ExitCode;
-
-// What the words of the command line ask for.
-#[derive(Clone, Copy)]
-struct Asked {
-    rows: bool,
-    texts: bool,
-    replies: bool,
-}
-
-fn read_words<R: Env + AllocGlobal>(rt: &R) -> Asked {
-    let (mut rows, mut texts, mut replies) = (false, false, false);
-    // Without memory for the words there is none for the rows either.
-    if let Ok(words) = env::args(rt) {
-        for word in words {
-            rows |= word.as_str() == "rows";
-            texts |= word.as_str() == "-v";
-            replies |= word.as_str() == "replies";
-        }
-    }
-    Asked {
-        rows: rows || !replies,
-        texts,
-        replies,
-    }
-}
-
-fn answer_lists<R: Input + Print + AllocGlobal>(rt: &R) -> Result<()> {
-    let alloc = rt.alloc();
-    let input = BufReader::new(alloc, rt.reader())?;
-    let mut output = BufWriter::new(alloc, io::writer(rt))?;
-    replies::answer_all(alloc, input, &mut output)?;
-    output.flush()?;
-    Ok(())
-}
 
 // The status of the program, by whether no row differs. Where a line could not be printed, that goes to the standard
 // error.
@@ -96,15 +56,7 @@ fn status<R: Eprint>(rt: &R, none_differs: io::Result<bool>) -> ExitCode
     }
 }
 
-fn main(rt: HostRuntime) -> Result<ExitCode> {
-    let asked = read_words(&rt);
-    let mut ends = ExitCode::SUCCESS;
-    if asked.rows {
-        let none_differs = print_rows(&rt, &rt, TEXTS.as_slice(), asked.texts, &mut Undisturbed);
-        ends = status(&rt, none_differs);
-    }
-    if asked.replies {
-        answer_lists(&rt)?;
-    }
-    Ok(ends)
+fn main(rt: HostRuntime) -> ExitCode {
+    let none_differs = print_rows(&rt, &rt, TEXTS.as_slice(), &mut Undisturbed);
+    status(&rt, none_differs)
 }

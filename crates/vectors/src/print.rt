@@ -4,29 +4,17 @@ use calls::{Hook, Row};
 use calls_events::Runtime;
 use std::io;
 
-/// What is printed first.
-pub const HEAD: &str =
-    "A row is a list of calls with the answers that they must give: it is ok if they give them, and differs if one does not.";
-
-/// Prints the head, and how each row of the texts ends, in order of number: a line `row N ok` or `row N differs`, and the
-/// difference to the standard error. With their texts, an empty line and that of each row come before. Answers whether no
-/// row differs, or the error of a line that could not be printed.
+/// Prints how each row of the texts ends, in order of number: a line `row N ok` or `row N differs`, and the difference to the
+/// standard error. Answers whether no row differs, or the error of a line that could not be printed.
 ///
 /// Each text has its rows in order of number. The rows allocate; their table and the printing do not, so a row that was
 /// refused memory has its line too.
-pub fn print_rows<R, P, H>(
-    rt: &R,
-    screen: &P,
-    texts: &[&str],
-    with_texts: bool,
-    hook: &mut H,
-) -> io::Result<bool>
+pub fn print_rows<R, P, H>(rt: &R, screen: &P, texts: &[&str], hook: &mut H) -> io::Result<bool>
 where
     R: Runtime,
     P: Print + Eprint,
     H: Hook,
 {
-    println!(screen; "{HEAD}")?;
     let mut none_differs = true;
     let mut places = [0usize; TEXTS.len()];
     for number in 0..=u8::MAX {
@@ -34,7 +22,7 @@ where
             match Row::nth(text, *place) {
                 Some(row) if row.number <= number => {
                     *place = place.wrapping_add(1);
-                    none_differs &= print_row(rt, screen, row, with_texts, hook)?;
+                    none_differs &= print_row(rt, screen, row, hook)?;
                 }
                 _ => {}
             }
@@ -43,21 +31,12 @@ where
     Ok(none_differs)
 }
 
-fn print_row<R, P, H>(
-    rt: &R,
-    screen: &P,
-    row: Row<'_>,
-    with_text: bool,
-    hook: &mut H,
-) -> io::Result<bool>
+fn print_row<R, P, H>(rt: &R, screen: &P, row: Row<'_>, hook: &mut H) -> io::Result<bool>
 where
     R: Runtime,
     P: Print + Eprint,
     H: Hook,
 {
-    if with_text {
-        print!(screen; "\n{row}")?;
-    }
     let number = row.number;
     match run(row, rt, hook) {
         Ok(()) => {

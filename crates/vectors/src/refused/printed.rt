@@ -1,67 +1,11 @@
 //! What `print_rows` prints.
-use crate::print::{HEAD, print_rows};
+use crate::print::print_rows;
 use crate::refused::{check, new_budget};
 use calls::{Hook, Undisturbed};
 use calls_events::Runtime;
-use std::cell::Cell;
-use std::fmt::Display;
-use std::io;
 use std::process::Abort;
 use test_queue_memory::{Calls, Refusing, Wrong};
-
-// What was printed, those lines with a mark that went to the standard error. The text keeps its room, so that printing
-// allocates only where that is too short.
-#[derive(Drop)]
-struct Screen {
-    text: Cell<Option<String>>,
-}
-
-impl Screen {
-    // With room for more than is printed of a text.
-    fn new<R: Runtime + Abort>(rt: &R) -> Screen {
-        let text = String::with_capacity(rt.alloc(), 4096);
-        let text = Cell::new(Some(text.expect(rt, "room for a text")));
-        Screen { text }
-    }
-
-    fn append<D: Display + Drop>(&self, mark: &str, value: D, end: &str) -> io::Result<()> {
-        let Some(mut text) = self.text.take() else {
-            return Err(io::ErrorKind::Unsupported.into());
-        };
-        let written = write!(text, "{mark}{value}{end}");
-        self.text.set(Some(text));
-        written.map_err(|_| io::ErrorKind::OutOfMemory.into())
-    }
-
-    // What was printed. Nothing is printed after it.
-    fn text<R: Abort>(&self, rt: &R) -> String {
-        self.text.take().expect(rt, "a text")
-    }
-}
-
-impl Print for Screen {
-    fn print<D: Display + Drop>(&self, value: D) -> io::Result<()> {
-        self.append("", value, "")
-    }
-
-    fn println<D: Display + Drop>(&self, value: D) -> io::Result<()> {
-        self.append("", value, "\n")
-    }
-
-    fn write_all(&self, _bytes: &[u8]) -> io::Result<()> {
-        Err(io::ErrorKind::Unsupported.into())
-    }
-}
-
-impl Eprint for Screen {
-    fn eprint<D: Display + Drop>(&self, _value: D) -> io::Result<()> {
-        Err(io::ErrorKind::Unsupported.into())
-    }
-
-    fn eprintln<D: Display + Drop>(&self, value: D) -> io::Result<()> {
-        self.append("error: ", value, "\n")
-    }
-}
+use test_support::Screen;
 
 // The rows of a text, printed with this hook: whether the answer is that none differs, and how many do.
 fn print_with<R: Runtime + Abort, H: Hook>(
@@ -71,7 +15,7 @@ fn print_with<R: Runtime + Abort, H: Hook>(
     hook: &mut H,
 ) -> (Option<bool>, usize) {
     let screen = Screen::new(rt);
-    let none_differs = print_rows(rt, &screen, &[rows], false, hook);
+    let none_differs = print_rows(rt, &screen, &[rows], hook);
     let differ = differing(rt, screen.text(rt).as_str(), wanted);
     (none_differs.ok(), differ)
 }
@@ -124,7 +68,7 @@ impl<'r, R: Runtime + Abort> Calls for Printing<'r, R> {
 /// and each has its line. Answers how many calls make requests.
 pub fn print_refused<R: Runtime + Abort>(rt: &R, rows: &'static str) -> Result<usize, Wrong> {
     let screen = Screen::new(rt);
-    let none_differs = print_rows(rt, &screen, &[rows], false, &mut Undisturbed);
+    let none_differs = print_rows(rt, &screen, &[rows], &mut Undisturbed);
     check(rt, "no row differs", none_differs.ok(), Some(true));
     let wanted = screen.text(rt);
     let wanted = wanted.as_str();
@@ -134,16 +78,11 @@ pub fn print_refused<R: Runtime + Abort>(rt: &R, rows: &'static str) -> Result<u
     let mut budget = new_budget(rt);
     let screen = Screen::new(rt);
     budget.leave(0).expect(rt, "nothing of the reserve");
-    let none_differs = print_rows(rt, &screen, &[rows], false, &mut Undisturbed);
+    let none_differs = print_rows(rt, &screen, &[rows], &mut Undisturbed);
     budget.give_back();
     check(rt, "no row differs", none_differs.ok(), Some(false));
     let differ = differing(rt, screen.text(rt).as_str(), wanted);
-    check(
-        rt,
-        "all but the head",
-        differ.wrapping_add(1),
-        wanted.lines().count(),
-    );
+    check(rt, "all rows", differ, wanted.lines().count());
     Ok(asking)
 }
 
@@ -170,29 +109,12 @@ listen -> 0
 ",
 ];
 
-const PRINTED: &str = "
-A listener comes.
-row 1 list
-listen -> listener 0
+const PRINTED: &str = "\
 row 1 ok
-
-Nobody is notified, though one waits.
-row 2 event
-listen -> listener 0
-notify 1 d -> told 0
-total -> total 1
 row 2 differs
 error: row 2 with sharing listeners, line 2: notify 1 d -> told 0: but it answers told 1
-
-A number in place of a listener.
-row 3 list
-listen -> 0
 row 3 differs
 error: row 3, line 1: listen -> 0: but it answers listener 0
-
-No such subject.
-row 4 queue
-listen -> listener 0
 row 4 differs
 error: row 4, line 0: queue: no such subject
 ";
@@ -200,10 +122,7 @@ error: row 4, line 0: queue: no such subject
 #[test]
 fn rows_that_differ_say_where(rt: HostRuntime) {
     let screen = Screen::new(&rt);
-    let none_differs = print_rows(&rt, &screen, WRONG.as_slice(), true, &mut Undisturbed);
+    let none_differs = print_rows(&rt, &screen, WRONG.as_slice(), &mut Undisturbed);
     check(&rt, "no row differs", none_differs.ok(), Some(false));
-    let printed = screen.text(&rt);
-    let (head, rows) = printed.as_str().split_once('\n').unwrap_or(("", ""));
-    check(&rt, "the head", head, HEAD);
-    check(&rt, "the rows", rows, PRINTED);
+    check(&rt, "the rows", screen.text(&rt).as_str(), PRINTED);
 }

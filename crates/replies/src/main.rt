@@ -1,7 +1,7 @@
 //! Does lists of operations on a queue, `List<u64, usize>`, and prints the reply to each. The Rust crate
 //! `event-listener` 5.4.2 was given the same lists, and its replies have to be the same, byte by byte.
 //!
-//!     vectors replies < LISTS > REPLIES
+//!     replies < LISTS > REPLIES
 //!
 //! # The lines
 //!
@@ -17,7 +17,7 @@
 //!
 //! # The sample
 //!
-//! `stdin` has 432 lists, and `stdout`, behind the rows, the Rust crate's replies, which need no Rust crate at hand:
+//! `stdin` has 432 lists, and `stdout` the Rust crate's replies, which need no Rust crate at hand:
 //!
 //! - `case core ..`, 200 lists of 60 operations: random ones, to listen, poll, notify, drop and discard, and the two
 //!   questions, on queues of up to 16.
@@ -45,17 +45,24 @@
 //! - A program `replay`, which answers the lists on its standard input with the Rust crate.
 //!
 //! No clause speaks of the lines; the sample and the comparison show them.
+#![tactic(auto)]
+
 use anyhow::Result;
 use calls::{Answer, Interpreter, Left, Queues, Reply, Undisturbed};
 use std::alloc::Global;
-use std::io::{BufRead, Write};
+use std::io::{self, BufRead, BufReader, BufWriter, Write};
 
-/// Answers each line of the input with one line, in order.
-pub fn answer_all<I: BufRead + Drop, W: Write>(
-    alloc: Global,
-    input: I,
-    output: &mut W,
-) -> Result<()> {
+fn main(rt: HostRuntime) -> Result<()> {
+    let alloc = rt.alloc();
+    let input = BufReader::new(alloc, rt.reader())?;
+    let mut output = BufWriter::new(alloc, io::writer(&rt))?;
+    answer_all(alloc, input, &mut output)?;
+    output.flush()?;
+    Ok(())
+}
+
+// Answers each line of the input with one line, in order.
+fn answer_all<I: BufRead + Drop, W: Write>(alloc: Global, input: I, output: &mut W) -> Result<()> {
     let mut hook = Undisturbed;
     let mut interpreter = Interpreter::new(alloc, Queues::<u64>::new(alloc, 1)?, &mut hook);
     for line in input.lines(alloc) {
