@@ -8,8 +8,8 @@ use event_queue::{Key, ListenError};
 use event_wait::{Attempted, Task};
 use std::collections::LinkedList;
 
-/// A caller's right to make calls on one channel, of no bytes. A contract sees the history that it has seen, and its own
-/// calls in it.
+/// A caller's right to make calls on one channel, of no bytes. It can't be dropped: it ends by its `end`. A contract sees the
+/// history that it has seen, and its own calls in it.
 pub type ChannelHand<T> = Hand<Messages<T, Task>, ChannelCall<T>>;
 
 // The hand of one that waits, between its calls.

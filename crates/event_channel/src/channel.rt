@@ -95,7 +95,7 @@ impl<T: Drop> Channel<T> {
     {
         let messages = Messages::new(alloc, capacity)?;
         let (lock, hand) = Lock::new(alloc, messages)?;
-        drop(hand);
+        hand.end();
         Ok(Channel {
             lock,
             capacity,
@@ -177,18 +177,24 @@ impl<T: Drop> Channel<T> {
 
     pub(crate) fn is_closed<R: Wait>(&self, rt: &R) -> bool {
         let mut hand = self.lock.hand();
-        self.lock.perform(rt, &mut hand, IsClosed, &mut ())
+        let is_closed = self.lock.perform(rt, &mut hand, IsClosed, &mut ());
+        hand.end();
+        is_closed
     }
 
     pub(crate) fn is_full<R: Wait>(&self, rt: &R) -> bool {
         let mut hand = self.lock.hand();
-        self.lock.perform(rt, &mut hand, IsFull, &mut ())
+        let is_full = self.lock.perform(rt, &mut hand, IsFull, &mut ());
+        hand.end();
+        is_full
     }
 
     /// How many messages wait.
     pub(crate) fn len<R: Wait>(&self, rt: &R) -> usize {
         let mut hand = self.lock.hand();
-        self.lock.perform(rt, &mut hand, Len, &mut ())
+        let len = self.lock.perform(rt, &mut hand, Len, &mut ());
+        hand.end();
+        len
     }
 }
 

@@ -77,7 +77,7 @@ impl<T: Drop, R: Wait + Clock + Clone> Receiver<T, R> {
     }
 
     /// A hand of this channel, which made no call yet, and has seen a beginning of its history: how much, no clause says. It has
-    /// no bytes, and the call is one load. It does not wait.
+    /// no bytes, and the call is one load. It does not wait. A hand can't be dropped: it ends by its `end`.
     #[inline(always)]
     pub fn hand(&self) -> ChannelHand<T>
         ensures { (result.seat.table_id ≡ self.now.channel.table)
@@ -97,8 +97,8 @@ impl<T: Drop, R: Wait + Clock + Clone> Receiver<T, R> {
         self.link.channel.lock.tell(hand)
     }
 
-    /// Has a hand learn what another one saw and did. From here on it speaks of one history that has the calls of both. It
-    /// is two loads.
+    /// Has a hand learn what another one saw and did, which is no more. From here on it speaks of one history that has the
+    /// calls of both. It is two loads.
     pub fn absorb(&self, hand: &mut ChannelHand<T>, other: ChannelHand<T>)
         requires here { hand.old.seat.table_id ≡ self.now.channel.table }
         requires there { other.seat.table_id ≡ self.now.channel.table }
@@ -113,7 +113,9 @@ impl<T: Drop, R: Wait + Clock + Clone> Receiver<T, R> {
     #[inline(always)]
     pub fn try_recv(&self) -> Result<T, TryRecvError> {
         let mut hand = self.hand();
-        self.try_recv_as(&mut hand)
+        let received = self.try_recv_as(&mut hand);
+        hand.end();
+        received
     }
 
     /// [`try_recv`](Receiver::try_recv) as a call of this hand: the last of the one history, which begins with all that the
@@ -151,7 +153,9 @@ impl<T: Drop, R: Wait + Clock + Clone> Receiver<T, R> {
     #[inline(always)]
     pub fn recv_blocking(&self) -> Result<T, RecvError> {
         let mut hand = self.hand();
-        self.recv_blocking_as(&mut hand)
+        let received = self.recv_blocking_as(&mut hand);
+        hand.end();
+        received
     }
 
     /// [`recv_blocking`](Receiver::recv_blocking) as calls of this hand: attempts that found the channel empty, and then one
@@ -172,7 +176,9 @@ impl<T: Drop, R: Wait + Clock + Clone> Receiver<T, R> {
     /// The call allocates where it has to wait.
     pub fn recv_timeout(&self, timeout: Duration) -> Result<T, RecvTimeoutError> {
         let mut hand = self.hand();
-        received_in_time(self.wait(&mut hand, Limit::after(&self.link.rt, timeout)))
+        let waited = self.wait(&mut hand, Limit::after(&self.link.rt, timeout));
+        hand.end();
+        received_in_time(waited)
     }
 
     /// Receives a message once there is one, and blocks the calling thread until then, or until this moment. With one that
@@ -181,7 +187,9 @@ impl<T: Drop, R: Wait + Clock + Clone> Receiver<T, R> {
     /// The call allocates where it has to wait.
     pub fn recv_deadline(&self, deadline: Instant) -> Result<T, RecvTimeoutError> {
         let mut hand = self.hand();
-        received_in_time(self.wait(&mut hand, Limit::At(deadline)))
+        let waited = self.wait(&mut hand, Limit::At(deadline));
+        hand.end();
+        received_in_time(waited)
     }
 
     /// Receives messages once there is one, `limit` at most, puts them behind what `into` has, and returns how many they
@@ -227,13 +235,15 @@ impl<T: Drop, R: Wait + Clock + Clone> Receiver<T, R> {
         ensures gets { Gets Collects many.old.asked result many.new.asked }
     {
         let mut hand = self.link.channel.lock.hand();
-        self.link.channel.lock.obtain(
+        let collected = self.link.channel.lock.obtain(
             &self.link.rt,
             self.link.alloc,
             &mut hand,
             many,
             Limit::Never,
-        )
+        );
+        hand.end();
+        collected
     }
 
     #[inline(always)]
@@ -257,7 +267,9 @@ impl<T: Drop, R: Wait + Clock + Clone> Receiver<T, R> {
     /// No message is sent any more. Those that wait can still be received.
     pub fn close(&self) -> bool {
         let mut hand = self.hand();
-        self.close_as(&mut hand)
+        let closed = self.close_as(&mut hand);
+        hand.end();
+        closed
     }
 
     /// [`close`](Receiver::close) as a call of this hand.
@@ -332,12 +344,12 @@ impl<T: Drop, R: Wait + Clock + Clone> Drop for Receiver<T, R> {
     fn drop(self) {
         let Receiver { link, stream, hand } = self;
         let mut stream = stream;
-        let mut resting = hand;
-        let mut hand = resting.take();
+        let mut hand = hand.into_hand();
         link.channel.lock.give_up(&link.rt, &mut hand, &mut stream);
         if link.channel.receivers.remove() {
             link.channel.close(&link.rt, &mut hand);
         }
+        hand.end();
     }
 }
 

@@ -129,9 +129,9 @@ impl<'a, T: Drop, R: Wait + Clock + Clone> Drop for Recv<'a, T, R> {
             hand,
         } = self;
         let mut receiving = receiving;
-        let mut resting = hand;
-        let mut hand = resting.take();
+        let mut hand = hand.into_hand();
         channel.lock.give_up(rt, &mut hand, &mut receiving);
+        hand.end();
     }
 }
 

@@ -127,9 +127,9 @@ impl<'a, T: Drop, R: Wait + Clock + Clone> Drop for Send<'a, T, R> {
             hand,
         } = self;
         let mut sending = sending;
-        let mut resting = hand;
-        let mut hand = resting.take();
+        let mut hand = hand.into_hand();
         channel.lock.give_up(rt, &mut hand, &mut sending);
+        hand.end();
     }
 }
 

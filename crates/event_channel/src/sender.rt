@@ -106,7 +106,7 @@ impl<T: Drop, R: Wait + Clock + Clone> Sender<T, R> {
     }
 
     /// A hand of this channel, which made no call yet, and has seen a beginning of its history: how much, no clause says. It has
-    /// no bytes, and the call is one load. It does not wait.
+    /// no bytes, and the call is one load. It does not wait. A hand can't be dropped: it ends by its `end`.
     #[inline(always)]
     pub fn hand(&self) -> ChannelHand<T>
         ensures { (result.seat.table_id ≡ self.now.channel.table)
@@ -126,8 +126,8 @@ impl<T: Drop, R: Wait + Clock + Clone> Sender<T, R> {
         self.link.channel.lock.tell(hand)
     }
 
-    /// Has a hand learn what another one saw and did. From here on it speaks of one history that has the calls of both. It
-    /// is two loads.
+    /// Has a hand learn what another one saw and did, which is no more. From here on it speaks of one history that has the
+    /// calls of both. It is two loads.
     pub fn absorb(&self, hand: &mut ChannelHand<T>, other: ChannelHand<T>)
         requires here { hand.old.seat.table_id ≡ self.now.channel.table }
         requires there { other.seat.table_id ≡ self.now.channel.table }
@@ -147,7 +147,9 @@ impl<T: Drop, R: Wait + Clock + Clone> Sender<T, R> {
         ensures reason { IfErr result (λ error. IsUnsentAtOnce error.reason) }
     {
         let mut hand = self.hand();
-        self.try_send_as(&mut hand, message)
+        let sent = self.try_send_as(&mut hand, message);
+        hand.end();
+        sent
     }
 
     /// [`try_send`](Sender::try_send) as a call of this hand: the last of the one history, which begins with all that the hand
@@ -172,7 +174,9 @@ impl<T: Drop, R: Wait + Clock + Clone> Sender<T, R> {
         ensures reason { IfErr result (λ error. IsUnsent error.reason) }
     {
         let mut hand = self.hand();
-        self.force_send_as(&mut hand, message)
+        let sent = self.force_send_as(&mut hand, message);
+        hand.end();
+        sent
     }
 
     /// [`force_send`](Sender::force_send) as a call of this hand, as [`try_send_as`](Sender::try_send_as) is.
@@ -211,7 +215,9 @@ impl<T: Drop, R: Wait + Clock + Clone> Sender<T, R> {
         ensures reason { IfErr result (λ error. IsUnsentByWaiting error.reason) }
     {
         let mut hand = self.hand();
-        self.send_blocking_as(&mut hand, message)
+        let sent = self.send_blocking_as(&mut hand, message);
+        hand.end();
+        sent
     }
 
     /// [`send_blocking`](Sender::send_blocking) as calls of this hand: attempts that found the channel full, and then one that
@@ -241,7 +247,9 @@ impl<T: Drop, R: Wait + Clock + Clone> Sender<T, R> {
         ensures reason { IfErr result (λ error. IsUnsentInTime error.reason) }
     {
         let mut hand = self.hand();
-        self.send_until(&mut hand, message, Limit::after(&self.link.rt, timeout))
+        let sent = self.send_until(&mut hand, message, Limit::after(&self.link.rt, timeout));
+        hand.end();
+        sent
     }
 
     /// Sends a message once there is room, and blocks the calling thread until then, or until this moment. With one that
@@ -253,7 +261,9 @@ impl<T: Drop, R: Wait + Clock + Clone> Sender<T, R> {
         ensures reason { IfErr result (λ error. IsUnsentInTime error.reason) }
     {
         let mut hand = self.hand();
-        self.send_until(&mut hand, message, Limit::At(deadline))
+        let sent = self.send_until(&mut hand, message, Limit::At(deadline));
+        hand.end();
+        sent
     }
 
     #[inline(always)]
@@ -289,7 +299,9 @@ impl<T: Drop, R: Wait + Clock + Clone> Sender<T, R> {
     /// No message is sent any more. Those that wait can still be received.
     pub fn close(&self) -> bool {
         let mut hand = self.hand();
-        self.close_as(&mut hand)
+        let closed = self.close_as(&mut hand);
+        hand.end();
+        closed
     }
 
     /// [`close`](Sender::close) as a call of this hand.
@@ -366,6 +378,7 @@ impl<T: Drop, R: Wait + Clock + Clone> Drop for Sender<T, R> {
         if link.channel.senders.remove() {
             let mut hand = link.channel.lock.hand();
             link.channel.close(&link.rt, &mut hand);
+            hand.end();
         }
     }
 }

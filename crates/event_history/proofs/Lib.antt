@@ -2,6 +2,7 @@ pub mod HandLemmas
 mod Keeps
 mod LawsOneOrder
 mod LawsOrder
+pub mod LawsLeft
 pub mod LawsOwn
 mod LawsPassing
 mod LawsStays

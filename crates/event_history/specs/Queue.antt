@@ -1,5 +1,5 @@
 -- What each call on a queue does to its two lists.
-use Rattle.std.specs.Prelude.{◌≡◌, ◌<◌, ℕ, Bool, List, [], ◌∷◌, length, Result, Ok, Err, IsSomeAnd}
+use Rattle.std.specs.Prelude.{◌≡◌, ◌⊎◌, ◌<◌, ℕ, Bool, List, [], ◌∷◌, length, Option, Some, Result, Ok, Err, IsSomeAnd}
 use Rattle.std.specs.Map.{lookup}
 use Rattle.event_queue.specs.declared.key.Key.{Key}
 use Rattle.event_queue.specs.declared.reply.RegisterResult.{RegisterResult}
@@ -48,3 +48,34 @@ module _ {T W : Type 0} where
   rests_on (Register key reply) = Insert (Ok key) ∷ []
   rests_on (Remove key propagate reply) = Insert (Ok key) ∷ []
   rests_on _ = []
+
+  -- the call takes that listener out: with its tag, or by removing it
+  abbrev pub TakesOut : Key → QueueCall T W → Type 0
+  TakesOut key (Register other (Notified tag)) = other ≡ key
+  TakesOut key (Remove other propagate (Some was)) = other ≡ key
+  TakesOut key _ = ⊥
+
+  -- one of these calls takes it out
+  abbrev pub IsTakenOut : Key → List (QueueCall T W) → Type 0
+  IsTakenOut key [] = ⊥
+  IsTakenOut key (call ∷ calls) = TakesOut key call ⊎ IsTakenOut key calls
+
+  -- if that call inserted a listener, one of the later calls takes it out
+  abbrev pub LeavesNone : QueueCall T W → List (QueueCall T W) → Type 0
+  LeavesNone (Insert (Ok key)) later = IsTakenOut key later
+  LeavesNone _ later = Unit {0}
+
+  -- of a hand's calls: each listener that one of them inserted, a later one took out
+  abbrev pub NoneLeft : List (QueueCall T W) → Type 0
+  NoneLeft [] = Unit {0}
+  NoneLeft (call ∷ calls) = LeavesNone call calls × NoneLeft calls
+
+  -- the same, but that listener may be left
+  abbrev pub LeavesOnly : Key → QueueCall T W → List (QueueCall T W) → Type 0
+  LeavesOnly key (Insert (Ok other)) later = (other ≡ key) ⊎ IsTakenOut other later
+  LeavesOnly key _ later = Unit {0}
+
+  -- of the listeners that a hand's calls inserted, none is left but that one
+  abbrev pub OnlyLeft : Key → List (QueueCall T W) → Type 0
+  OnlyLeft key [] = Unit {0}
+  OnlyLeft key (call ∷ calls) = LeavesOnly key call calls × OnlyLeft key calls

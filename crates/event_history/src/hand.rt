@@ -1,7 +1,7 @@
 //! A caller's right to call.
 ghost use Rattle.std.specs.Prelude.{◌≡◌, ◌∷◌, [], false, All};
 
-use crate::history::View;
+use crate::history::{Steps, View};
 use crate::rest::Rest;
 use atomic_table::{Badge, Seat};
 use std::mem;
@@ -9,13 +9,18 @@ use std::mem;
 /// A caller's right to call, of no bytes, on a state of type `S` by calls of type `C`. It belongs to one
 /// [`Traced`](crate::Traced) state, whose `table_id` it has.
 ///
+/// It can't be dropped: it ends by [`Hand::end`], or another one takes it in. So what a hand owes before it ends, it does.
+///
 /// `seat.me.0` is what it knows. Between two calls it has no state out, and owes nobody a wake.
-#[derive(Drop)]
 pub struct Hand<S, C> {
     pub seat: Seat<S, View<S, C>>,
+    kept: Kept,
     ghost idle: { (seat.me.1 ≡ []) × (seat.me.0.out ≡ []) × (seat.me.0.spent ≡ false)
         × (seat.me.0.owes ≡ false) },
 }
+
+// What no other crate names, so that none takes a hand apart.
+struct Kept;
 
 impl<S, C> Hand<S, C> {
     /// The hand of a seat that has no state out.
@@ -26,7 +31,16 @@ impl<S, C> Hand<S, C> {
             × (seat.me.0.owes ≡ false) }
         ensures { result.seat ≡ seat }
     {
-        Hand { seat }
+        Hand { seat, kept: Kept }
+    }
+
+    // The seat alone.
+    #[inline(always)]
+    pub(crate) fn into_seat(self) -> Seat<S, View<S, C>>
+        ensures { result ≡ self.seat }
+    {
+        let Hand { seat, kept: Kept } = self;
+        seat
     }
 
     /// The hand at rest.
@@ -35,20 +49,31 @@ impl<S, C> Hand<S, C> {
         ensures { (result.rest.badge.table_id ≡ self.seat.table_id)
             × (result.rest.badge.views ≡ self.seat.me.0 ∷ []) }
     {
-        let Hand { seat } = self;
         Resting {
-            rest: Rest::of(seat.into_badge()),
+            rest: Rest::of(self.into_seat().into_badge()),
+            kept: Kept,
         }
     }
 }
 
+impl<S: Steps> Hand<S, S::Call> {
+    /// Ends the hand, once it has done what its calls ask of it: of a queue, once each listener that one of them inserted is
+    /// taken out by another. It is nothing when a program runs.
+    #[inline(always)]
+    pub fn end(self)
+        requires { S.may_end self.seat.me.0.mine }
+    {
+        drop(self.into_seat());
+    }
+}
+
 /// A hand while it makes no call, or the place of one that was taken out, of no bytes. Unlike a hand it may be shared by
-/// threads, so a listener keeps its hand so.
+/// threads, so a listener keeps its hand so. It can't be dropped either.
 ///
 /// `rest.badge.views` is what the hand knows, a list of one, or of none while it is out.
-#[derive(Drop)]
 pub struct Resting<S, C> {
     pub rest: Rest<View<S, C>>,
+    kept: Kept,
     ghost idle: { All (λ v. (v.out ≡ []) × (v.spent ≡ false) × (v.owes ≡ false))
         rest.badge.views },
 }
@@ -65,16 +90,31 @@ impl<S, C> Resting<S, C> {
         let rest = mem::replace(&mut self.rest, Rest::of(Badge::blank()));
         Hand {
             seat: rest.into_badge().into_seat(),
+            kept: Kept,
         }
     }
 
-    /// Puts a hand in, after a call. It drops one that is there.
+    /// Puts a hand in, after a call. None is there.
     #[inline(always)]
     pub fn put(&mut self, hand: Hand<S, C>)
+        requires { self.old.rest.badge.views ≡ [] }
         ensures { (self.new.rest.badge.table_id ≡ hand.seat.table_id)
             × (self.new.rest.badge.views ≡ hand.seat.me.0 ∷ []) }
     {
-        let Hand { seat } = hand;
-        self.rest = Rest::of(seat.into_badge());
+        self.rest = Rest::of(hand.into_seat().into_badge());
+    }
+
+    /// The hand, which rests no more.
+    #[inline(always)]
+    pub fn into_hand(self) -> Hand<S, C>
+        requires { (v : View S C) × (self.rest.badge.views ≡ v ∷ []) }
+        ensures { (result.seat.table_id ≡ self.rest.badge.table_id)
+            × (self.rest.badge.views ≡ result.seat.me.0 ∷ []) }
+    {
+        let Resting { rest, kept: Kept } = self;
+        Hand {
+            seat: rest.into_badge().into_seat(),
+            kept: Kept,
+        }
     }
 }

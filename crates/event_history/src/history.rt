@@ -17,6 +17,9 @@ pub trait Steps {
 
     // The calls of the same hand that a call comes after. By default none.
     ghost rests: { Self.Call → List Self.Call } = { λ _. [] };
+
+    // Whether a hand may end that made these calls. By default it may.
+    ghost may_end: { List Self.Call → Type 0 } = { λ _. Unit {0} };
 }
 
 /// What is said of the call that was made while the state was out. Whoever gives the state back picks it.

@@ -122,11 +122,12 @@ impl<S: Steps> Lock<S> {
         self.traced.tell(hand)
     }
 
-    /// Has a hand learn what another one saw and did. From here on it speaks of one history that has the calls of both. It
-    /// is two loads.
+    /// Has a hand learn what another one saw and did, which is no more. From here on it speaks of one history that has the
+    /// calls of both. It is two loads.
     pub fn absorb(&self, hand: &mut Hand<S, S::Call>, other: Hand<S, S::Call>)
         requires here { hand.old.seat.table_id ≡ self.now.table }
         requires there { other.seat.table_id ≡ self.now.table }
+        requires ends { S.may_end other.seat.me.0.mine }
         ensures hand { hand.new.seat.table_id ≡ hand.old.seat.table_id }
         ensures looks { Looks S.goes S.starts S.rests
             (both_views hand.old.seat.me.0 other.seat.me.0) hand.new.seat.me.0 }

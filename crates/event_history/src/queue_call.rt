@@ -1,5 +1,5 @@
 //! The calls on a queue of listeners.
-ghost use Rattle.event_history.specs.Queue.{calls, is_empty, rests_on};
+ghost use Rattle.event_history.specs.Queue.{NoneLeft, calls, is_empty, rests_on};
 
 use crate::history::Steps;
 use event_queue::{Key, List, ListenError, NotifyError, RegisterResult, State};
@@ -19,7 +19,7 @@ pub enum QueueCall<T, W> {
 }
 
 /// A queue starts empty, and each call is one step of its two lists. A listener takes its tag, stores its task and leaves by
-/// the hand that it joined by.
+/// the hand that it joined by, which ends once it has left.
 impl<T, W> Steps for List<T, W> {
     type Call = QueueCall<T, W>;
 
@@ -28,4 +28,6 @@ impl<T, W> Steps for List<T, W> {
     ghost goes = { calls };
 
     ghost rests = { rests_on };
+
+    ghost may_end = { NoneLeft };
 }

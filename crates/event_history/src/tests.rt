@@ -69,7 +69,8 @@ impl<R: Wait + Clock> Step<Tally, &R> for AddSlowly {
 
 #[test]
 fn threads_that_meet_add_in_one_history(rt: HostRuntime) -> Result<(), Fail> {
-    let (tally, mut hand) = Traced::new(rt.alloc(), Tally { sum: 0 })?;
+    let (tally, first) = Traced::new(rt.alloc(), Tally { sum: 0 })?;
+    first.end();
     let shared = &tally;
     let added = thread::map_indices(
         &rt,
@@ -80,13 +81,16 @@ fn threads_that_meet_add_in_one_history(rt: HostRuntime) -> Result<(), Fail> {
             for _ in 0..ROUNDS {
                 let mut mine = shared.hand();
                 let _ = shared.perform(&rt, &mut mine, Add(3), &mut ());
+                mine.end();
                 added = added.wrapping_add(3);
             }
             added
         },
     )?;
     assert!(rt; added.iter().all(|sum| *sum == 3 * ROUNDS));
+    let mut hand = tally.hand();
     let sum = tally.perform(&rt, &mut hand, Add(0), &mut ());
+    hand.end();
     assert!(rt; sum == 3 * ROUNDS * THREADS as u64);
     Ok(())
 }
@@ -94,7 +98,8 @@ fn threads_that_meet_add_in_one_history(rt: HostRuntime) -> Result<(), Fail> {
 // Each thread but the first finds the state taken for far longer than it pauses, so it sleeps, and has to be woken.
 #[test]
 fn a_thread_that_sleeps_for_the_state_is_woken(rt: HostRuntime) -> Result<(), Fail> {
-    let (tally, mut hand) = Traced::new(rt.alloc(), Tally { sum: 0 })?;
+    let (tally, first) = Traced::new(rt.alloc(), Tally { sum: 0 })?;
+    first.end();
     let shared = &tally;
     let before = thread::map_indices(
         &rt,
@@ -103,7 +108,9 @@ fn a_thread_that_sleeps_for_the_state_is_woken(rt: HostRuntime) -> Result<(), Fa
         &|_| {
             let mut mine = shared.hand();
             let slowly = AddSlowly(1, Duration::from_millis(20));
-            shared.perform(&rt, &mut mine, slowly, &mut &rt)
+            let before = shared.perform(&rt, &mut mine, slowly, &mut &rt);
+            mine.end();
+            before
         },
     )?;
     let mut sum = 0u64;
@@ -111,7 +118,10 @@ fn a_thread_that_sleeps_for_the_state_is_woken(rt: HostRuntime) -> Result<(), Fa
         sum = sum.wrapping_add(*found);
     }
     assert!(rt; sum == 0 + 1 + 2 + 3);
-    assert!(rt; tally.perform(&rt, &mut hand, Add(0), &mut ()) == THREADS as u64);
+    let mut hand = tally.hand();
+    let last = tally.perform(&rt, &mut hand, Add(0), &mut ());
+    hand.end();
+    assert!(rt; last == THREADS as u64);
     Ok(())
 }
 
@@ -121,10 +131,11 @@ fn a_hand_at_rest_is_shared_by_threads(rt: HostRuntime) -> Result<(), Fail> {
     let mut resting = hand.rest();
     assert!(rt; mem::size_of_val(&resting) == 0);
     let shared = &resting;
-    let seen = thread::map_indices(&rt, rt.alloc(), THREADS, &|_| mem::size_of_val(shared))?;
-    assert!(rt; seen.iter().all(|bytes| *bytes == 0));
+    let seen = thread::map_indices(&rt, rt.alloc(), THREADS, &|_| mem::size_of_val(shared));
     let mut hand = resting.take();
     assert!(rt; tally.perform(&rt, &mut hand, Add(5), &mut ()) == 0);
     resting.put(hand);
+    resting.into_hand().end();
+    assert!(rt; seen?.iter().all(|bytes| *bytes == 0));
     Ok(())
 }

@@ -46,7 +46,7 @@ impl<S: Steps> Traced<S> {
             return Err(AllocError);
         }
         match Table::new(alloc, &[FREE], slots, &()) {
-            Ok((table, seat)) => Ok((Traced { table }, Hand { seat })),
+            Ok((table, seat)) => Ok((Traced { table }, Hand::of(seat))),
             Err(Refused { slots: _ }) => Err(AllocError),
         }
     }
@@ -57,9 +57,7 @@ impl<S: Steps> Traced<S> {
         ensures { (result.seat.table_id ≡ self.now.table.shared.table_id)
             × (result.seat.me.0 ≡ newcomer result.seat.me.0.seen) }
     {
-        Hand {
-            seat: self.table.shared.load_new_seat::<Enter>(0).1,
-        }
+        Hand::of(self.table.shared.load_new_seat::<Enter>(0).1)
     }
 
     /// Takes the state out, if no other hand has it. It leaves no mark, so the hand may owe none.
@@ -163,22 +161,21 @@ impl<S: Steps> Traced<S> {
         ensures told { (result.seat.table_id ≡ hand.old.seat.table_id)
             × (result.seat.me.0 ≡ newcomer hand.old.seat.me.0.seen) }
     {
-        Hand {
-            seat: self.table.shared.split_seat::<Tell>(&mut hand.seat),
-        }
+        Hand::of(self.table.shared.split_seat::<Tell>(&mut hand.seat))
     }
 
-    /// Has a hand learn what another one saw and did. From here on it speaks of one history that has the calls of both. It
-    /// is two loads.
+    /// Has a hand learn what another one saw and did, which is no more. From here on it speaks of one history that has the
+    /// calls of both. It is two loads.
     pub fn absorb(&self, hand: &mut Hand<S, S::Call>, other: Hand<S, S::Call>)
         requires here { hand.old.seat.table_id ≡ self.now.table.shared.table_id }
         requires there { other.seat.table_id ≡ self.now.table.shared.table_id }
+        requires ends { S.may_end other.seat.me.0.mine }
         ensures hand { hand.new.seat.table_id ≡ hand.old.seat.table_id }
         ensures looks { Looks S.goes S.starts S.rests
             (both_views hand.old.seat.me.0 other.seat.me.0) hand.new.seat.me.0 }
     {
-        let Hand { seat: other } = other;
         let seat = &mut hand.seat;
+        let other = other.into_seat();
         self.table.shared.join_seat::<Absorb>(seat, other);
         self.table.shared.load::<Look<S>>(seat, 0);
     }

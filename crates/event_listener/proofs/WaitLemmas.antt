@@ -1,5 +1,5 @@
 -- The wait of a listener that is in the queue.
-use Rattle.std.proofs.Common.{◌≡◌, ◌∙◌, refl, sym, ap, subst, ℕ, zero, suc, true≢false, false, Option, Some, None, IsSome, Result, Ok, Err, inl, inr}
+use Rattle.std.proofs.Common.{◌≡◌, ◌≢◌, ◌∙◌, refl, sym, ap, subst, ℕ, zero, suc, true≢false, false, Option, Some, None, IsSome, Result, Ok, Err, inl, inr}
 use Rattle.std.specs.Prelude.{⊤}
 use Rattle.event_queue.specs.declared.key.Key.{Key}
 use Rattle.event_queue.specs.declared.reply.RegisterResult.TheVariants as register
@@ -15,8 +15,9 @@ use Rattle.event_history.specs.declared.queue_call.QueueCall.{QueueCall}
 use Rattle.event_history.specs.declared.queue_call.QueueCall.TheVariants as call
 use Rattle.event_history.specs.History.{Makes}
 use Rattle.event_history.specs.Laws.{OwnsListener}
-use Rattle.event_history.specs.Queue.{calls, is_empty, rests_on}
+use Rattle.event_history.specs.Queue.{calls, is_empty, rests_on, NoneLeft, OnlyLeft}
 use Rattle.event_history.specs.Waiting as waiting
+use Rattle.event_history.proofs.LawsLeft.{only_kept, left_registered, left_removed}
 use Rattle.event_history.proofs.LawsOwn.{own_registered, own_removed, own_stored}
 use Rattle.event_listener.specs.declared.listener.place.Place.{Place}
 use Rattle.event_listener.specs.declared.listener.wait_error.WaitReason.{WaitReason}
@@ -125,3 +126,44 @@ by_any_limit limited key before (Ok (Some tag)) after (inr late) = inr (late.0, 
 by_any_limit limited key before (Ok None) after late = (late.0, late.1, record { has_limit = tt; between = late.2.between; waited = late.2.waited; left = late.2.left })
 by_any_limit limited key before (Err reason.Memory) after some = some
 by_any_limit limited key before (Err reason.NeverInserted) after never = absurd never
+
+-- what a wait leaves in the queue
+module _ {T : Type 0} (key : Key) where
+  -- rounds take no listener out
+  rounds_keep : (n : ℕ) (before after : Known T) → Rounds (Round key) n before after → OwnsListener key before.mine → OnlyLeft key before.mine → OwnsListener key after.mine × OnlyLeft key after.mine
+  rounds_keep zero before after same owns left = subst (λ (v : Known T). OwnsListener key v.mine × OnlyLeft key v.mine) (sym same) (owns, left)
+  rounds_keep (suc n) before after waited owns left =
+      let most = rounds_keep n before waited.0 waited.1 owns left in
+      let round = waited.2 in (
+        own_stored key waited.0 after register.Registered round.0 round.1 round.2 refl most.0,
+        only_kept key waited.0 after (call.Register key register.Registered) round.0 round.1 round.2 tt most.1,
+      )
+
+  -- one that ended leaves none
+  pub ended : (limited : Type 0) (before : Known T) (result : Result (Option T) WaitReason) (after : Known T) → WaitsBy key limited before result after → result ≢ Err reason.Memory
+      → OwnsListener key before.mine → OnlyLeft key before.mine → NoneLeft after.mine
+  ended limited before (Ok (Some tag)) after (inl finds) done owns left =
+      let kept = rounds_keep finds.waited.0 before finds.between finds.waited.1 owns left in
+      let found = finds.found in
+      left_registered key finds.between after (register.Notified tag) found.0 found.1 found.2 (λ is. is_stored tag is) kept.0 kept.1
+    where
+      is_stored : (tag : T) → register.Notified tag ≡ register.Registered → ⊥
+      is_stored tag is = cc
+  ended limited before (Ok (Some tag)) after (inr late) done owns left =
+      let leaves = late.1 in
+      let kept = rounds_keep (suc leaves.waited.0) before leaves.between leaves.waited.1 owns left in
+      left_removed key leaves.between after false (Some (state.Notified late.0 tag)) leaves.left.0 leaves.left.1 leaves.left.2 kept.0 kept.1
+  ended limited before (Ok None) after late done owns left =
+      let leaves = late.2 in
+      let kept = rounds_keep (suc leaves.waited.0) before leaves.between leaves.waited.1 owns left in
+      left_removed key leaves.between after false late.0 leaves.left.0 leaves.left.1 leaves.left.2 kept.0 kept.1
+  ended limited before (Err reason.Memory) after some done owns left = absurd (done refl)
+  ended limited before (Err reason.NeverInserted) after never done owns left = absurd never
+
+  -- one that memory was refused to leaves its own alone
+  pub still_only : (limited : Type 0) (before : Known T) (result : Result (Option T) WaitReason) (after : Known T) → WaitsBy key limited before result after → result ≡ Err reason.Memory
+      → OwnsListener key before.mine → OnlyLeft key before.mine → OnlyLeft key after.mine
+  still_only limited before (Ok (Some tag)) after ends is owns left = absurd (let e = is in cc)
+  still_only limited before (Ok None) after ends is owns left = absurd (let e = is in cc)
+  still_only limited before (Err reason.Memory) after some is owns left = (rounds_keep some.0 before after some.1 owns left).1
+  still_only limited before (Err reason.NeverInserted) after never is owns left = absurd never

@@ -1,5 +1,5 @@
 -- What a contract sees of a listener.
-use Rattle.std.specs.Prelude.{ℕ, Bool, List, [], ◌∷◌}
+use Rattle.std.specs.Prelude.{◌≡◌, ℕ, Bool, true, false, List, [], ◌∷◌}
 use Rattle.atomic_table.specs.Seated.{TableId}
 use Rattle.event_queue.specs.declared.key.Key.{Key}
 use Rattle.event_queue.specs.Queue.{Queue}
@@ -7,6 +7,7 @@ use Rattle.event_wait.specs.declared.lock.task.Task.{Task}
 use Rattle.event_history.specs.declared.history.View.{View}
 use Rattle.event_history.specs.declared.queue_call.QueueCall.{QueueCall}
 use Rattle.event_history.specs.History.{newcomer}
+use Rattle.event_history.specs.Queue.{NoneLeft, OnlyLeft}
 
 -- the number of its event, its key in the queue there, whether it has given its tag, and the source at which a task
 -- registers that polls it
@@ -41,3 +42,7 @@ known_of (knows ∷ rest) = knows
 pub record Member : Type 0 where
   pub key : Key
   pub is_finished : Bool
+
+-- of the listeners that a hand inserted by these calls none is left but this member, and not this one once it has left
+abbrev pub LeavesNone : {T : Type 0} → Member → List (QueueCall T Task) → Type 0
+LeavesNone member mine = (member.is_finished ≡ false → OnlyLeft member.key mine) × (member.is_finished ≡ true → NoneLeft mine)

@@ -14,7 +14,7 @@ use Rattle.event_wait.specs.declared.request.Attempted.TheVariants.{Done, Waits,
 use Rattle.event_wait.specs.declared.request.Attempted.TheVariants as attempted
 use Rattle.event_history.specs.declared.queue_call.QueueCall.{QueueCall}
 use Rattle.event_history.specs.declared.queue_call.QueueCall.TheVariants.{Register, Remove}
-use Rattle.event_history.specs.History.{Extends}
+use Rattle.event_history.specs.History.{Extends, Looks, both_views}
 use Rattle.event_history.specs.Queue.{calls, is_empty, rests_on}
 use Rattle.event_listener.specs.Listening.{Known, Listening, Standing}
 use Rattle.event_listener.specs.Polling.{found_by}
@@ -95,10 +95,20 @@ module _ {T : Type 0} where
   abbrev pub PollsBy : {E : Type 0} → Listening T → Result (Poll T) E → Listening T → Type 0
   PollsBy before answer after = Calls before.knows (Register before.standing.key (found_by answer)) after.knows
 
-  -- a discard, or a drop, is one removal, which passes on or does not; it found the listener notified, or not
+  -- a removal passes on or does not; it found the listener notified, or not, and its hand knows this after it
+  abbrev pub RemovesAs : Bool → Listening T → Bool → Known T → Type 0
+  RemovesAs propagate before told after =
+      (former : Option (State T Task)) × (told ≡ was_notified former) × Calls before.knows (Remove before.standing.key propagate former) after
+
+  -- a discard, or a drop, is one removal
   abbrev pub RemovesBy : Bool → Listening T → Bool → Type 0
   RemovesBy propagate before told =
       (former : Option (State T Task)) × (after : Known T) × (told ≡ was_notified former) × Calls before.knows (Remove before.standing.key propagate former) after
+
+  -- the same, and another hand took in the listener's
+  abbrev pub RemovesHeard : Bool → Listening T → Bool → Known T → Known T → Type 0
+  RemovesHeard propagate before told knows heard =
+      (former : Option (State T Task)) × (after : Known T) × (told ≡ was_notified former) × Calls before.knows (Remove before.standing.key propagate former) after × Looks calls is_empty rests_on (both_views knows after) heard
 
   module _ (key : Key) where
     -- a registration stored a task

@@ -75,7 +75,8 @@ impl<T> Event<T> {
         T: Drop,
         ensures { IfOk result (λ event. event ≡ id) }
     {
-        let (queue, _hand) = Shared::new(alloc, List::starting_at(alloc, first_serial))?;
+        let (queue, first) = Shared::new(alloc, List::starting_at(alloc, first_serial))?;
+        first.end();
         let shared = OnceLock::from(Arc::new(alloc, queue)?);
         Ok(Event { id, shared })
     }
@@ -108,7 +109,13 @@ impl<T> Event<T> {
             return Err(ListenError::Memory);
         };
         let (hand, key) = perform_first!(shared, rt, Insert, &mut ());
-        let key = key?;
+        let key = match key {
+            Ok(key) => key,
+            Err(error) => {
+                hand.end();
+                return Err(error);
+            }
+        };
         let number = self.id.number();
         Ok(EventListener::new(shared, key, hand, number, runtime, alloc))
     }
@@ -146,7 +153,8 @@ impl<T> Event<T> {
     where
         T: Drop,
     {
-        let (queue, _hand) = Shared::new(alloc, List::new(alloc))?;
+        let (queue, first) = Shared::new(alloc, List::new(alloc))?;
+        first.end();
         let made = Arc::new(alloc, queue)?;
         let token = match self.shared.try_insert(rt, made) {
             Ok(token) => token,
@@ -191,11 +199,18 @@ impl<T> Event<T> {
         };
         let mut waking = Waking::new();
         let step = Notify { notification };
-        let (_, (_, told)) = perform_first!(shared, rt, step, &mut waking, |step, queue, sink| {
-            let Notify { mut notification } = step;
-            let told = queue.notify_uncounted(&mut notification, sink);
-            (notification, told)
-        });
+        let (hand, (_, told)) = perform_first!(
+            shared,
+            rt,
+            step,
+            &mut waking,
+            |step, queue, sink| {
+                let Notify { mut notification } = step;
+                let told = queue.notify_uncounted(&mut notification, sink);
+                (notification, told)
+            }
+        );
+        hand.end();
         waking.finish();
         told
     }
@@ -208,7 +223,8 @@ impl<T> Event<T> {
         let Some(shared) = self.shared.get() else {
             return false;
         };
-        let (_, (told, _)) = perform_first!(shared, rt, Counts, &mut ());
+        let (hand, (told, _)) = perform_first!(shared, rt, Counts, &mut ());
+        hand.end();
         told > 0
     }
 
@@ -220,7 +236,8 @@ impl<T> Event<T> {
         let Some(shared) = self.shared.get() else {
             return 0;
         };
-        let (_, (_, total)) = perform_first!(shared, rt, Counts, &mut ());
+        let (hand, (_, total)) = perform_first!(shared, rt, Counts, &mut ());
+        hand.end();
         total
     }
 }

@@ -13,7 +13,10 @@ impl<T> fmt::Debug for Event<T> {
                 .field(&format_args!("<uninitialized>"))
                 .finish();
         };
-        let Ok((told, total)) = shared.try_perform(&mut shared.hand(), Counts, &mut ()) else {
+        let mut hand = shared.hand();
+        let counted = shared.try_perform(&mut hand, Counts, &mut ());
+        hand.end();
+        let Ok((told, total)) = counted else {
             return f
                 .debug_tuple("Event")
                 .field(&format_args!("<locked>"))

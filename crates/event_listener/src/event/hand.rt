@@ -1,11 +1,11 @@
 //! A caller of an event whose calls are known to stand in one history.
-ghost use Rattle.std.specs.Prelude.{◌≡◌, ◌≢◌, false, IfOk};
+ghost use Rattle.std.specs.Prelude.{◌≡◌, ◌≢◌, true, false, IfOk};
 ghost use Rattle.event_history.specs.declared.queue_call.QueueCall.TheVariants as call;
 ghost use Rattle.event_history.specs.History.{Looks, both_views, newcomer};
-ghost use Rattle.event_history.specs.Queue.{calls, is_empty, rests_on};
+ghost use Rattle.event_history.specs.Queue.{NoneLeft, calls, is_empty, rests_on};
 ghost use Rattle.event_listener.specs.Event.{Listens, TellsSome};
 ghost use Rattle.event_listener.specs.Listening.{Known};
-ghost use Rattle.event_listener.specs.Waiting.{Calls, WaitsBy, answered};
+ghost use Rattle.event_listener.specs.Waiting.{Calls, RemovesHeard, WaitsBy, answered};
 ghost use Rattle.event_wait.specs.declared.lock.limit.Limit.TheVariants.{Never};
 
 use super::{Event, QueueHand, Shared};
@@ -28,7 +28,6 @@ use std::time::Clock;
 /// [`absorb`](EventHand::absorb). Compiled code has no trace of the history.
 ///
 /// A contract sees the number of its event, the table of the queue, and what it knows.
-#[derive(Drop)]
 pub struct EventHand<T = ()> {
     shared: Arc<Shared<T>>,
     hand: QueueHand<T>,
@@ -38,6 +37,7 @@ pub struct EventHand<T = ()> {
 impl<T> Model for EventHand<T> {
     ghost use Rattle.std.specs.Prelude.{◌≡◌};
     ghost use Rattle.std.specs.Arc.{arc_value};
+    ghost use Rattle.event_history.specs.Queue.{NoneLeft};
     ghost use Rattle.event_listener.specs.Listening.{Caller};
 
     ghost Value = { Caller T };
@@ -48,7 +48,8 @@ impl<T> Model for EventHand<T> {
       knows = caller.hand.seat.me.0;
     } };
 
-    ghost invariant = { λ caller. caller.hand.seat.table_id ≡ (arc_value caller.shared).table };
+    ghost invariant = { λ caller. (caller.hand.seat.table_id ≡ (arc_value caller.shared).table)
+        × NoneLeft caller.hand.seat.me.0.mine };
 }
 
 impl<T> Event<T> {
@@ -144,7 +145,13 @@ impl<T> EventHand<T> {
             return Err(ListenError::Memory);
         };
         let mut hand = self.shared.tell(&mut self.hand);
-        let key = perform!(self.shared, rt, hand, Insert, &mut ())?;
+        let key = match perform!(self.shared, rt, hand, Insert, &mut ()) {
+            Ok(key) => key,
+            Err(error) => {
+                hand.end();
+                return Err(error);
+            }
+        };
         Ok(EventListener::new(shared, key, hand, self.event_number, runtime, alloc))
     }
 
@@ -174,6 +181,47 @@ impl<T> EventHand<T> {
             }
             Err(reason) => Err(listener.refused(reason)),
         }
+    }
+
+    /// [`Listener::discard`](crate::Listener::discard), after which this hand knows what the listener's hand saw and did.
+    pub fn discard<H: Hold<T>, R: Wait + Clock + Clone>(
+        &mut self,
+        listener: QueueListener<T, H, R>,
+    ) -> bool
+    where
+        T: Drop,
+        H: Drop,
+        requires table { listener.table ≡ self.old.table }
+        ensures finished { listener.standing.is_finished ≡ true → result ≡ false }
+        ensures removed { listener.standing.is_finished ≡ false
+            → RemovesHeard false listener result self.old.knows self.new.knows }
+        ensures same { (self.new.event_number ≡ self.old.event_number)
+            × (self.new.table ≡ self.old.table) }
+    {
+        let (told, other) = listener.leave(false);
+        self.shared.absorb(&mut self.hand, other);
+        told
+    }
+
+    /// Drops a listener, after which this hand knows what the listener's hand saw and did. Returns whether it was notified:
+    /// then its notification is propagated.
+    pub fn drop_listener<H: Hold<T>, R: Wait + Clock + Clone>(
+        &mut self,
+        listener: QueueListener<T, H, R>,
+    ) -> bool
+    where
+        T: Drop,
+        H: Drop,
+        requires table { listener.table ≡ self.old.table }
+        ensures finished { listener.standing.is_finished ≡ true → result ≡ false }
+        ensures removed { listener.standing.is_finished ≡ false
+            → RemovesHeard true listener result self.old.knows self.new.knows }
+        ensures same { (self.new.event_number ≡ self.old.event_number)
+            × (self.new.table ≡ self.old.table) }
+    {
+        let (told, other) = listener.leave(true);
+        self.shared.absorb(&mut self.hand, other);
+        told
     }
 
     /// A new hand, which knows all that this one knows. It is one load and a share of the queue.
@@ -226,7 +274,8 @@ impl<T> EventHand<T> {
     pub(crate) fn into_hand(self) -> QueueHand<T>
     where
         T: Drop,
-        ensures { (result.seat.table_id ≡ self.table) × (result.seat.me.0 ≡ self.knows) }
+        ensures hand { (result.seat.table_id ≡ self.table) × (result.seat.me.0 ≡ self.knows) }
+        ensures ends { NoneLeft result.seat.me.0.mine }
     {
         let EventHand {
             shared: _,
@@ -234,5 +283,13 @@ impl<T> EventHand<T> {
             event_number: _,
         } = self;
         hand
+    }
+}
+
+/// It inserts no listener: each that it made has a hand of its own.
+impl<T: Drop> Drop for EventHand<T> {
+    #[inline(always)]
+    fn drop(self) {
+        self.into_hand().end();
     }
 }

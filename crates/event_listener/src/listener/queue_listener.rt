@@ -1,15 +1,15 @@
 //! The listener that shares the queue of its event, and the one that borrows it.
-ghost use Rattle.std.specs.Prelude.{◌≡◌, ◌≢◌, ◌⊎◌, ◌+◌, ◌<◌, ◌^◌, ⊤, true, false, Bool, Err, IfErr, IfOk, IsErr, IsSome};
+ghost use Rattle.std.specs.Prelude.{◌≡◌, ◌≢◌, ◌⊎◌, ◌∷◌, ◌+◌, ◌<◌, ◌^◌, [], ⊤, true, false, Bool, Err, IfErr, IfOk, IsErr, IsSome, Ok};
 ghost use Rattle.futures.specs.Poll.{OnPending};
 ghost use Rattle.futures.specs.Task.{Covers, Keeps};
 ghost use Rattle.event_listener.specs.Listening.{Known};
 ghost use Rattle.event_listener.specs.Polling.{IsPolled};
 ghost use Rattle.event_queue.specs.declared.reply.RegisterResult.TheVariants as register;
-ghost use Rattle.event_listener.specs.Waiting.{Finds, HandsBack, IfBack, PollsBy, RemovesBy, WaitsBy, answered, reason_of};
+ghost use Rattle.event_listener.specs.Waiting.{Finds, HandsBack, IfBack, PollsBy, RemovesAs, RemovesBy, WaitsBy, answered, reason_of, was_notified};
 ghost use Rattle.event_wait.specs.declared.lock.limit.Limit.TheVariants.{Never};
 ghost use Rattle.event_history.specs.History.{Looks, both_views, newcomer};
-ghost use Rattle.event_history.specs.Queue.{calls, is_empty, rests_on};
-ghost use Rattle.event_history.specs.Laws.{OwnsListener};
+ghost use Rattle.event_history.specs.Queue.{NoneLeft, calls, is_empty, rests_on};
+ghost use Rattle.event_history.specs.declared.queue_call.QueueCall.TheVariants as call;
 ghost use Rattle.event_listener.specs.declared.listener.wait_error.WaitReason.TheVariants as because;
 
 use super::hold::Hold;
@@ -62,7 +62,7 @@ pub struct QueueListener<T, H: Hold<T>, R: Wait + Clock + Clone> {
 impl<T, H: Hold<T>, R: Wait + Clock + Clone> Model for QueueListener<T, H, R> {
     ghost use Rattle.std.specs.Prelude.{◌≡◌, ◌∷◌, [], false};
     ghost use Rattle.event_history.specs.Laws.{OwnsListener};
-    ghost use Rattle.event_listener.specs.Listening.{Known, Listening, known_of};
+    ghost use Rattle.event_listener.specs.Listening.{Known, LeavesNone, Listening, known_of};
 
     ghost Value = { Listening T };
 
@@ -81,7 +81,8 @@ impl<T, H: Hold<T>, R: Wait + Clock + Clone> Model for QueueListener<T, H, R> {
         ≡ (H.lock listener.held).table)
         × ((knows : Known T) × (listener.hand.rest.badge.views ≡ knows ∷ [])
         × (listener.membership.is_finished ≡ false
-        → OwnsListener listener.membership.key knows.mine)) };
+        → OwnsListener listener.membership.key knows.mine)
+        × LeavesNone listener.membership knows.mine) };
 }
 
 impl<T, H: Hold<T>, R: Wait + Clock + Clone> QueueListener<T, H, R> {
@@ -97,7 +98,7 @@ impl<T, H: Hold<T>, R: Wait + Clock + Clone> QueueListener<T, H, R> {
     ) -> Self
         requires given { key.serial + 1 < 2 ^ 64 }
         requires hand { hand.seat.table_id ≡ (H.lock held).table }
-        requires owns { OwnsListener key hand.seat.me.0.mine }
+        requires joined { hand.seat.me.0.mine ≡ call.Insert (Ok key) ∷ [] }
         ensures event { result.standing.event_number ≡ event_number }
         ensures key { result.standing.key ≡ key }
         ensures unfinished { result.standing.is_finished ≡ false }
@@ -195,7 +196,9 @@ impl<T, H: Hold<T>, R: Wait + Clock + Clone> QueueListener<T, H, R> {
     pub(crate) fn into_hand(self) -> QueueHand<T>
     where
         H: Drop,
-        ensures { (result.seat.table_id ≡ self.table) × (result.seat.me.0 ≡ self.knows) }
+        requires left { self.standing.is_finished ≡ true }
+        ensures hand { (result.seat.table_id ≡ self.table) × (result.seat.me.0 ≡ self.knows) }
+        ensures ends { NoneLeft result.seat.me.0.mine }
     {
         let QueueListener {
             held: _,
@@ -206,8 +209,7 @@ impl<T, H: Hold<T>, R: Wait + Clock + Clone> QueueListener<T, H, R> {
             alloc: _,
             tag: _,
         } = self;
-        let mut hand = hand;
-        hand.take()
+        hand.into_hand()
     }
 
     // Takes the listener out of the queue, if it is there, and returns whether it was notified. With `propagate` its
@@ -220,6 +222,23 @@ impl<T, H: Hold<T>, R: Wait + Clock + Clone> QueueListener<T, H, R> {
         ensures finished { self.standing.is_finished ≡ true → result ≡ false }
         ensures removed { self.standing.is_finished ≡ false → RemovesBy propagate self result }
     {
+        let (told, hand) = self.leave(propagate);
+        hand.end();
+        told
+    }
+
+    // The same, with the listener's hand, which has left none in the queue.
+    #[inline(always)]
+    pub(crate) fn leave(self, propagate: bool) -> (bool, QueueHand<T>)
+    where
+        T: Drop,
+        H: Drop,
+        ensures finished { self.standing.is_finished ≡ true → result.0 ≡ false }
+        ensures removed { self.standing.is_finished ≡ false
+            → RemovesAs propagate self result.0 result.1.seat.me.0 }
+        ensures table { result.1.seat.table_id ≡ self.table }
+        ensures ends { NoneLeft result.1.seat.me.0.mine }
+    {
         let QueueListener {
             held,
             membership,
@@ -229,16 +248,15 @@ impl<T, H: Hold<T>, R: Wait + Clock + Clone> QueueListener<T, H, R> {
             alloc: _,
             tag: _,
         } = self;
+        let mut hand = hand.into_hand();
         // A finished listener takes no lock, here and in both polls.
         if membership.is_finished() {
-            return false;
+            return (false, hand);
         }
         let step = Remove {
             key: membership.key(),
             propagate,
         };
-        let mut hand = hand;
-        let mut hand = hand.take();
         // It wakes somebody only if a notification is propagated.
         let mut waking = Waking::new();
         let former = perform!(
@@ -250,18 +268,26 @@ impl<T, H: Hold<T>, R: Wait + Clock + Clone> QueueListener<T, H, R> {
             |step, queue, sink| { queue.remove_uncounted(step.key, step.propagate, sink) }
         );
         waking.finish_seldom();
-        match former {
-            Some(State::Notified { additional: _, tag } | State::Lost { additional: _, tag }) => {
-                drop(tag);
-                true
-            }
-            Some(State::Passed { to: _ }) => true,
-            Some(State::Task(task)) => {
-                drop(task);
-                false
-            }
-            Some(State::Created) | None => false,
+        (was_notified(former), hand)
+    }
+}
+
+// Whether a removal found the listener notified, whose tag or task it drops.
+#[inline(always)]
+fn was_notified<T: Drop>(former: Option<State<T, Task>>) -> bool
+    ensures { result ≡ was_notified former }
+{
+    match former {
+        Some(State::Notified { additional: _, tag } | State::Lost { additional: _, tag }) => {
+            drop(tag);
+            true
         }
+        Some(State::Passed { to: _ }) => true,
+        Some(State::Task(task)) => {
+            drop(task);
+            false
+        }
+        Some(State::Created) | None => false,
     }
 }
 

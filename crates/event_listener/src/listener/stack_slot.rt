@@ -78,7 +78,13 @@ impl<'ev, T> StackSlot<'ev, T> {
             return Err(ListenError::Memory);
         };
         let (hand, key) = perform_first!(self.shared, rt, Insert, &mut ());
-        let key = key?;
+        let key = match key {
+            Ok(key) => key,
+            Err(error) => {
+                hand.end();
+                return Err(error);
+            }
+        };
         Ok(StackListener::new(
             self.shared,
             key,
