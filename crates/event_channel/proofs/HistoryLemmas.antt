@@ -1,7 +1,8 @@
 -- In one history messages are received in the order in which they were sent.
-use Rattle.std.proofs.Common.{◌≡◌, Bool, List, [], ◌∷◌, ◌++◌, refl, sym, ap, subst, ◌∙◌, Option, Some, None, Ok, Err, true, false}
+use Rattle.std.proofs.Common.{◌≡◌, Bool, List, [], ◌∷◌, ◌++◌, refl, sym, ap, subst, ◌∙◌, ⊎_elim, Option, Some, None, Ok, Err, true, false}
 use Rattle.std.proofs.lemmas.List.{append-nil, append_assoc}
-use Rattle.event_history.specs.History.{Extends, LeadsTo, Runs, entry}
+use Rattle.event_history.specs.History.{Extends, IsAmong, LeadsTo, Runs, entry}
+use Rattle.event_history.proofs.RestsOnLemmas.{among_back, among_either, among_front}
 use Rattle.event_history.specs.declared.history.Entry.{Entry}
 use Rattle.event_history.specs.declared.history.View.{View}
 use Rattle.event_queue.specs.declared.key.Key.{Key}
@@ -108,3 +109,27 @@ all_received [] none = refl
 all_received (e ∷ es) none =
     ap (λ xs. (xs ++ received_by e.call) ++ all_of out_by es) (front_empty (forced_out_by e.call) (all_of forced_out_by es) none)
     ∙ ap (λ xs. received_by e.call ++ xs) (all_received es (back_empty (forced_out_by e.call) (all_of forced_out_by es) none))
+
+-- what a call received went out by it
+received_out : {T : Type 0} (log : ChannelLog T) (message : T) → IsAmong message (all_of received_by log) → IsAmong message (all_of out_by log)
+received_out [] message h = absurd h
+received_out (e ∷ es) message h = ⊎_elim
+    (λ here. among_front message (out_by e.call) (all_of out_by es) (among_back message (forced_out_by e.call) (received_by e.call) here))
+    (λ later. among_back message (out_by e.call) (all_of out_by es) (received_out es message later))
+    (among_either message (received_by e.call) (all_of received_by es) h)
+
+-- so it was sent
+pub received_was_sent : {T W : Type 0} (log : ChannelLog T) (q : State T W) → LeadsTo calls is_new log q → (message : T) → IsAmong message (all_of received_by log) → IsAmong message (all_of sent_by log)
+received_was_sent log q leads message h =
+    subst (λ xs. IsAmong message xs) (sym (in_order_from_start log q leads)) (among_front message (all_of out_by log) q.messages (received_out log message h))
+
+-- what the last call received is among what all received
+received_last : {T : Type 0} (log : ChannelLog T) (e : Entry (ChannelCall T)) (message : T) → IsAmong message (received_by e.call) → IsAmong message (all_of received_by (log ++ e ∷ []))
+received_last [] e message h = among_front message (received_by e.call) [] h
+received_last (x ∷ xs) e message h = among_back message (received_by x.call) (all_of received_by (xs ++ e ∷ [])) (received_last xs e message h)
+
+pub seen_to_be_sent : {T W : Type 0} (v w : View (State T W) (ChannelCall T)) (c : ChannelCall T) → Extends calls is_new rests_on_none v c w → (message : T) → IsAmong message (received_by c) → IsAmong message (all_of sent_by w.seen)
+seen_to_be_sent v w c called message h =
+    let led = called.2 in
+    let seen = in_order_as_seen v w c called in
+    received_was_sent w.seen seen.0 seen.1 message (subst (λ log. IsAmong message (all_of received_by log)) (sym led.seen) (received_last (v.seen ++ led.between) (entry led.number c) message h))

@@ -1,5 +1,5 @@
 use Rattle.std.proofs.Common.{ap, ◌++◌, ◌∙◌}
-use Rattle.event_channel.proofs.HistoryLemmas.{all_received, in_order_as_seen, in_order_between, in_order_from_start}
+use Rattle.event_channel.proofs.HistoryLemmas.{all_received, in_order_as_seen, in_order_between, in_order_from_start, received_was_sent, seen_to_be_sent}
 use Rattle.event_channel.proofs.laws.sent_is_received_in_order.Goals as goal
 
 pub returns-clause-in_order : goal.returns-clause-in_order
@@ -13,3 +13,9 @@ returns-clause-all_received g c log q leads none = in_order_from_start log q lea
 
 pub returns-clause-as_seen : goal.returns-clause-as_seen
 returns-clause-as_seen g c = in_order_as_seen
+
+pub returns-clause-received_was_sent : goal.returns-clause-received_was_sent
+returns-clause-received_was_sent g c = received_was_sent
+
+pub returns-clause-seen_to_be_sent : goal.returns-clause-seen_to_be_sent
+returns-clause-seen_to_be_sent g c = seen_to_be_sent
