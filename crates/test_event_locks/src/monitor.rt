@@ -221,7 +221,7 @@ fn one_more<'a, R: Runtime>(
     one_more
 }
 
-fn raise<R: Runtime>(
+fn raise_to_top<R: Runtime>(
     rt: &R,
     value: &Monitor<u64, Raise>,
     by: Raising,
@@ -256,7 +256,7 @@ fn raises_for_a_task<R: Runtime>(rt: &R, by: Raising) {
         task.poll(&mut awaited).is_pending(),
         true,
     );
-    raise(rt, &value, by, &other, one_more);
+    raise_to_top(rt, &value, by, &other, one_more);
     check(rt, "whether it is woken", task.is_woken(), true);
     check(
         rt,
@@ -274,7 +274,7 @@ fn raises_for_a_thread<R: Runtime + Threads + Sync>(rt: &R, by: Raising) {
         thread::sleep(rt, Duration::from_millis(50));
         let one_more = one_more(rt, &value, &other);
         thread::sleep(rt, Duration::from_millis(50));
-        raise(rt, &value, by, &other, one_more);
+        raise_to_top(rt, &value, by, &other, one_more);
     };
     let (risen, ()) = thread::join(rt, waits, raises);
     check(rt, "the thread", risen, Ok(()));
