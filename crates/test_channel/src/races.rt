@@ -5,7 +5,7 @@ use futures::StreamExt;
 use futures::test::MockTask;
 use std::alloc::AllocGlobal;
 use std::cell::Cell;
-use std::sync::atomic::{AtomicUsize, Ordering};
+use std::sync::atomic::{AtomicBool, AtomicUsize, Ordering};
 use std::sync::{Barrier, Wait};
 use std::thread;
 use std::time::Clock;
@@ -182,9 +182,9 @@ fn waits<R: Runtime>(rt: &R, receiver: &Receiver<usize, R>, task: &MockTask) -> 
 }
 
 // A channel is closed. As its lock is taken for that a thread comes, and sleeps for it. As so many are still to be woken another
-// thread comes, and writes over the mark that the first one sleeps.
-fn close_while_others_come<R: SharedRuntime>(rt: &R, still: usize) {
-    let (sender, receiver) = &sides(rt, None);
+// thread comes, and writes over the mark that the first one sleeps. Whether it came while the lock was held.
+fn close_while_others_come<R: SharedRuntime>(rt: &R, still: usize) -> bool {
+    let ((sender, receiver), is_over) = (&sides(rt, None), &AtomicBool::new(false));
     let new_task = || MockTask::new(rt).expect(rt, "a task");
     let (first, others, late) = (new_task(), new_task(), new_task());
     let mut waiting = Vec::with_capacity(rt.alloc(), WAITING).expect(rt, "room");
@@ -198,22 +198,41 @@ fn close_while_others_come<R: SharedRuntime>(rt: &R, still: usize) {
         };
         waiting.push(waits(rt, receiver, task)).expect(rt, "room");
     }
+    let closes = || {
+        let closes = sender.close();
+        is_over.store(true, Ordering::SeqCst);
+        closes
+    };
     let asks_after = |task: &MockTask| {
         spin_until(rt, || task.is_woken());
-        receiver.is_closed()
+        let is_held = !is_over.load(Ordering::SeqCst);
+        (receiver.is_closed(), is_held)
     };
     let come = || thread::join(rt, || asks_after(&first), || asks_after(&late));
-    let (closes, found) = thread::join(rt, || sender.close(), come);
+    let (closes, (sleeper, other)) = thread::join(rt, closes, come);
     check(rt, "a close", closes, true);
-    check(rt, "whether it is closed", found, (true, true));
+    check(
+        rt,
+        "whether it is closed",
+        (sleeper.0, other.0),
+        (true, true),
+    );
+    other.1
 }
 
+// The other thread comes a little later than in the last round if the lock was still held there, and else earlier. So it comes
+// as the lock is given back, on a slow machine and on a fast one.
 #[test]
 fn who_sleeps_for_the_lock_is_woken_whoever_comes_after_it(rt: HostRuntime) {
-    let rounds = Cell::new(0u32);
+    let still = Cell::new(16usize);
     let ended = for_two_seconds(&rt, || {
-        rounds.set(rounds.get().wrapping_add(1));
-        close_while_others_come(&rt, 2usize << (rounds.get() % 10));
+        let last = still.get();
+        let next = if close_while_others_come(&rt, last) {
+            last.saturating_sub(last / 4)
+        } else {
+            last.saturating_add(last / 4 + 1)
+        };
+        still.set(next.clamp(2, WAITING / 2));
     });
     ended.expect(&rt, "the time");
 }
