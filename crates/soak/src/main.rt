@@ -22,7 +22,7 @@
 //! A run of 1,000 lists or more also fails if one of the 12 kinds of answer of an event, or a woken task, came up in
 //! none of them: `no list has ' -> KIND'`. A list that differs is made shorter, until no single call can be left out, and
 //! the first five of a run are printed, as rows that can be kept as tests. All are made of the same `List`, so a fault of it
-//! does not show here. It is proved, and compared with the Rust crate (`vectors`).
+//! does not show here. It is proved, and compared with the Rust crate (`replies`).
 //!
 //! # Threads
 //!
