@@ -2,8 +2,8 @@
 #           kept, so the next one of the same sources takes seconds
 # run       compiles and runs the program of the worked rows, with every check at run time, and proves nothing: under a
 #           minute. `make run V=1` shows the text of each, too
-# test      proves the libraries, runs all tests and programs, and tries what must not compile: a quarter of an hour
-# gate      proves every crate with its tests, and tries the wrong bodies that the prover must refuse: an hour. A merge
+# test      proves the libraries, runs all tests and programs, and tries what must not compile: half an hour
+# gate      proves every crate with its tests, and tries the wrong bodies that the prover must refuse: one to two hours. A merge
 #           asks for `make test` and `make gate`, as .ci/run runs them
 # prove     proves every crate and its tests, and runs tests and programs, but tries no wrong bodies; `make prove JOBS=4`
 #           works on four crates at a time in 10 GB
