@@ -1,8 +1,10 @@
 //! A semaphore.
 ghost use Rattle.std.specs.Prelude.{◌≡◌, ◌<◌, true, IfSome};
-ghost use Rattle.event_wait.specs.Attempted.{Attempts, OnDone, OnRefused, OnUndone};
+ghost use Rattle.event_wait.specs.Attempted.{Attempts, OnDone, OnRefused, OnUndone, key_of};
 ghost use Rattle.event_locks.specs.Losses.{LosesOnceAtMost};
-ghost use Rattle.event_word.specs.Free.{ServesTheStarving, Stands};
+ghost use Rattle.event_word.specs.Competitor.{coming_of, losses_after};
+ghost use Rattle.event_word.specs.declared.line.competitor.Coming.TheVariants.{Notified};
+ghost use Rattle.event_word.specs.Free.{ServesTheStarving, Stands, free_of};
 ghost use Rattle.event_word.specs.Word.{HasState};
 
 mod acquire;
@@ -12,7 +14,7 @@ pub use self::acquire::{Acquire, AcquireArc};
 pub use self::guard::{SemaphoreGuard, SemaphoreGuardArc};
 use crate::taker::Taker;
 use event_monitor::{Borrowed, Obtaining, Shared};
-use event_queue::TaskExchange;
+use event_queue::{Key, TaskExchange};
 use event_wait::{Attempted, LineSource, Serves, Task, Tries};
 use event_word::{Coming, Competing, Competitor, Counts, Held, LockError, Permit, Permits, Word};
 use std::alloc::{AllocError, Global};
@@ -114,12 +116,12 @@ impl Semaphore {
         self.word.give_permit(rt, permit);
     }
 
-    #[tactic(auto, using(crate::proofs::LossLemmas::loses_as_before))]
     fn attempt_held<C, X: TaskExchange<Task, C>, R: Wait>(
         &self,
         rt: &R,
         held: &mut Held<Competing<Permits>, ()>,
-        request: &mut Competitor,
+        place: &mut Option<Key>,
+        losses: &mut u32,
         exchange: &X,
         on: &mut C,
     ) -> Attempted<Permit, LockError>
@@ -128,19 +130,24 @@ impl Semaphore {
         ensures seat { held.new.seat.table_id ≡ held.old.seat.table_id }
         ensures own { OnDone result (λ permit. permit ≡ self.now.word.table.shared.table_id) }
         ensures serves { HasState (λ n q. ServesTheStarving n q.line) held.new.seat.me }
-        ensures done { OnDone result (λ _. request.new ≡ request.old) }
-        ensures waits { OnUndone result (LosesOnceAtMost request.old request.new) }
-        ensures refused { OnRefused result (request.new ≡ request.old) }
+        ensures place { place.new ≡ key_of result }
+        ensures done { OnDone result (λ _. losses.new ≡ losses.old) }
+        ensures loses { OnUndone result (HasState (λ _ q. losses.new
+            ≡ losses_after losses.old (coming_of place.old q.line)) held.old.seat.me) }
+        ensures none { OnUndone result
+            (HasState (λ _ q. coming_of place.old q.line ≡ Notified) held.old.seat.me
+            → HasState (λ n _. free_of n ≡ 0) held.new.seat.me) }
+        ensures refused { OnRefused result (losses.new ≡ losses.old) }
         ensures exchanged { Attempts (X.exchanged exchange.now) on.old result on.new }
     {
-        let arrival = self.word.come(held, &mut request.place, exchange, on);
+        let arrival = self.word.come(held, place, exchange, on);
         let coming = arrival.coming();
         if let Coming::Waits(key) = coming {
             return Attempted::Waits(key);
         }
         match self.word.take_permit(rt, held, coming.is_notified()) {
             Some(permit) => Attempted::Done(permit),
-            None => match self.word.lose(held, request, arrival, exchange, on) {
+            None => match self.word.lose(held, place, losses, arrival, exchange, on) {
                 Ok(key) => Attempted::Waits(key),
                 Err(error) => Attempted::Refused(error),
             },
@@ -176,7 +183,8 @@ impl Serves<Taker> for Semaphore {
         on: &mut C,
     ) -> Attempted<Permit, LockError> {
         let (_, mut held) = self.word.take(rt);
-        let attempted = self.attempt_held(rt, &mut held, &mut request.competitor, exchange, on);
+        let Competitor { place, losses } = &mut request.competitor;
+        let attempted = self.attempt_held(rt, &mut held, place, losses, exchange, on);
         drop(self.word.put_back(rt, held));
         attempted
     }
