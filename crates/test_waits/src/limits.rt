@@ -104,7 +104,13 @@ pub fn ends_by_its_clock<S: Trial>(trial: &S) {
         // The reading that notifies comes after the wait last registered, and before the listener leaves. A timeout
         // above zero has one reading before, which fixes its deadline.
         (Notifies(0), Deadline, zero, Some(7), LEAVES_TOLD),
-        (Notifies(1), Timeout, Duration::from_nanos(1), Some(7), LEAVES_TOLD),
+        (
+            Notifies(1),
+            Timeout,
+            Duration::from_nanos(1),
+            Some(7),
+            LEAVES_TOLD,
+        ),
         // Before the thread parks there is one reading, and none as it does. No lock is held at it.
         (Notifies(0), Deadline, limit(), Some(7), TOLD),
         (Notifies(1), Timeout, limit(), Some(7), TOLD),
