@@ -1,5 +1,5 @@
-//! Calls that wake who waits next, be that a task or a thread that parks. `test_waits` has those of events and of listeners
-//! for threads.
+//! Calls that wake who waits next, be that a task or a thread that parks, and one that does not. `test_waits` has those of
+//! events and of listeners for threads.
 use crate::support::{Runtime, check, listen_as, new_event, new_task, sharing};
 use calls::Reply;
 use calls_records::{HandCalls, On, new_event as new_recorded};
@@ -55,6 +55,32 @@ fn a_hand_that_notifies_wakes_a_task_and_a_thread(rt: HostRuntime) {
     let (rt, event) = (&rt, &new_event(&rt));
     wakes_a_task(rt, event, || hand_notifies(rt, event));
     wakes_a_thread(rt, event, || hand_notifies(rt, event));
+}
+
+// Two listen by a hand, which ends the one that is told. Dropped, that one lets the next know; discarded, it does not.
+fn hand_ends_one<R: Runtime>(rt: &R, drops: bool) {
+    let (event, task) = (new_event(rt), new_task(rt));
+    let mut hand = event.hand(rt, rt.alloc()).expect(rt, "a hand");
+    let told = hand.listen(rt, rt.alloc()).expect(rt, "a listener");
+    let mut next = hand.listen(rt, rt.alloc()).expect(rt, "a listener");
+    let polled = next.poll(waker_of(&task).expect(rt, "a waker"));
+    check(rt, "a poll", polled, Ok(Poll::Pending));
+    check(rt, "told", hand.notify(rt, 1.tag(7)), Ok(1));
+    let was_told = if drops {
+        hand.drop_listener(told)
+    } else {
+        hand.discard(told)
+    };
+    check(rt, "whether it was told", was_told, true);
+    check(rt, "whether the next is woken", task.is_woken(), drops);
+    check(rt, "whether the next was told", hand.discard(next), drops);
+    check(rt, "listeners", event.total_listeners(rt), 0);
+}
+
+#[test]
+fn a_hand_drops_a_listener_or_discards_it(rt: HostRuntime) {
+    hand_ends_one(&rt, true);
+    hand_ends_one(&rt, false);
 }
 
 // One that is told is dropped.
