@@ -4,14 +4,14 @@
 //!
 //! | Module | What it tests |
 //! |---|---|
-//! | `rows`, as text | which wakers a poll keeps; serial numbers that are used up; that a record is compared |
-//! | `tags` | tags that are refused |
+//! | `rows`, as text | which wakers a poll keeps; in which order tasks wake, by a notification and by drops; serial numbers that are used up; that a record is compared |
+//! | `tags` | tags that are refused, and one that can't be cloned, which is passed on |
 //! | `locks` | what is called while the lock of an event is held, by its thread and by another; threads that race to make the queue |
 //! | `meetings` | threads that sleep for the lock of an event: each is woken, and uses no processor time until then |
 //! | `wakes` | a task and a parked thread behind a notification of a hand, a task behind a told listener that is dropped |
 //! | `making` | the macro `listener!`; slots; a refused clone; what is shown; what threads may share; listeners that outlive their event |
 //! | `awaited` | tasks that await listeners, and move between threads: that they are woken, and how often they are polled |
-//! | `records` | more hands than memory holds; each call of a recorded state succeeds |
+//! | `records` | more hands than memory holds; hands of other events; each call of a recorded state succeeds |
 //!
 //! Events are tested with both kinds of listener. How many each notification tells, worked rows and `soak` show, which compares
 //! all calls that need no second thread, and their records, with a queue. Waits are tested in `test_waits`, and refused memory

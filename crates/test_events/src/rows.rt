@@ -38,7 +38,51 @@ listen -> used up
 
 An event without hands has an empty record.
 row 3 recorded by 0
-close 0";
+close 0
+
+An event is notified as long as some listener is, whether that is one or several and whoever waits.
+row 4 event
+listen -> listener 0
+listen -> listener 1
+listen -> listener 2
+notify 2 d -> told 2
+isnotified -> isnotified true
+discard 0 -> discarded true
+isnotified -> isnotified true
+discard 1 -> discarded true
+isnotified -> isnotified false
+total -> total 1";
+
+// Worked row 5 on an event, whose tasks note their order; then drops of told listeners.
+const IN_ORDER: &str = "
+Tasks wake in order of listening. An additional notification wakes the next in order where its listener is dropped, though \
+another stays told; a default one does not.
+row 5 event
+listen -> listener 0
+poll 0 1 -> pending
+listen -> listener 1
+poll 1 2 -> pending
+listen -> listener 2
+poll 2 3 -> pending
+notify max d -> told 3 wakes 1 2 3
+poll 0 1 -> ready wakes 1
+poll 1 2 -> ready wakes 2
+poll 2 3 -> ready wakes 3
+listen -> listener 3
+poll 3 4 -> pending
+listen -> listener 4
+poll 4 5 -> pending
+listen -> listener 5
+poll 5 6 -> pending
+listen -> listener 6
+poll 6 7 -> pending
+notify 1 a -> told 1 wakes 4
+notify 2 d -> told 1 wakes 5
+drop 3 -> dropped wakes 6
+drop 4 -> dropped
+drop 5 -> dropped wakes 7
+poll 6 8 -> ready wakes 8
+total -> total 0";
 
 // How a row differs on its subject, with each kind of listener where that is an event.
 fn made<'t, R: Runtime>(rt: &R, row: Row<'t>) -> Result<(), Difference<'t>> {
@@ -48,20 +92,30 @@ fn made<'t, R: Runtime>(rt: &R, row: Row<'t>) -> Result<(), Difference<'t>> {
     }
 }
 
-/// The rows hold, and there are three.
-pub fn all_hold<R: Runtime>(rt: &R) {
-    for place in 0..3 {
-        let row = Row::nth(ROWS, place).expect(rt, "a row");
+// The rows of the text hold, and there are so many.
+fn hold<R: Runtime>(rt: &R, text: &str, rows: usize) {
+    for place in 0..rows {
+        let row = Row::nth(text, place).expect(rt, "a row");
         if let Err(difference) = made(rt, row) {
             panic!(rt; "{difference}");
         }
     }
-    check(rt, "more rows", Row::nth(ROWS, 3).is_some(), false);
+    check(rt, "more rows", Row::nth(text, rows).is_some(), false);
+}
+
+/// All rows hold.
+pub fn all_hold<R: Runtime>(rt: &R) {
+    hold(rt, ROWS, 4);
 }
 
 #[test]
 fn each_row_holds(rt: HostRuntime) {
     all_hold(&rt);
+}
+
+#[test]
+fn a_dropped_additional_listener_wakes_the_next_in_order(rt: HostRuntime) {
+    hold(&rt, IN_ORDER, 1);
 }
 
 const WRONG: &str = "

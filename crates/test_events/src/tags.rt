@@ -1,10 +1,12 @@
-//! A notification whose tag is refused.
-use crate::support::{Runtime, check, discard, has_listeners, new_event, sharing};
-use event_listener::{Event, IntoTagged, Listener, NotifyError};
+//! Notifications whose tags are refused, or can't be cloned any more.
+use crate::support::{Runtime, check, discard, has_listeners, new_event, reads, sharing};
+use event_listener::{Event, IntoNotification, IntoTagged, Listener, NotifyError};
+use futures::task::Poll;
 use std::alloc::AllocError;
 use std::cell::Cell;
 use std::thread::{self, Threads};
 use std::time::Duration;
+use test_support::{Borrowing, ListenerKind, Sharing, any_waker};
 
 // A tag that can be cloned so many times. Its clones can't be cloned.
 #[derive(Debug, Drop)]
@@ -29,6 +31,73 @@ fn notify_three<R: Runtime>(
 ) -> Result<usize, NotifyError> {
     let clones_left = Cell::new(clones);
     event.notify(rt, 3.tag(Refusing { clones_left }))
+}
+
+// The same, of a notification of either kind.
+fn notify_three_by<R: Runtime>(
+    rt: &R,
+    event: &Event<Refusing>,
+    additional: bool,
+    clones: u8,
+) -> Result<usize, NotifyError> {
+    if !additional {
+        return notify_three(rt, event, clones);
+    }
+    let clones_left = Cell::new(clones);
+    event.notify(rt, 3.additional().tag(Refusing { clones_left }))
+}
+
+// Polls a listener for the last time. Whether it has a tag.
+fn polls<L: Listener<Refusing> + Drop, R: Runtime>(rt: &R, mut listener: L, has_tag: bool) {
+    let polled = listener.poll(any_waker(rt).expect(rt, "a waker"));
+    let polled = polled.expect(rt, "it is in the queue");
+    check(
+        rt,
+        "whether it has a tag",
+        matches!(polled, Poll::Ready(_)),
+        has_tag,
+    );
+}
+
+// The third of three is refused a tag, and is not told. Then of three the first has a tag that can't be cloned. It is
+// dropped, and the second has that tag.
+fn refuses_the_third<'ev, K, L, R>(rt: &R, event: &'ev Event<Refusing>, additional: bool)
+where
+    K: ListenerKind<'ev, Refusing, R, Listener = L>,
+    L: Listener<Refusing> + Drop,
+    R: Runtime,
+{
+    let next = || K::listen(rt, rt.alloc(), event).expect(rt, "a listener");
+    let (first, second, third) = (next(), next(), next());
+    let refused = notify_three_by(rt, event, additional, 2);
+    let refusal = refused.expect_err(rt, "a third clone");
+    let text = format!(in rt.alloc(); "{refusal}");
+    reads(rt, text, "a tag was refused after 2 listeners");
+    check(rt, additional, refusal, NotifyError { told: 2 });
+    has_listeners(rt, event, 3, true);
+    polls(rt, first, true);
+    polls(rt, second, true);
+    polls(rt, third, false);
+    let (first, second, third) = (next(), next(), next());
+    let refused = notify_three_by(rt, event, additional, 1);
+    check(rt, additional, refused, Err(NotifyError { told: 1 }));
+    drop(first);
+    has_listeners(rt, event, 2, true);
+    polls(rt, second, true);
+    polls(rt, third, false);
+    has_listeners(rt, event, 0, false);
+}
+
+fn refuse_the_third<R: Runtime>(rt: &R, event: &Event<Refusing>) {
+    for additional in [false, true] {
+        refuses_the_third::<Sharing, _, R>(rt, event, additional);
+        refuses_the_third::<Borrowing, _, R>(rt, event, additional);
+    }
+}
+
+#[test]
+fn the_third_clone_of_a_tag_is_refused(rt: HostRuntime) {
+    refuse_the_third(&rt, &new_event(&rt));
 }
 
 // Of three who wait the first parks its thread. That is woken, though the second is refused a tag. Later notifications
