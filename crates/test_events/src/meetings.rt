@@ -3,7 +3,7 @@
 //! A tag is made under the lock, so a thread has that for as long as the function of its notification takes. One that is not
 //! woken sleeps on, and its test fails at the limit that the toolchain has for every test.
 use crate::support::{Runtime, check, new_event, sharing};
-use event_listener::{Event, IntoNotification, IntoTagged};
+use event_listener::{Event, IntoNotification, IntoTagged, NotifyError};
 use std::sync::Barrier;
 use std::sync::atomic::{AtomicU32, Ordering};
 use std::thread::{self, Threads};
@@ -14,9 +14,12 @@ fn reach<R: Runtime>(rt: &R, step: &AtomicU32, far: u32) {
     spin_until(rt, || step.load(Ordering::SeqCst) >= far);
 }
 
-// One thread has the lock, and another one sleeps for it. Then a third comes, and writes over the mark that one sleeps.
-fn one_comes_after_the_sleeper<R: Runtime + Threads + Sync>(rt: &R, event: &Event<u32>) {
-    let (_told, step) = (sharing(rt, event), &AtomicU32::new(0));
+// Has the lock at steps 1 and 2, and until 3 is reached.
+fn notify_in_steps<R: Runtime>(
+    rt: &R,
+    event: &Event<u32>,
+    step: &AtomicU32,
+) -> Result<usize, NotifyError> {
     let tag = || {
         step.store(1, Ordering::SeqCst);
         rt.sleep(Duration::from_millis(2));
@@ -24,6 +27,12 @@ fn one_comes_after_the_sleeper<R: Runtime + Threads + Sync>(rt: &R, event: &Even
         reach(rt, step, 3);
         7u32
     };
+    event.notify(rt, 1.tag_with(tag))
+}
+
+// One thread has the lock, and another one sleeps for it. Then a third comes, and writes over the mark that one sleeps.
+fn one_comes_after_the_sleeper<R: Runtime + Threads + Sync>(rt: &R, event: &Event<u32>) {
+    let (_told, step) = (sharing(rt, event), &AtomicU32::new(0));
     let sleeps = || {
         reach(rt, step, 1);
         event.is_notified(rt)
@@ -33,7 +42,7 @@ fn one_comes_after_the_sleeper<R: Runtime + Threads + Sync>(rt: &R, event: &Even
         step.store(3, Ordering::SeqCst);
         event.is_notified(rt)
     };
-    let notifies = || event.notify(rt, 1.tag_with(tag));
+    let notifies = || notify_in_steps(rt, event, step);
     let (told, found) = thread::join(rt, notifies, || thread::join(rt, sleeps, comes));
     check(rt, "told", told, Ok(1));
     check(rt, "whether one is told", found, (true, true));
@@ -63,15 +72,23 @@ fn all_that_sleep_for_the_lock_are_woken(rt: HostRuntime) {
     sleep_side_by_side(&rt, &new_event(&rt));
 }
 
-// A thread waits for the lock, which another one has for 300 milliseconds. One that looked at it again and again would use
-// most of the time.
-fn use_no_time<R: Runtime + CpuClock + Threads + Sync>(rt: &R, event: &Event<u32>) {
-    let (_told, meeting) = (sharing(rt, event), &Barrier::new(2));
+// Has the lock for 300 milliseconds from the meeting on.
+fn notify_for_long<R: Runtime>(
+    rt: &R,
+    event: &Event<u32>,
+    meeting: &Barrier,
+) -> Result<usize, NotifyError> {
     let tag = || {
         meeting.wait(rt);
         rt.sleep(Duration::from_millis(300));
         7u32
     };
+    event.notify(rt, 1.tag_with(tag))
+}
+
+// A thread waits for the lock, which another one has for long. One that looked at it again and again would use most of the time.
+fn use_no_time<R: Runtime + CpuClock + Threads + Sync>(rt: &R, event: &Event<u32>) {
+    let (_told, meeting) = (sharing(rt, event), &Barrier::new(2));
     let waits = || {
         meeting.wait(rt);
         let before = rt.thread_cpu_time().expect(rt, "the processor time");
@@ -79,7 +96,8 @@ fn use_no_time<R: Runtime + CpuClock + Threads + Sync>(rt: &R, event: &Event<u32
         let after = rt.thread_cpu_time().expect(rt, "the processor time");
         (is_told, after.saturating_sub(before))
     };
-    let (told, (is_told, used)) = thread::join(rt, || event.notify(rt, 1.tag_with(tag)), waits);
+    let notifies = || notify_for_long(rt, event, meeting);
+    let (told, (is_told, used)) = thread::join(rt, notifies, waits);
     check(rt, "told", told, Ok(1));
     check(rt, "whether it waited", is_told, true);
     check(rt, used, used < Duration::from_millis(75), true);
