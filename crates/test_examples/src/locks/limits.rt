@@ -1,7 +1,7 @@
 //! Locks and permits that are waited for until a limit, by the system's clock.
 use super::{Polled, hold, new_mutex};
 use crate::support::{Host, check, is_woken, new_id};
-use example_events::locks::{Mutex, Permit, Semaphore};
+use example_events::locks::{Mutex, Semaphore};
 use std::sync::atomic::{AtomicBool, Ordering};
 use std::thread;
 use std::time::{Duration, Instant};
@@ -21,10 +21,6 @@ fn is_locked<R: Runtime>(rt: &R, mutex: &Mutex<u64>) -> bool {
 fn is_acquired<R: Runtime>(rt: &R, semaphore: &Semaphore) -> bool {
     let answer = semaphore.acquire_timeout(rt, rt.alloc(), limit());
     answer.expect(rt, "an answer").is_some()
-}
-
-fn hold_permit<'a, R: Runtime>(rt: &'a R, semaphore: &'a Semaphore) -> Permit<'a, R> {
-    semaphore.try_acquire(rt).expect(rt, "a permit")
 }
 
 // Nothing is given while it is held, and none is refused before the limit.
@@ -73,13 +69,13 @@ fn a_timed_lock_gives_up_at_its_deadline(rt: HostRuntime) {
 
 #[test]
 fn a_timed_acquire_gives_up_at_its_deadline(rt: HostRuntime) {
-    let (rt, semaphore) = (&rt, &Semaphore::new(new_id(&rt), 1));
+    let semaphore = Semaphore::new(new_id(&rt), 1);
     let is_over = &AtomicBool::new(false);
-    let held = hold_permit(rt, semaphore);
+    let held = semaphore.try_acquire(&rt).expect(&rt, "a permit");
     thread::join(
-        rt,
-        || gives_up(rt, || is_acquired(rt, semaphore), is_over),
-        move || hold_on(rt, held, is_over),
+        &rt,
+        || gives_up(&rt, || is_acquired(&rt, &semaphore), is_over),
+        move || hold_on(&rt, held, is_over),
     );
-    check(rt, "once one is free", is_acquired(rt, semaphore), true);
+    check(&rt, "once one is free", is_acquired(&rt, &semaphore), true);
 }
