@@ -207,26 +207,21 @@ fn four<R: Abort + AllocGlobal>(
     woken: &mut Woken<usize>,
 ) -> [Key; 4] {
     let gone = insert(rt, list, 9);
-    let (first, second, third) = (
-        insert(rt, list, 0),
-        insert(rt, list, 1),
-        insert(rt, list, 2),
-    );
+    let first = insert(rt, list, 0);
+    let second = insert(rt, list, 1);
+    let third = insert(rt, list, 2);
     let left = list.remove_uncounted(gone, false, woken);
     check(rt, "one that leaves", left, Some(State::Task(9)));
     let last = insert(rt, list, 3);
     check(rt, "its slot", last.slot, gone.slot);
-    check(
-        rt,
-        "told",
-        list.notify_uncounted(&mut 1.tag(7), woken),
-        Ok(1),
-    );
+    let told = list.notify_uncounted(&mut 1.tag(7), woken);
+    check(rt, "told", told, Ok(1));
     [first, second, third, last]
 }
 
-// By that key calls find the listener that has its slot and serial, if there is one, and no other.
-fn finds<R: Abort + AllocGlobal>(rt: &R, key: Key, is_removed: bool) {
+// By that key a registration or a removal finds the listener that has its slot and serial, if there is one, and no other.
+// Answers whether there is one.
+fn finds_by<R: Abort + AllocGlobal>(rt: &R, key: Key, is_removed: bool) -> bool {
     let mut woken = Woken::with_room(rt.alloc(), 1).expect(rt, "a sink");
     let mut list = List::new(rt.alloc());
     let keys = four(rt, &mut list, &mut woken);
@@ -252,23 +247,32 @@ fn finds<R: Abort + AllocGlobal>(rt: &R, key: Key, is_removed: bool) {
         check(rt, (key, place), left, expected);
     }
     check(rt, "listeners", list.total_listeners(), 0);
+    found.is_some()
+}
+
+// The same, in a queue each. Answers how many listeners have that key: one or none.
+fn finds<R: Abort + AllocGlobal>(rt: &R, key: Key) -> usize {
+    let is_found = finds_by(rt, key, false);
+    check(rt, key, finds_by(rt, key, true), is_found);
+    usize::from(is_found)
 }
 
 #[test]
 fn a_key_of_another_list_is_that_of_the_listener_with_its_slot_and_serial(rt: HostRuntime) {
     let mut other: List<(), ()> = List::new(rt.alloc());
+    let mut equal = 0usize;
     for _ in 0..6 {
         let key = other.insert_uncounted().expect(&rt, "a listener");
-        finds(&rt, key, false);
-        finds(&rt, key, true);
+        equal = equal.wrapping_add(finds(&rt, key));
     }
+    check(&rt, ("equal", equal), equal > 0, true);
+    let mut equal = 0usize;
     for slot in [0, 1, 2, 3, 4, 5, usize::MAX - 1, usize::MAX] {
         for serial in [0, 1, 2, 3, 4, 5, 6, u64::MAX - 1, u64::MAX] {
-            let key = Key { slot, serial };
-            finds(&rt, key, false);
-            finds(&rt, key, true);
+            equal = equal.wrapping_add(finds(&rt, Key { slot, serial }));
         }
     }
+    check(&rt, "equal", equal, 4);
 }
 
 const MANY: usize = 100_000;
