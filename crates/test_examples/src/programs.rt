@@ -19,9 +19,10 @@ where
     E: Display + Drop,
     R: AllocGlobal + Abort,
 {
-    let screen = Screen::new(rt);
+    let screen = Screen::new(rt.alloc()).expect(rt, "a screen");
     let ends = finish(&screen, ended, wanted);
-    check(rt, "what is printed", screen.text(rt).as_str(), text);
+    let printed = screen.text().expect(rt, "a text");
+    check(rt, "what is printed", printed.as_str(), text);
     check(rt, text, ends, status);
 }
 
@@ -43,8 +44,8 @@ fn a_program_prints_done_or_its_fault(rt: HostRuntime) {
     let refused = Err(CountError::from(AllocError));
     let no_memory = "error: no memory for the program\n";
     prints_count(rt, refused, no_memory, ExitCode::FAILURE);
-    let closed = Screen::new(rt);
-    drop(closed.text(rt));
+    let closed = Screen::new(rt.alloc()).expect(rt, "a screen");
+    drop(closed.text());
     let ends = finish(&closed, Ok::<u64, CountError>(10), 10);
     check(rt, "a closed screen", ends, ExitCode::FAILURE);
 }

@@ -1,9 +1,8 @@
 //! A screen that keeps what is printed.
-use std::alloc::AllocGlobal;
+use std::alloc::{AllocError, Global};
 use std::cell::Cell;
 use std::fmt::Display;
 use std::io;
-use std::process::Abort;
 
 /// What was printed, with `error: ` before each line that went to the standard error. The text keeps its room, so that
 /// printing allocates only where that is too short.
@@ -14,10 +13,9 @@ pub struct Screen {
 
 impl Screen {
     /// With room for more than is printed in a test.
-    pub fn new<R: AllocGlobal + Abort>(rt: &R) -> Screen {
-        let text = String::with_capacity(rt.alloc(), 4096);
-        let text = Cell::new(Some(text.expect(rt, "room for a text")));
-        Screen { text }
+    pub fn new(alloc: Global) -> Result<Screen, AllocError> {
+        let text = Cell::new(Some(String::with_capacity(alloc, 4096)?));
+        Ok(Screen { text })
     }
 
     fn append<D: Display + Drop>(&self, mark: &str, value: D, end: &str) -> io::Result<()> {
@@ -29,9 +27,9 @@ impl Screen {
         written.map_err(|_| io::ErrorKind::OutOfMemory.into())
     }
 
-    /// What was printed. Nothing can be printed after it.
-    pub fn text<R: Abort>(&self, rt: &R) -> String {
-        self.text.take().expect(rt, "a text")
+    /// What was printed. Nothing can be printed after it, and there is no text any more.
+    pub fn text(&self) -> Option<String> {
+        self.text.take()
     }
 }
 

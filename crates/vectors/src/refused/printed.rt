@@ -7,6 +7,14 @@ use std::process::Abort;
 use test_queue_memory::{Calls, Refusing, Wrong};
 use test_support::Screen;
 
+fn new_screen<R: Runtime + Abort>(rt: &R) -> Screen {
+    Screen::new(rt.alloc()).expect(rt, "room for a text")
+}
+
+fn text_of<R: Abort>(rt: &R, screen: &Screen) -> String {
+    screen.text().expect(rt, "a text")
+}
+
 // The rows of a text, printed with this hook: whether the answer is that none differs, and how many do.
 fn print_with<R: Runtime + Abort, H: Hook>(
     rt: &R,
@@ -14,9 +22,9 @@ fn print_with<R: Runtime + Abort, H: Hook>(
     wanted: &str,
     hook: &mut H,
 ) -> (Option<bool>, usize) {
-    let screen = Screen::new(rt);
+    let screen = new_screen(rt);
     let none_differs = print_rows(rt, &screen, &[rows], hook);
-    let differ = differing(rt, screen.text(rt).as_str(), wanted);
+    let differ = differing(rt, text_of(rt, &screen).as_str(), wanted);
     (none_differs.ok(), differ)
 }
 
@@ -67,21 +75,21 @@ impl<'r, R: Runtime + Abort> Calls for Printing<'r, R> {
 /// Prints the rows of the text: with each of their requests refused in turn, and with no memory, where none can be tried
 /// and each has its line. Answers how many calls make requests.
 pub fn print_refused<R: Runtime + Abort>(rt: &R, rows: &'static str) -> Result<usize, Wrong> {
-    let screen = Screen::new(rt);
+    let screen = new_screen(rt);
     let none_differs = print_rows(rt, &screen, &[rows], &mut Undisturbed);
     check(rt, "no row differs", none_differs.ok(), Some(true));
-    let wanted = screen.text(rt);
+    let wanted = text_of(rt, &screen);
     let wanted = wanted.as_str();
     let mut hook = Refusing::new(new_budget(rt)).for_good();
     let asking = hook.each(&Printing { rt, rows, wanted })?;
     drop(hook);
     let mut budget = new_budget(rt);
-    let screen = Screen::new(rt);
+    let screen = new_screen(rt);
     budget.leave(0).expect(rt, "nothing of the reserve");
     let none_differs = print_rows(rt, &screen, &[rows], &mut Undisturbed);
     budget.give_back();
     check(rt, "no row differs", none_differs.ok(), Some(false));
-    let differ = differing(rt, screen.text(rt).as_str(), wanted);
+    let differ = differing(rt, text_of(rt, &screen).as_str(), wanted);
     check(rt, "all rows", differ, wanted.lines().count());
     Ok(asking)
 }
@@ -121,8 +129,8 @@ error: row 4, line 0: queue: no such subject
 
 #[test]
 fn rows_that_differ_say_where(rt: HostRuntime) {
-    let screen = Screen::new(&rt);
+    let screen = new_screen(&rt);
     let none_differs = print_rows(&rt, &screen, WRONG.as_slice(), &mut Undisturbed);
     check(&rt, "no row differs", none_differs.ok(), Some(false));
-    check(&rt, "the rows", screen.text(&rt).as_str(), PRINTED);
+    check(&rt, "the rows", text_of(&rt, &screen).as_str(), PRINTED);
 }
