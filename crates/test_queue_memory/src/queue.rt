@@ -200,7 +200,8 @@ fn registers(place: usize) -> RegisterResult<u32> {
     }
 }
 
-// Four listeners, each with its place as its task. The first is told, and the last is in the slot of one that has left.
+// Four listeners, each with its place as its task. The first is told, and the last is in the slot of one that has left. One
+// more has left its slot spare.
 fn four<R: Abort + AllocGlobal>(
     rt: &R,
     list: &mut List<u32, usize>,
@@ -210,8 +211,11 @@ fn four<R: Abort + AllocGlobal>(
     let first = insert(rt, list, 0);
     let second = insert(rt, list, 1);
     let third = insert(rt, list, 2);
-    let left = list.remove_uncounted(gone, false, woken);
-    check(rt, "one that leaves", left, Some(State::Task(9)));
+    let spare = insert(rt, list, 9);
+    for key in [spare, gone] {
+        let left = list.remove_uncounted(key, false, woken);
+        check(rt, "one that leaves", left, Some(State::Task(9)));
+    }
     let last = insert(rt, list, 3);
     check(rt, "its slot", last.slot, gone.slot);
     let told = list.notify_uncounted(&mut 1.tag(7), woken);
@@ -267,8 +271,8 @@ fn a_key_of_another_list_is_that_of_the_listener_with_its_slot_and_serial(rt: Ho
     }
     check(&rt, ("equal", equal), equal > 0, true);
     let mut equal = 0usize;
-    for slot in [0, 1, 2, 3, 4, 5, usize::MAX - 1, usize::MAX] {
-        for serial in [0, 1, 2, 3, 4, 5, 6, u64::MAX - 1, u64::MAX] {
+    for slot in [0, 1, 2, 3, 4, 5, (1 << 32) + 1, usize::MAX - 1, usize::MAX] {
+        for serial in [0, 1, 2, 3, 4, 5, 6, (1 << 32) + 1, u64::MAX - 1, u64::MAX] {
             equal = equal.wrapping_add(finds(&rt, Key { slot, serial }));
         }
     }
