@@ -1,11 +1,8 @@
 //! Threads that make their calls at the same time, on one channel after another.
 use crate::support::{Runtime, SharedRuntime, Sides, check, sides};
 use event_channel::{Receiver, Sender};
-use futures::StreamExt;
-use futures::test::MockTask;
 use std::alloc::AllocGlobal;
-use std::cell::Cell;
-use std::sync::atomic::{AtomicBool, AtomicUsize, Ordering};
+use std::sync::atomic::{AtomicUsize, Ordering};
 use std::sync::{Barrier, Wait};
 use std::thread;
 use std::time::Clock;
@@ -168,73 +165,6 @@ fn handles_that_are_made_and_dropped_at_once_are_counted(rt: HostRuntime) {
     for is_senders in [true, false] {
         for_two_seconds(&rt, || count_and_close(&rt, is_senders)).expect(&rt, "the time");
     }
-}
-
-// How many receives wait as a channel is closed. They are woken under its lock, one after the other, which takes a while.
-const WAITING: usize = 3_000;
-
-// A receive by a stream of its own, for which this task waits.
-fn waits<R: Runtime>(rt: &R, receiver: &Receiver<usize, R>, task: &MockTask) -> Receiver<usize, R> {
-    let mut stream = receiver.clone().expect(rt, "a receiver");
-    let is_pending = task.poll(&mut stream.next()).is_pending();
-    check(rt, "whether it waits", is_pending, true);
-    stream
-}
-
-// A channel is closed. As its lock is taken for that a thread comes, and sleeps for it. As so many are still to be woken another
-// thread comes, and writes over the mark that the first one sleeps. Whether it came while the lock was held.
-fn close_while_others_come<R: SharedRuntime>(rt: &R, still: usize) -> bool {
-    let ((sender, receiver), is_over) = (&sides(rt, None), &AtomicBool::new(false));
-    let new_task = || MockTask::new(rt).expect(rt, "a task");
-    let (first, others, late) = (new_task(), new_task(), new_task());
-    let mut waiting = Vec::with_capacity(rt.alloc(), WAITING).expect(rt, "room");
-    for number in 0..WAITING {
-        let task = if number == 0 {
-            &first
-        } else if number == WAITING.saturating_sub(still) {
-            &late
-        } else {
-            &others
-        };
-        waiting.push(waits(rt, receiver, task)).expect(rt, "room");
-    }
-    let closes = || {
-        let closes = sender.close();
-        is_over.store(true, Ordering::SeqCst);
-        closes
-    };
-    let asks_after = |task: &MockTask| {
-        spin_until(rt, || task.is_woken());
-        let is_held = !is_over.load(Ordering::SeqCst);
-        (receiver.is_closed(), is_held)
-    };
-    let come = || thread::join(rt, || asks_after(&first), || asks_after(&late));
-    let (closes, (sleeper, other)) = thread::join(rt, closes, come);
-    check(rt, "a close", closes, true);
-    check(
-        rt,
-        "whether it is closed",
-        (sleeper.0, other.0),
-        (true, true),
-    );
-    other.1
-}
-
-// The other thread comes a little later than in the last round if the lock was still held there, and else earlier. So it comes
-// as the lock is given back, on a slow machine and on a fast one.
-#[test]
-fn who_sleeps_for_the_lock_is_woken_whoever_comes_after_it(rt: HostRuntime) {
-    let still = Cell::new(16usize);
-    let ended = for_two_seconds(&rt, || {
-        let last = still.get();
-        let next = if close_while_others_come(&rt, last) {
-            last.saturating_sub(last / 4)
-        } else {
-            last.saturating_add(last / 4 + 1)
-        };
-        still.set(next.clamp(2, WAITING / 2));
-    });
-    ended.expect(&rt, "the time");
 }
 
 // Each sends the last message of its channel.
