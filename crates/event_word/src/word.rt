@@ -3,7 +3,7 @@ ghost use Rattle.std.specs.Prelude.{◌≡◌, ◌^◌, ◌<◌, MatchBool};
 ghost use Rattle.event_word.specs.Word.{Changes, GivesBack, HasNothing, HasValue, Lends, Stays, number_of};
 
 mod competing;
-pub(crate) mod held;
+mod held;
 mod kept;
 mod lent;
 mod permit;

@@ -3,7 +3,7 @@ ghost use Rattle.event_word.specs.Rules.{Rules};
 
 use event_queue::WakeSink;
 use event_wait::Task;
-use event_word::{Kept, Word};
+use event_word::{Kept, Word, state};
 use std::sync::{Barrier, Wait};
 use std::test::Fail;
 use std::thread;
@@ -44,13 +44,11 @@ fn add<R: Wait + Clock>(rt: &R, tally: &Word<Tally, ()>, much: u64, long: Durati
     if long > Duration::ZERO {
         thread::sleep(rt, long);
     }
-    let Tally { sum } = held.replace(tally, Tally { sum: 0 });
-    let added = Tally {
-        sum: sum.wrapping_add(much),
-    };
-    drop(held.replace(tally, added));
+    let kept = state!(held.seat, tally);
+    let before = kept.sum;
+    kept.sum = before.wrapping_add(much);
     drop(tally.put_back(rt, held));
-    sum
+    before
 }
 
 // Where a round takes long, each thread but the first finds the state out for far longer than it pauses, so it sleeps, and has

@@ -1,20 +1,20 @@
 //! The state of a lock, out with one thread.
-ghost use Rattle.std.specs.Prelude.{◌≡◌, ◌++◌, ◌∷◌, ◌%◌, ℕ, ⊤, [], Some, MatchBool};
-ghost use Rattle.atomic_table.specs.Table.{rest};
+ghost use Rattle.std.specs.Prelude.{◌≡◌, ◌++◌, ◌∷◌, ◌%◌, ℕ, [], Some, MatchBool};
 ghost use Rattle.event_word.specs.declared.word.rule.Shelf.TheVariants.{Value};
-ghost use Rattle.event_word.specs.Word.{EasesFrom, HasState, Lends, Stays, Takes, number_of};
+ghost use Rattle.event_word.specs.Word.{EasesFrom, Lends, Stays, Takes, number_of};
 
 use super::kept::Kept;
 use super::rule::{LookAgain, MoveLend};
 use super::{Seat, Word};
-use std::mem;
 
 /// The state, taken out from behind its word. It is no `Drop`: whoever has it puts it back.
 pub struct Held<S: Kept, V> {
-    pub(crate) seat: Seat<S, V>,
+    pub seat: Seat<S, V>,
 }
 
 /// The state that is out with a seat, to be seen and changed.
+#[doc(hidden)]
+#[macro_export]
 macro_rules! state {
     ($seat:expr, $word:expr) => {
         match $seat.slot_mut(&$word.table.shared, 0) {
@@ -23,8 +23,6 @@ macro_rules! state {
         }
     };
 }
-
-pub(crate) use state;
 
 impl<S: Kept, V> Held<S, V> {
     /// Looks at the word while the state is out, and remembers its number. What was promised of any state at the number that it
@@ -73,18 +71,5 @@ impl<S: Kept, V> Held<S, V> {
             self.seat.turn();
         }
         lends
-    }
-
-    /// Puts this state in the place of the one that is out, which it returns.
-    pub fn replace(&mut self, word: &Word<S, V>, state: S) -> S
-        requires seat { self.old.seat.table_id ≡ word.now.table.shared.table_id }
-        requires state { HasState (λ _ _. ⊤) self.old.seat.me }
-        ensures seat { (self.new.seat.table_id ≡ self.old.seat.table_id)
-            × (rest self.new.seat.me.1 ≡ rest self.old.seat.me.1) }
-        ensures was { HasState (λ _ q. q ≡ result) self.old.seat.me }
-        ensures is { HasState (λ n q. (self.old.seat.me.0 ≡ Some n)
-            × (q ≡ state)) self.new.seat.me }
-    {
-        mem::replace(state!(self.seat, word), state)
     }
 }

@@ -3,51 +3,33 @@ ghost use Rattle.std.specs.Prelude.{◌≡◌, ◌+◌, ◌-◌, ◌^◌, min};
 ghost use Rattle.event_word.specs.Free.{free_of};
 ghost use Rattle.event_word.specs.Word.{number_of};
 
-use super::Seat;
 use super::step::Step;
-use crate::line::competing::{Competing, Permits};
-use std::marker::Model;
-use std::snapshot::Snapshot;
 
-/// One permit. It is no `Drop`, and only a step that counts one less makes one. A contract sees of which word it is.
-pub struct Permit {
-    // A seat of its lock.
-    seat: Snapshot<Seat<Competing<Permits>, ()>>,
-}
-
-impl Model for Permit {
-    ghost use Rattle.atomic_table.specs.Seated.{TableId};
-
-    ghost Value = { TableId };
-
-    ghost view = { λ permit. permit.seat.value.table_id };
-}
+/// One permit. It is no `Drop`, and only a step that counts one less makes one.
+pub struct Permit(());
 
 impl Permit {
     /// The permit that this step takes.
     #[inline(always)]
-    pub(crate) fn taken(step: Step<Competing<Permits>, ()>) -> Self
+    pub(crate) fn taken(step: Step) -> Self
         requires { free_of (number_of step.from) ≡ free_of (number_of step.to) + 1 }
-        ensures { result ≡ step.seat.value.table_id }
     {
-        Permit {
-            seat: step.into_seat(),
-        }
+        drop(step);
+        Permit(())
     }
 
-    /// It is given back by this step, of its word: one more is free, if the number has room for one.
+    /// It is given back by this step: one more is free, if the number has room for one.
     #[inline(always)]
-    pub(crate) fn given(self, step: Step<Competing<Permits>, ()>)
-        requires own { step.seat.value.table_id ≡ self }
-        requires more { free_of (number_of step.to)
+    pub(crate) fn given(self, step: Step)
+        requires { free_of (number_of step.to)
             ≡ min (free_of (number_of step.from) + 1) (2 ^ 61 - 1) }
     {
-        let Permit { seat: _ } = self;
+        let Permit(()) = self;
         drop(step);
     }
 
     /// Lets it go for ever.
     pub fn forget(self) {
-        let Permit { seat: _ } = self;
+        let Permit(()) = self;
     }
 }

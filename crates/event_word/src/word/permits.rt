@@ -1,5 +1,5 @@
 //! The steps of a semaphore on its word.
-ghost use Rattle.std.specs.Prelude.{◌≡◌, ◌+◌, ◌-◌, ◌^◌, [], Some, None, min, IfSome};
+ghost use Rattle.std.specs.Prelude.{◌≡◌, ◌+◌, ◌-◌, ◌^◌, [], Some, None, min};
 ghost use Rattle.atomic_table.specs.Table.{rest};
 ghost use Rattle.event_word.specs.Free.{NoneFor, ServesTheStarving, ServesWith, free_of};
 ghost use Rattle.event_word.specs.Word.{HasState, count, number_of};
@@ -20,9 +20,7 @@ const FULL: u64 = MOST * ONE;
 impl Word<Competing<Permits>, ()> {
     /// Takes a permit, if one is free for newcomers. It is one load and one compare-exchange where no other thread comes between.
     #[inline(always)]
-    pub fn try_permit(&self) -> Option<Permit>
-        ensures { IfSome result (λ permit. permit ≡ self.now.table.shared.table_id) }
-    {
+    pub fn try_permit(&self) -> Option<Permit> {
         let (seen, mut seat) = self.look();
         if seen < ONE || seen >= SHUT * ONE {
             return None;
@@ -35,9 +33,7 @@ impl Word<Competing<Permits>, ()> {
 
     #[cold]
     #[inline(never)]
-    fn try_permit_again(&self) -> Option<Permit>
-        ensures { IfSome result (λ permit. permit ≡ self.now.table.shared.table_id) }
-    {
+    fn try_permit_again(&self) -> Option<Permit> {
         let (mut seen, mut seat) = self.look();
         for _ in 0..u64::MAX {
             if seen >= SHUT * ONE || seen < ONE {
@@ -51,12 +47,10 @@ impl Word<Competing<Permits>, ()> {
         None
     }
 
-    /// Gives a permit of this word back, and notifies the first that waits, if one does. It does not wait for the state: whoever has that out
+    /// Gives a permit back, and notifies the first that waits, if one does. It does not wait for the state: whoever has that out
     /// notifies. It is one load and one compare-exchange where nobody waits.
     #[inline(always)]
-    pub fn give_permit<R: Wait>(&self, rt: &R, permit: Permit)
-        requires { permit ≡ self.now.table.shared.table_id }
-    {
+    pub fn give_permit<R: Wait>(&self, rt: &R, permit: Permit) {
         let (seen, mut seat) = self.look();
         if seen % 4 != CROWDED && seen < FULL {
             if let Some(step) = self.change(&mut seat, seen, seen + ONE) {
@@ -75,9 +69,8 @@ impl Word<Competing<Permits>, ()> {
 
     #[cold]
     #[inline(never)]
-    fn added<R: Wait>(&self, rt: &R, permits: u64) -> Step<Competing<Permits>, ()>
-        ensures own { result.seat.value.table_id ≡ self.now.table.shared.table_id }
-        ensures more { free_of (number_of result.to)
+    fn added<R: Wait>(&self, rt: &R, permits: u64) -> Step
+        ensures { free_of (number_of result.to)
             ≡ min (free_of (number_of result.from) + permits) (2 ^ 61 - 1) }
     {
         let (mut seen, mut seat) = self.look();
@@ -112,7 +105,6 @@ impl Word<Competing<Permits>, ()> {
         ensures seat { (held.new.seat.table_id ≡ held.old.seat.table_id)
             × (held.new.seat.me.1 ≡ held.old.seat.me.1) }
         ensures serves { HasState (λ n q. ServesTheStarving n q.line) held.new.seat.me }
-        ensures own { IfSome result (λ permit. permit ≡ self.now.table.shared.table_id) }
         ensures none { result ≡ None → HasState (λ n _. NoneFor notified n) held.new.seat.me }
     {
         for _ in rt.forever() {

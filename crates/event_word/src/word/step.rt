@@ -7,40 +7,22 @@ use super::held::Held;
 use super::kept::Kept;
 use super::rule::{Change, Move};
 use super::{Seat, Word};
-use std::snapshot::Snapshot;
 
-/// A step that was made of the word of a lock, from which word to which. Only the calls below make one.
+/// A step of a word that was made, from which word to which. Only the calls below make one.
 #[derive(Drop)]
-pub struct Step<S, V> {
+pub struct Step {
     from: u64,
     to: u64,
-    // A seat of the lock.
-    seat: Snapshot<Seat<S, V>>,
-}
-
-impl<S, V> Step<S, V> {
-    #[inline(always)]
-    pub(crate) fn into_seat(self) -> Snapshot<Seat<S, V>>
-        ensures { result.value ≡ self.seat.value }
-    {
-        let Step {
-            from: _,
-            to: _,
-            seat,
-        } = self;
-        seat
-    }
 }
 
 impl<S: Kept, V> Word<S, V> {
     /// Changes the number where nobody has to be notified, if the word is as it was seen.
     #[inline(always)]
-    pub fn change(&self, seat: &mut Seat<S, V>, seen: u64, new: u64) -> Option<Step<S, V>>
+    pub fn change(&self, seat: &mut Seat<S, V>, seen: u64, new: u64) -> Option<Step>
         requires seat { seat.old.table_id ≡ self.now.table.shared.table_id }
         requires changes { Changes S.rules seen new × Stays S.rules seen new }
         ensures seat { (seat.new.table_id ≡ seat.old.table_id) × (seat.new.me ≡ seat.old.me) }
-        ensures step { IfSome result (λ made. (made.from ≡ seen) × (made.to ≡ new)
-            × (made.seat.value.table_id ≡ self.now.table.shared.table_id)) }
+        ensures step { IfSome result (λ made. (made.from ≡ seen) × (made.to ≡ new)) }
     {
         let found = self
             .table
@@ -52,7 +34,6 @@ impl<S: Kept, V> Word<S, V> {
         Some(Step {
             from: seen,
             to: new,
-            seat: Snapshot::of(&*seat),
         })
     }
 
@@ -63,15 +44,14 @@ impl<S: Kept, V> Word<S, V> {
         mut seat: Seat<S, V>,
         seen: u64,
         new: u64,
-    ) -> Result<(Step<S, V>, Held<S, V>), Seat<S, V>>
+    ) -> Result<(Step, Held<S, V>), Seat<S, V>>
         requires seat { (seat.table_id ≡ self.now.table.shared.table_id) × HasNothing seat.me }
         requires home { seen % 2 ≡ 0 }
         requires takes { Takes S.rules seen new × Stays S.rules seen new }
         ensures ok { IfOk result (λ taken. (taken.1.seat.table_id ≡ self.now.table.shared.table_id)
             × HasState (λ n q. (n ≡ number_of new) × S.rules.stands (number_of seen) q)
             taken.1.seat.me × (rest taken.1.seat.me.1 ≡ [])) }
-        ensures step { IfOk result (λ taken. (taken.0.from ≡ seen) × (taken.0.to ≡ new)
-            × (taken.0.seat.value.table_id ≡ self.now.table.shared.table_id)) }
+        ensures step { IfOk result (λ taken. (taken.0.from ≡ seen) × (taken.0.to ≡ new)) }
         ensures err { IfErr result (λ again. (again.table_id ≡ seat.table_id)
             × (again.me ≡ seat.me)) }
     {
@@ -81,7 +61,6 @@ impl<S: Kept, V> Word<S, V> {
         let step = Step {
             from: seen,
             to: new,
-            seat: Snapshot::of(&seat),
         };
         Ok((step, Held { seat }))
     }
@@ -90,15 +69,14 @@ impl<S: Kept, V> Word<S, V> {
 impl<S: Kept, V> Held<S, V> {
     /// Changes the number while the state is out, if the word is as it was seen. Whoever has the state out notifies of it later.
     #[inline(always)]
-    pub fn change(&mut self, word: &Word<S, V>, seen: u64, new: u64) -> Option<Step<S, V>>
+    pub fn change(&mut self, word: &Word<S, V>, seen: u64, new: u64) -> Option<Step>
         requires seat { (self.old.seat.table_id ≡ word.now.table.shared.table_id) × (n : ℕ)
             × (self.old.seat.me.0 ≡ Some n) }
         requires takes { Takes S.rules seen new × Stays S.rules seen new }
         ensures seat { self.new.seat.table_id ≡ self.old.seat.table_id }
         ensures changes { MatchOption result (self.new.seat.me ≡ self.old.seat.me)
             (λ made. self.new.seat.me ≡ (Some (number_of new), self.old.seat.me.1)) }
-        ensures step { IfSome result (λ made. (made.from ≡ seen) × (made.to ≡ new)
-            × (made.seat.value.table_id ≡ word.now.table.shared.table_id)) }
+        ensures step { IfSome result (λ made. (made.from ≡ seen) × (made.to ≡ new)) }
     {
         let found = word
             .table
@@ -110,7 +88,6 @@ impl<S: Kept, V> Held<S, V> {
         Some(Step {
             from: seen,
             to: new,
-            seat: Snapshot::of(&self.seat),
         })
     }
 }

@@ -7,7 +7,7 @@ use super::held::Held;
 use super::kept::Kept;
 use super::rule::{Change, LookAgain, Move, Put, Swap, Take};
 use super::{AWAITED, CROWDED, ONE, OUT, Seat, Word};
-use crate::word::held::state;
+use crate::state;
 use event_wait::{Waking, pause};
 use std::sync::Wait;
 
