@@ -11,7 +11,7 @@ use Rattle.event_word.specs.Competing.{rules_of}
 use Rattle.event_word.specs.Free.{free_of, IsOpen, ServesTheStarving, ServesWith}
 use Rattle.event_word.proofs.FreeLemmas.{serves-less, serves-taken, serves-taken_told}
 use Rattle.event_word.specs.Turns.{State, is_among}
-use Rattle.event_word.specs.Word.{Eases, EasesFrom, HasState, Sat, count, number_of}
+use Rattle.event_word.specs.Word.{Eases, EasesFrom, HasState, Sat, count, number_of, numbered}
 use Rattle.event_word.specs.declared.word.rule.Shelf.{Shelf}
 use Rattle.event_word.specs.declared.word.rule.Shelf.TheVariants as shelf
 
@@ -61,11 +61,11 @@ module _ {C : Type 0} (fits lends : ℕ → Type 0) where
   eases-serves more b r q eases serves = eases_at more b r q q.line.queue.told refl eases serves
 
   -- whoever has the state out looks at the number again
-  pub serves-on : {V : Type 0} (more r : ℕ) (m n : Sat (Competing C) V) → HasState (λ b q. ServesWith more b q.line) m → n ≡ (Some r, m.1) → EasesFrom (rules_of {C = C} fits lends) m.0 r → HasState (λ b q. (b ≡ r) × ServesWith more b q.line) n
+  pub serves-on : {V : Type 0} (more r : ℕ) (m n : Sat (Competing C) V) → HasState (λ b q. ServesWith more b q.line) m → n ≡ (numbered r m.0, m.1) → EasesFrom (rules_of {C = C} fits lends) m.0.number r → HasState (λ b q. (b ≡ r) × ServesWith more b q.line) n
   serves-on more r m n t is eases =
       let from : Eases (rules_of {C = C} fits lends) t.0 r = subst (λ x. EasesFrom (rules_of {C = C} fits lends) x r) t.2 eases in
       let out = ap (λ x. x.1) is in
-      (r, t.1, ap (λ x. x.0) is, out ∙ (t.3 ∙ ap (λ l. (0, shelf.State t.1) ∷ rest l) (sym out)), (refl, eases-serves more t.0 r t.1 from t.4))
+      (r, t.1, ap (λ x. x.0.number) is, out ∙ (t.3 ∙ ap (λ l. (0, shelf.State t.1) ∷ rest l) (sym out)), (refl, eases-serves more t.0 r t.1 from t.4))
 
 -- one that was notified takes one, or a newcomer where the word is open
 pub serves-taken_by : {W : Type 0} (notified : Bool) (old new : ℕ) (s : State W) → new + 1 ≡ old → 0 < free_of old → (notified ≡ false → IsOpen old) → ServesWith (count notified) old s → ServesTheStarving new s
@@ -89,7 +89,7 @@ module _ {S V : Type 0} where
 
 module _ {C V : Type 0} where
   -- one was taken by whoever has the state out
-  pub taken-on : (notified : Bool) (old new : ℕ) (m n : Sat (Competing C) V) → HasState (λ b q. (b ≡ number_of old) × ServesWith (count notified) b q.line) m → n.0 ≡ Some (number_of new) → ((q : Competing C) → m.1 ≡ (0, shelf.State q) ∷ rest m.1 → n.1 ≡ (0, shelf.State q) ∷ rest n.1)
+  pub taken-on : (notified : Bool) (old new : ℕ) (m n : Sat (Competing C) V) → HasState (λ b q. (b ≡ number_of old) × ServesWith (count notified) b q.line) m → n.0.number ≡ Some (number_of new) → ((q : Competing C) → m.1 ≡ (0, shelf.State q) ∷ rest m.1 → n.1 ≡ (0, shelf.State q) ∷ rest n.1)
       → new + 4 ≡ old → 0 < free_of (number_of old) → (notified ≡ false → IsOpen (number_of old)) → HasState (λ b q. ServesTheStarving b q.line) n
   taken-on notified old new m n t is keeps one some may =
       let h = t.4 in

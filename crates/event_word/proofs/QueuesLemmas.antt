@@ -6,9 +6,10 @@ use Rattle.event_queue.specs.declared.notice.Notice.{Notice}
 use Rattle.event_wait.specs.declared.lock.task.Task.{Task}
 use Rattle.event_word.specs.declared.shares.queues.Queues.{Queues}
 use Rattle.event_word.specs.declared.word.rule.Shelf.TheVariants as shelf
+use Rattle.event_word.specs.declared.word.rule.View.{View}
 use Rattle.event_word.specs.Count.{IsCount, readers_of, writers_of}
 use Rattle.event_word.specs.Queues.{Admits, CountsMore, IsExclusive, Renumbers, lock_rules, reading}
-use Rattle.event_word.specs.Word.{Eases, EasesFrom, HasState, Sat, Stays, Takes, number_of}
+use Rattle.event_word.specs.Word.{Eases, EasesFrom, HasState, Sat, Stays, Takes, number_of, numbered}
 use Rattle.event_word.proofs.EasesLemmas.{again, length-again}
 
 -- where who writes is alone, the number says so
@@ -56,19 +57,24 @@ eases-admits more b r q eases admits =
     )
 
 -- whoever has the queues looks at the number again
-pub admits-on : (more r : ℕ) (m n : Sat (Queues Task) (Unit {0})) → HasState (Admits more) m → n ≡ (Some r, m.1) → EasesFrom (lock_rules {W = Task}) m.0 r → HasState (λ b q. (b ≡ r) × Admits more r q) n
+pub admits-on : (more r : ℕ) (m n : Sat (Queues Task) (Unit {0})) → HasState (Admits more) m → n ≡ (numbered r m.0, m.1) → EasesFrom (lock_rules {W = Task}) m.0.number r → HasState (λ b q. (b ≡ r) × Admits more r q) n
 admits-on more r m n t is eases =
     let from : Eases (lock_rules {W = Task}) t.0 r = subst (λ x. EasesFrom (lock_rules {W = Task}) x r) t.2 eases in
     let out = ap (λ x. x.1) is in
-    (r, t.1, ap (λ x. x.0) is, out ∙ (t.3 ∙ ap (λ l. (0, shelf.State t.1) ∷ rest l) (sym out)), (refl, eases-admits more t.0 r t.1 from t.4))
+    (r, t.1, ap (λ x. x.0.number) is, out ∙ (t.3 ∙ ap (λ l. (0, shelf.State t.1) ∷ rest l) (sym out)), (refl, eases-admits more t.0 r t.1 from t.4))
 
 -- nobody has changed the number
-pub unchanged : {a : Option ℕ} {n : ℕ} → a ≡ Some n → CountsMore 0 a a
+pub unchanged : {a : View} {n : ℕ} → a.number ≡ Some n → CountsMore 0 a a
 unchanged {a} {n} is = record { others = n; eases = subst (λ x. EasesFrom (lock_rules {W = Task}) x n) (sym is) (λ q alone. alone); made = is ∙ ap (λ (m : ℕ). Some m) (omega arith) }
 
 -- others have changed it before
-pub since : {by : ℕ → ℕ} (a b c : Option ℕ) → CountsMore 0 a b → Renumbers by b c → Renumbers by a c
-since None b c one two = absurd one.eases
-since (Some n) b c one two =
+since_at : {by : ℕ → ℕ} (x : Option ℕ) (a b c : View) → a.number ≡ x → CountsMore 0 a b → Renumbers by b c → Renumbers by a c
+since_at None a b c is one two = absurd (subst (λ (y : Option ℕ). EasesFrom (lock_rules {W = Task}) y one.others) is one.eases)
+since_at (Some n) a b c is one two =
+    let eased : Eases (lock_rules {W = Task}) n one.others = subst (λ (y : Option ℕ). EasesFrom (lock_rules {W = Task}) y one.others) is one.eases in
     let from : Eases (lock_rules {W = Task}) (one.others + 0) two.others = subst (λ x. EasesFrom (lock_rules {W = Task}) x two.others) one.made two.eases in
-    record { others = two.others; eases = λ q alone. from q (subst (λ (m : ℕ). IsExclusive m q) (omega arith) (one.eases q alone)); made = two.made }
+    let eases : Eases (lock_rules {W = Task}) n two.others = λ q alone. from q (subst (λ (m : ℕ). IsExclusive m q) (omega arith) (eased q alone)) in
+    record { others = two.others; eases = subst (λ (y : Option ℕ). EasesFrom (lock_rules {W = Task}) y two.others) (sym is) eases; made = two.made }
+
+pub since : {by : ℕ → ℕ} (a b c : View) → CountsMore 0 a b → Renumbers by b c → Renumbers by a c
+since a b c one two = since_at a.number a b c refl one two

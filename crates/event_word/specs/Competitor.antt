@@ -1,6 +1,8 @@
 -- How one competes.
-use Rattle.std.specs.Prelude.{◌≡◌, ◌↔◌, ℕ, ◌+◌, ◌≤◌, min, Bool, true, Option, Some, None, IsSome}
+use Rattle.std.specs.Prelude.{◌≡◌, ◌↔◌, ℕ, ◌+◌, ◌≤◌, min, Bool, true, if◌then◌else◌, Option, Some, None, is_some, IsSome}
+use Rattle.std.specs.Map.{lookup}
 use Rattle.event_queue.specs.declared.key.Key.{Key}
+use Rattle.event_queue.specs.Key.{is_key}
 use Rattle.event_wait.specs.Attempted.{Stores}
 use Rattle.event_word.specs.Line.{IsNotIn}
 use Rattle.event_word.specs.Turns.{State, Joins}
@@ -18,6 +20,14 @@ abbrev pub losses_after : ℕ → Coming → ℕ
 losses_after losses New = losses
 losses_after losses Notified = min (losses + 1) 4294967295
 losses_after losses (Waits key) = losses
+
+-- how one comes whose place this is: who is notified leaves the queue, and who waits in it keeps its place
+abbrev pub coming_of : {W : Type 0} → Option Key → State W → Coming
+coming_of None line = New
+coming_of (Some key) line =
+    if is_some (lookup (is_key key) line.queue.told)
+    then Notified
+    else (if is_some (lookup (is_key key) line.queue.waiting) then Waits key else New)
 
 -- nobody is in the queue by this key, if it is one
 abbrev pub NobodyIsBy : {W : Type 0} → Option Key → State W → Type 0

@@ -8,6 +8,7 @@ use Rattle.event_wait.specs.declared.lock.task.Task.{Task}
 use Rattle.event_word.specs.Count.{IsCount, readers_of, writers_of}
 use Rattle.event_word.specs.Line.{HandsOut}
 use Rattle.event_word.specs.Rules.{Rules}
+use Rattle.event_word.specs.declared.word.rule.View.{View}
 use Rattle.event_word.specs.Word.{Changes, EasesFrom, Stays, Takes}
 use Rattle.event_word.specs.declared.error.LockError.{LockError}
 use Rattle.event_word.specs.declared.error.LockError.TheVariants.{Listen, Memory, TooManyReaders, Finished}
@@ -151,10 +152,10 @@ pub record RecountsAndTakes (old new : ℕ) : Type 0 where
   pub stays : Stays (lock_rules {W = Task}) old new
 
 -- whoever has the queues made this of the number to which others had brought it meanwhile
-pub record Renumbers (by : ℕ → ℕ) (before after : Option ℕ) : Type 0 where
+pub record Renumbers (by : ℕ → ℕ) (before after : View) : Type 0 where
   pub others : ℕ
-  pub eases : EasesFrom (lock_rules {W = Task}) before others
-  pub made : after ≡ Some (by others)
+  pub eases : EasesFrom (lock_rules {W = Task}) before.number others
+  pub made : after.number ≡ Some (by others)
 
 -- how many were given
 abbrev pub given : {G : Type 0} → Option G → ℕ
@@ -162,14 +163,14 @@ given None = 0
 given (Some grant) = 1
 
 -- it counts so many more
-abbrev pub CountsMore : ℕ → Option ℕ → Option ℕ → Type 0
+abbrev pub CountsMore : ℕ → View → View → Type 0
 CountsMore more before after = Renumbers (λ n. n + more) before after
 
 -- it counts a reader in place of the writer, if there was one
-abbrev pub CountsAsReader : Option ℕ → Option ℕ → Type 0
+abbrev pub CountsAsReader : View → View → Type 0
 CountsAsReader before after = Renumbers (λ n. n + writers_of n) before after
 
 -- it counts a writer in place of the only reader
-pub record CountsAsWriter (before after : Option ℕ) : Type 0 where
-  pub eases : EasesFrom (lock_rules {W = Task}) before 2
-  pub made : after ≡ Some 1
+pub record CountsAsWriter (before after : View) : Type 0 where
+  pub eases : EasesFrom (lock_rules {W = Task}) before.number 2
+  pub made : after.number ≡ Some 1

@@ -4,6 +4,7 @@ use mathlib.Core.Option.{none, some}
 use mathlib.Core.Option as home
 use lib.ListN.{get_elem?}
 use Rattle.atomic_table.specs.Table.{State, Me, Step, rest}
+use Rattle.event_word.specs.declared.word.rule.View.{View}
 use Rattle.event_word.specs.declared.word.rule.Shelf.{Shelf}
 use Rattle.event_word.specs.declared.word.rule.Shelf.TheVariants as shelf
 use Rattle.event_word.specs.Rules.{Rules}
@@ -16,9 +17,33 @@ abbrev pub count : Bool → ℕ
 count true = 1
 count false = 0
 
--- what a thread has out, and the number that it saw or left last if that is the state
+-- what a thread knows, and what it has out
 abbrev pub Sat : Type 0 → Type 0 → Type 0
-Sat S V = Me (Shelf S V) (Option ℕ)
+Sat S V = Me (Shelf S V) View
+
+-- it has nothing out
+abbrev pub nothing : View
+nothing = record { number = None; has_value = false }
+
+-- it has the state out, and saw or left this number last
+abbrev pub numbered : ℕ → View → View
+numbered n v = record v { number = Some n }
+
+-- it has put the state back
+abbrev pub unnumbered : View → View
+unnumbered v = record v { number = None }
+
+-- it has taken the value, or given it back
+abbrev pub valued : Bool → View → View
+valued has v = record v { has_value = has }
+
+-- the number that each remembers
+abbrev pub numbers_of : List View → List (Option ℕ)
+numbers_of views = map (λ v. v.number) views
+
+-- whether each knows that it has the value
+abbrev pub values_of : List View → List Bool
+values_of views = map (λ v. v.has_value) views
 
 -- only the owner of the state remembers a number, and it is this one
 abbrev pub IsOut : ℕ → ℕ → ℕ → Option ℕ → Type 0
@@ -42,13 +67,25 @@ module _ {S : Type 0} (rules : Rules S) where
     pub quiet : w % 4 ≡ 0 → rules.quiet q
 
   -- a thread has the state out, and what it remembers holds still
-  pub record IsAway (w : ℕ) (views : List (Option ℕ)) : Type 0 where
+  pub record IsAway (w : ℕ) (numbers : List (Option ℕ)) : Type 0 where
     pub away : w % 2 ≡ 1
     pub owner : ℕ
     pub number : ℕ
-    pub remembers : get_elem? views owner ≡ some (Some number)
+    pub remembers : get_elem? numbers owner ≡ some (Some number)
     pub eases : Eases number (number_of w)
-    pub alone : (by : ℕ) (v : Option ℕ) → get_elem? views by ≡ some v → IsOut owner number by v
+    pub alone : (by : ℕ) (v : Option ℕ) → get_elem? numbers by ≡ some v → IsOut owner number by v
+
+  -- the value is out, and exactly one knows that it has it
+  pub record IsLent (w : ℕ) (values : List Bool) : Type 0 where
+    pub lends : rules.lends (number_of w)
+    pub owner : ℕ
+    pub knows : get_elem? values owner ≡ some true
+    pub alone : (by : ℕ) → get_elem? values by ≡ some true → by ≡ owner
+
+  -- the value is at home, and nobody takes it for out
+  pub record IsKept (w : ℕ) (values : List Bool) : Type 0 where
+    pub kept : rules.lends (number_of w) → ⊥
+    pub nobody : (by : ℕ) → get_elem? values by ≡ some true → ⊥
 
   -- the word's number changes and nobody has to be notified
   pub record Changes (old new : ℕ) : Type 0 where
@@ -78,40 +115,40 @@ module _ {S : Type 0} (rules : Rules S) where
 
   module _ {V : Type 0} where
     abbrev pub StateIn : ℕ → home.Option (Shelf S V) → List (Option ℕ) → Type 0
-    StateIn w none views = IsAway w views
-    StateIn w (some (shelf.State q)) views = AtHome w q × ((by : ℕ) (v : Option ℕ) → get_elem? views by ≡ some v → v ≡ None)
-    StateIn w (some (shelf.Value v)) views = ⊥
+    StateIn w none numbers = IsAway w numbers
+    StateIn w (some (shelf.State q)) numbers = AtHome w q × ((by : ℕ) (v : Option ℕ) → get_elem? numbers by ≡ some v → v ≡ None)
+    StateIn w (some (shelf.Value v)) numbers = ⊥
 
-    -- the value is at home, or lent
-    abbrev pub ValueIn : ℕ → home.Option (Shelf S V) → Type 0
-    ValueIn w none = rules.lends (number_of w)
-    ValueIn w (some (shelf.State q)) = ⊥
-    ValueIn w (some (shelf.Value None)) = ⊥
-    ValueIn w (some (shelf.Value (Some x))) = rules.lends (number_of w) → ⊥
+    abbrev pub ValueIn : ℕ → home.Option (Shelf S V) → List Bool → Type 0
+    ValueIn w none values = IsLent w values
+    ValueIn w (some (shelf.State q)) values = ⊥
+    ValueIn w (some (shelf.Value None)) values = ⊥
+    ValueIn w (some (shelf.Value (Some x))) values = IsKept w values
 
-    abbrev pub Slots : ℕ → List (home.Option (Shelf S V)) → List (Option ℕ) → Type 0
-    Slots w [] views = ⊥
-    Slots w (a ∷ []) views = ⊥
-    Slots w (a ∷ b ∷ more) views = StateIn w a views × ValueIn w b
+    -- of what the threads remember, and of whether each knows that it has the value
+    abbrev pub Slots : ℕ → List (home.Option (Shelf S V)) → List (Option ℕ) → List Bool → Type 0
+    Slots w [] numbers values = ⊥
+    Slots w (a ∷ []) numbers values = ⊥
+    Slots w (a ∷ b ∷ more) numbers values = StateIn w a numbers × ValueIn w b values
 
     -- what holds between any two steps
-    pub record Holds (s : State (Shelf S V) (Option ℕ)) : Type 0 where
+    pub record Holds (s : State (Shelf S V) View) : Type 0 where
       pub wide : length s.words ≡ 1
       pub fits : rules.fits (number_of (slice_index s.words 0))
-      pub slots : Slots (slice_index s.words 0) s.homes s.views
+      pub slots : Slots (slice_index s.words 0) s.homes (numbers_of s.views) (values_of s.views)
 
 module _ {S V : Type 0} where
   -- a thread has the state out, of which and of the number that it saw or left last this holds
   abbrev pub HasState : (ℕ → S → Type 0) → Sat S V → Type 0
-  HasState P m = (n : ℕ) × (q : S) × (m.0 ≡ Some n) × (m.1 ≡ (0, shelf.State q) ∷ rest m.1) × P n q
+  HasState P m = (n : ℕ) × (q : S) × (m.0.number ≡ Some n) × (m.1 ≡ (0, shelf.State q) ∷ rest m.1) × P n q
 
   -- a thread has the value out
   abbrev pub HasValue : Sat S V → Type 0
-  HasValue m = (x : V) × (m.0 ≡ None) × (m.1 ≡ (1, shelf.Value (Some x)) ∷ [])
+  HasValue m = (x : V) × (m.0.number ≡ None) × (m.0.has_value ≡ true) × (m.1 ≡ (1, shelf.Value (Some x)) ∷ [])
 
   -- a thread has the value out, and something that it took later
   abbrev pub HasValueToo : Sat S V → Type 0
-  HasValueToo m = (x : V) × (rest m.1 ≡ (1, shelf.Value (Some x)) ∷ [])
+  HasValueToo m = (x : V) × (m.0.has_value ≡ true) × (rest m.1 ≡ (1, shelf.Value (Some x)) ∷ [])
 
   abbrev pub is_value : Shelf S V → Bool
   is_value (shelf.State q) = false
@@ -123,50 +160,55 @@ module _ {S V : Type 0} where
 
   -- a thread has the place of the value out
   abbrev pub HasPlace : Sat S V → Type 0
-  HasPlace m = (m.0 ≡ None) × (places m.1 ≡ (1, true) ∷ [])
+  HasPlace m = (m.0.number ≡ None) × (m.0.has_value ≡ true) × (places m.1 ≡ (1, true) ∷ [])
+
+  -- what a thread is to have and to know once it has put the state back
+  abbrev pub beside : Sat S V → Sat S V
+  beside m = (unnumbered m.0, rest m.1)
 
   abbrev pub HasNothing : Sat S V → Type 0
-  HasNothing m = (m.0 ≡ None) × (m.1 ≡ [])
+  HasNothing m = (m.0.number ≡ None) × (m.0.has_value ≡ false) × (m.1 ≡ [])
 
   module _ (rules : Rules S) where
     -- a new seat has nothing out
     abbrev pub entered : Step (Shelf S V) → Sat S V → ℕ → Sat S V → Type 0
     entered st m r n = HasNothing n × rules.fits (number_of r)
 
+    -- whoever knows that it has the value sees a number that says so
     abbrev pub looked : Step (Shelf S V) → Sat S V → ℕ → Sat S V → Type 0
-    looked st m r n = (n ≡ m) × rules.fits (number_of r)
+    looked st m r n = (n ≡ m) × rules.fits (number_of r) × (m.0.has_value ≡ true → rules.lends (number_of r))
 
     -- whoever has the state out looks at the number, and remembers it
     abbrev pub seen_again : Step (Shelf S V) → Sat S V → ℕ → Sat S V → Type 0
-    seen_again st m r n = (n ≡ (Some (number_of r), m.1)) × rules.fits (number_of r) × (r % 2 ≡ 1) × EasesFrom rules m.0 (number_of r)
+    seen_again st m r n = (n ≡ (numbered (number_of r) m.0, m.1)) × rules.fits (number_of r) × (r % 2 ≡ 1) × EasesFrom rules m.0.number (number_of r)
 
     -- where the word was as expected, the state is out
     abbrev pub took : Step (Shelf S V) → Sat S V → ℕ → Sat S V → Type 0
-    took st m r n = (r ≡ st.first → (q : S) × (n ≡ (Some (number_of st.second), (0, shelf.State q) ∷ m.1)) × rules.stands (number_of st.first) q) × (r ≢ st.first → n ≡ m)
+    took st m r n = (r ≡ st.first → (q : S) × (n ≡ (numbered (number_of st.second) m.0, (0, shelf.State q) ∷ m.1)) × rules.stands (number_of st.first) q) × (r ≢ st.first → n ≡ m)
 
     -- the same, and what was out is back
     abbrev pub swapped : Step (Shelf S V) → Sat S V → ℕ → Sat S V → Type 0
-    swapped st m r n = (r ≡ st.first → (q : S) × (n ≡ (Some (number_of st.second), (0, shelf.State q) ∷ rest m.1)) × rules.stands (number_of st.first) q) × (r ≢ st.first → n ≡ m)
+    swapped st m r n = (r ≡ st.first → (q : S) × (n ≡ (numbered (number_of st.second) (valued false m.0), (0, shelf.State q) ∷ rest m.1)) × rules.stands (number_of st.first) q) × (r ≢ st.first → n ≡ m)
 
   abbrev pub changed : Step (Shelf S V) → Sat S V → ℕ → Sat S V → Type 0
   changed st m r n = n ≡ m
 
   -- where the word was as expected, the value is out
   abbrev pub lent : Step (Shelf S V) → Sat S V → ℕ → Sat S V → Type 0
-  lent st m r n = (r ≡ st.first → (x : V) × (n ≡ (m.0, (1, shelf.Value (Some x)) ∷ m.1))) × (r ≢ st.first → n ≡ m)
+  lent st m r n = (r ≡ st.first → (x : V) × (n ≡ (valued true m.0, (1, shelf.Value (Some x)) ∷ m.1))) × (r ≢ st.first → n ≡ m)
 
   -- where the word was as expected, what was taken last is back
   abbrev pub gave : Step (Shelf S V) → Sat S V → ℕ → Sat S V → Type 0
-  gave st m r n = (r ≡ st.first → n ≡ (m.0, rest m.1)) × (r ≢ st.first → n ≡ m)
+  gave st m r n = (r ≡ st.first → n ≡ (valued false m.0, rest m.1)) × (r ≢ st.first → n ≡ m)
 
   -- whoever has the state out changed the number, and remembers it
   abbrev pub moved : Step (Shelf S V) → Sat S V → ℕ → Sat S V → Type 0
-  moved st m r n = (r ≡ st.first → n ≡ (Some (number_of st.second), m.1)) × (r ≢ st.first → n ≡ m)
+  moved st m r n = (r ≡ st.first → n ≡ (numbered (number_of st.second) m.0, m.1)) × (r ≢ st.first → n ≡ m)
 
   -- the same, and the value is out
   abbrev pub moved_lent : Step (Shelf S V) → Sat S V → ℕ → Sat S V → Type 0
-  moved_lent st m r n = (r ≡ st.first → (x : V) × (n ≡ (Some (number_of st.second), (1, shelf.Value (Some x)) ∷ m.1))) × (r ≢ st.first → n ≡ m)
+  moved_lent st m r n = (r ≡ st.first → (x : V) × (n ≡ (numbered (number_of st.second) (valued true m.0), (1, shelf.Value (Some x)) ∷ m.1))) × (r ≢ st.first → n ≡ m)
 
   -- the state is back
   abbrev pub put : Step (Shelf S V) → Sat S V → ℕ → Sat S V → Type 0
-  put st m r n = (r ≡ st.first → n ≡ (None, rest m.1)) × (r ≢ st.first → n ≡ m)
+  put st m r n = (r ≡ st.first → n ≡ beside m) × (r ≢ st.first → n ≡ m)

@@ -26,4 +26,4 @@ pub use shares::counts::RwLockCounts;
 pub use shares::number::{is_written, readers};
 pub use shares::queues::Queues;
 pub use shares::rights::{Out, ReadShare, WriteShare};
-pub use word::{Held, Kept, Permit, Seat, Shelf, Step, Word};
+pub use word::{Held, Kept, Permit, Seat, Shelf, Step, View, Word};

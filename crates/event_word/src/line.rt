@@ -108,6 +108,7 @@ impl<W> Line<W> {
         ensures looks { Looks (X.exchanged exchange.now) key self.old on.old
             result self.new on.new }
         ensures turns { KeepsTurns self.old self.new }
+        ensures queue { IsQueue self.old.queue }
     {
         let turn = turn_at_end(&self.queue, self.came);
         match look_in_turn(&mut self.queue, key, turn, exchange, on) {

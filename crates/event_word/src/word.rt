@@ -1,11 +1,12 @@
 //! A lock on one word.
-ghost use Rattle.std.specs.Prelude.{◌≡◌, ◌^◌, ◌<◌, MatchBool};
+ghost use Rattle.std.specs.Prelude.{◌≡◌, ◌^◌, ◌<◌, true, MatchBool};
 ghost use Rattle.event_word.specs.Word.{Changes, GivesBack, HasNothing, HasValue, Lends, Stays, number_of};
 
 mod competing;
-mod held;
+pub(crate) mod held;
 mod kept;
 mod lent;
+mod origin;
 mod permit;
 mod permits;
 mod rule;
@@ -16,15 +17,16 @@ mod value;
 
 pub use self::held::Held;
 pub use self::kept::Kept;
+pub(crate) use self::origin::Origin;
 pub use self::permit::Permit;
-pub use self::rule::Shelf;
+pub use self::rule::{Shelf, View};
 use self::rule::{Enter, GiveBack, Lend, Look, Rule};
 pub use self::step::Step;
 use atomic_table::{Refused, Table};
 use std::alloc::{AllocError, Global};
 
 /// A seat at a lock's table. It has no bytes.
-pub type Seat<S, V> = atomic_table::Seat<Shelf<S, V>, Option<u64>>;
+pub type Seat<S, V> = atomic_table::Seat<Shelf<S, V>, View>;
 
 /// The word counts the lock's number in steps of it.
 pub const ONE: u64 = 4;
@@ -40,7 +42,7 @@ const AWAITED: u64 = 3;
 
 /// A lock on one word: its number, with a code, the state behind it, and what it lends.
 pub struct Word<S: Kept, V> {
-    pub table: Table<Shelf<S, V>, Option<u64>, (), Rule<S>, Global>,
+    pub table: Table<Shelf<S, V>, View, (), Rule<S>, Global>,
     ghost sized: { (table.shared.table_id.words ≡ 1) × (table.shared.table_id.slots ≡ 2) },
 }
 
@@ -84,12 +86,13 @@ impl<S: Kept, V> Word<S, V> {
         self.table.shared.load_new_seat::<Enter<S>>(0)
     }
 
-    /// Looks at the word again.
+    /// Looks at the word again. It says that the value is out to a seat that has it.
     #[inline(always)]
     pub fn look_again(&self, seat: &mut Seat<S, V>) -> u64
         requires { seat.old.table_id ≡ self.now.table.shared.table_id }
         ensures seat { (seat.new.table_id ≡ seat.old.table_id) × (seat.new.me ≡ seat.old.me) }
         ensures fits { S.rules.fits (number_of result) }
+        ensures lends { seat.old.me.0.has_value ≡ true → S.rules.lends (number_of result) }
     {
         self.table.shared.load::<Look<S>>(seat, 0)
     }

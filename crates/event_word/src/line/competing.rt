@@ -1,7 +1,7 @@
 //! Those that compete for what a lock's number counts.
 ghost use Rattle.std.specs.Prelude.{◌≡◌, ℕ, ◌<◌, ◌≤◌, true, Some, None, IfOk, OnErr};
 ghost use Rattle.event_wait.specs.Attempted.{Stores};
-ghost use Rattle.event_word.specs.Competitor.{Comes, Loses, NobodyIsBy, count_of, losses_after};
+ghost use Rattle.event_word.specs.Competitor.{Comes, Loses, NobodyIsBy, coming_of, count_of, losses_after};
 ghost use Rattle.event_word.specs.Free.{IsOpen, NobodyWaits, ServesTheStarving, ServesWith, Stands, free_of, one_starving_is_told};
 ghost use Rattle.event_word.specs.Competing.{rules_of};
 ghost use Rattle.event_word.specs.Turns.{State};
@@ -81,6 +81,7 @@ impl<C> Competing<C> {
         exchange: &X,
         on: &mut O,
     ) -> Coming
+        ensures came { result ≡ coming_of place.old self.old.line }
         ensures comes { Comes (X.exchanged exchange.now) place.old on.old result self.new.line
             place.new on.new }
         ensures serves { (n : ℕ) → ServesTheStarving n self.old.line

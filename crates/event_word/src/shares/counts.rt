@@ -6,8 +6,8 @@ ghost use Rattle.event_word.specs.Word.{HasState};
 
 use super::queues::Queues;
 use super::rights::Out;
-use crate::state;
 use crate::word::Word;
+use crate::word::held::state;
 use event_wait::Task;
 
 /// Who has the value of a read-write lock, and who waits for it, at one moment.

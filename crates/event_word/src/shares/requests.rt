@@ -1,16 +1,16 @@
 //! What readers and writers do with the queues out.
-ghost use Rattle.std.specs.Prelude.{◌≡◌, ◌*◌, IfOk, IsTrue, OnErr};
+ghost use Rattle.std.specs.Prelude.{◌≡◌, ◌*◌, IfOk, IfSome, IsTrue, OnErr};
 ghost use Rattle.atomic_table.specs.Table.{rest};
 ghost use Rattle.event_word.specs.Attempted.{IsSettled, UnlessWaits, gained};
 ghost use Rattle.event_word.specs.Line.{IsNotIn, IsNotInUnlessWaits, Looked, left_by};
 ghost use Rattle.event_word.specs.Queues.{Admits, CountsMore, IsExclusive, given};
 ghost use Rattle.event_word.specs.Word.{HasState, number_of};
-ghost use Rattle.event_wait.specs.Attempted.{Attempts, Stores};
+ghost use Rattle.event_wait.specs.Attempted.{Attempts, OnDone, Stores};
 
 use super::queues::Queues;
 use super::rights::{Out, ReadShare, WriteShare};
 use crate::error::LockError;
-use crate::state;
+use crate::word::held::state;
 use crate::word::{ONE, Word};
 use event_queue::{Key, RegisterResult, TaskExchange};
 use event_wait::{Attempted, Task};
@@ -74,6 +74,7 @@ impl Word<Queues<Task>, ()> {
         ensures seat { (held.new.seat.table_id ≡ held.old.seat.table_id)
             × (rest held.new.seat.me.1 ≡ rest held.old.seat.me.1) }
         ensures alone { HasState IsExclusive held.new.seat.me }
+        ensures own { OnDone result (λ share. share ≡ self.now.table.shared.table_id) }
         ensures counts { CountsMore (2 * gained result) held.old.seat.me.0 held.new.seat.me.0 }
         ensures exchanged { Attempts (X.exchanged exchange.now) on.old result on.new }
         ensures settled { IsSettled result }
@@ -101,6 +102,7 @@ impl Word<Queues<Task>, ()> {
         ensures seat { (held.new.seat.table_id ≡ held.old.seat.table_id)
             × (rest held.new.seat.me.1 ≡ rest held.old.seat.me.1) }
         ensures alone { HasState IsExclusive held.new.seat.me }
+        ensures own { OnDone result (λ share. share ≡ self.now.table.shared.table_id) }
         ensures counts { CountsMore (gained result) held.old.seat.me.0 held.new.seat.me.0 }
         ensures exchanged { Attempts (X.exchanged exchange.now) on.old result on.new }
         ensures settled { IsSettled result }
@@ -127,6 +129,7 @@ impl Word<Queues<Task>, ()> {
         ensures seat { (held.new.seat.table_id ≡ held.old.seat.table_id)
             × (rest held.new.seat.me.1 ≡ rest held.old.seat.me.1) }
         ensures alone { HasState IsExclusive held.new.seat.me }
+        ensures own { OnDone result (λ share. share ≡ self.now.table.shared.table_id) }
         ensures counts { CountsMore (2 * gained result) held.old.seat.me.0 held.new.seat.me.0 }
         ensures exchanged { Attempts (X.exchanged exchange.now) on.old result on.new }
         ensures settled { IsSettled result }
@@ -154,6 +157,7 @@ impl Word<Queues<Task>, ()> {
         ensures seat { (held.new.seat.table_id ≡ held.old.seat.table_id)
             × (rest held.new.seat.me.1 ≡ rest held.old.seat.me.1) }
         ensures alone { HasState IsExclusive held.new.seat.me }
+        ensures own { OnDone result (λ share. share ≡ self.now.table.shared.table_id) }
         ensures counts { CountsMore (gained result) held.old.seat.me.0 held.new.seat.me.0 }
         ensures exchanged { Attempts (X.exchanged exchange.now) on.old result on.new }
         ensures settled { IsSettled result }
@@ -263,6 +267,7 @@ impl Word<Queues<Task>, ()> {
         ensures seat { (held.new.seat.table_id ≡ held.old.seat.table_id)
             × (rest held.new.seat.me.1 ≡ rest held.old.seat.me.1) }
         ensures alone { HasState IsExclusive held.new.seat.me }
+        ensures own { IfSome result (λ share. share ≡ self.now.table.shared.table_id) }
         ensures counts { CountsMore (2 * given result) held.old.seat.me.0 held.new.seat.me.0 }
         ensures gone { HasState (λ _ q. IsNotIn key q.read_line) held.new.seat.me }
     {
@@ -279,6 +284,7 @@ impl Word<Queues<Task>, ()> {
         ensures seat { (held.new.seat.table_id ≡ held.old.seat.table_id)
             × (rest held.new.seat.me.1 ≡ rest held.old.seat.me.1) }
         ensures alone { HasState IsExclusive held.new.seat.me }
+        ensures own { IfSome result (λ share. share ≡ self.now.table.shared.table_id) }
         ensures counts { CountsMore (given result) held.old.seat.me.0 held.new.seat.me.0 }
         ensures gone { HasState (λ _ q. IsNotIn key q.write_line) held.new.seat.me }
     {

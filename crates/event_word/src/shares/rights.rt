@@ -5,14 +5,36 @@ ghost use Rattle.event_word.specs.Queues.{IsExclusive, Recounts};
 ghost use Rattle.event_word.specs.Word.{HasState, number_of};
 
 use super::queues::Queues;
-use crate::word::{Held, Seat, Step, Word};
+use crate::word::{Held, Origin, Seat, Step, Word};
 use event_wait::Task;
+use std::marker::Model;
 
-/// The right to read, which the number counts. It is no `Drop`: whoever has it counts itself out.
-pub struct ReadShare(());
+/// The right to read, which the number counts. It is no `Drop`: whoever has it counts itself out. A contract sees of which word
+/// it is.
+pub struct ReadShare {
+    origin: Origin,
+}
 
 /// The right to write, as the right to read.
-pub struct WriteShare(());
+pub struct WriteShare {
+    origin: Origin,
+}
+
+impl Model for ReadShare {
+    ghost use Rattle.atomic_table.specs.Seated.{TableId};
+
+    ghost Value = { TableId };
+
+    ghost view = { λ share. share.origin.table_id };
+}
+
+impl Model for WriteShare {
+    ghost use Rattle.atomic_table.specs.Seated.{TableId};
+
+    ghost Value = { TableId };
+
+    ghost view = { λ share. share.origin.table_id };
+}
 
 /// A seat that has not the queues out.
 pub type At = Seat<Queues<Task>, ()>;
@@ -25,28 +47,34 @@ impl ReadShare {
     #[inline(always)]
     pub(crate) fn counted(step: Step) -> Self
         requires { number_of step.to ≡ number_of step.from + 2 }
+        ensures { result ≡ step.origin.table_id }
     {
-        drop(step);
-        ReadShare(())
+        ReadShare {
+            origin: step.into_origin(),
+        }
     }
 
-    /// The reader writes from here on: this step counts a writer in its place.
+    /// The reader writes from here on: this step, of its word, counts a writer in its place.
     #[inline(always)]
     pub(crate) fn upgraded(self, step: Step) -> WriteShare
-        requires { (number_of step.from ≡ 2) × (number_of step.to ≡ 1) }
+        requires own { step.origin.table_id ≡ self }
+        requires counts { (number_of step.from ≡ 2) × (number_of step.to ≡ 1) }
+        ensures { result ≡ self }
     {
-        let ReadShare(()) = self;
-        drop(step);
-        WriteShare(())
+        let ReadShare { origin: _ } = self;
+        WriteShare {
+            origin: step.into_origin(),
+        }
     }
 
-    /// The reader goes: this step counts one less, if it counts one, as it does for each right.
+    /// The reader goes: this step, of its word, counts one less, if it counts one, as it does for each right.
     #[inline(always)]
     pub(crate) fn end(self, step: Step)
+        requires own { step.origin.table_id ≡ self }
         requires readers { readers_of (number_of step.to) ≡ readers_of (number_of step.from) - 1 }
         requires writers { writers_of (number_of step.to) ≡ writers_of (number_of step.from) }
     {
-        let ReadShare(()) = self;
+        let ReadShare { origin: _ } = self;
         drop(step);
     }
 }
@@ -56,30 +84,37 @@ impl WriteShare {
     #[inline(always)]
     pub(crate) fn counted(step: Step) -> Self
         requires { number_of step.to ≡ number_of step.from + 1 }
+        ensures { result ≡ step.origin.table_id }
     {
-        drop(step);
-        WriteShare(())
+        WriteShare {
+            origin: step.into_origin(),
+        }
     }
 
-    /// The writer reads from here on: this step counts a reader in its place. An error counted no writer, which is so for no right.
+    /// The writer reads from here on: this step, of its word, counts a reader in its place. An error counted no writer, which is
+    /// so for no right.
     #[inline(always)]
     pub(crate) fn downgraded(self, step: Result<Step, Step>) -> ReadShare
-        requires { MatchResult step
+        requires own { MatchResult step (λ made. made.origin.table_id ≡ self)
+            (λ made. made.origin.table_id ≡ self) }
+        requires counts { MatchResult step
             (λ made. (number_of made.from ≡ 1) × (number_of made.to ≡ 2))
             (λ made. writers_of (number_of made.to) ≡ 0) }
+        ensures { result ≡ self }
     {
-        let WriteShare(()) = self;
+        let WriteShare { origin } = self;
         drop(step);
-        ReadShare(())
+        ReadShare { origin }
     }
 
-    /// The writer goes: this step counts none.
+    /// The writer goes: this step, of its word, counts none.
     #[inline(always)]
     pub(crate) fn end(self, step: Step)
+        requires own { step.origin.table_id ≡ self }
         requires readers { readers_of (number_of step.to) ≡ readers_of (number_of step.from) }
         requires writers { writers_of (number_of step.to) ≡ 0 }
     {
-        let WriteShare(()) = self;
+        let WriteShare { origin: _ } = self;
         drop(step);
     }
 }
@@ -91,7 +126,8 @@ impl Word<Queues<Task>, ()> {
         requires seat { seat.old.table_id ≡ self.now.table.shared.table_id }
         requires counts { Recounts seen new }
         ensures seat { (seat.new.table_id ≡ seat.old.table_id) × (seat.new.me ≡ seat.old.me) }
-        ensures step { IfSome result (λ made. (made.from ≡ seen) × (made.to ≡ new)) }
+        ensures step { IfSome result (λ made. (made.from ≡ seen) × (made.to ≡ new)
+            × (made.origin.table_id ≡ self.now.table.shared.table_id)) }
     {
         self.change(seat, seen, new)
     }
@@ -104,8 +140,9 @@ impl Word<Queues<Task>, ()> {
         ensures seat { (held.new.seat.table_id ≡ held.old.seat.table_id)
             × (held.new.seat.me.1 ≡ held.old.seat.me.1) }
         ensures counts { MatchOption result (held.new.seat.me.0 ≡ held.old.seat.me.0)
-            (λ made. held.new.seat.me.0 ≡ Some (number_of new)) }
-        ensures step { IfSome result (λ made. (made.from ≡ seen) × (made.to ≡ new)) }
+            (λ made. held.new.seat.me.0.number ≡ Some (number_of new)) }
+        ensures step { IfSome result (λ made. (made.from ≡ seen) × (made.to ≡ new)
+            × (made.origin.table_id ≡ self.now.table.shared.table_id)) }
     {
         held.change(self, seen, new)
     }

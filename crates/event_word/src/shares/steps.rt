@@ -10,7 +10,7 @@ ghost use Rattle.event_word.specs.Word.{EasesFrom, HasNothing, HasState, number_
 use super::number::{self, Leaving, READER, WRITER};
 use super::queues::Queues;
 use super::rights::{At, Out, ReadShare, WriteShare};
-use crate::state;
+use crate::word::held::state;
 use crate::word::{ONE, Step, Word};
 use event_wait::{Task, Waking};
 use std::sync::Wait;
@@ -19,7 +19,9 @@ impl Word<Queues<Task>, ()> {
     /// A right to read, if no writer has the value, was let in or waits. It is one load and one compare-exchange where nobody
     /// waits and no other thread comes between. Where somebody waits it may wait for the queues.
     #[inline(always)]
-    pub fn try_reader<R: Wait>(&self, rt: &R) -> Option<ReadShare> {
+    pub fn try_reader<R: Wait>(&self, rt: &R) -> Option<ReadShare>
+        ensures { IfSome result (λ share. share ≡ self.now.table.shared.table_id) }
+    {
         let (seen, mut seat) = self.look();
         if let Some(new) = number::reader_in(seen) {
             if let Some(step) = self.make(&mut seat, seen, new) {
@@ -31,7 +33,9 @@ impl Word<Queues<Task>, ()> {
 
     #[cold]
     #[inline(never)]
-    fn try_reader_again<R: Wait>(&self, rt: &R) -> Option<ReadShare> {
+    fn try_reader_again<R: Wait>(&self, rt: &R) -> Option<ReadShare>
+        ensures { IfSome result (λ share. share ≡ self.now.table.shared.table_id) }
+    {
         let (mut seen, mut seat) = self.look();
         for _ in rt.forever() {
             if number::is_written(seen / ONE) {
@@ -49,7 +53,9 @@ impl Word<Queues<Task>, ()> {
     }
 
     // Where somebody may wait, the queues show whether a newcomer may read.
-    fn try_reader_slowly<R: Wait>(&self, rt: &R) -> Option<ReadShare> {
+    fn try_reader_slowly<R: Wait>(&self, rt: &R) -> Option<ReadShare>
+        ensures { IfSome result (λ share. share ≡ self.now.table.shared.table_id) }
+    {
         let (_, mut held) = self.take(rt);
         let share = self.count_reader(rt, &mut held);
         drop(self.put_back(rt, held));
@@ -59,7 +65,9 @@ impl Word<Queues<Task>, ()> {
     /// A right to write, if nobody has the value, was let in or waits. It is one load and one compare-exchange where nobody does,
     /// and one load where somebody has the value. Else it may wait for the queues.
     #[inline(always)]
-    pub fn try_writer<R: Wait>(&self, rt: &R) -> Option<WriteShare> {
+    pub fn try_writer<R: Wait>(&self, rt: &R) -> Option<WriteShare>
+        ensures { IfSome result (λ share. share ≡ self.now.table.shared.table_id) }
+    {
         let (seen, mut seat) = self.look();
         if let Some(new) = number::writer_in(seen) {
             if let Some(step) = self.make(&mut seat, seen, new) {
@@ -71,7 +79,9 @@ impl Word<Queues<Task>, ()> {
 
     #[cold]
     #[inline(never)]
-    fn try_writer_again<R: Wait>(&self, rt: &R) -> Option<WriteShare> {
+    fn try_writer_again<R: Wait>(&self, rt: &R) -> Option<WriteShare>
+        ensures { IfSome result (λ share. share ≡ self.now.table.shared.table_id) }
+    {
         if self.number() > 0 {
             return None;
         }
@@ -83,7 +93,9 @@ impl Word<Queues<Task>, ()> {
 
     /// One that read goes. The first writer is let in if it was the last.
     #[inline(always)]
-    pub fn end_reading<R: Wait>(&self, rt: &R, share: ReadShare) {
+    pub fn end_reading<R: Wait>(&self, rt: &R, share: ReadShare)
+        requires { share ≡ self.now.table.shared.table_id }
+    {
         let (seen, mut seat) = self.look();
         if let Leaving::Going(new) = number::reader_out(seen) {
             if let Some(step) = self.make(&mut seat, seen, new) {
@@ -97,7 +109,9 @@ impl Word<Queues<Task>, ()> {
 
     /// The writer goes. All readers are let in that wait, or else the first writer.
     #[inline(always)]
-    pub fn end_writing<R: Wait>(&self, rt: &R, share: WriteShare) {
+    pub fn end_writing<R: Wait>(&self, rt: &R, share: WriteShare)
+        requires { share ≡ self.now.table.shared.table_id }
+    {
         let (seen, mut seat) = self.look();
         if let Leaving::Going(new) = number::writer_out(seen) {
             if let Some(step) = self.make(&mut seat, seen, new) {
@@ -112,6 +126,7 @@ impl Word<Queues<Task>, ()> {
     #[cold]
     #[inline(never)]
     fn count_reader_out<R: Wait>(&self, rt: &R) -> Step
+        ensures own { result.origin.table_id ≡ self.now.table.shared.table_id }
         ensures readers { readers_of (number_of result.to) ≡ readers_of (number_of result.from) - 1 }
         ensures writers { writers_of (number_of result.to) ≡ writers_of (number_of result.from) }
     {
@@ -129,6 +144,7 @@ impl Word<Queues<Task>, ()> {
     #[cold]
     #[inline(never)]
     fn count_writer_out<R: Wait>(&self, rt: &R) -> Step
+        ensures own { result.origin.table_id ≡ self.now.table.shared.table_id }
         ensures readers { readers_of (number_of result.to) ≡ readers_of (number_of result.from) }
         ensures writers { writers_of (number_of result.to) ≡ 0 }
     {
@@ -149,6 +165,7 @@ impl Word<Queues<Task>, ()> {
         requires going { IfGoing leaving (Recounts seen) }
         requires taking { IfTaking leaving (λ new. RecountsAndTakes seen new
             × (number_of new ≡ 0)) }
+        ensures own { IfOk result (λ made. made.origin.table_id ≡ self.now.table.shared.table_id) }
         ensures from { IfOk result (λ made. made.from ≡ seen) }
         ensures goes { IfOk result (λ made. IfGoing leaving (λ new. made.to ≡ new)) }
         ensures takes { IfOk result (λ made. IfTaking leaving (λ new. made.to ≡ new)) }
@@ -175,10 +192,10 @@ impl Word<Queues<Task>, ()> {
         ensures seat { (held.new.seat.table_id ≡ held.old.seat.table_id)
             × (held.new.seat.me.1 ≡ held.old.seat.me.1) }
         ensures out { result % 2 ≡ 1 }
-        ensures number { held.new.seat.me.0 ≡ Some (number_of result) }
+        ensures number { held.new.seat.me.0.number ≡ Some (number_of result) }
         ensures alone { HasState (λ n q. (n ≡ number_of result)
             × IsExclusive n q) held.new.seat.me }
-        ensures eases { EasesFrom (lock_rules {W = Task}) held.old.seat.me.0 (number_of result) }
+        ensures eases { EasesFrom (lock_rules {W = Task}) held.old.seat.me.0.number (number_of result) }
     {
         held.look(self)
     }
@@ -230,6 +247,7 @@ impl Word<Queues<Task>, ()> {
         ensures seat { (held.new.seat.table_id ≡ held.old.seat.table_id)
             × (held.new.seat.me.1 ≡ held.old.seat.me.1) }
         ensures alone { HasState IsExclusive held.new.seat.me }
+        ensures own { IfSome result (λ share. share ≡ self.now.table.shared.table_id) }
         ensures counts { CountsMore (2 * given result) held.old.seat.me.0 held.new.seat.me.0 }
         ensures refused { result ≡ None → HasState (λ n q. NoWriterIsThere n q
             → HasNoRoom n q) held.new.seat.me }
@@ -253,6 +271,7 @@ impl Word<Queues<Task>, ()> {
         ensures seat { (held.new.seat.table_id ≡ held.old.seat.table_id)
             × (held.new.seat.me.1 ≡ held.old.seat.me.1) }
         ensures alone { HasState IsExclusive held.new.seat.me }
+        ensures own { IfSome result (λ share. share ≡ self.now.table.shared.table_id) }
         ensures counts { CountsMore (given result) held.old.seat.me.0 held.new.seat.me.0 }
         ensures refused { result ≡ None → HasState (λ n q. (n ≡ 0) → IsQuiet q
             → ⊥) held.new.seat.me }
@@ -276,10 +295,10 @@ impl Word<Queues<Task>, ()> {
         ensures seat { (held.new.seat.table_id ≡ held.old.seat.table_id)
             × (held.new.seat.me.1 ≡ held.old.seat.me.1) }
         ensures out { result % 2 ≡ 1 }
-        ensures number { held.new.seat.me.0 ≡ Some (number_of result) }
+        ensures number { held.new.seat.me.0.number ≡ Some (number_of result) }
         ensures admits { HasState (λ n q. (n ≡ number_of result)
             × Admits (number_of one) (number_of result) q) held.new.seat.me }
-        ensures eases { EasesFrom (lock_rules {W = Task}) held.old.seat.me.0 (number_of result) }
+        ensures eases { EasesFrom (lock_rules {W = Task}) held.old.seat.me.0.number (number_of result) }
     {
         let _one = one;
         held.look(self)
@@ -294,6 +313,7 @@ impl Word<Queues<Task>, ()> {
             × (held.new.seat.me.1 ≡ held.old.seat.me.1) }
         ensures alone { HasState IsExclusive held.new.seat.me }
         ensures counts { CountsMore (number_of one) held.old.seat.me.0 held.new.seat.me.0 }
+        ensures own { result.origin.table_id ≡ self.now.table.shared.table_id }
         ensures step { number_of result.to ≡ number_of result.from + number_of one }
     {
         for _ in rt.forever() {
@@ -312,6 +332,7 @@ impl Word<Queues<Task>, ()> {
         ensures seat { (held.new.seat.table_id ≡ held.old.seat.table_id)
             × (held.new.seat.me.1 ≡ held.old.seat.me.1) }
         ensures alone { HasState IsExclusive held.new.seat.me }
+        ensures own { result ≡ self.now.table.shared.table_id }
         ensures counts { CountsMore 2 held.old.seat.me.0 held.new.seat.me.0 }
     {
         ReadShare::counted(self.count_in(rt, held, READER))
@@ -324,13 +345,17 @@ impl Word<Queues<Task>, ()> {
         ensures seat { (held.new.seat.table_id ≡ held.old.seat.table_id)
             × (held.new.seat.me.1 ≡ held.old.seat.me.1) }
         ensures alone { HasState IsExclusive held.new.seat.me }
+        ensures own { result ≡ self.now.table.shared.table_id }
         ensures counts { CountsMore 1 held.old.seat.me.0 held.new.seat.me.0 }
     {
         WriteShare::counted(self.count_in(rt, held, WRITER))
     }
 
     /// The reader writes from here on, if it is the only one, nobody was let in, and no writer waits.
-    pub fn try_upgrade<R: Wait>(&self, rt: &R, share: ReadShare) -> Result<WriteShare, ReadShare> {
+    pub fn try_upgrade<R: Wait>(&self, rt: &R, share: ReadShare) -> Result<WriteShare, ReadShare>
+        requires { share ≡ self.now.table.shared.table_id }
+        ensures { MatchResult result (λ writes. writes ≡ share) (λ reads. reads ≡ share) }
+    {
         let (seen, mut seat) = self.look();
         if let Some(new) = number::reader_writes(seen) {
             if let Some(step) = self.make(&mut seat, seen, new) {
@@ -352,9 +377,11 @@ impl Word<Queues<Task>, ()> {
     ) -> Result<WriteShare, ReadShare>
         requires seat { held.old.seat.table_id ≡ self.now.table.shared.table_id }
         requires alone { HasState IsExclusive held.old.seat.me }
+        requires own { share ≡ self.now.table.shared.table_id }
         ensures seat { (held.new.seat.table_id ≡ held.old.seat.table_id)
             × (held.new.seat.me.1 ≡ held.old.seat.me.1) }
         ensures alone { HasState IsExclusive held.new.seat.me }
+        ensures own { MatchResult result (λ writes. writes ≡ share) (λ reads. reads ≡ share) }
         ensures counts { MatchResult result
             (λ _. CountsAsWriter held.old.seat.me.0 held.new.seat.me.0)
             (λ _. CountsMore 0 held.old.seat.me.0 held.new.seat.me.0) }
@@ -376,7 +403,10 @@ impl Word<Queues<Task>, ()> {
     }
 
     /// The writer reads from here on, and all readers are let in that wait.
-    pub fn downgrade<R: Wait>(&self, rt: &R, share: WriteShare) -> ReadShare {
+    pub fn downgrade<R: Wait>(&self, rt: &R, share: WriteShare) -> ReadShare
+        requires { share ≡ self.now.table.shared.table_id }
+        ensures { result ≡ share }
+    {
         let (seen, mut seat) = self.look();
         if let Some(new) = number::writer_reads(seen) {
             if let Some(step) = self.make(&mut seat, seen, new) {
@@ -406,6 +436,9 @@ impl Word<Queues<Task>, ()> {
         ensures counts { CountsAsReader held.old.seat.me.0 held.new.seat.me.0 }
         ensures lets_in { IfOk result (λ _. HasState (λ n q. (n ≡ 2)
             × (length q.read_line.waiting ≡ 0)) held.new.seat.me) }
+        ensures own { MatchResult result
+            (λ made. made.origin.table_id ≡ self.now.table.shared.table_id)
+            (λ made. made.origin.table_id ≡ self.now.table.shared.table_id) }
         ensures step { MatchResult result
             (λ made. (number_of made.from ≡ 1) × (number_of made.to ≡ 2))
             (λ made. writers_of (number_of made.to) ≡ 0) }
@@ -425,6 +458,9 @@ impl Word<Queues<Task>, ()> {
         ensures counts { CountsAsReader held.old.seat.me.0 held.new.seat.me.0 }
         ensures was { IfOk result (λ _. HasState (λ n q. (n ≡ 2)
             × IsExclusive 1 q) held.new.seat.me) }
+        ensures own { MatchResult result
+            (λ made. made.origin.table_id ≡ self.now.table.shared.table_id)
+            (λ made. made.origin.table_id ≡ self.now.table.shared.table_id) }
         ensures step { MatchResult result
             (λ made. (number_of made.from ≡ 1) × (number_of made.to ≡ 2))
             (λ made. writers_of (number_of made.to) ≡ 0) }

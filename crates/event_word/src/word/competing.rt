@@ -1,7 +1,7 @@
 //! What those that compete for a lock do with its state out.
-ghost use Rattle.std.specs.Prelude.{◌≡◌, ◌<◌, ◌≤◌, true, None, IfOk, OnErr};
+ghost use Rattle.std.specs.Prelude.{◌≡◌, ◌<◌, ◌≤◌, true, Some, None, IfOk, OnErr};
 ghost use Rattle.atomic_table.specs.Table.{rest};
-ghost use Rattle.event_word.specs.Competitor.{Comes, NobodyIsBy, count_of, losses_after};
+ghost use Rattle.event_word.specs.Competitor.{Comes, NobodyIsBy, coming_of, count_of, losses_after};
 ghost use Rattle.event_word.specs.Free.{ServesTheStarving, ServesWith, Stands, free_of, IsShut};
 ghost use Rattle.event_word.specs.Word.{HasState};
 ghost use Rattle.event_wait.specs.Attempted.{Stores};
@@ -10,9 +10,9 @@ use super::Word;
 use super::held::Held;
 use crate::error::LockError;
 use crate::line::competing::{Competing, Counted, SHUT, free};
-use crate::line::competitor::{Arrival, Competitor};
+use crate::line::competitor::Arrival;
 use crate::line::counts::Counts;
-use crate::state;
+use crate::word::held::state;
 use event_queue::{Key, TaskExchange};
 use event_wait::Task;
 use std::sync::Wait;
@@ -69,6 +69,8 @@ impl<C: Counted, V> Word<Competing<C>, V> {
         ensures seat { (held.new.seat.table_id ≡ held.old.seat.table_id)
             × (rest held.new.seat.me.1 ≡ rest held.old.seat.me.1) }
         ensures serves { HasState (λ n q. ServesWith (count_of result) n q.line) held.new.seat.me }
+        ensures number { held.new.seat.me.0 ≡ held.old.seat.me.0 }
+        ensures came { HasState (λ _ q. result ≡ coming_of place.old q.line) held.old.seat.me }
         ensures comes { HasState (λ _ q.
             Comes (X.exchanged exchange.now) place.old on.old result q.line place.new on.new)
             held.new.seat.me }
@@ -80,7 +82,8 @@ impl<C: Counted, V> Word<Competing<C>, V> {
     pub fn lose<O, X: TaskExchange<Task, O>>(
         &self,
         held: &mut Held<Competing<C>, V>,
-        request: &mut Competitor,
+        place: &mut Option<Key>,
+        losses: &mut u32,
         arrival: Arrival,
         exchange: &X,
         on: &mut O,
@@ -90,17 +93,14 @@ impl<C: Counted, V> Word<Competing<C>, V> {
         ensures seat { (held.new.seat.table_id ≡ held.old.seat.table_id)
             × (rest held.new.seat.me.1 ≡ rest held.old.seat.me.1) }
         ensures serves { HasState (λ n q. ServesTheStarving n q.line) held.new.seat.me }
-        ensures losses { IfOk result (λ _. request.new ≡ losses_after request.old arrival) }
+        ensures number { held.new.seat.me.0 ≡ held.old.seat.me.0 }
+        ensures place { IfOk result (λ key. place.new ≡ Some key) }
+        ensures losses { IfOk result (λ _. losses.new ≡ losses_after losses.old arrival) }
         ensures waits { IfOk result (λ _. Stores (X.exchanged exchange.now) on.old on.new) }
-        ensures refused { OnErr result ((request.new ≡ request.old) × (on.new ≡ on.old)) }
+        ensures refused { OnErr result ((place.new ≡ place.old) × (losses.new ≡ losses.old)
+            × (on.new ≡ on.old)) }
     {
-        state!(held.seat, self).lose(
-            &mut request.place,
-            &mut request.losses,
-            arrival.coming(),
-            exchange,
-            on,
-        )
+        state!(held.seat, self).lose(place, losses, arrival.coming(), exchange, on)
     }
 
     /// One that competes leaves the queue, if it is there. Returns how it would have come.

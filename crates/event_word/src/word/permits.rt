@@ -1,5 +1,5 @@
 //! The steps of a semaphore on its word.
-ghost use Rattle.std.specs.Prelude.{◌≡◌, ◌+◌, ◌-◌, ◌^◌, [], Some, None, min};
+ghost use Rattle.std.specs.Prelude.{◌≡◌, ◌+◌, ◌-◌, ◌^◌, [], Some, None, min, IfSome};
 ghost use Rattle.atomic_table.specs.Table.{rest};
 ghost use Rattle.event_word.specs.Free.{NoneFor, ServesTheStarving, ServesWith, free_of};
 ghost use Rattle.event_word.specs.Word.{HasState, count, number_of};
@@ -20,7 +20,9 @@ const FULL: u64 = MOST * ONE;
 impl Word<Competing<Permits>, ()> {
     /// Takes a permit, if one is free for newcomers. It is one load and one compare-exchange where no other thread comes between.
     #[inline(always)]
-    pub fn try_permit(&self) -> Option<Permit> {
+    pub fn try_permit(&self) -> Option<Permit>
+        ensures { IfSome result (λ permit. permit ≡ self.now.table.shared.table_id) }
+    {
         let (seen, mut seat) = self.look();
         if seen < ONE || seen >= SHUT * ONE {
             return None;
@@ -33,7 +35,9 @@ impl Word<Competing<Permits>, ()> {
 
     #[cold]
     #[inline(never)]
-    fn try_permit_again(&self) -> Option<Permit> {
+    fn try_permit_again(&self) -> Option<Permit>
+        ensures { IfSome result (λ permit. permit ≡ self.now.table.shared.table_id) }
+    {
         let (mut seen, mut seat) = self.look();
         for _ in 0..u64::MAX {
             if seen >= SHUT * ONE || seen < ONE {
@@ -47,10 +51,12 @@ impl Word<Competing<Permits>, ()> {
         None
     }
 
-    /// Gives a permit back, and notifies the first that waits, if one does. It does not wait for the state: whoever has that out
+    /// Gives a permit of this word back, and notifies the first that waits, if one does. It does not wait for the state: whoever has that out
     /// notifies. It is one load and one compare-exchange where nobody waits.
     #[inline(always)]
-    pub fn give_permit<R: Wait>(&self, rt: &R, permit: Permit) {
+    pub fn give_permit<R: Wait>(&self, rt: &R, permit: Permit)
+        requires { permit ≡ self.now.table.shared.table_id }
+    {
         let (seen, mut seat) = self.look();
         if seen % 4 != CROWDED && seen < FULL {
             if let Some(step) = self.change(&mut seat, seen, seen + ONE) {
@@ -70,7 +76,8 @@ impl Word<Competing<Permits>, ()> {
     #[cold]
     #[inline(never)]
     fn added<R: Wait>(&self, rt: &R, permits: u64) -> Step
-        ensures { free_of (number_of result.to)
+        ensures own { result.origin.table_id ≡ self.now.table.shared.table_id }
+        ensures more { free_of (number_of result.to)
             ≡ min (free_of (number_of result.from) + permits) (2 ^ 61 - 1) }
     {
         let (mut seen, mut seat) = self.look();
@@ -105,6 +112,7 @@ impl Word<Competing<Permits>, ()> {
         ensures seat { (held.new.seat.table_id ≡ held.old.seat.table_id)
             × (held.new.seat.me.1 ≡ held.old.seat.me.1) }
         ensures serves { HasState (λ n q. ServesTheStarving n q.line) held.new.seat.me }
+        ensures own { IfSome result (λ permit. permit ≡ self.now.table.shared.table_id) }
         ensures none { result ≡ None → HasState (λ n _. NoneFor notified n) held.new.seat.me }
     {
         for _ in rt.forever() {

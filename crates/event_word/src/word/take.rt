@@ -1,13 +1,13 @@
 //! Taking the state out from behind its word, and putting it back.
-ghost use Rattle.std.specs.Prelude.{◌≡◌, ◌*◌, ◌%◌, ◌^◌, ◌<◌, [], None, false, IfErr, IfOk, MatchBool};
+ghost use Rattle.std.specs.Prelude.{◌≡◌, ◌*◌, ◌%◌, ◌^◌, ◌<◌, [], false, IfErr, IfOk, MatchBool};
 ghost use Rattle.atomic_table.specs.Table.{rest};
-ghost use Rattle.event_word.specs.Word.{GivesBack, HasNothing, HasState, HasValue, Stays, Takes, number_of};
+ghost use Rattle.event_word.specs.Word.{GivesBack, HasNothing, HasState, HasValue, Stays, Takes, beside, number_of};
 
 use super::held::Held;
 use super::kept::Kept;
 use super::rule::{Change, LookAgain, Move, Put, Swap, Take};
 use super::{AWAITED, CROWDED, ONE, OUT, Seat, Word};
-use crate::state;
+use crate::word::held::state;
 use event_wait::{Waking, pause};
 use std::sync::Wait;
 
@@ -140,7 +140,7 @@ impl<S: Kept, V> Word<S, V> {
         requires seat { held.seat.table_id ≡ self.now.table.shared.table_id }
         requires promised { HasState S.rules.promised held.seat.me }
         ensures { (result.table_id ≡ held.seat.table_id)
-            × (result.me ≡ (None, rest held.seat.me.1)) }
+            × (result.me ≡ beside held.seat.me) }
     {
         let Held { mut seat } = held;
         let mut waking = Waking::new();
@@ -157,8 +157,8 @@ impl<S: Kept, V> Word<S, V> {
         requires seat { seat.old.table_id ≡ self.now.table.shared.table_id }
         requires promised { HasState S.rules.promised seat.old.me }
         ensures seat { seat.new.table_id ≡ seat.old.table_id }
-        ensures put { MatchBool result (seat.new.me ≡ (None, rest seat.old.me.1))
-            (HasState S.rules.promised seat.new.me × (rest seat.new.me.1 ≡ rest seat.old.me.1)) }
+        ensures put { MatchBool result (seat.new.me ≡ beside seat.old.me)
+            (HasState S.rules.promised seat.new.me × (beside seat.new.me ≡ beside seat.old.me)) }
     {
         let seen = self.see(seat);
         let number = seen / ONE;
@@ -189,7 +189,8 @@ impl<S: Kept, V> Word<S, V> {
     fn see(&self, seat: &mut Seat<S, V>) -> u64
         requires seat { seat.old.table_id ≡ self.now.table.shared.table_id }
         requires promised { HasState S.rules.promised seat.old.me }
-        ensures seat { (seat.new.table_id ≡ seat.old.table_id) × (seat.new.me.1 ≡ seat.old.me.1) }
+        ensures seat { (seat.new.table_id ≡ seat.old.table_id)
+            × (beside seat.new.me ≡ beside seat.old.me) }
         ensures word { (result % 2 ≡ 1) × S.rules.fits (number_of result) }
         ensures promised { HasState (λ n q. (n ≡ number_of result)
             × S.rules.promised n q) seat.new.me }
@@ -203,7 +204,7 @@ impl<S: Kept, V> Word<S, V> {
         requires number { (number < 2 ^ 62) × S.rules.fits number }
         requires promised { HasState (λ n q. (n ≡ number) × S.rules.promised n q) seat.old.me }
         ensures seat { (seat.new.table_id ≡ seat.old.table_id)
-            × (rest seat.new.me.1 ≡ rest seat.old.me.1) }
+            × (beside seat.new.me ≡ beside seat.old.me) }
         ensures number { (result < 2 ^ 62) × S.rules.fits result
             × Stays S.rules (number * 4) (result * 4) }
         ensures promised { HasState (λ n q. (n ≡ number) × S.rules.promised number q
@@ -219,7 +220,7 @@ impl<S: Kept, V> Word<S, V> {
         requires promised { HasState (λ n q. (n ≡ number) × S.rules.promised number q
             × S.rules.tells number q) seat.old.me }
         ensures seat { (seat.new.table_id ≡ seat.old.table_id)
-            × (rest seat.new.me.1 ≡ rest seat.old.me.1) }
+            × (beside seat.new.me ≡ beside seat.old.me) }
         ensures stands { HasState (λ n q. (n ≡ number) × S.rules.stands number q
             × (result ≡ false → S.rules.quiet q)) seat.new.me }
     {

@@ -8,7 +8,7 @@ ghost use Rattle.event_word.specs.Word.{HasState, HasValue, HasValueToo, count, 
 use super::held::Held;
 use super::serving::may_take;
 use super::{CROWDED, ONE, Seat, Shelf, Word};
-use crate::line::competing::{Competing, OneValue, SHUT, free};
+use crate::line::competing::{Competing, OneValue, SHUT};
 use std::sync::Wait;
 
 impl<V> Word<Competing<OneValue>, V> {
@@ -68,10 +68,6 @@ impl<V> Word<Competing<OneValue>, V> {
     {
         for _ in rt.forever() {
             let seen = self.look_again(&mut seat);
-            // The value is out with this seat, so it is not free, which the rule does not say of a seat.
-            if free(seen / ONE) > 0 {
-                continue;
-            }
             if seen % 4 == CROWDED {
                 match self.try_swap(seat, seen, seen + ONE - 1) {
                     Ok(held) => {

@@ -1,4 +1,5 @@
-use Rattle.std.proofs.Common.{refl}
+use Rattle.std.proofs.Common.{refl, Some}
+use Rattle.event_queue.proofs.LawLemmas.{untold-waiting}
 use Rattle.event_word.proofs.FreeLemmas.{serves-came}
 use Rattle.event_word.proofs.TurnLemmas.{among-absent, among-left}
 use Rattle.event_word.proofs.line.competing.Competing.come.Goals as goal
@@ -15,3 +16,9 @@ pub returns-in-NeverInserted-clause-comes : goal.returns-in-NeverInserted-clause
 returns-in-NeverInserted-clause-comes g c =
     let looks = c.in-NeverInserted.ensures.looks in
     rw (c.in-Some.is, looks.1) (among-absent c.in-Some.key c.args.self.now.line.queue looks.0, refl, looks.2)
+
+pub returns-in-Registered-clause-came : goal.returns-in-Registered-clause-came
+returns-in-Registered-clause-came g c =
+    let call = c.in-Registered.ensures in
+    let found = call.looks.found in
+    rw (c.in-Some.is, untold-waiting c.in-Some.key c.args.self.now.line.queue (Some call.looks.waiter) call.queue found, found) refl

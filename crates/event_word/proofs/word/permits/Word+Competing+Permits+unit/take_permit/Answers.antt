@@ -8,4 +8,4 @@ returns-in-Some-change-clause-serves g c =
     let is = c.in-Some-change.ensures.changes in
     let may = c.if-not-may_take.ensures in
     let some = may.some refl in
-    taken-on c.args.notified seen (seen - 4) c.look_serving-seen.new.held.seat.me c.change.new.self.seat.me c.look_serving-seen.ensures.serves (ap (λ x. x.0) is) (λ q has. still_out c.look_serving-seen.new.held.seat.me c.change.new.self.seat.me q (ap (λ x. x.1) is) has) (omega (arith, some.0)) some.1 (may.open refl)
+    taken-on c.args.notified seen (seen - 4) c.look_serving-seen.new.held.seat.me c.change.new.self.seat.me c.look_serving-seen.ensures.serves (ap (λ x. x.0.number) is) (λ q has. still_out c.look_serving-seen.new.held.seat.me c.change.new.self.seat.me q (ap (λ x. x.1) is) has) (omega (arith, some.0)) some.1 (may.open refl)

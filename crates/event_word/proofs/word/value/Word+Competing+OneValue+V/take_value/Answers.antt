@@ -11,4 +11,4 @@ returns-then-lend-clause-serves g c =
     let t = c.if-lend.ensures.lends in
     let may = c.if-not-may_take.ensures in
     let some = may.some refl in
-    taken-on c.args.notified seen (seen - 4) m n c.look_serving-seen.ensures.serves (ap (λ x. x.0) t.1) (λ q has. out_with m n q ((1, shelf.Value (Some t.0)) ∷ []) (ap (λ x. x.1) t.1) has) (omega (arith, some.0)) some.1 (may.open refl)
+    taken-on c.args.notified seen (seen - 4) m n c.look_serving-seen.ensures.serves (ap (λ x. x.0.number) t.1) (λ q has. out_with m n q ((1, shelf.Value (Some t.0)) ∷ []) (ap (λ x. x.1) t.1) has) (omega (arith, some.0)) some.1 (may.open refl)
