@@ -1,5 +1,7 @@
 //! A barrier.
 ghost use Rattle.std.specs.Prelude.{◌≡◌, IsSomeAnd};
+ghost use Rattle.event_queue.specs.Key.{without};
+ghost use Rattle.event_queue.specs.Queue.{order_of};
 
 mod rounds;
 
@@ -135,6 +137,9 @@ impl<'a, R: Wait + Clock> Hold<Lock<Rounds<Task>>> for Arriving<'a, R> {
 
 impl HandsOut<Ended> for Rounds<Task> {
     const TRIES: u32 = 0;
+
+    // It is in the queue no more, and so has not arrived in a round that goes on.
+    ghost withdraws = { λ old key new. order_of new.line ≡ without key (order_of old.line) };
 
     fn try_hand<K: WakeSink<Task>>(&mut self, sink: &mut K) -> Option<Ended> {
         self.try_end(sink)

@@ -1,5 +1,6 @@
 //! The place in a queue of one that wants something of a state.
 ghost use Rattle.std.specs.Prelude.{◌≡◌, ⊤, IsSome};
+ghost use Rattle.event_queue.specs.declared.key.Key.{Key};
 ghost use Rattle.event_wait.specs.Attempted.{Attempts, LeavesBy};
 
 use event_queue::{Key, TaskExchange, WakeSink};
@@ -11,6 +12,9 @@ use std::marker::{Model, PhantomData};
 pub trait HandsOut<G> {
     /// How often a thread that was not handed it at once pauses and tries again before it waits in the queue.
     const TRIES: u32 = 8;
+
+    // What one that withdraws does to the state.
+    ghost withdraws: { Self → Key → Self → Type 0 } = { λ _ _ _. ⊤ };
 
     /// Hands it to one that comes, if nobody is due before.
     fn try_hand<K: WakeSink<Task>>(&mut self, sink: &mut K) -> Option<G>;
@@ -31,7 +35,8 @@ pub trait HandsOut<G> {
     fn leave<K: WakeSink<Task>>(&mut self, key: Key, sink: &mut K) -> Option<G>;
 
     /// Takes this one out of the queue, and hands on what it can have.
-    fn withdraw<K: WakeSink<Task>>(&mut self, key: Key, sink: &mut K);
+    fn withdraw<K: WakeSink<Task>>(&mut self, key: Key, sink: &mut K)
+        ensures { withdraws self.old key self.new };
 }
 
 /// The place of one that wants a `G` of a state, in its queue, if it has one.

@@ -1,7 +1,9 @@
 //! Waits, blocking or awaited.
-ghost use Rattle.std.specs.Prelude.{◌≡◌, IfOk, IfSome, IsSome, IsSomeAnd};
+ghost use Rattle.std.specs.Prelude.{◌≡◌, None, Err, IfOk, IfSome, IsSome, IsSomeAnd};
 ghost use Rattle.futures.specs.Poll.{IfReady, OnPending};
 ghost use Rattle.futures.specs.Task.{Covers, Keeps};
+ghost use Rattle.futures.specs.declared.task.Poll.TheVariants.{Ready};
+ghost use Rattle.event_word.specs.declared.error.LockError.TheVariants.{Finished};
 ghost use Rattle.event_wait.specs.declared.lock.limit.Limit.TheVariants.{Never};
 ghost use Rattle.event_monitor.specs.Obtained.{Obtained};
 
@@ -100,6 +102,8 @@ impl<L: Tries<Q, Refusal = LockError>, Q: Drop, H: Hold<L> + Drop> Obtaining<L, 
     pub fn poll(&mut self, cx: &mut Context<'_>) -> Poll<Result<(H, L::Output), LockError>>
         ensures obtained { IfReady result
             (λ answer. IfOk answer (λ got. Obtained L.succeeds L.leaves (H.held got.0) got.1)) }
+        ensures finished { self.old.hold ≡ None → result ≡ Ready (Err Finished) }
+        ensures ends { IfReady result (λ _. self.new.hold ≡ None) }
         ensures registered { OnPending result
             (Covers cx.new (λ s. IsSomeAnd self.new.hold (λ hold. s ≡ L.source (H.held hold)))) }
         ensures kept { Keeps cx.old cx.new }
@@ -127,7 +131,9 @@ impl<L: Tries<Q, Refusal = LockError>, Q: Drop, H: Hold<L> + Drop> Obtaining<L, 
     }
 
     /// It has given what was at hand.
-    pub fn finish(&mut self) {
+    pub fn finish(&mut self)
+        ensures { self.new.hold ≡ None }
+    {
         drop(self.hold.take());
     }
 }
