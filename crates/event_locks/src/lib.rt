@@ -5,6 +5,7 @@ mod mutex;
 mod rw_lock;
 mod semaphore;
 pub mod states;
+mod taker;
 
 pub use event_monitor::{
     Barrier, BarrierWait, BarrierWaitResult, Claim, Claiming, Condition, Monitor, OnceCell, Seeing,

@@ -1,9 +1,11 @@
 //! A mutex.
 ghost use Rattle.std.specs.Prelude.{◌≡◌, ◌<◌, [], IfSome, true};
 ghost use Rattle.atomic_table.specs.Table.{rest};
-ghost use Rattle.event_wait.specs.Attempted.{Attempts, OnDone, OnRefused, OnUndone};
+ghost use Rattle.event_wait.specs.Attempted.{Attempts, OnDone, OnRefused, OnUndone, key_of};
 ghost use Rattle.event_locks.specs.Losses.{LosesOnceAtMost};
-ghost use Rattle.event_word.specs.Free.{ServesTheStarving, Stands};
+ghost use Rattle.event_word.specs.Competitor.{coming_of, losses_after};
+ghost use Rattle.event_word.specs.declared.line.competitor.Coming.TheVariants.{Notified};
+ghost use Rattle.event_word.specs.Free.{ServesTheStarving, Stands, free_of};
 ghost use Rattle.event_word.specs.Word.{HasPlace, HasState, HasValue, HasValueToo};
 
 mod guard;
@@ -11,8 +13,9 @@ mod lock;
 
 pub use self::guard::{MutexGuard, MutexGuardArc};
 pub use self::lock::{Lock, LockArc};
+use crate::taker::Taker;
 use event_monitor::{Borrowed, Obtaining, Shared};
-use event_queue::TaskExchange;
+use event_queue::{Key, TaskExchange};
 use event_wait::{Attempted, LineSource, Serves, Task, Tries};
 use event_word::{Coming, Competing, Competitor, Counts, Held, LockError, OneValue, Seat, Word};
 use std::alloc::{AllocError, Global};
@@ -86,7 +89,7 @@ impl<T: Drop> Mutex<T> {
     /// A wait for the value.
     #[inline(always)]
     pub fn lock<'a, R: Wait + Clock>(&'a self, rt: &'a R, alloc: Global) -> Lock<'a, T, R> {
-        Lock::new(Obtaining::new(Borrowed { lock: self, rt }, alloc, Competitor::new()))
+        Lock::new(Obtaining::new(Borrowed { lock: self, rt }, alloc, Taker::new()))
     }
 
     /// A wait for the value by a guard that may go to another thread. It returns an error if no share of the mutex can be
@@ -97,7 +100,7 @@ impl<T: Drop> Mutex<T> {
         alloc: Global,
     ) -> Result<LockArc<T, R>, AllocError> {
         let lock = Arc::try_clone(this)?;
-        Ok(LockArc::new(Obtaining::new(Shared { lock, rt }, alloc, Competitor::new())))
+        Ok(LockArc::new(Obtaining::new(Shared { lock, rt }, alloc, Taker::new())))
     }
 
     /// The value. `None` says that a guard was forgotten, and the value with it.
@@ -116,12 +119,12 @@ impl<T: Drop> Mutex<T> {
         self.word.give_value(rt, lent);
     }
 
-    #[tactic(auto, using(crate::proofs::LossLemmas::loses_as_before))]
     fn attempt_held<C, X: TaskExchange<Task, C>, R: Wait>(
         &self,
         rt: &R,
         held: &mut Held<Competing<OneValue>, T>,
-        request: &mut Competitor,
+        place: &mut Option<Key>,
+        losses: &mut u32,
         exchange: &X,
         on: &mut C,
     ) -> Attempted<(), LockError>
@@ -131,12 +134,17 @@ impl<T: Drop> Mutex<T> {
         ensures seat { held.new.seat.table_id ≡ held.old.seat.table_id }
         ensures value { OnDone result (λ _. HasValueToo held.new.seat.me) }
         ensures serves { HasState (λ n q. ServesTheStarving n q.line) held.new.seat.me }
-        ensures done { OnDone result (λ _. request.new ≡ request.old) }
-        ensures waits { OnUndone result (LosesOnceAtMost request.old request.new) }
-        ensures refused { OnRefused result (request.new ≡ request.old) }
+        ensures place { place.new ≡ key_of result }
+        ensures done { OnDone result (λ _. losses.new ≡ losses.old) }
+        ensures loses { OnUndone result (HasState (λ _ q. losses.new
+            ≡ losses_after losses.old (coming_of place.old q.line)) held.old.seat.me) }
+        ensures none { OnUndone result
+            (HasState (λ _ q. coming_of place.old q.line ≡ Notified) held.old.seat.me
+            → HasState (λ n _. free_of n ≡ 0) held.new.seat.me) }
+        ensures refused { OnRefused result (losses.new ≡ losses.old) }
         ensures exchanged { Attempts (X.exchanged exchange.now) on.old result on.new }
     {
-        let arrival = self.word.come(held, &mut request.place, exchange, on);
+        let arrival = self.word.come(held, place, exchange, on);
         let coming = arrival.coming();
         if let Coming::Waits(key) = coming {
             return Attempted::Waits(key);
@@ -144,14 +152,14 @@ impl<T: Drop> Mutex<T> {
         if self.word.take_value(rt, held, coming.is_notified()) {
             return Attempted::Done(());
         }
-        match self.word.lose(held, request, arrival, exchange, on) {
+        match self.word.lose(held, place, losses, arrival, exchange, on) {
             Ok(key) => Attempted::Waits(key),
             Err(error) => Attempted::Refused(error),
         }
     }
 }
 
-impl<T: Drop> Serves<Competitor> for Mutex<T> {
+impl<T: Drop> Serves<Taker> for Mutex<T> {
     type Output = Lent<T>;
 
     type Refusal = LockError;
@@ -159,7 +167,7 @@ impl<T: Drop> Serves<Competitor> for Mutex<T> {
     ghost succeeds = { λ mutex before lent after. (after ≡ before)
         × (lent.table_id ≡ mutex.word.table.shared.table_id) × HasValue lent.me };
 
-    ghost waits = { LosesOnceAtMost };
+    ghost waits = { λ before after. LosesOnceAtMost before.competitor after.competitor };
 
     ghost leaves = { λ mutex before answer after. (after ≡ before)
         × IfSome answer (λ lent. (lent.table_id ≡ mutex.word.table.shared.table_id)
@@ -175,12 +183,13 @@ impl<T: Drop> Serves<Competitor> for Mutex<T> {
     fn attempt_or_wait<C, X: TaskExchange<Task, C>, R: Wait>(
         &self,
         rt: &R,
-        request: &mut Competitor,
+        request: &mut Taker,
         exchange: &X,
         on: &mut C,
     ) -> Attempted<Lent<T>, LockError> {
         let (_, mut held) = self.word.take(rt);
-        let attempted = self.attempt_held(rt, &mut held, request, exchange, on);
+        let Competitor { place, losses } = &mut request.competitor;
+        let attempted = self.attempt_held(rt, &mut held, place, losses, exchange, on);
         let lent = self.word.put_back(rt, held);
         match attempted {
             Attempted::Done(()) => Attempted::Done(lent),
@@ -190,34 +199,33 @@ impl<T: Drop> Serves<Competitor> for Mutex<T> {
         }
     }
 
-    fn leave<R: Wait>(
-        &self,
-        rt: &R,
-        request: &mut Competitor,
-    ) -> Result<Option<Lent<T>>, LockError> {
+    fn leave<R: Wait>(&self, rt: &R, request: &mut Taker) -> Result<Option<Lent<T>>, LockError> {
         let (_, mut held) = self.word.take(rt);
-        let coming = self.word.leave(&mut held, &mut request.place).coming();
+        let coming = self
+            .word
+            .leave(&mut held, &mut request.competitor.place)
+            .coming();
         let took = self.word.take_value(rt, &mut held, coming.is_notified());
         let lent = self.word.put_back(rt, held);
         Ok(if took { Some(lent) } else { None })
     }
 }
 
-impl<T: Drop> Tries<Competitor> for Mutex<T> {
+impl<T: Drop> Tries<Taker> for Mutex<T> {
     #[inline(always)]
-    fn is_waiting(&self, request: &Competitor) -> bool {
+    fn is_waiting(&self, request: &Taker) -> bool {
         request.is_waiting()
     }
 
     #[inline(always)]
-    fn attempt<R: Wait>(&self, _rt: &R, _request: &mut Competitor) -> Option<Lent<T>> {
+    fn attempt<R: Wait>(&self, _rt: &R, _request: &mut Taker) -> Option<Lent<T>> {
         self.word.try_value()
     }
 
-    fn give_up<R: Wait>(&self, rt: &R, request: &mut Competitor) {
+    fn give_up<R: Wait>(&self, rt: &R, request: &mut Taker) {
         if request.is_waiting() {
             let (_, mut held) = self.word.take(rt);
-            self.word.leave(&mut held, &mut request.place);
+            self.word.leave(&mut held, &mut request.competitor.place);
             drop(self.word.put_back(rt, held));
         }
     }

@@ -1,8 +1,10 @@
 //! A semaphore.
-ghost use Rattle.std.specs.Prelude.{◌≡◌, ◌<◌, true};
-ghost use Rattle.event_wait.specs.Attempted.{Attempts, OnDone, OnRefused, OnUndone};
+ghost use Rattle.std.specs.Prelude.{◌≡◌, ◌<◌, true, IfSome};
+ghost use Rattle.event_wait.specs.Attempted.{Attempts, OnDone, OnRefused, OnUndone, key_of};
 ghost use Rattle.event_locks.specs.Losses.{LosesOnceAtMost};
-ghost use Rattle.event_word.specs.Free.{ServesTheStarving, Stands};
+ghost use Rattle.event_word.specs.Competitor.{coming_of, losses_after};
+ghost use Rattle.event_word.specs.declared.line.competitor.Coming.TheVariants.{Notified};
+ghost use Rattle.event_word.specs.Free.{ServesTheStarving, Stands, free_of};
 ghost use Rattle.event_word.specs.Word.{HasState};
 
 mod acquire;
@@ -10,8 +12,9 @@ mod guard;
 
 pub use self::acquire::{Acquire, AcquireArc};
 pub use self::guard::{SemaphoreGuard, SemaphoreGuardArc};
+use crate::taker::Taker;
 use event_monitor::{Borrowed, Obtaining, Shared};
-use event_queue::TaskExchange;
+use event_queue::{Key, TaskExchange};
 use event_wait::{Attempted, LineSource, Serves, Task, Tries};
 use event_word::{Coming, Competing, Competitor, Counts, Held, LockError, Permit, Permits, Word};
 use std::alloc::{AllocError, Global};
@@ -87,7 +90,7 @@ impl Semaphore {
     /// A wait for a permit.
     #[inline(always)]
     pub fn acquire<'a, R: Wait + Clock>(&'a self, rt: &'a R, alloc: Global) -> Acquire<'a, R> {
-        Acquire::new(Obtaining::new(Borrowed { lock: self, rt }, alloc, Competitor::new()))
+        Acquire::new(Obtaining::new(Borrowed { lock: self, rt }, alloc, Taker::new()))
     }
 
     /// A wait for a permit that may go to another thread. It returns an error if no share of the semaphore can be made.
@@ -97,7 +100,7 @@ impl Semaphore {
         alloc: Global,
     ) -> Result<AcquireArc<R>, AllocError> {
         let lock = Arc::try_clone(this)?;
-        Ok(AcquireArc::new(Obtaining::new(Shared { lock, rt }, alloc, Competitor::new())))
+        Ok(AcquireArc::new(Obtaining::new(Shared { lock, rt }, alloc, Taker::new())))
     }
 
     /// Adds permits, all free at once, and notifies the first that wait of them. As many as
@@ -107,36 +110,44 @@ impl Semaphore {
     }
 
     #[inline(always)]
-    fn give_back<R: Wait>(&self, rt: &R, permit: Permit) {
+    fn give_back<R: Wait>(&self, rt: &R, permit: Permit)
+        requires { permit ≡ self.now.word.table.shared.table_id }
+    {
         self.word.give_permit(rt, permit);
     }
 
-    #[tactic(auto, using(crate::proofs::LossLemmas::loses_as_before))]
     fn attempt_held<C, X: TaskExchange<Task, C>, R: Wait>(
         &self,
         rt: &R,
         held: &mut Held<Competing<Permits>, ()>,
-        request: &mut Competitor,
+        place: &mut Option<Key>,
+        losses: &mut u32,
         exchange: &X,
         on: &mut C,
     ) -> Attempted<Permit, LockError>
         requires seat { held.old.seat.table_id ≡ self.now.word.table.shared.table_id }
         requires stands { HasState (λ n q. Stands n q.line) held.old.seat.me }
         ensures seat { held.new.seat.table_id ≡ held.old.seat.table_id }
+        ensures own { OnDone result (λ permit. permit ≡ self.now.word.table.shared.table_id) }
         ensures serves { HasState (λ n q. ServesTheStarving n q.line) held.new.seat.me }
-        ensures done { OnDone result (λ _. request.new ≡ request.old) }
-        ensures waits { OnUndone result (LosesOnceAtMost request.old request.new) }
-        ensures refused { OnRefused result (request.new ≡ request.old) }
+        ensures place { place.new ≡ key_of result }
+        ensures done { OnDone result (λ _. losses.new ≡ losses.old) }
+        ensures loses { OnUndone result (HasState (λ _ q. losses.new
+            ≡ losses_after losses.old (coming_of place.old q.line)) held.old.seat.me) }
+        ensures none { OnUndone result
+            (HasState (λ _ q. coming_of place.old q.line ≡ Notified) held.old.seat.me
+            → HasState (λ n _. free_of n ≡ 0) held.new.seat.me) }
+        ensures refused { OnRefused result (losses.new ≡ losses.old) }
         ensures exchanged { Attempts (X.exchanged exchange.now) on.old result on.new }
     {
-        let arrival = self.word.come(held, &mut request.place, exchange, on);
+        let arrival = self.word.come(held, place, exchange, on);
         let coming = arrival.coming();
         if let Coming::Waits(key) = coming {
             return Attempted::Waits(key);
         }
         match self.word.take_permit(rt, held, coming.is_notified()) {
             Some(permit) => Attempted::Done(permit),
-            None => match self.word.lose(held, request, arrival, exchange, on) {
+            None => match self.word.lose(held, place, losses, arrival, exchange, on) {
                 Ok(key) => Attempted::Waits(key),
                 Err(error) => Attempted::Refused(error),
             },
@@ -144,16 +155,18 @@ impl Semaphore {
     }
 }
 
-impl Serves<Competitor> for Semaphore {
+impl Serves<Taker> for Semaphore {
     type Output = Permit;
 
     type Refusal = LockError;
 
-    ghost succeeds = { λ _ before _ after. after ≡ before };
+    ghost succeeds = { λ semaphore before permit after. (after ≡ before)
+        × (permit ≡ semaphore.word.table.shared.table_id) };
 
-    ghost waits = { LosesOnceAtMost };
+    ghost waits = { λ before after. LosesOnceAtMost before.competitor after.competitor };
 
-    ghost leaves = { λ _ before _ after. after ≡ before };
+    ghost leaves = { λ semaphore before answer after. (after ≡ before)
+        × IfSome answer (λ permit. permit ≡ semaphore.word.table.shared.table_id) };
 
     ghost source = { λ semaphore. semaphore.source };
 
@@ -165,44 +178,44 @@ impl Serves<Competitor> for Semaphore {
     fn attempt_or_wait<C, X: TaskExchange<Task, C>, R: Wait>(
         &self,
         rt: &R,
-        request: &mut Competitor,
+        request: &mut Taker,
         exchange: &X,
         on: &mut C,
     ) -> Attempted<Permit, LockError> {
         let (_, mut held) = self.word.take(rt);
-        let attempted = self.attempt_held(rt, &mut held, request, exchange, on);
+        let Competitor { place, losses } = &mut request.competitor;
+        let attempted = self.attempt_held(rt, &mut held, place, losses, exchange, on);
         drop(self.word.put_back(rt, held));
         attempted
     }
 
-    fn leave<R: Wait>(
-        &self,
-        rt: &R,
-        request: &mut Competitor,
-    ) -> Result<Option<Permit>, LockError> {
+    fn leave<R: Wait>(&self, rt: &R, request: &mut Taker) -> Result<Option<Permit>, LockError> {
         let (_, mut held) = self.word.take(rt);
-        let coming = self.word.leave(&mut held, &mut request.place).coming();
+        let coming = self
+            .word
+            .leave(&mut held, &mut request.competitor.place)
+            .coming();
         let permit = self.word.take_permit(rt, &mut held, coming.is_notified());
         drop(self.word.put_back(rt, held));
         Ok(permit)
     }
 }
 
-impl Tries<Competitor> for Semaphore {
+impl Tries<Taker> for Semaphore {
     #[inline(always)]
-    fn is_waiting(&self, request: &Competitor) -> bool {
+    fn is_waiting(&self, request: &Taker) -> bool {
         request.is_waiting()
     }
 
     #[inline(always)]
-    fn attempt<R: Wait>(&self, _rt: &R, _request: &mut Competitor) -> Option<Permit> {
+    fn attempt<R: Wait>(&self, _rt: &R, _request: &mut Taker) -> Option<Permit> {
         self.word.try_permit()
     }
 
-    fn give_up<R: Wait>(&self, rt: &R, request: &mut Competitor) {
+    fn give_up<R: Wait>(&self, rt: &R, request: &mut Taker) {
         if request.is_waiting() {
             let (_, mut held) = self.word.take(rt);
-            self.word.leave(&mut held, &mut request.place);
+            self.word.leave(&mut held, &mut request.competitor.place);
             drop(self.word.put_back(rt, held));
         }
     }

@@ -4,8 +4,9 @@ ghost use Rattle.std.specs.Arc.{arc_value};
 
 use super::Mutex;
 use super::guard::{MutexGuard, MutexGuardArc};
+use crate::taker::Taker;
 use event_monitor::{Borrowed, Obtaining, Shared};
-use event_word::{Competitor, LockError};
+use event_word::LockError;
 use futures::Future;
 use futures::task::{Context, Poll};
 use std::sync::Wait;
@@ -20,21 +21,19 @@ use std::time::{Clock, Duration, Instant};
 #[must_use = "nothing is asked for until it is waited on or polled"]
 #[derive(Drop)]
 pub struct Lock<'a, T: Drop, R: Wait + Clock> {
-    obtaining: Obtaining<Mutex<T>, Competitor, Borrowed<'a, Mutex<T>, R>>,
+    obtaining: Obtaining<Mutex<T>, Taker, Borrowed<'a, Mutex<T>, R>>,
 }
 
 /// A wait for the value of a mutex that shares the mutex, and so may go to another thread; else as [`Lock`].
 #[must_use = "nothing is asked for until it is waited on or polled"]
 #[derive(Drop)]
 pub struct LockArc<T: Drop, R: Wait + Clock + Drop> {
-    obtaining: Obtaining<Mutex<T>, Competitor, Shared<Mutex<T>, R>>,
+    obtaining: Obtaining<Mutex<T>, Taker, Shared<Mutex<T>, R>>,
 }
 
 impl<'a, T: Drop, R: Wait + Clock> Lock<'a, T, R> {
     #[inline(always)]
-    pub(crate) fn new(
-        obtaining: Obtaining<Mutex<T>, Competitor, Borrowed<'a, Mutex<T>, R>>,
-    ) -> Self {
+    pub(crate) fn new(obtaining: Obtaining<Mutex<T>, Taker, Borrowed<'a, Mutex<T>, R>>) -> Self {
         Lock { obtaining }
     }
 
@@ -76,7 +75,7 @@ impl<'a, T: Drop, R: Wait + Clock> Lock<'a, T, R> {
 }
 
 impl<T: Drop, R: Wait + Clock + Drop> LockArc<T, R> {
-    pub(crate) fn new(obtaining: Obtaining<Mutex<T>, Competitor, Shared<Mutex<T>, R>>) -> Self {
+    pub(crate) fn new(obtaining: Obtaining<Mutex<T>, Taker, Shared<Mutex<T>, R>>) -> Self {
         LockArc { obtaining }
     }
 

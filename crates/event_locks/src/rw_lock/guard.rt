@@ -1,5 +1,6 @@
 //! The value of a read-write lock, with those that have it.
 ghost use Rattle.std.specs.Prelude.{◌≡◌};
+ghost use Rattle.std.specs.Arc.{arc_value};
 ghost use Rattle.std.specs.Fn.{FnOnceReturnsAt, FnOnceReturnsAtMut};
 ghost use Rattle.event_locks.specs.Reads.{Reads};
 ghost use Rattle.event_monitor.specs.Watched.{Changes};
@@ -14,36 +15,59 @@ use std::ops::{Deref, DerefMut};
 use std::sync::{self, Wait};
 use std::time::Clock;
 
+// Where a right to read goes back.
+struct Reading<'a, T, R> {
+    hold: Borrowed<'a, RwLock<T>, R>,
+    share: ReadShare,
+    ghost own: { share ≡ hold.lock.now.word.table.shared.table_id },
+}
+
+// Where a right to write goes back.
+struct Writing<'a, T, R> {
+    hold: Borrowed<'a, RwLock<T>, R>,
+    share: WriteShare,
+    ghost own: { share ≡ hold.lock.now.word.table.shared.table_id },
+}
+
+// The same, with a share of the lock.
+struct ReadingArc<T, R> {
+    hold: Shared<RwLock<T>, R>,
+    share: ReadShare,
+    ghost own: { share ≡ (arc_value hold.lock).word.table.shared.table_id },
+}
+
+struct WritingArc<T, R> {
+    hold: Shared<RwLock<T>, R>,
+    share: WriteShare,
+    ghost own: { share ≡ (arc_value hold.lock).word.table.shared.table_id },
+}
+
 /// The value of a read-write lock, to be read. Dropping the guard ends the reading. A contract sees the value.
 #[must_use = "a guard that is dropped at once ends the reading"]
 pub struct RwLockReadGuard<'a, T, R: Wait + Clock> {
     value: sync::RwLockReadGuard<'a, T>,
-    hold: Borrowed<'a, RwLock<T>, R>,
-    share: ReadShare,
+    place: Reading<'a, T, R>,
 }
 
 /// The value of a read-write lock, to be written. Dropping the guard ends the writing. A contract sees the value.
 #[must_use = "a guard that is dropped at once ends the writing"]
 pub struct RwLockWriteGuard<'a, T, R: Wait + Clock> {
     value: sync::RwLockWriteGuard<'a, T>,
-    hold: Borrowed<'a, RwLock<T>, R>,
-    share: WriteShare,
+    place: Writing<'a, T, R>,
 }
 
 /// The right to read the value of a read-write lock, which shares the lock and so may go to another thread. Dropping it ends the
 /// reading.
 #[must_use = "a guard that is dropped at once ends the reading"]
 pub struct RwLockReadGuardArc<T: Drop, R: Wait + Clock + Drop> {
-    hold: Shared<RwLock<T>, R>,
-    share: ReadShare,
+    place: ReadingArc<T, R>,
 }
 
 /// The right to write the value of a read-write lock, which shares the lock and so may go to another thread. Dropping it ends the
 /// writing.
 #[must_use = "a guard that is dropped at once ends the writing"]
 pub struct RwLockWriteGuardArc<T: Drop, R: Wait + Clock + Drop> {
-    hold: Shared<RwLock<T>, R>,
-    share: WriteShare,
+    place: WritingArc<T, R>,
 }
 
 impl<'a, T, R: Wait + Clock> Model for RwLockReadGuard<'a, T, R> {
@@ -64,18 +88,24 @@ impl<'a, T, R: Wait + Clock> Model for RwLockWriteGuard<'a, T, R> {
 
 impl<'a, T, R: Wait + Clock> RwLockReadGuard<'a, T, R> {
     #[inline(always)]
-    pub(crate) fn new(hold: Borrowed<'a, RwLock<T>, R>, share: ReadShare) -> Self {
+    pub(crate) fn new(hold: Borrowed<'a, RwLock<T>, R>, share: ReadShare) -> Self
+        requires { share ≡ hold.lock.now.word.table.shared.table_id }
+    {
         let value = match hold.lock.value.try_read() {
             Some(value) => value,
             None => hold.lock.value.read(hold.rt),
         };
-        RwLockReadGuard { value, hold, share }
+        RwLockReadGuard {
+            value,
+            place: Reading { hold, share },
+        }
     }
 
     /// Writes from here on, if nobody else reads and no writer waits; else the guard comes back. Where others wait it may wait
     /// for the queues. It takes no memory.
     pub fn try_upgrade(self) -> Result<RwLockWriteGuard<'a, T, R>, RwLockReadGuard<'a, T, R>> {
-        let RwLockReadGuard { value, hold, share } = self;
+        let RwLockReadGuard { value, place } = self;
+        let Reading { hold, share } = place;
         drop(value);
         match hold.lock.word.try_upgrade(hold.rt, share) {
             Ok(share) => Ok(RwLockWriteGuard::new(hold, share)),
@@ -86,18 +116,24 @@ impl<'a, T, R: Wait + Clock> RwLockReadGuard<'a, T, R> {
 
 impl<'a, T, R: Wait + Clock> RwLockWriteGuard<'a, T, R> {
     #[inline(always)]
-    pub(crate) fn new(hold: Borrowed<'a, RwLock<T>, R>, share: WriteShare) -> Self {
+    pub(crate) fn new(hold: Borrowed<'a, RwLock<T>, R>, share: WriteShare) -> Self
+        requires { share ≡ hold.lock.now.word.table.shared.table_id }
+    {
         let value = match hold.lock.value.try_write() {
             Some(value) => value,
             None => hold.lock.value.write(hold.rt),
         };
-        RwLockWriteGuard { value, hold, share }
+        RwLockWriteGuard {
+            value,
+            place: Writing { hold, share },
+        }
     }
 
     /// Reads from here on, with no writer in between. All readers that wait are let in. Where others wait it may wait for the
     /// queues.
     pub fn downgrade(self) -> RwLockReadGuard<'a, T, R> {
-        let RwLockWriteGuard { value, hold, share } = self;
+        let RwLockWriteGuard { value, place } = self;
+        let Writing { hold, share } = place;
         drop(value);
         let share = hold.lock.word.downgrade(hold.rt, share);
         RwLockReadGuard::new(hold, share)
@@ -105,8 +141,12 @@ impl<'a, T, R: Wait + Clock> RwLockWriteGuard<'a, T, R> {
 }
 
 impl<T: Drop, R: Wait + Clock + Drop> RwLockReadGuardArc<T, R> {
-    pub(crate) fn new(hold: Shared<RwLock<T>, R>, share: ReadShare) -> Self {
-        RwLockReadGuardArc { hold, share }
+    pub(crate) fn new(hold: Shared<RwLock<T>, R>, share: ReadShare) -> Self
+        requires { share ≡ (arc_value hold.lock).word.table.shared.table_id }
+    {
+        RwLockReadGuardArc {
+            place: ReadingArc { hold, share },
+        }
     }
 
     /// Lends the value, and returns what `read` returns. It waits for nobody: who may read has been settled before.
@@ -114,26 +154,32 @@ impl<T: Drop, R: Wait + Clock + Drop> RwLockReadGuardArc<T, R> {
         requires { F.IsAlwaysCallable read }
         ensures { Reads F.FnOnce read result }
     {
-        let lock = &self.hold.lock.value;
+        let hold = &self.place.hold;
+        let lock = &hold.lock.value;
         match lock.try_read() {
             Some(value) => lend(&*value, read),
-            None => lend(&*lock.read(&self.hold.rt), read),
+            None => lend(&*lock.read(&hold.rt), read),
         }
     }
 
     /// As [`RwLockReadGuard::try_upgrade`].
     pub fn try_upgrade(self) -> Result<RwLockWriteGuardArc<T, R>, RwLockReadGuardArc<T, R>> {
-        let RwLockReadGuardArc { hold, share } = self;
+        let RwLockReadGuardArc { place } = self;
+        let ReadingArc { hold, share } = place;
         match hold.lock.word.try_upgrade(&hold.rt, share) {
-            Ok(share) => Ok(RwLockWriteGuardArc { hold, share }),
-            Err(share) => Err(RwLockReadGuardArc { hold, share }),
+            Ok(share) => Ok(RwLockWriteGuardArc::new(hold, share)),
+            Err(share) => Err(RwLockReadGuardArc::new(hold, share)),
         }
     }
 }
 
 impl<T: Drop, R: Wait + Clock + Drop> RwLockWriteGuardArc<T, R> {
-    pub(crate) fn new(hold: Shared<RwLock<T>, R>, share: WriteShare) -> Self {
-        RwLockWriteGuardArc { hold, share }
+    pub(crate) fn new(hold: Shared<RwLock<T>, R>, share: WriteShare) -> Self
+        requires { share ≡ (arc_value hold.lock).word.table.shared.table_id }
+    {
+        RwLockWriteGuardArc {
+            place: WritingArc { hold, share },
+        }
     }
 
     /// Lends the value, and returns what `write` returns. It waits for nobody: who may write has been settled before.
@@ -141,18 +187,20 @@ impl<T: Drop, R: Wait + Clock + Drop> RwLockWriteGuardArc<T, R> {
         requires { F.IsAlwaysCallable write }
         ensures { Changes F.FnOnce write result }
     {
-        let lock = &self.hold.lock.value;
+        let hold = &self.place.hold;
+        let lock = &hold.lock.value;
         match lock.try_write() {
             Some(mut value) => lend_mut(&mut *value, write),
-            None => lend_mut(&mut *lock.write(&self.hold.rt), write),
+            None => lend_mut(&mut *lock.write(&hold.rt), write),
         }
     }
 
     /// As [`RwLockWriteGuard::downgrade`].
     pub fn downgrade(self) -> RwLockReadGuardArc<T, R> {
-        let RwLockWriteGuardArc { hold, share } = self;
+        let RwLockWriteGuardArc { place } = self;
+        let WritingArc { hold, share } = place;
         let share = hold.lock.word.downgrade(&hold.rt, share);
-        RwLockReadGuardArc { hold, share }
+        RwLockReadGuardArc::new(hold, share)
     }
 }
 
@@ -205,7 +253,8 @@ impl<T, R: Wait + Clock> DerefMut for RwLockWriteGuard<'_, T, R> {
 impl<T, R: Wait + Clock> Drop for RwLockReadGuard<'_, T, R> {
     #[inline(always)]
     fn drop(self) {
-        let RwLockReadGuard { value, hold, share } = self;
+        let RwLockReadGuard { value, place } = self;
+        let Reading { hold, share } = place;
         drop(value);
         hold.lock.word.end_reading(hold.rt, share);
     }
@@ -214,7 +263,8 @@ impl<T, R: Wait + Clock> Drop for RwLockReadGuard<'_, T, R> {
 impl<T, R: Wait + Clock> Drop for RwLockWriteGuard<'_, T, R> {
     #[inline(always)]
     fn drop(self) {
-        let RwLockWriteGuard { value, hold, share } = self;
+        let RwLockWriteGuard { value, place } = self;
+        let Writing { hold, share } = place;
         drop(value);
         hold.lock.word.end_writing(hold.rt, share);
     }
@@ -222,14 +272,16 @@ impl<T, R: Wait + Clock> Drop for RwLockWriteGuard<'_, T, R> {
 
 impl<T: Drop, R: Wait + Clock + Drop> Drop for RwLockReadGuardArc<T, R> {
     fn drop(self) {
-        let RwLockReadGuardArc { hold, share } = self;
+        let RwLockReadGuardArc { place } = self;
+        let ReadingArc { hold, share } = place;
         hold.lock.word.end_reading(&hold.rt, share);
     }
 }
 
 impl<T: Drop, R: Wait + Clock + Drop> Drop for RwLockWriteGuardArc<T, R> {
     fn drop(self) {
-        let RwLockWriteGuardArc { hold, share } = self;
+        let RwLockWriteGuardArc { place } = self;
+        let WritingArc { hold, share } = place;
         hold.lock.word.end_writing(&hold.rt, share);
     }
 }

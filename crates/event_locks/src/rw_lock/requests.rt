@@ -1,5 +1,5 @@
 //! One that would read, and one that would write.
-ghost use Rattle.std.specs.Prelude.{◌≡◌, ◌*◌, IfOk, IsTrue, OnErr};
+ghost use Rattle.std.specs.Prelude.{◌≡◌, ◌*◌, IfOk, IfSome, IsTrue, OnErr};
 ghost use Rattle.atomic_table.specs.Table.{rest};
 ghost use Rattle.event_word.specs.Attempted.{gained};
 ghost use Rattle.event_word.specs.Line.{Looked, left_by};
@@ -57,11 +57,13 @@ impl<T> Serves<Reader> for RwLock<T> {
 
     type Refusal = LockError;
 
-    ghost succeeds = { λ _ before _ after. after ≡ before };
+    ghost succeeds = { λ lock before share after. (after ≡ before)
+        × (share ≡ lock.word.table.shared.table_id) };
 
     ghost waits = { λ before after. after ≡ before };
 
-    ghost leaves = { λ _ before _ after. after ≡ before };
+    ghost leaves = { λ lock before answer after. (after ≡ before)
+        × IfSome answer (λ share. share ≡ lock.word.table.shared.table_id) };
 
     ghost source = { λ lock. lock.source };
 
@@ -124,11 +126,13 @@ impl<T> Serves<Writer> for RwLock<T> {
 
     type Refusal = LockError;
 
-    ghost succeeds = { λ _ before _ after. after ≡ before };
+    ghost succeeds = { λ lock before share after. (after ≡ before)
+        × (share ≡ lock.word.table.shared.table_id) };
 
     ghost waits = { λ before after. after ≡ before };
 
-    ghost leaves = { λ _ before _ after. after ≡ before };
+    ghost leaves = { λ lock before answer after. (after ≡ before)
+        × IfSome answer (λ share. share ≡ lock.word.table.shared.table_id) };
 
     ghost source = { λ lock. lock.source };
 

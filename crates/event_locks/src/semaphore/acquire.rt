@@ -4,8 +4,9 @@ ghost use Rattle.std.specs.Arc.{arc_value};
 
 use super::Semaphore;
 use super::guard::{SemaphoreGuard, SemaphoreGuardArc};
+use crate::taker::Taker;
 use event_monitor::{Borrowed, Obtaining, Shared};
-use event_word::{Competitor, LockError};
+use event_word::LockError;
 use futures::Future;
 use futures::task::{Context, Poll};
 use std::sync::Wait;
@@ -20,21 +21,19 @@ use std::time::{Clock, Duration, Instant};
 #[must_use = "nothing is asked for until it is waited on or polled"]
 #[derive(Drop)]
 pub struct Acquire<'a, R: Wait + Clock> {
-    obtaining: Obtaining<Semaphore, Competitor, Borrowed<'a, Semaphore, R>>,
+    obtaining: Obtaining<Semaphore, Taker, Borrowed<'a, Semaphore, R>>,
 }
 
 /// A wait for a permit that shares its semaphore, and so may go to another thread; else as [`Acquire`].
 #[must_use = "nothing is asked for until it is waited on or polled"]
 #[derive(Drop)]
 pub struct AcquireArc<R: Wait + Clock + Drop> {
-    obtaining: Obtaining<Semaphore, Competitor, Shared<Semaphore, R>>,
+    obtaining: Obtaining<Semaphore, Taker, Shared<Semaphore, R>>,
 }
 
 impl<'a, R: Wait + Clock> Acquire<'a, R> {
     #[inline(always)]
-    pub(crate) fn new(
-        obtaining: Obtaining<Semaphore, Competitor, Borrowed<'a, Semaphore, R>>,
-    ) -> Self {
+    pub(crate) fn new(obtaining: Obtaining<Semaphore, Taker, Borrowed<'a, Semaphore, R>>) -> Self {
         Acquire { obtaining }
     }
 
@@ -76,7 +75,7 @@ impl<'a, R: Wait + Clock> Acquire<'a, R> {
 }
 
 impl<R: Wait + Clock + Drop> AcquireArc<R> {
-    pub(crate) fn new(obtaining: Obtaining<Semaphore, Competitor, Shared<Semaphore, R>>) -> Self {
+    pub(crate) fn new(obtaining: Obtaining<Semaphore, Taker, Shared<Semaphore, R>>) -> Self {
         AcquireArc { obtaining }
     }
 

@@ -1,4 +1,7 @@
 //! Permits that were taken.
+ghost use Rattle.std.specs.Prelude.{◌≡◌};
+ghost use Rattle.std.specs.Arc.{arc_value};
+
 use super::Semaphore;
 use event_monitor::{Borrowed, Hold, Shared};
 use event_word::Permit;
@@ -13,6 +16,7 @@ use std::time::Clock;
 pub struct SemaphoreGuard<'a, R: Wait + Clock> {
     hold: Borrowed<'a, Semaphore, R>,
     permit: Permit,
+    ghost own: { permit ≡ hold.lock.now.word.table.shared.table_id },
 }
 
 /// A permit that shares its semaphore, and so may go to another thread. Dropping it gives the permit back.
@@ -20,11 +24,14 @@ pub struct SemaphoreGuard<'a, R: Wait + Clock> {
 pub struct SemaphoreGuardArc<R: Wait + Clock + Drop> {
     hold: Shared<Semaphore, R>,
     permit: Permit,
+    ghost own: { permit ≡ (arc_value hold.lock).word.table.shared.table_id },
 }
 
 impl<'a, R: Wait + Clock> SemaphoreGuard<'a, R> {
     #[inline(always)]
-    pub(crate) fn new(hold: Borrowed<'a, Semaphore, R>, permit: Permit) -> Self {
+    pub(crate) fn new(hold: Borrowed<'a, Semaphore, R>, permit: Permit) -> Self
+        requires { permit ≡ hold.lock.now.word.table.shared.table_id }
+    {
         SemaphoreGuard { hold, permit }
     }
 
@@ -36,7 +43,9 @@ impl<'a, R: Wait + Clock> SemaphoreGuard<'a, R> {
 }
 
 impl<R: Wait + Clock + Drop> SemaphoreGuardArc<R> {
-    pub(crate) fn new(hold: Shared<Semaphore, R>, permit: Permit) -> Self {
+    pub(crate) fn new(hold: Shared<Semaphore, R>, permit: Permit) -> Self
+        requires { permit ≡ (arc_value hold.lock).word.table.shared.table_id }
+    {
         SemaphoreGuardArc { hold, permit }
     }
 
