@@ -205,9 +205,13 @@ module _ {S C : Type 0} (starts : S → Type 0) (goes : S → C → S → Type 0
       let own : IsOut h.1 h.2 id (q ∷ []) = subst (λ (o : List S). IsOut h.1 h.2 id o) has (h.4 id m.0 me) in
       subst (λ (y : S). LeadsTo goes starts log y) (sym own.1) h.3
 
+  -- of the start less may be said
+  began : (begins : S → Type 0) → ((q : S) → starts q → begins q) → (log : List (Entry C)) (t : S) → LeadsTo goes starts log t → LeadsTo goes begins log t
+  began begins weaker log t (s, is, runs) = (s, weaker s is, runs)
+
   -- a seat gives the state back after a call
-  pub puts : (n id : ℕ) (m : M) (made : C → Type 0) (q r : S) (call : C) → made call → m.0.out ≡ q ∷ [] → m.1 ≡ (0, r) ∷ [] → goes q call r → m.0.spent ≡ false → AreAmong (rests call) m.0.mine → Allows Law n id m 0 (λ _. 0) (extended starts goes rests made (step n 0 0 0 none) m)
-  puts n id m made q r call is has holds g alive among s k wide me word =
+  pub puts : (begins : S → Type 0) → ((q : S) → starts q → begins q) → (n id : ℕ) (m : M) (made : C → Type 0) (q r : S) (call : C) → made call → m.0.out ≡ q ∷ [] → m.1 ≡ (0, r) ∷ [] → goes q call r → m.0.spent ≡ false → AreAmong (rests call) m.0.mine → Allows Law n id m 0 (λ _. 0) (extended begins goes rests made (step n 0 0 0 none) m)
+  puts begins weaker n id m made q r call is has holds g alive among s k wide me word =
       let e : Entry C = entry id call in
       let log' : List (Entry C) = k.log ++ e ∷ [] in
       let found = get_or s.words 0 0 in
@@ -246,7 +250,7 @@ module _ {S C : Type 0} (starts : S → Type 0) (goes : S → C → S → Type 0
               mine = refl;
               each_once = own;
               idle = (refl, refl, refl, refl);
-              runs = subst (λ (l : List (Entry C)). LeadsTo goes starts l q) fit.begins.1 (outside id m q has (get_or s.words 0 0) s.homes s.views k.log me k.stands);
+              runs = began begins weaker _ q (subst (λ (l : List (Entry C)). LeadsTo goes starts l q) fit.begins.1 (outside id m q has (get_or s.words 0 0) s.homes s.views k.log me k.stands));
               step = g;
               rested = rested;
             },
@@ -262,8 +266,8 @@ module _ {S C : Type 0} (starts : S → Type 0) (goes : S → C → S → Type 0
   leads x (some q ∷ hs) vs log h = (q, h.1)
 
   -- a seat sees the history so far
-  pub looks : (n id : ℕ) (m : M) → m.0.spent ≡ false → Allows Law n id m 0 (λ y. y) (looked starts goes rests (step n 0 0 0 none) m)
-  looks n id m alive s k wide me word =
+  pub looks : (begins : S → Type 0) → ((q : S) → starts q → begins q) → (n id : ℕ) (m : M) → m.0.spent ≡ false → Allows Law n id m 0 (λ y. y) (looked begins goes rests (step n 0 0 0 none) m)
+  looks begins weaker n id m alive s k wide me word =
       let w : V = record m.0 { by = id ∷ []; seen = k.log } in
       let fit = k.fits id m.0 me in
       let end = leads (get_or s.words 0 0) s.homes s.views k.log k.stands in (
@@ -284,7 +288,7 @@ module _ {S C : Type 0} (starts : S → Type 0) (goes : S → C → S → Type 0
             each_once = fit.own alive;
             idle = (refl, refl, refl, refl);
             led = end.0;
-            runs = end.1;
+            runs = began begins weaker _ _ end.1;
             rested = k.rested;
             others = fit.others;
             met = each_stood s.views k.log fit.others m.0.met fit.met;

@@ -1,5 +1,5 @@
 -- Which listeners the calls of a hand leave in the queue.
-use Rattle.std.proofs.Common.{◌≡◌, ◌≢◌, ◌⊎◌, Bool, List, [], ◌∷◌, ◌++◌, true≢false, refl, sym, ap, subst, inl, inr, ⊎_elim, Option, Some, None, Result, Ok, Err}
+use Rattle.std.proofs.Common.{◌≢◌, Bool, List, [], ◌∷◌, ◌++◌, true≢false, refl, sym, subst, inl, inr, ⊎_elim, Option, Some, None, Ok, Err}
 use Rattle.event_queue.specs.declared.key.Key.{Key}
 use Rattle.event_queue.specs.declared.reply.State.{State}
 use Rattle.event_queue.specs.declared.reply.RegisterResult.{RegisterResult}
@@ -8,7 +8,7 @@ use Rattle.event_queue.specs.Queue.{Queue}
 use Rattle.event_history.specs.declared.history.View.{View}
 use Rattle.event_history.specs.declared.queue_call.QueueCall.{QueueCall}
 use Rattle.event_history.specs.declared.queue_call.QueueCall.TheVariants as call
-use Rattle.event_history.specs.History.{Leads, Looks}
+use Rattle.event_history.specs.History.{Leads}
 use Rattle.event_history.specs.Queue.{calls, is_empty, rests_on, TakesOut, IsTakenOut, LeavesNone, NoneLeft, LeavesOnly, OnlyLeft}
 use Rattle.event_history.specs.Laws.{OwnsListener}
 use Rattle.event_history.proofs.LawsOwn.{joins, own_registered, own_removed}

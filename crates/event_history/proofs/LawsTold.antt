@@ -120,7 +120,7 @@ module _ {T W : Type 0} where
   was_in old key propagate (was.Passed other) new s = let f = found_value (lookup (is_key key) old.told) (λ n. PassesTo (other ∷ []) n (told_leaves key old) new) s.1 in inr (ap is_some f.1)
   was_in old key propagate (was.Lost additional tag) new s = inr (ap is_some s.1)
 
-  removed_gone : (old : Queue T W) (key : Key) (propagate : Bool) (state : State T W) (new : Queue T W) → IsSound old → Removes old key propagate (Some state) new → IsGone key new
+  pub removed_gone : (old : Queue T W) (key : Key) (propagate : Bool) (state : State T W) (new : Queue T W) → IsSound old → Removes old key propagate (Some state) new → IsGone key new
   removed_gone old key propagate state new (inl queue) s = Removes-gone old key propagate (Some state) new queue s
   removed_gone old key propagate state new (inr empty) s = absurd (⊎_elim (λ w. nobody_waits key old empty w) (λ t. nobody_told key old empty t) (was_in old key propagate state new s))
 
@@ -234,7 +234,7 @@ module _ {T W : Type 0} where
   each_more key [] e each stays = (stays, tt)
   each_more key (x ∷ xs) e each stays = (each.0, each_more key xs e each.1 stays)
 
-  run_more : (log : QueueLog T W) (e : Entry (QueueCall T W)) (s m t : Queue T W) → Runs calls s log m → calls m e.call t → Runs calls s (log ++ e ∷ []) t
+  pub run_more : (log : QueueLog T W) (e : Entry (QueueCall T W)) (s m t : Queue T W) → Runs calls s log m → calls m e.call t → Runs calls s (log ++ e ∷ []) t
   run_more [] e s m t run step = (t, subst (λ (x : Queue T W). calls x e.call t) (sym run) step, refl)
   run_more (x ∷ xs) e s m t run step = (run.0, run.1, run_more xs e run.0 m t run.2 step)
 

@@ -64,7 +64,7 @@ module _ {T W : Type 0} where
   told_run key [] q r told run stays = told_to key q r (sym run) told
   told_run key (e ∷ es) q r told run stays = told_run key es run.0 r (told_step key q run.0 e.call run.1.0 stays.0 told) run.2 stays.1
 
-  stays_parts : (key : Key) (front back : QueueLog T W) → EachStays key (front ++ back) → EachStays key front × EachStays key back
+  pub stays_parts : (key : Key) (front back : QueueLog T W) → EachStays key (front ++ back) → EachStays key front × EachStays key back
   stays_parts key [] back stays = (tt, stays)
   stays_parts key (e ∷ es) back stays = let rest = stays_parts key es back stays.1 in ((stays.0, rest.0), rest.1)
 
@@ -82,10 +82,10 @@ module _ {T W : Type 0} where
       (cut l.earlier l.later earlier later (entry l.by (joins key)) (entry n (joins key)) whole)
 
   -- the run of a history, cut in two
-  abbrev Parts : QueueLog T W → QueueLog T W → Queue T W → Type 0
+  abbrev pub Parts : QueueLog T W → QueueLog T W → Queue T W → Type 0
   Parts earlier later q = (m : Queue T W) × LeadsTo calls is_empty earlier m × Runs calls m later q
 
-  parts : (log earlier later : QueueLog T W) (q : Queue T W) → LeadsTo calls is_empty log q → log ≡ earlier ++ later → Parts earlier later q
+  pub parts : (log earlier later : QueueLog T W) (q : Queue T W) → LeadsTo calls is_empty log q → log ≡ earlier ++ later → Parts earlier later q
   parts log earlier later q leads is =
       let whole : Runs calls leads.0 (earlier ++ later) q = subst (λ (es : QueueLog T W). Runs calls leads.0 es q) is leads.2 in
       let split = run_split earlier later leads.0 q whole in
@@ -132,7 +132,7 @@ module _ {T W : Type 0} where
   told_removed key log q next propagate (Some (was.Passed to)) leads told s = s.0.0
   told_removed key log q next propagate (Some (was.Lost additional tag)) leads told s = s.0.0
 
-  length-order : (q : Queue T W) → length (order_of q) ≡ listeners_of q
+  pub length-order : (q : Queue T W) → length (order_of q) ≡ listeners_of q
   length-order q = omega (arith, length-append (keys_of q.told) (keys_of q.waiting), length-map q.told (λ e. e.0), length-map q.waiting (λ e. e.0))
 
   -- a notification leaves as many listeners as there were

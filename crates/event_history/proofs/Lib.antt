@@ -3,6 +3,7 @@ mod Keeps
 mod LawsOneOrder
 mod LawsOrder
 pub mod LawsLeft
+mod LawsNext
 pub mod LawsOwn
 mod LawsPassing
 mod LawsStays

@@ -1,5 +1,5 @@
 -- What each call on a queue does to its two lists.
-use Rattle.std.specs.Prelude.{◌≡◌, ◌⊎◌, ◌<◌, ℕ, Bool, List, [], ◌∷◌, length, Option, Some, Result, Ok, Err, IsSomeAnd}
+use Rattle.std.specs.Prelude.{◌≡◌, ◌⊎◌, ◌<◌, ℕ, Bool, List, [], ◌∷◌, length, Some, Result, Ok, Err, IsSomeAnd}
 use Rattle.std.specs.Map.{lookup}
 use Rattle.event_queue.specs.declared.key.Key.{Key}
 use Rattle.event_queue.specs.declared.reply.RegisterResult.{RegisterResult}

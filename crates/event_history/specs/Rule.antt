@@ -104,8 +104,11 @@ module _ {S C : Type 0} where
     Returns m call w = (q : S) × (r : S) × (m.0.out ≡ q ∷ []) × (m.1 ≡ (0, r) ∷ []) × Leads goes starts rests m.0 call q r w
 
     -- by a call of which this was said; where the word was 2, the seat owes the mark that it wrote over
+    abbrev pub PutsBack : (C → Type 0) → Sat S C → ℕ → Sat S C → Type 0
+    PutsBack made m r n = (n.1 ≡ rest m.1) × (c : C) × made c × (w : View S C) × Returns m c w × (r ≡ 2 → n.0 ≡ owing true w) × (r ≢ 2 → n.0 ≡ w)
+
     abbrev pub extended : (C → Type 0) → Step S → Sat S C → ℕ → Sat S C → Type 0
-    extended made st m r n = (n.1 ≡ rest m.1) × (c : C) × made c × (w : View S C) × Returns m c w × (r ≡ 2 → n.0 ≡ owing true w) × (r ≢ 2 → n.0 ≡ w)
+    extended made st m r n = PutsBack made m r n
 
     abbrev pub looked : Step S → Sat S C → ℕ → Sat S C → Type 0
     looked st m r n = (n.1 ≡ m.1) × Looks goes starts rests m.0 n.0

@@ -1,7 +1,8 @@
 //! A caller's right to call.
-ghost use Rattle.std.specs.Prelude.{◌≡◌, ◌∷◌, [], false, All};
+ghost use Rattle.std.specs.Prelude.{◌≡◌, ◌∷◌, [], false, length, All};
 
 use crate::history::{Steps, View};
+use crate::identity::Identity;
 use crate::rest::Rest;
 use atomic_table::{Badge, Seat};
 use std::mem;
@@ -14,13 +15,13 @@ use std::mem;
 /// `seat.me.0` is what it knows. Between two calls it has no state out, and owes nobody a wake.
 pub struct Hand<S, C> {
     pub seat: Seat<S, View<S, C>>,
-    kept: Kept,
+    // No other crate names it, so none takes a hand apart, or puts another seat in the place of this one: a hand that owes
+    // something could end as one that made no call.
+    identity: Identity,
     ghost idle: { (seat.me.1 ≡ []) × (seat.me.0.out ≡ []) × (seat.me.0.spent ≡ false)
         × (seat.me.0.owes ≡ false) },
+    ghost same_seat: { (seat.table_id ≡ identity.table_id) × (seat.id ≡ identity.id) },
 }
-
-// What no other crate names, so that none takes a hand apart.
-struct Kept;
 
 impl<S, C> Hand<S, C> {
     /// The hand of a seat that has no state out.
@@ -31,7 +32,8 @@ impl<S, C> Hand<S, C> {
             × (seat.me.0.owes ≡ false) }
         ensures { result.seat ≡ seat }
     {
-        Hand { seat, kept: Kept }
+        let identity = Identity::of_seat(&seat);
+        Hand { seat, identity }
     }
 
     // The seat alone.
@@ -39,7 +41,7 @@ impl<S, C> Hand<S, C> {
     pub(crate) fn into_seat(self) -> Seat<S, View<S, C>>
         ensures { result ≡ self.seat }
     {
-        let Hand { seat, kept: Kept } = self;
+        let Hand { seat, identity: _ } = self;
         seat
     }
 
@@ -49,10 +51,9 @@ impl<S, C> Hand<S, C> {
         ensures { (result.rest.badge.table_id ≡ self.seat.table_id)
             × (result.rest.badge.views ≡ self.seat.me.0 ∷ []) }
     {
-        Resting {
-            rest: Rest::of(self.into_seat().into_badge()),
-            kept: Kept,
-        }
+        let rest = Rest::of(self.into_seat().into_badge());
+        let identity = Identity::of_rest(&rest);
+        Resting { rest, identity }
     }
 }
 
@@ -73,9 +74,12 @@ impl<S: Steps> Hand<S, S::Call> {
 /// `rest.badge.views` is what the hand knows, a list of one, or of none while it is out.
 pub struct Resting<S, C> {
     pub rest: Rest<View<S, C>>,
-    kept: Kept,
+    // No other crate names it, so none puts another hand in the place of this one.
+    identity: Identity,
     ghost idle: { All (λ v. (v.out ≡ []) × (v.spent ≡ false) × (v.owes ≡ false))
         rest.badge.views },
+    ghost same_hand: { (rest.badge.table_id ≡ identity.table_id)
+        × (rest.badge.id ≡ identity.id) × (length rest.badge.views ≡ identity.hands) },
 }
 
 impl<S, C> Resting<S, C> {
@@ -88,10 +92,8 @@ impl<S, C> Resting<S, C> {
         ensures left { self.new.rest.badge.views ≡ [] }
     {
         let rest = mem::replace(&mut self.rest, Rest::of(Badge::blank()));
-        Hand {
-            seat: rest.into_badge().into_seat(),
-            kept: Kept,
-        }
+        self.identity = Identity::of_rest(&self.rest);
+        Hand::of(rest.into_badge().into_seat())
     }
 
     /// Puts a hand in, after a call. None is there.
@@ -102,6 +104,7 @@ impl<S, C> Resting<S, C> {
             × (self.new.rest.badge.views ≡ hand.seat.me.0 ∷ []) }
     {
         self.rest = Rest::of(hand.into_seat().into_badge());
+        self.identity = Identity::of_rest(&self.rest);
     }
 
     /// The hand, which rests no more.
@@ -111,10 +114,7 @@ impl<S, C> Resting<S, C> {
         ensures { (result.seat.table_id ≡ self.rest.badge.table_id)
             × (self.rest.badge.views ≡ result.seat.me.0 ∷ []) }
     {
-        let Resting { rest, kept: Kept } = self;
-        Hand {
-            seat: rest.into_badge().into_seat(),
-            kept: Kept,
-        }
+        let Resting { rest, identity: _ } = self;
+        Hand::of(rest.into_badge().into_seat())
     }
 }

@@ -9,8 +9,11 @@ pub trait Steps {
     /// A call, with what was asked and what was replied.
     type Call;
 
-    // What holds of the state before all calls.
-    ghost starts: { Self → Type 0 };
+    /// What is given of the state before all calls, and known from then on. `()` if that is nothing.
+    type Start;
+
+    // What holds of the state before all calls, by what was given of it.
+    ghost starts: { Self.Start → Self → Type 0 };
 
     // From a state a call leads to a state.
     ghost goes: { Self → Self.Call → Self → Type 0 };

@@ -12,7 +12,7 @@ ghost use Rattle.event_queue.specs.Queue.{Queue, listeners_of, how_many, told_le
 ghost use Rattle.event_history.specs.declared.history.Entry.{Entry};
 ghost use Rattle.event_history.specs.declared.history.View.{View};
 ghost use Rattle.event_history.specs.declared.queue_call.QueueCall.{QueueCall};
-ghost use Rattle.event_history.specs.declared.queue_call.QueueCall.TheVariants.{Insert, Register, Remove, Notify};
+ghost use Rattle.event_history.specs.declared.queue_call.QueueCall.TheVariants.{Insert, Register, Remove, Notify, Counts};
 ghost use Rattle.event_history.specs.History.{entry, calls_by, newcomer, StartsWith, IsAmong, AreAmong, EachRests, Runs, LeadsTo, Leads, Extends, Looks};
 ghost use Rattle.event_history.specs.Queue.{calls, is_empty, rests_on};
 ghost use Rattle.event_history.specs.Laws.{QueueLog, IsTold, Waits, IsIn, Stays, EachStays, Listens, OwnsListener, FindsTold, TellsFirst, GoesToFirst, WasTold};
@@ -197,6 +197,9 @@ pub fn first_told_first<T, W>()
 
 /// A notified listener that is dropped passes its notification on, with its tag, to the first that waits where its kind
 /// wants one more notified once it has left. Else the notification is lost, and is the answer.
+///
+/// So where two listeners were counted as all that there are, and the one is dropped and was notified, the other one is found
+/// notified after that (`next`): no third one came before it.
 pub fn passes_on<T, W>()
     ensures wanted { (key : Key) (log : QueueLog T W) (old new : Queue T W) (notice : Notice T)
         (reply : Option (State T W)) → LeadsTo calls is_empty log old
@@ -208,14 +211,26 @@ pub fn passes_on<T, W>()
         → lookup (is_key key) old.told ≡ Some notice → calls old (Remove key true reply) new
         → how_many 1 notice.additional (told_leaves key old) ≡ 0
         → (reply ≡ Some (Lost notice.additional notice.tag)) × (new ≡ told_leaves key old) }
+    ensures next { (a b : Key) (x y m n told : ℕ) (former reply : Option (State T W))
+        (propagate : Bool) (v w : View (Queue T W) (QueueCall T W))
+        (earlier between later : QueueLog T W) (before after : Queue T W)
+        → Leads calls is_empty rests_on v (Remove b propagate reply) before after w
+        → OwnsListener b v.mine
+        → v.seen ≡ earlier ++ entry m (Counts told 2)
+        ∷ (between ++ entry n (Remove a true former) ∷ later)
+        → IsAmong (Insert (Ok a)) (calls_by x earlier)
+        → IsAmong (Insert (Ok b)) (calls_by y earlier) → FindsTold true former
+        → FindsTold propagate reply }
 {}
 
 /// A hand has seen, after a call, all that it had seen before. A hand that another one made calls after all that the other
 /// one had seen by then.
 pub fn told_hands_call_later<S: Steps>()
-    ensures seen { (v w : View S S.Call) (call : S.Call) → Extends S.goes S.starts S.rests v call w
+    ensures seen { (start : S.Start) (v w : View S S.Call) (call : S.Call)
+        → Extends S.goes (S.starts start) S.rests v call w
         → StartsWith w.seen v.seen }
-    ensures later { (v w : View S S.Call) (call : S.Call)
-        → Extends S.goes S.starts S.rests (newcomer v.seen) call w → (between : List (Entry S.Call))
+    ensures later { (start : S.Start) (v w : View S S.Call) (call : S.Call)
+        → Extends S.goes (S.starts start) S.rests (newcomer v.seen) call w
+        → (between : List (Entry S.Call))
         × (number : ℕ) × (w.seen ≡ v.seen ++ between ++ entry number call ∷ []) }
 {}

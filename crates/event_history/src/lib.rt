@@ -2,8 +2,9 @@
 //!
 //! A [`Traced`] state is taken by one compare-exchange and given back by one swap. In proofs a list of all calls stands
 //! behind the lock, each with its reply and the [`Hand`] that made it. It runs, call by call, from the state at the start
-//! to the state as it is, by the relation of [`Steps`]. A hand is a caller's right to call, of no bytes. It knows a history
-//! that the one behind the lock begins with, and its own calls in it.
+//! to the state as it is, by the relation of [`Steps`]. What is given of the start when the lock is made, as the capacity of a
+//! channel, is known from then on. A hand is a caller's right to call, of no bytes. It knows a history that the one behind the
+//! lock begins with, and its own calls in it.
 //!
 //! So the clause of a call says: *there is one history; it runs from the start; it begins with all that this hand had
 //! seen; it ends with this call and its reply; and the calls of this hand in it are just those that it made, each once, in
@@ -25,6 +26,7 @@
 
 mod hand;
 mod history;
+mod identity;
 mod laws;
 mod lock;
 mod queue_call;

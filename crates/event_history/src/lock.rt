@@ -25,7 +25,8 @@ use std::sync::Wait;
 
 /// A state under a lock, with one history of all calls on it, and the queues of those that wait for something of it.
 ///
-/// A contract sees the number of the source at which tasks that wait are registered, and the table that the state is in.
+/// A contract sees the number of the source at which tasks that wait are registered, the table that the state is in, and what
+/// was given of its start.
 #[derive(Drop)]
 pub struct Lock<S: Steps> {
     traced: Traced<S>,
@@ -35,25 +36,31 @@ pub struct Lock<S: Steps> {
 impl<S: Steps> Model for Lock<S> {
     ghost use Rattle.event_history.specs.Lock.{LockId};
 
-    ghost Value = { LockId };
+    ghost Value = { LockId S.Start };
 
     ghost view = { λ lock. record {
       source = lock.source;
       table = lock.traced.table.shared.table_id;
+      start = lock.traced.table.shared.key;
     } };
 }
 
 impl<S: Steps> Lock<S> {
     /// A lock round this state, and a first hand. The call allocates, and returns an error if that fails, which drops the
-    /// state.
-    pub fn new(alloc: Global, state: S) -> Result<(Self, Hand<S, S::Call>), AllocError>
+    /// state. The state starts as `start` says, which no program sees.
+    pub fn new(
+        alloc: Global,
+        state: S,
+        start: &S::Start,
+    ) -> Result<(Self, Hand<S, S::Call>), AllocError>
     where
         S: Drop,
-        requires { S.starts state }
-        ensures { IfOk result (λ made. (made.1.seat.table_id ≡ made.0.table)
+        requires starts { S.starts start.now state }
+        ensures start { IfOk result (λ made. made.0.start ≡ start.now) }
+        ensures hand { IfOk result (λ made. (made.1.seat.table_id ≡ made.0.table)
             × (made.1.seat.me.0 ≡ newcomer [])) }
     {
-        let (traced, hand) = Traced::new(alloc, state)?;
+        let (traced, hand) = Traced::new(alloc, state, start)?;
         let source = LineSource::new();
         Ok((Lock { traced, source }, hand))
     }
@@ -88,7 +95,7 @@ impl<S: Steps> Lock<S> {
             → AreAmong (S.rests (K.call step reply)) hand.old.seat.me.0.mine }
         ensures hand { hand.new.seat.table_id ≡ hand.old.seat.table_id }
         ensures call { IfOk result (λ reply.
-            ExtendsThat S.goes S.starts S.rests
+            ExtendsThat S.goes (S.starts self.now.start) S.rests
             (λ before after. K.does step before beside.old reply after beside.new)
             hand.old.seat.me.0 (K.call step reply) hand.new.seat.me.0) }
         ensures kept { IfErr result (λ back. (back ≡ step) × (beside.new ≡ beside.old)
@@ -106,7 +113,8 @@ impl<S: Steps> Lock<S> {
     #[doc(hidden)]
     #[inline(always)]
     pub fn traced(&self) -> &Traced<S>
-        ensures { result.now.table.shared.table_id ≡ self.now.table }
+        ensures table { result.now.table.shared.table_id ≡ self.now.table }
+        ensures start { result.now.table.shared.key ≡ self.now.start }
     {
         &self.traced
     }
@@ -129,7 +137,7 @@ impl<S: Steps> Lock<S> {
         requires there { other.seat.table_id ≡ self.now.table }
         requires ends { S.may_end other.seat.me.0.mine }
         ensures hand { hand.new.seat.table_id ≡ hand.old.seat.table_id }
-        ensures looks { Looks S.goes S.starts S.rests
+        ensures looks { Looks S.goes (S.starts self.now.start) S.rests
             (both_views hand.old.seat.me.0 other.seat.me.0) hand.new.seat.me.0 }
     {
         self.traced.absorb(hand, other);
@@ -150,7 +158,7 @@ impl<S: Steps> Lock<S> {
         requires rests { (reply : K.Reply)
             → AreAmong (S.rests (K.call step reply)) hand.old.seat.me.0.mine }
         ensures hand { hand.new.seat.table_id ≡ hand.old.seat.table_id }
-        ensures call { ExtendsThat S.goes S.starts S.rests
+        ensures call { ExtendsThat S.goes (S.starts self.now.start) S.rests
             (λ before after. K.does step before beside.old result after beside.new)
             hand.old.seat.me.0 (K.call step result) hand.new.seat.me.0 }
     {
@@ -171,8 +179,8 @@ impl<S: Steps> Lock<S> {
         requires rests { (reply : K.Reply)
             → AreAmong (S.rests (K.call step reply)) hand.old.seat.me.0.mine }
         ensures hand { hand.new.seat.table_id ≡ hand.old.seat.table_id }
-        ensures call { Extends S.goes S.starts S.rests hand.old.seat.me.0 (K.call step result)
-            hand.new.seat.me.0 }
+        ensures call { Extends S.goes (S.starts self.now.start) S.rests hand.old.seat.me.0
+            (K.call step result) hand.new.seat.me.0 }
     {
         let mut waking = Waking::new();
         let reply = self.traced.perform(rt, hand, step, &mut waking);
@@ -193,7 +201,7 @@ impl<S: Steps> Lock<S> {
         requires rests { AreAmong (Q.rests request.old) hand.old.seat.me.0.mine }
         ensures hand { hand.new.seat.table_id ≡ hand.old.seat.table_id }
         ensures rests { AreAmong (Q.rests request.new) hand.new.seat.me.0.mine }
-        ensures call { Makes S.goes S.starts S.rests hand.old.seat.me.0
+        ensures call { Makes S.goes (S.starts self.now.start) S.rests hand.old.seat.me.0
             (Q.attempting request.old result) hand.new.seat.me.0 }
         ensures succeeded { OnDone result (λ output. Q.succeeds request.old output request.new) }
         ensures waited { OnUndone result (Q.waits request.old request.new) }
@@ -215,7 +223,7 @@ impl<S: Steps> Lock<S> {
         requires rests { AreAmong (Q.rests request.old) hand.old.seat.me.0.mine }
         ensures hand { hand.new.seat.table_id ≡ hand.old.seat.table_id }
         ensures rests { AreAmong (Q.rests request.new) hand.new.seat.me.0.mine }
-        ensures call { Makes S.goes S.starts S.rests hand.old.seat.me.0
+        ensures call { Makes S.goes (S.starts self.now.start) S.rests hand.old.seat.me.0
             (Q.attempting request.old result) hand.new.seat.me.0 }
         ensures succeeded { OnDone result (λ output. Q.succeeds request.old output request.new) }
         ensures waited { OnUndone result (Q.waits request.old request.new) }
@@ -246,7 +254,7 @@ impl<S: Steps> Lock<S> {
             → N.named answer call ↔ Q.attempting request.old answer call }
         ensures hand { hand.new.seat.table_id ≡ hand.old.seat.table_id }
         ensures rests { AreAmong (Q.rests request.new) hand.new.seat.me.0.mine }
-        ensures call { Makes S.goes S.starts S.rests hand.old.seat.me.0
+        ensures call { Makes S.goes (S.starts self.now.start) S.rests hand.old.seat.me.0
             (Q.attempting request.old result) hand.new.seat.me.0 }
         ensures succeeded { OnDone result (λ output. Q.succeeds request.old output request.new) }
         ensures waited { OnUndone result (Q.waits request.old request.new) }
@@ -278,7 +286,7 @@ impl<S: Steps> Lock<S> {
         requires rests { AreAmong (Q.rests request.old) hand.old.seat.me.0.mine }
         ensures hand { hand.new.seat.table_id ≡ hand.old.seat.table_id }
         ensures rests { AreAmong (Q.rests request.new) hand.new.seat.me.0.mine }
-        ensures call { Makes S.goes S.starts S.rests hand.old.seat.me.0
+        ensures call { Makes S.goes (S.starts self.now.start) S.rests hand.old.seat.me.0
             (Polls Q.attempting request.old result) hand.new.seat.me.0 }
         ensures succeeded { IfReady result
             (λ answer. IfOk answer (λ output. Q.succeeds request.old output request.new)) }
@@ -307,7 +315,7 @@ impl<S: Steps> Lock<S> {
         requires rests { AreAmong (Q.rests request.old) hand.old.seat.me.0.mine }
         ensures hand { hand.new.seat.table_id ≡ hand.old.seat.table_id }
         ensures rests { AreAmong (Q.rests request.new) hand.new.seat.me.0.mine }
-        ensures call { Makes S.goes S.starts S.rests hand.old.seat.me.0
+        ensures call { Makes S.goes (S.starts self.now.start) S.rests hand.old.seat.me.0
             (Q.leaving request.old result) hand.new.seat.me.0 }
         ensures left { IfOk result (λ answer. Q.leaves request.old answer request.new) }
         ensures kept { OnErr result (request.new ≡ request.old) }
@@ -331,7 +339,7 @@ impl<S: Steps> Lock<S> {
             → N.named answer call ↔ Q.leaving request.old answer call }
         ensures hand { hand.new.seat.table_id ≡ hand.old.seat.table_id }
         ensures rests { AreAmong (Q.rests request.new) hand.new.seat.me.0.mine }
-        ensures call { Makes S.goes S.starts S.rests hand.old.seat.me.0
+        ensures call { Makes S.goes (S.starts self.now.start) S.rests hand.old.seat.me.0
             (Q.leaving request.old result) hand.new.seat.me.0 }
         ensures left { IfOk result (λ answer. Q.leaves request.old answer request.new) }
         ensures kept { OnErr result (request.new ≡ request.old) }

@@ -23,7 +23,9 @@ pub enum QueueCall<T, W> {
 impl<T, W> Steps for List<T, W> {
     type Call = QueueCall<T, W>;
 
-    ghost starts = { is_empty };
+    type Start = ();
+
+    ghost starts = { λ _. is_empty };
 
     ghost goes = { calls };
 

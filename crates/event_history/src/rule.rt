@@ -5,7 +5,7 @@ ghost use Rattle.event_history.specs.Rule.{Kept, arrived, entered, extended, loo
 
 use crate::history::{Made, Steps, View};
 use atomic_table::{Join, Play, Split, TableRule};
-use std::marker::PhantomData;
+use std::marker::{Brand, PhantomData};
 
 /// The rule of a table whose slot is the state, and whose word is its lock: there is a history that leads from the start to
 /// the state, each hand knows a beginning of it and all its own calls in it, and each call comes after those of its hand that
@@ -14,8 +14,8 @@ pub struct Rule<S> {
     of: PhantomData<S>,
 }
 
-impl<S: Steps> TableRule<S, View<S, S::Call>, ()> for Rule<S> {
-    ghost holds = { λ _. Kept S.starts S.goes S.rests };
+impl<S: Steps> TableRule<S, View<S, S::Call>, S::Start> for Rule<S> {
+    ghost holds = { λ start. Kept (S.starts start) S.goes S.rests };
 
     ghost first = { λ _. newcomer [] };
 }
@@ -62,22 +62,32 @@ impl<S, C> Play<S, View<S, C>> for Wake {
     ghost then = { woke };
 }
 
-// A hand gives the state back, after the call that `K` picks. Where it wrote over the mark it owes that.
-pub(crate) struct GiveBack<S, K> {
-    of: PhantomData<(S, K)>,
+// What held of the state before all calls. The table has it of its key, which no step can tell, so whoever makes the step
+// picks it.
+pub(crate) trait Begins<S> {
+    ghost begins: { S → Type 0 };
 }
 
-impl<S: Steps, K: Made<S::Call>> Play<S, View<S, S::Call>> for GiveBack<S, K> {
-    ghost then = { extended S.starts S.goes S.rests K.made };
+impl<S> Begins<S> for Brand {
+    ghost begins = { λ _. ⊥ };
+}
+
+// A hand gives the state back, after the call that `K` picks. Where it wrote over the mark it owes that.
+pub(crate) struct GiveBack<S, B, K> {
+    of: PhantomData<(S, B, K)>,
+}
+
+impl<S: Steps, B: Begins<S>, K: Made<S::Call>> Play<S, View<S, S::Call>> for GiveBack<S, B, K> {
+    ghost then = { extended B.begins S.goes S.rests K.made };
 }
 
 // A hand looks at the history.
-pub(crate) struct Look<S> {
-    of: PhantomData<S>,
+pub(crate) struct Look<S, B> {
+    of: PhantomData<(S, B)>,
 }
 
-impl<S: Steps> Play<S, View<S, S::Call>> for Look<S> {
-    ghost then = { looked S.starts S.goes S.rests };
+impl<S: Steps, B: Begins<S>> Play<S, View<S, S::Call>> for Look<S, B> {
+    ghost then = { looked B.begins S.goes S.rests };
 }
 
 // A new hand has seen what another one has seen.

@@ -116,7 +116,7 @@ impl<S: Steps> Traced<S> {
         requires rests { (reply : K.Reply)
             → AreAmong (S.rests (K.call step reply)) hand.old.seat.me.0.mine }
         ensures hand { hand.new.seat.table_id ≡ hand.old.seat.table_id }
-        ensures call { ExtendsThat S.goes S.starts S.rests
+        ensures call { ExtendsThat S.goes (S.starts self.now.table.shared.key) S.rests
             (λ before after. K.does step before beside.old result after beside.new)
             hand.old.seat.me.0 (K.call step result) hand.new.seat.me.0 }
     {
@@ -145,7 +145,7 @@ impl<S: Steps> Traced<S> {
         requires rests { AreAmong (S.rests (K.call step.value reply.now)) seat.old.me.0.mine }
         ensures seat { (seat.new.table_id ≡ seat.old.table_id) × (seat.new.id ≡ seat.old.id)
             × (seat.new.me.1 ≡ []) }
-        ensures call { ExtendsThat S.goes S.starts S.rests
+        ensures call { ExtendsThat S.goes (S.starts self.now.table.shared.key) S.rests
             (λ q r. K.does step.value q before.value reply.now r after.now) seat.old.me.0
             (K.call step.value reply.now) seat.new.me.0 }
     {

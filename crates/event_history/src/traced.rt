@@ -1,14 +1,17 @@
 //! A state under a lock of one word.
 ghost use Rattle.std.specs.Prelude.{◌≡◌, ◌∷◌, [], false, true, IfOk, MatchBool};
 ghost use Rattle.event_history.specs.History.{AreAmong, Looks, both_views, newcomer};
-ghost use Rattle.event_history.specs.Rule.{Arrived, Holds, Returns, owing};
+ghost use Rattle.event_history.specs.Rule.{Arrived, Holds, PutsBack, Returns, owing};
 
 use crate::hand::Hand;
 use crate::history::{Made, Steps, View};
-use crate::rule::{Absorb, Arrive, Enter, GiveBack, Look, Mark, Rule, Sleep, Take, Tell, Wake};
+use crate::rule::{
+    Absorb, Arrive, Begins, Enter, GiveBack, Look, Mark, Rule, Sleep, Take, Tell, Wake,
+};
 use atomic_table::{Refused, Seat, Table};
 use std::alloc::{AllocError, Global};
 use std::hint;
+use std::marker::Brand;
 use std::sync::Wait;
 
 // The word while the state is at home, while a thread has it, and while one has it and others may sleep.
@@ -24,28 +27,33 @@ const PAUSES: [u32; 6] = [64, 128, 256, 256, 256, 256];
 
 /// A state that threads share, under a lock, with one history of all calls on it.
 ///
-/// A contract knows it by the `table_id` of its table.
+/// A contract knows it by the `table_id` of its table, and by the `key` of the table what was given of its start.
 pub struct Traced<S: Steps> {
     #[doc(hidden)]
-    pub table: Table<S, View<S, S::Call>, (), Rule<S>, Global>,
+    pub table: Table<S, View<S, S::Call>, S::Start, Rule<S>, Global>,
     ghost sized: { (table.shared.table_id.words ≡ 1) × (table.shared.table_id.slots ≡ 1) },
 }
 
 impl<S: Steps> Traced<S> {
     /// A state under a lock, with no calls, and a first hand. The call allocates the state's place and the lock's word, and
-    /// returns an error if that fails, which drops the state.
-    pub fn new(alloc: Global, state: S) -> Result<(Self, Hand<S, S::Call>), AllocError>
+    /// returns an error if that fails, which drops the state. The state starts as `start` says, which no program sees.
+    pub fn new(
+        alloc: Global,
+        state: S,
+        start: &S::Start,
+    ) -> Result<(Self, Hand<S, S::Call>), AllocError>
     where
         S: Drop,
-        requires { S.starts state }
-        ensures { IfOk result (λ t. (t.1.seat.table_id ≡ t.0.table.shared.table_id)
+        requires starts { S.starts start.now state }
+        ensures start { IfOk result (λ t. t.0.table.shared.key ≡ start.now) }
+        ensures hand { IfOk result (λ t. (t.1.seat.table_id ≡ t.0.table.shared.table_id)
             × (t.1.seat.me.0 ≡ newcomer [])) }
     {
         let mut slots = Vec::with_capacity(alloc, 1)?;
         if let Err(_) = slots.push(state) {
             return Err(AllocError);
         }
-        match Table::new(alloc, &[FREE], slots, &()) {
+        match Table::new(alloc, &[FREE], slots, start) {
             Ok((table, seat)) => Ok((Traced { table }, Hand::of(seat))),
             Err(Refused { slots: _ }) => Err(AllocError),
         }
@@ -133,11 +141,26 @@ impl<S: Steps> Traced<S> {
         ensures seat { (seat.new.table_id ≡ seat.old.table_id) × (seat.new.id ≡ seat.old.id)
             × (seat.new.me.1 ≡ []) }
         ensures extends { (c : S.Call) × K.made c
-            × Returns S.starts S.goes S.rests seat.old.me c seat.new.me.0 }
+            × Returns (S.starts self.now.table.shared.key) S.goes S.rests seat.old.me c
+            seat.new.me.0 }
     {
-        if self.table.shared.swap::<GiveBack<S, K>>(seat, 0, FREE) == AWAITED {
+        if self.put_back::<Brand, K>(seat) == AWAITED {
             self.wake_one(seat);
         }
+    }
+
+    // The swap of `give_back`, which answers what the word was.
+    #[inline(always)]
+    fn put_back<B: Begins<S>, K: Made<S::Call>>(&self, seat: &mut Seat<S, View<S, S::Call>>) -> u64
+        requires begins { (q : S) → S.starts self.now.table.shared.key q → B.begins q }
+        requires seat { seat.old.table_id ≡ self.now.table.shared.table_id }
+        requires step { (c : S.Call) × (q : S) × (r : S) × K.made c × (seat.old.me.0.out ≡ q ∷ [])
+            × (seat.old.me.1 ≡ (0, r) ∷ []) × S.goes q c r × (seat.old.me.0.spent ≡ false)
+            × AreAmong (S.rests c) seat.old.me.0.mine }
+        ensures seat { (seat.new.table_id ≡ seat.old.table_id) × (seat.new.id ≡ seat.old.id) }
+        ensures extended { PutsBack B.begins S.goes S.rests K.made seat.old.me result seat.new.me }
+    {
+        self.table.shared.swap::<GiveBack<S, B, K>>(seat, 0, FREE)
     }
 
     // Wakes one that sleeps, which owes the mark in place of this hand.
@@ -171,13 +194,26 @@ impl<S: Steps> Traced<S> {
         requires there { other.seat.table_id ≡ self.now.table.shared.table_id }
         requires ends { S.may_end other.seat.me.0.mine }
         ensures hand { hand.new.seat.table_id ≡ hand.old.seat.table_id }
-        ensures looks { Looks S.goes S.starts S.rests
+        ensures looks { Looks S.goes (S.starts self.now.table.shared.key) S.rests
             (both_views hand.old.seat.me.0 other.seat.me.0) hand.new.seat.me.0 }
     {
         let seat = &mut hand.seat;
         let other = other.into_seat();
         self.table.shared.join_seat::<Absorb>(seat, other);
-        self.table.shared.load::<Look<S>>(seat, 0);
+        self.look::<Brand>(seat);
+    }
+
+    // Has a hand see the history so far.
+    #[inline(always)]
+    fn look<B: Begins<S>>(&self, seat: &mut Seat<S, View<S, S::Call>>)
+        requires begins { (q : S) → S.starts self.now.table.shared.key q → B.begins q }
+        requires seat { (seat.old.table_id ≡ self.now.table.shared.table_id)
+            × (seat.old.me.0.spent ≡ false) }
+        ensures seat { (seat.new.table_id ≡ seat.old.table_id) × (seat.new.id ≡ seat.old.id)
+            × (seat.new.me.1 ≡ seat.old.me.1) }
+        ensures looks { Looks S.goes B.begins S.rests seat.old.me.0 seat.new.me.0 }
+    {
+        self.table.shared.load::<Look<S, B>>(seat, 0);
     }
 }
 

@@ -32,7 +32,7 @@ impl<S: Steps> Lock<S> {
         requires rests { AreAmong (Q.rests request.old) hand.old.seat.me.0.mine }
         ensures hand { hand.new.seat.table_id ≡ hand.old.seat.table_id }
         ensures rests { AreAmong (Q.rests request.new) hand.new.seat.me.0.mine }
-        ensures call { Makes S.goes S.starts S.rests hand.old.seat.me.0
+        ensures call { Makes S.goes (S.starts self.now.start) S.rests hand.old.seat.me.0
             (Q.trying request.old result) hand.new.seat.me.0 }
         ensures succeeded { IfSome result (λ output. Q.succeeds request.old output request.new) }
         ensures kept { result ≡ None → request.new ≡ request.old }
@@ -53,7 +53,7 @@ impl<S: Steps> Lock<S> {
             ↔ Q.trying request.old answer call }
         ensures hand { hand.new.seat.table_id ≡ hand.old.seat.table_id }
         ensures rests { AreAmong (Q.rests request.new) hand.new.seat.me.0.mine }
-        ensures call { Makes S.goes S.starts S.rests hand.old.seat.me.0
+        ensures call { Makes S.goes (S.starts self.now.start) S.rests hand.old.seat.me.0
             (Q.trying request.old result) hand.new.seat.me.0 }
         ensures succeeded { IfSome result (λ output. Q.succeeds request.old output request.new) }
         ensures kept { result ≡ None → request.new ≡ request.old }
@@ -81,7 +81,7 @@ impl<S: Steps> Lock<S> {
         requires rests { AreAmong (Q.rests request.old) hand.old.seat.me.0.mine }
         ensures hand { hand.new.seat.table_id ≡ hand.old.seat.table_id }
         ensures rests { AreAmong (Q.rests request.new) hand.new.seat.me.0.mine }
-        ensures gave_up { GivesUp S.goes S.starts S.rests Q.has_place Q.giving_up
+        ensures gave_up { GivesUp S.goes (S.starts self.now.start) S.rests Q.has_place Q.giving_up
             (request.old, hand.old.seat.me.0) (request.new, hand.new.seat.me.0) }
     {
         if request.is_waiting() {
@@ -102,8 +102,8 @@ impl<S: Steps> Lock<S> {
             ↔ Q.giving_up request.old call }
         ensures hand { hand.new.seat.table_id ≡ hand.old.seat.table_id }
         ensures rests { AreAmong (Q.rests request.new) hand.new.seat.me.0.mine }
-        ensures call { Makes S.goes S.starts S.rests hand.old.seat.me.0 (Q.giving_up request.old)
-            hand.new.seat.me.0 }
+        ensures call { Makes S.goes (S.starts self.now.start) S.rests hand.old.seat.me.0
+            (Q.giving_up request.old) hand.new.seat.me.0 }
         ensures kept { request.new ≡ request.old }
     {
         let mut waking = Waking::new();
@@ -137,8 +137,8 @@ impl<S: Steps> Lock<S> {
         ensures hand { hand.new.seat.table_id ≡ hand.old.seat.table_id }
         ensures rests { AreAmong (Q.rests request.new) hand.new.seat.me.0.mine }
         ensures never { limit ≡ Never → IfOk result IsSome }
-        ensures obtains { EndsObtaining S.goes S.starts S.rests Q.attempting Q.leaving Q.waits
-            Q.succeeds Q.leaves (limit ≢ Never) Q.trying Q.has_place Q.giving_up
+        ensures obtains { EndsObtaining S.goes (S.starts self.now.start) S.rests Q.attempting
+            Q.leaving Q.waits Q.succeeds Q.leaves (limit ≢ Never) Q.trying Q.has_place Q.giving_up
             (request.old, hand.old.seat.me.0) result (request.new, hand.new.seat.me.0) }
     {
         if let Some(output) = try_first(self, rt, hand, request) {
@@ -161,11 +161,12 @@ fn try_first<S: Steps, Q: Attempt<S>, R: Wait>(
     ensures hand { hand.new.seat.table_id ≡ hand.old.seat.table_id }
     ensures rests { AreAmong (Q.rests request.new) hand.new.seat.me.0.mine }
     ensures obtained { IfSome result (λ output.
-        HasObtained S.goes S.starts S.rests Q.attempting Q.leaving Q.waits Q.succeeds Q.leaves
-        Q.trying (request.old, hand.old.seat.me.0) output (request.new, hand.new.seat.me.0)) }
+        HasObtained S.goes (S.starts lock.now.start) S.rests Q.attempting Q.leaving Q.waits
+        Q.succeeds Q.leaves Q.trying (request.old, hand.old.seat.me.0) output
+        (request.new, hand.new.seat.me.0)) }
     ensures tried { result ≡ None
-        → SomeRounds (Tries S.goes S.starts S.rests Q.attempting Q.leaving Q.waits Q.trying)
-        (request.old, hand.old.seat.me.0) (request.new, hand.new.seat.me.0) }
+        → SomeRounds (Tries S.goes (S.starts lock.now.start) S.rests Q.attempting Q.leaving Q.waits
+        Q.trying) (request.old, hand.old.seat.me.0) (request.new, hand.new.seat.me.0) }
 {
     if request.is_waiting() {
         return None;
@@ -188,8 +189,8 @@ fn try_then_wait<S: Steps, Q: Attempt<S>, R: Wait + Clock>(
     ensures hand { hand.new.seat.table_id ≡ hand.old.seat.table_id }
     ensures rests { AreAmong (Q.rests request.new) hand.new.seat.me.0.mine }
     ensures never { limit ≡ Never → IfOk result IsSome }
-    ensures obtains { EndsObtaining S.goes S.starts S.rests Q.attempting Q.leaving Q.waits
-        Q.succeeds Q.leaves (limit ≢ Never) Q.trying Q.has_place Q.giving_up
+    ensures obtains { EndsObtaining S.goes (S.starts lock.now.start) S.rests Q.attempting Q.leaving
+        Q.waits Q.succeeds Q.leaves (limit ≢ Never) Q.trying Q.has_place Q.giving_up
         (request.old, hand.old.seat.me.0) result (request.new, hand.new.seat.me.0) }
 {
     match try_or_wait(lock, rt, alloc, hand, request, limit) {
@@ -216,9 +217,9 @@ fn try_or_wait<S: Steps, Q: Attempt<S>, R: Wait + Clock>(
     ensures hand { hand.new.seat.table_id ≡ hand.old.seat.table_id }
     ensures rests { AreAmong (Q.rests request.new) hand.new.seat.me.0.mine }
     ensures never { limit ≡ Never → IfOk result IsSome }
-    ensures trying { EndsTrying S.goes S.starts S.rests Q.attempting Q.leaving Q.waits Q.succeeds
-        Q.leaves (limit ≢ Never) Q.trying (request.old, hand.old.seat.me.0) result
-        (request.new, hand.new.seat.me.0) }
+    ensures trying { EndsTrying S.goes (S.starts lock.now.start) S.rests Q.attempting Q.leaving
+        Q.waits Q.succeeds Q.leaves (limit ≢ Never) Q.trying (request.old, hand.old.seat.me.0)
+        result (request.new, hand.new.seat.me.0) }
 {
     if limit.has_passed(rt) {
         return match lock.leave(rt, hand, request) {
@@ -248,11 +249,12 @@ fn try_a_while<S: Steps, Q: Attempt<S>, R: Wait>(
     ensures hand { hand.new.seat.table_id ≡ hand.old.seat.table_id }
     ensures rests { AreAmong (Q.rests request.new) hand.new.seat.me.0.mine }
     ensures obtained { IfSome result (λ output.
-        HasObtained S.goes S.starts S.rests Q.attempting Q.leaving Q.waits Q.succeeds Q.leaves
-        Q.trying (request.old, hand.old.seat.me.0) output (request.new, hand.new.seat.me.0)) }
+        HasObtained S.goes (S.starts lock.now.start) S.rests Q.attempting Q.leaving Q.waits
+        Q.succeeds Q.leaves Q.trying (request.old, hand.old.seat.me.0) output
+        (request.new, hand.new.seat.me.0)) }
     ensures tried { result ≡ None
-        → SomeRounds (Tries S.goes S.starts S.rests Q.attempting Q.leaving Q.waits Q.trying)
-        (request.old, hand.old.seat.me.0) (request.new, hand.new.seat.me.0) }
+        → SomeRounds (Tries S.goes (S.starts lock.now.start) S.rests Q.attempting Q.leaving Q.waits
+        Q.trying) (request.old, hand.old.seat.me.0) (request.new, hand.new.seat.me.0) }
 {
     for _ in 0..Q::TRIES {
         if request.is_waiting() {
@@ -279,14 +281,14 @@ fn take_if_notified<S: Steps, Q: Attempt<S>, R: Wait>(
     ensures rests { AreAmong (Q.rests request.new) hand.new.seat.me.0.mine }
     ensures succeeded { IfOk result (λ answer.
         IfSome answer (λ output.
-        Gets S.goes S.starts S.rests Q.attempting Q.leaving Q.succeeds
+        Gets S.goes (S.starts lock.now.start) S.rests Q.attempting Q.leaving Q.succeeds
         (request.old, hand.old.seat.me.0) output (request.new, hand.new.seat.me.0))) }
     ensures waited { result ≡ Ok None
-        → SomeRounds (Round S.goes S.starts S.rests Q.attempting Q.leaving Q.waits)
+        → SomeRounds (Round S.goes (S.starts lock.now.start) S.rests Q.attempting Q.leaving Q.waits)
         (request.old, hand.old.seat.me.0) (request.new, hand.new.seat.me.0) }
     ensures refused { IfErr result (λ error.
-        IsRefused S.goes S.starts S.rests Q.attempting Q.leaving (request.old, hand.old.seat.me.0)
-        error (request.new, hand.new.seat.me.0)) }
+        IsRefused S.goes (S.starts lock.now.start) S.rests Q.attempting Q.leaving
+        (request.old, hand.old.seat.me.0) error (request.new, hand.new.seat.me.0)) }
 {
     if !request.is_waiting() {
         return Ok(None);

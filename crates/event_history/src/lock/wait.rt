@@ -34,8 +34,8 @@ impl<S: Steps> Lock<S> {
         ensures hand { hand.new.seat.table_id ≡ hand.old.seat.table_id }
         ensures rests { AreAmong (Q.rests request.new) hand.new.seat.me.0.mine }
         ensures never { limit ≡ Never → IfOk result IsSome }
-        ensures waits { EndsWait S.goes S.starts S.rests Q.attempting Q.leaving Q.waits Q.succeeds
-            Q.leaves (limit ≢ Never) (request.old, hand.old.seat.me.0) result
+        ensures waits { EndsWait S.goes (S.starts self.now.start) S.rests Q.attempting Q.leaving
+            Q.waits Q.succeeds Q.leaves (limit ≢ Never) (request.old, hand.old.seat.me.0) result
             (request.new, hand.new.seat.me.0) }
     {
         let Ok(parker) = Arc::new(alloc, Parker::new()) else {

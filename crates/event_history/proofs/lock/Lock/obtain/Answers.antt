@@ -7,4 +7,4 @@ returns-in-Some-clause-obtains g c = inl c.in-Some.ensures.obtained
 
 pub returns-clause-obtains : goal.returns-clause-obtains
 returns-clause-obtains g c =
-    obtaining_after g.S.Steps.goes g.S.Steps.starts g.S.Steps.rests g.Q.Request.attempting g.Q.Request.leaving g.Q.Request.waits g.Q.Request.succeeds g.Q.Request.leaves _ g.Q.Attempt.trying g.Q.Attempt.has_place g.Q.Attempt.giving_up _ _ _ (c.try_first.ensures.tried c.in_default.is) _ c.try_then_wait.ensures.obtains
+    obtaining_after g.S.Steps.goes _ g.S.Steps.rests g.Q.Request.attempting g.Q.Request.leaving g.Q.Request.waits g.Q.Request.succeeds g.Q.Request.leaves _ g.Q.Attempt.trying g.Q.Attempt.has_place g.Q.Attempt.giving_up _ _ _ (c.try_first.ensures.tried c.in_default.is) _ c.try_then_wait.ensures.obtains

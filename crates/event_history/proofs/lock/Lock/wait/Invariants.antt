@@ -10,4 +10,4 @@ invariant-loop g l =
     (goal.iterator-loop g).can_next l.iterator' × (goal.iterator-loop g).is_finite l.iterator'
     × (l.hand.seat.table_id ≡ l.initial.hand.seat.table_id)
     × AreAmong (g.Q.Request.rests l.request) l.hand.seat.me.0.mine
-    × SomeRounds (Round g.S.Steps.goes g.S.Steps.starts g.S.Steps.rests g.Q.Request.attempting g.Q.Request.leaving g.Q.Request.waits) (l.initial.request, l.initial.hand.seat.me.0) (l.request, l.hand.seat.me.0)
+    × SomeRounds (Round g.S.Steps.goes (g.S.Steps.starts l.self.start) g.S.Steps.rests g.Q.Request.attempting g.Q.Request.leaving g.Q.Request.waits) (l.initial.request, l.initial.hand.seat.me.0) (l.request, l.hand.seat.me.0)

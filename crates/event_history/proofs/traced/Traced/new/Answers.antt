@@ -8,4 +8,4 @@ use Rattle.event_history.proofs.traced.Traced.new.Goals as goal
 pub new-requires : goal.new-requires
 new-requires g c =
     let items : c.push.new.self.items ≡ c.args.state ∷ [] = c.in_default.ensures.items ∙ ap (λ l. l ++ c.args.state ∷ []) c.in_ok-slots.ensures.items in
-    subst (λ l. Kept g.S.Steps.starts g.S.Steps.goes g.S.Steps.rests (opening (0 ∷ []) l (newcomer []))) (sym items) (opens _ _ _ c.args.state c.requires)
+    subst (λ l. Kept (g.S.Steps.starts c.args.start.now) g.S.Steps.goes g.S.Steps.rests (opening (0 ∷ []) l (newcomer []))) (sym items) (opens _ _ _ c.args.state c.requires.starts)

@@ -1,0 +1,4 @@
+use Rattle.event_history.proofs.traced.Traced.give_back.Given as goal
+
+abbrev pub ghosts-put_back : goal.ghosts-put_back
+ghosts-put_back g a = record { begins = g.S.Steps.starts a.self.now.table.shared.key }

@@ -1,0 +1,6 @@
+use Rattle.std.proofs.Common.{rules}
+use Rattle.event_history.proofs.Keeps.{looks}
+use Rattle.event_history.proofs.traced.Traced.look.Goals as goal
+
+pub load-requires : goal.load-requires
+load-requires g c = (search rules, search rules, looks _ _ _ _ c.requires.begins _ _ _ (search rules))
