@@ -75,7 +75,7 @@ impl<T> Event<T> {
         T: Drop,
         ensures { IfOk result (λ event. event ≡ id) }
     {
-        let (queue, first) = Shared::new(alloc, List::starting_at(alloc, first_serial))?;
+        let (queue, first) = Shared::new(alloc, List::starting_at(alloc, first_serial), &())?;
         first.end();
         let shared = OnceLock::from(Arc::new(alloc, queue)?);
         Ok(Event { id, shared })
@@ -153,7 +153,7 @@ impl<T> Event<T> {
     where
         T: Drop,
     {
-        let (queue, first) = Shared::new(alloc, List::new(alloc))?;
+        let (queue, first) = Shared::new(alloc, List::new(alloc), &())?;
         first.end();
         let made = Arc::new(alloc, queue)?;
         let token = match self.shared.try_insert(rt, made) {

@@ -11,7 +11,7 @@ use std::sync::Arc;
 /// A contract sees the lock of the queue as the source at which a task registers that polls a listener there, and the table
 /// that the queue is in.
 pub trait Hold<T> {
-    ghost lock: { Self → LockId };
+    ghost lock: { Self → LockId (Unit {0}) };
 
     /// What a listener that holds its queue so is called.
     const LISTENER: &'static str;
