@@ -9,6 +9,7 @@ use Rattle.event_wait.specs.declared.request.Attempted.TheVariants as attempted
 use Rattle.event_wait.specs.declared.lock.wait.Refused.{Refused}
 use Rattle.event_wait.specs.declared.lock.wait.Refused.TheVariants.{Memory, Request}
 use Rattle.event_wait.specs.Attempted.{LeavesBy}
+use Rattle.event_word.specs.declared.error.LockError.{LockError}
 use Rattle.event_wait.specs.Rounds.{Rounds}
 use Rattle.event_history.specs.declared.history.View.{View}
 use Rattle.event_history.specs.History.{Makes}
@@ -109,13 +110,13 @@ module _ {S C A G E : Type 0} (goes : S → C → S → Type 0) (starts : S → 
       let over = failed before between error refused rounds.0 (some.0, each_as_well goes starts rests vain Both (λ c h. inl h) some.0 before.1 between.1 rounds.1) fails in
       gave_up before refused after over.0 over.1 left
 
-module _ {T W : Type 0} where
+module _ {T W : Type 0} (capacity : Option ℕ) where
   pub sends_waiting : (may_end : Type 0) (message : T) (before : Asking (Option T) × View (State T W) (ChannelCall T)) (result : Result (Option (Result (Unit {0}) SendReason)) (Refused ListenError)) (after : Asking (Option T) × View (State T W) (ChannelCall T))
       → before.0.asked ≡ Some message → (may_end → ⊥)
-      → Ends calls is_new rests_on_none SendsOrWaits (NotRefused SendsOrLeaves) TriesToSend GivesUpSending Empties (LeavesBy Empties) may_end before result after
-      → SendsWaiting message before.1 result after.1
+      → Ends calls (is_new capacity) rests_on_none SendsOrWaits (NotRefused SendsOrLeaves) TriesToSend GivesUpSending Empties (LeavesBy Empties) may_end before result after
+      → SendsWaiting capacity message before.1 result after.1
   sends_waiting may_end message =
-      waits_for calls is_new rests_on_none SendsOrWaits (NotRefused SendsOrLeaves) TriesToSend GivesUpSending Empties (LeavesBy Empties) may_end (Some message) (IsVainSend message) (IsSend message) (IsSendGivenUp message)
+      waits_for calls (is_new capacity) rests_on_none SendsOrWaits (NotRefused SendsOrLeaves) TriesToSend GivesUpSending Empties (LeavesBy Empties) may_end (Some message) (IsVainSend message) (IsSend message) (IsSendGivenUp message)
       (λ answer c undone h. inr (h.0, answer, undone, h.1))
       (λ c h. inl h)
       (λ output c h. inr h)
@@ -124,12 +125,12 @@ module _ {T W : Type 0} where
       (λ error c h. absurd h)
       (λ c h. inr h)
 
-  pub receives_waiting : (may_end : Type 0) (before : Asking Bool × View (State T W) (ChannelCall T)) (result : Result (Option (Option T)) (Refused ListenError)) (after : Asking Bool × View (State T W) (ChannelCall T))
+  receives_waiting : (may_end : Type 0) (before : Asking Bool × View (State T W) (ChannelCall T)) (result : Result (Option (Option T)) (Refused ListenError)) (after : Asking Bool × View (State T W) (ChannelCall T))
       → before.0.asked ≡ false → (may_end → ⊥)
-      → Ends calls is_new rests_on_none ReceivesOrWaits (NotRefused ReceivesOrLeaves) TriesToReceive GivesUpReceiving (λ before _ after. after ≡ before) (λ before _ after. after ≡ before) may_end before result after
-      → ReceivesWaiting before.1 result after.1
+      → Ends calls (is_new capacity) rests_on_none ReceivesOrWaits (NotRefused ReceivesOrLeaves) TriesToReceive GivesUpReceiving (λ before _ after. after ≡ before) (λ before _ after. after ≡ before) may_end before result after
+      → ReceivesWaiting capacity before.1 result after.1
   receives_waiting may_end =
-      waits_for calls is_new rests_on_none ReceivesOrWaits (NotRefused ReceivesOrLeaves) TriesToReceive GivesUpReceiving (λ before _ after. after ≡ before) (λ before _ after. after ≡ before) may_end false IsVainReceive IsReceive IsReceiveGivenUp
+      waits_for calls (is_new capacity) rests_on_none ReceivesOrWaits (NotRefused ReceivesOrLeaves) TriesToReceive GivesUpReceiving (λ before _ after. after ≡ before) (λ before _ after. after ≡ before) may_end false IsVainReceive IsReceive IsReceiveGivenUp
       (λ answer c undone h. inr (h.0, answer, undone, h.1))
       (λ c h. inl h)
       (λ output c h. inr h)
@@ -138,22 +139,37 @@ module _ {T W : Type 0} where
       (λ error c h. absurd h)
       (λ c h. inr h)
 
-  ends_so : (message : T) (why : SendReason) (v w : View (State T W) (ChannelCall T)) → IsUnsent why → MakesAtLast calls is_new rests_on_none v (IsVainSend message) (IsSend message (Err why)) w → EndsUnsent message v why w
+  ends_so : (message : T) (why : SendReason) (v w : View (State T W) (ChannelCall T)) → IsUnsent why → MakesAtLast calls (is_new capacity) rests_on_none v (IsVainSend message) (IsSend message (Err why)) w → EndsUnsent capacity message v why w
   ends_so message reason.Closed v w unsent made = made
   ends_so message reason.Full v w unsent made = absurd unsent
   ends_so message reason.TimedOut v w unsent made = absurd unsent
   ends_so message reason.Memory v w unsent made = made
   ends_so message (reason.WaitFailed error) v w unsent made = absurd unsent
 
-  -- one whose attempt succeeded
-  pub ends_sent : (message : T) (waited : Option (Result (Unit {0}) SendReason)) (reply : Result (Unit {0}) SendReason) (v w : View (State T W) (ChannelCall T))
-      → waited ≡ Some reply → reply ≡ Ok tt → SendsWaiting {E = Refused ListenError} message v (Ok waited) w → MakesAtLast calls is_new rests_on_none v (IsVainSend message) (IsSend message (Ok tt)) w
-  ends_sent message waited reply v w is sent waits = subst (λ (o : Option (Result (Unit {0}) SendReason)). SendsWaiting {E = Refused ListenError} message v (Ok o) w) (is ∙ ap Some sent) waits
+  -- one whose attempt succeeded, at a lock that has this capacity
+  pub ends_sent : (start : Option ℕ) → start ≡ capacity → (message : T) (waited : Option (Result (Unit {0}) SendReason)) (reply : Result (Unit {0}) SendReason) (v w : View (State T W) (ChannelCall T))
+      → waited ≡ Some reply → reply ≡ Ok tt → SendsWaiting start {E = Refused ListenError} message v (Ok waited) w → MakesAtLast calls (is_new capacity) rests_on_none v (IsVainSend message) (IsSend message (Ok tt)) w
+  ends_sent start same message waited reply v w is sent waits =
+      subst (λ (o : Option (Result (Unit {0}) SendReason)). SendsWaiting capacity {E = Refused ListenError} message v (Ok o) w) (is ∙ ap Some sent) (subst (λ (n : Option ℕ). SendsWaiting n {E = Refused ListenError} message v (Ok waited) w) same waits)
 
   -- one whose attempt was refused says why
-  pub ends_unsent : (message : T) (waited : Option (Result (Unit {0}) SendReason)) (reply : Result (Unit {0}) SendReason) (why said : SendReason) (before after : Option T) (v w : View (State T W) (ChannelCall T))
-      → waited ≡ Some reply → reply ≡ Err why → said ≡ why → Gets {E = Refused ListenError} Empties before (Ok waited) after → SendsWaiting {E = Refused ListenError} message v (Ok waited) w → EndsUnsent message v said w
-  ends_unsent message waited reply why said before after v w is refused says gets waits =
+  pub ends_unsent : (start : Option ℕ) → start ≡ capacity → (message : T) (waited : Option (Result (Unit {0}) SendReason)) (reply : Result (Unit {0}) SendReason) (why said : SendReason) (before after : Option T) (v w : View (State T W) (ChannelCall T))
+      → waited ≡ Some reply → reply ≡ Err why → said ≡ why → Gets {E = Refused ListenError} Empties before (Ok waited) after → SendsWaiting start {E = Refused ListenError} message v (Ok waited) w → EndsUnsent capacity message v said w
+  ends_unsent start same message waited reply why said before after v w is refused says gets waits =
       let answer : waited ≡ Some (Err why) = is ∙ ap Some refused in
       let kept = subst (λ (o : Option (Result (Unit {0}) SendReason)). Gets {E = Refused ListenError} Empties before (Ok o) after) answer gets in
-      rw says (ends_so message why v w kept.0 (subst (λ (o : Option (Result (Unit {0}) SendReason)). SendsWaiting {E = Refused ListenError} message v (Ok o) w) answer waits))
+      rw says (ends_so message why v w kept.0 (subst (λ (o : Option (Result (Unit {0}) SendReason)). SendsWaiting capacity {E = Refused ListenError} message v (Ok o) w) answer (subst (λ (n : Option ℕ). SendsWaiting n {E = Refused ListenError} message v (Ok waited) w) same waits)))
+
+  -- one that could not wait says why
+  pub ends_refused : (start : Option ℕ) → start ≡ capacity → (message : T) (refused : Refused ListenError) (said : SendReason) (error : LockError) (v w : View (State T W) (ChannelCall T))
+      → said ≡ reason.WaitFailed error → SendsWaiting start {E = Refused ListenError} message v (Err refused) w → EndsUnsent capacity message v said w
+  ends_refused start same message refused said error v w says waits = rw says (subst (λ (n : Option ℕ). SendsWaiting n {E = Refused ListenError} message v (Err refused) w) same waits)
+
+module _ {T W : Type 0} where
+  -- one that receives, at a lock that has this capacity
+  pub receives_at : (start capacity : Option ℕ) → start ≡ capacity → (may_end : Type 0) (before : Asking Bool × View (State T W) (ChannelCall T)) (result : Result (Option (Option T)) (Refused ListenError)) (after : Asking Bool × View (State T W) (ChannelCall T))
+      → before.0.asked ≡ false → (may_end → ⊥)
+      → Ends calls (is_new start) rests_on_none ReceivesOrWaits (NotRefused ReceivesOrLeaves) TriesToReceive GivesUpReceiving (λ before _ after. after ≡ before) (λ before _ after. after ≡ before) may_end before result after
+      → ReceivesWaiting capacity before.1 result after.1
+  receives_at start capacity same may_end before result after asks never ends =
+      subst (λ (n : Option ℕ). ReceivesWaiting n before.1 result after.1) same (receives_waiting start may_end before result after asks never ends)

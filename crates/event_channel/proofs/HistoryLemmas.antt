@@ -1,7 +1,7 @@
 -- In one history messages are received in the order in which they were sent.
-use Rattle.std.proofs.Common.{◌≡◌, Bool, List, [], ◌∷◌, ◌++◌, refl, sym, ap, subst, ◌∙◌, ⊎_elim, Option, Some, None, Ok, Err, true, false}
+use Rattle.std.proofs.Common.{◌≡◌, Bool, List, [], ◌∷◌, ◌++◌, ℕ, refl, sym, ap, subst, ◌∙◌, ⊎_elim, Option, Some, None, Ok, Err, true, false}
 use Rattle.std.proofs.lemmas.List.{append-nil, append_assoc}
-use Rattle.event_history.specs.History.{Extends, IsAmong, LeadsTo, Runs, entry}
+use Rattle.event_history.specs.History.{Extends, IsAmong, Leads, LeadsTo, Runs, entry}
 use Rattle.event_history.proofs.RestsOnLemmas.{among_back, among_either, among_front}
 use Rattle.event_history.specs.declared.history.Entry.{Entry}
 use Rattle.event_history.specs.declared.history.View.{View}
@@ -25,7 +25,7 @@ module _ {T W : Type 0} where
   left true key before after h = ap (λ (s : State T W). s.messages) h.0
 
   -- each call sends behind all others, and receives from the front
-  moves : (before after : State T W) (c : ChannelCall T) → calls before c after → before.messages ++ sent_by c ≡ out_by c ++ after.messages
+  pub moves : (before after : State T W) (c : ChannelCall T) → calls before c after → before.messages ++ sent_by c ≡ out_by c ++ after.messages
   moves before after (call.Send message (Ok sent)) h = sym (ap (λ (s : State T W). s.messages) h.rest)
   moves before after (call.Send message (Err reason)) h = stays before after (alike before after h.1)
   moves before after (call.ForceSend message (Ok None)) h = sym (ap (λ (s : State T W). s.messages) h.rest)
@@ -76,23 +76,28 @@ module _ {T W : Type 0} where
       ∙ ap (λ xs. out_by e.call ++ xs) (in_order_between es run.0 r run.2)
       ∙ sym (append_assoc (out_by e.call) (all_of out_by es) r.messages)
 
-  pub in_order_from_start : (log : ChannelLog T) (q : State T W) → LeadsTo calls is_new log q → all_of sent_by log ≡ all_of out_by log ++ q.messages
-  in_order_from_start log q leads =
-      ap (λ (s : State T W). s.messages ++ all_of sent_by log) (sym leads.1.1) ∙ in_order_between log leads.0 q leads.2
+  pub in_order_from_start : (capacity : Option ℕ) (log : ChannelLog T) (q : State T W) → LeadsTo calls (is_new capacity) log q → all_of sent_by log ≡ all_of out_by log ++ q.messages
+  in_order_from_start capacity log q leads =
+      ap (λ (s : State T W). s.messages ++ all_of sent_by log) (sym leads.1) ∙ in_order_between log leads.0 q leads.2
 
   -- one call more
   run_more : (log : ChannelLog T) (e : Entry (ChannelCall T)) (q m r : State T W) → Runs calls q log m → calls m e.call r → Runs calls q (log ++ e ∷ []) r
   run_more [] e q m r run step = (r, subst (λ (s : State T W). calls s e.call r) (sym run) step, refl)
   run_more (x ∷ xs) e q m r (n, first, rest) step = (n, first, run_more xs e n m r rest step)
 
-  -- so it is of what a hand has seen after a call
-  pub in_order_as_seen : (v w : View (State T W) (ChannelCall T)) (c : ChannelCall T) → Extends calls is_new rests_on_none v c w
-      → (q : State T W) × LeadsTo calls is_new w.seen q × (all_of sent_by w.seen ≡ all_of out_by w.seen ++ q.messages)
-  in_order_as_seen v w c (before, after, led) =
+  -- what a hand has seen after a call leads to the state after it
+  pub leads_as_seen : (capacity : Option ℕ) (v w : View (State T W) (ChannelCall T)) (c : ChannelCall T) (before after : State T W) → Leads calls (is_new capacity) rests_on_none v c before after w → LeadsTo calls (is_new capacity) w.seen after
+  leads_as_seen capacity v w c before after led =
       let (s, starts, runs) = led.runs in
       let more = run_more (v.seen ++ led.between) (entry led.number c) s before after runs led.step in
-      let leads : LeadsTo calls is_new w.seen after = subst (λ (log : ChannelLog T). LeadsTo calls is_new log after) (sym led.seen) (s, starts, more) in
-      (after, leads, in_order_from_start w.seen after leads)
+      subst (λ (log : ChannelLog T). LeadsTo calls (is_new capacity) log after) (sym led.seen) (s, starts, more)
+
+  -- so it is of what a hand has seen after a call
+  pub in_order_as_seen : (capacity : Option ℕ) (v w : View (State T W) (ChannelCall T)) (c : ChannelCall T) → Extends calls (is_new capacity) rests_on_none v c w
+      → (q : State T W) × LeadsTo calls (is_new capacity) w.seen q × (all_of sent_by w.seen ≡ all_of out_by w.seen ++ q.messages)
+  in_order_as_seen capacity v w c (before, after, led) =
+      let leads = leads_as_seen capacity v w c before after led in
+      (after, leads, in_order_from_start capacity w.seen after leads)
 
 -- both parts of an empty list are empty
 front_empty : {X : Type 0} (xs ys : List X) → xs ++ ys ≡ [] → xs ≡ []
@@ -119,17 +124,17 @@ received_out (e ∷ es) message h = ⊎_elim
     (among_either message (received_by e.call) (all_of received_by es) h)
 
 -- so it was sent
-pub received_was_sent : {T W : Type 0} (log : ChannelLog T) (q : State T W) → LeadsTo calls is_new log q → (message : T) → IsAmong message (all_of received_by log) → IsAmong message (all_of sent_by log)
-received_was_sent log q leads message h =
-    subst (λ xs. IsAmong message xs) (sym (in_order_from_start log q leads)) (among_front message (all_of out_by log) q.messages (received_out log message h))
+pub received_was_sent : {T W : Type 0} (capacity : Option ℕ) (log : ChannelLog T) (q : State T W) → LeadsTo calls (is_new capacity) log q → (message : T) → IsAmong message (all_of received_by log) → IsAmong message (all_of sent_by log)
+received_was_sent capacity log q leads message h =
+    subst (λ xs. IsAmong message xs) (sym (in_order_from_start capacity log q leads)) (among_front message (all_of out_by log) q.messages (received_out log message h))
 
 -- what the last call received is among what all received
 received_last : {T : Type 0} (log : ChannelLog T) (e : Entry (ChannelCall T)) (message : T) → IsAmong message (received_by e.call) → IsAmong message (all_of received_by (log ++ e ∷ []))
 received_last [] e message h = among_front message (received_by e.call) [] h
 received_last (x ∷ xs) e message h = among_back message (received_by x.call) (all_of received_by (xs ++ e ∷ [])) (received_last xs e message h)
 
-pub seen_to_be_sent : {T W : Type 0} (v w : View (State T W) (ChannelCall T)) (c : ChannelCall T) → Extends calls is_new rests_on_none v c w → (message : T) → IsAmong message (received_by c) → IsAmong message (all_of sent_by w.seen)
-seen_to_be_sent v w c called message h =
+pub seen_to_be_sent : {T W : Type 0} (capacity : Option ℕ) (v w : View (State T W) (ChannelCall T)) (c : ChannelCall T) → Extends calls (is_new capacity) rests_on_none v c w → (message : T) → IsAmong message (received_by c) → IsAmong message (all_of sent_by w.seen)
+seen_to_be_sent capacity v w c called message h =
     let led = called.2 in
-    let seen = in_order_as_seen v w c called in
-    received_was_sent w.seen seen.0 seen.1 message (subst (λ log. IsAmong message (all_of received_by log)) (sym led.seen) (received_last (v.seen ++ led.between) (entry led.number c) message h))
+    let seen = in_order_as_seen capacity v w c called in
+    received_was_sent capacity w.seen seen.0 seen.1 message (subst (λ log. IsAmong message (all_of received_by log)) (sym led.seen) (received_last (v.seen ++ led.between) (entry led.number c) message h))

@@ -70,13 +70,13 @@ module _ {S C A G E : Type 0} (goes : S → C → S → Type 0) (starts : S → 
   gets before (Err error) after (refused, (between, some, fails), left) =
       gave_up refused after left ∙ failed between error refused fails ∙ same before between some
 
-module _ {T W : Type 0} where
+module _ {T W : Type 0} (capacity : Option ℕ) where
   pub sending_gets : (may_end : Type 0) (before : Asking (Option T) × View (State T W) (ChannelCall T)) (result : Result (Option (Result (Unit {0}) SendReason)) (Refused ListenError)) (after : Asking (Option T) × View (State T W) (ChannelCall T))
-      → Ends calls is_new rests_on_none SendsOrWaits (NotRefused SendsOrLeaves) TriesToSend GivesUpSending Empties (LeavesBy Empties) may_end before result after
+      → Ends calls (is_new capacity) rests_on_none SendsOrWaits (NotRefused SendsOrLeaves) TriesToSend GivesUpSending Empties (LeavesBy Empties) may_end before result after
       → Gets Empties before.0.asked result after.0.asked
-  sending_gets may_end = gets calls is_new rests_on_none SendsOrWaits (NotRefused SendsOrLeaves) TriesToSend GivesUpSending Empties may_end
+  sending_gets may_end = gets calls (is_new capacity) rests_on_none SendsOrWaits (NotRefused SendsOrLeaves) TriesToSend GivesUpSending Empties may_end
 
   pub collecting_gets : (may_end : Type 0) (before : Asking (Many T) × View (State T W) (ChannelCall T)) (result : Result (Option (Option ℕ)) (Refused ListenError)) (after : Asking (Many T) × View (State T W) (ChannelCall T))
-      → Ends calls is_new rests_on_none ReceivesManyOrWaits (NotRefused ReceivesManyOrLeaves) TriesToReceiveMany GivesUpReceivingMany Collects (LeavesBy Collects) may_end before result after
+      → Ends calls (is_new capacity) rests_on_none ReceivesManyOrWaits (NotRefused ReceivesManyOrLeaves) TriesToReceiveMany GivesUpReceivingMany Collects (LeavesBy Collects) may_end before result after
       → Gets Collects before.0.asked result after.0.asked
-  collecting_gets may_end = gets calls is_new rests_on_none ReceivesManyOrWaits (NotRefused ReceivesManyOrLeaves) TriesToReceiveMany GivesUpReceivingMany Collects may_end
+  collecting_gets may_end = gets calls (is_new capacity) rests_on_none ReceivesManyOrWaits (NotRefused ReceivesManyOrLeaves) TriesToReceiveMany GivesUpReceivingMany Collects may_end

@@ -9,7 +9,7 @@ use Rattle.event_channel.specs.declared.error.SendReason.{SendReason}
 use Rattle.event_channel.specs.declared.error.SendReason.TheVariants.{Full}
 use Rattle.event_channel.specs.declared.error.TryRecvError.{TryRecvError}
 use Rattle.event_channel.specs.declared.error.TryRecvError.TheVariants.{Empty, Closed}
-use Rattle.event_channel.specs.Messages.{State, IsFull, new_state, room_in}
+use Rattle.event_channel.specs.Messages.{State, IsFull, limit_of, new_state, room_in}
 use Rattle.event_channel.specs.Steps.{Pushes, Refuses, Forces, Takes, IsEmptyFor, Closes, KeepsAllButSenders, KeepsAllButReceivers, KeepsAllButStreams}
 use Rattle.event_channel.specs.Waits.{Receives, Received, Sends}
 
@@ -38,9 +38,9 @@ abbrev pub rests_on_none : {T : Type 0} → ChannelCall T → List (ChannelCall 
 rests_on_none = λ _. []
 
 module _ {T W : Type 0} where
-  -- an open channel without messages, at which nobody is
-  abbrev pub is_new : State T W → Type 0
-  is_new s = (capacity : ℕ) × (s ≡ new_state capacity)
+  -- an open channel without messages, at which nobody is, of the capacity that was asked for
+  abbrev pub is_new : Option ℕ → State T W → Type 0
+  is_new capacity s = s ≡ new_state (limit_of capacity)
 
   -- the message was put behind all others, or was refused and nothing changed
   abbrev pub SendsOne : T → Result (Unit {0}) SendReason → State T W → State T W → Type 0

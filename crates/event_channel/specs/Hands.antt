@@ -1,5 +1,5 @@
 -- What the calls of a hand were that waited.
-use Rattle.std.specs.Prelude.{◌≡◌, ◌⊎◌, false, List, [], ◌∷◌, Option, Some, None, Result, Ok, Err}
+use Rattle.std.specs.Prelude.{◌≡◌, ◌⊎◌, ℕ, false, List, [], ◌∷◌, Option, Some, None, Result, Ok, Err}
 use Rattle.event_queue.specs.declared.key.Key.{Key}
 use Rattle.event_queue.specs.declared.reply.ListenError.{ListenError}
 use Rattle.event_wait.specs.declared.request.Attempted.TheVariants as attempted
@@ -65,31 +65,32 @@ module _ {S C : Type 0} (goes : S → C → S → Type 0) (starts : S → Type 0
   WaitsFor vain gets over v (Ok None) w = ⊥
   WaitsFor vain gets over v (Err error) w = MakesSome v (λ c. vain c ⊎ over c) w
 
-module _ {T W : Type 0} where
+-- of a channel of this capacity
+module _ {T W : Type 0} (capacity : Option ℕ) where
   abbrev pub SendsWaiting : {E : Type 0} → T → View (State T W) (ChannelCall T) → Result (Option (Result (Unit {0}) SendReason)) E → View (State T W) (ChannelCall T) → Type 0
-  SendsWaiting message = WaitsFor calls is_new rests_on_none (IsVainSend message) (IsSend message) (IsSendGivenUp message)
+  SendsWaiting message = WaitsFor calls (is_new capacity) rests_on_none (IsVainSend message) (IsSend message) (IsSendGivenUp message)
 
   abbrev pub ReceivesWaiting : {E : Type 0} → View (State T W) (ChannelCall T) → Result (Option (Option T)) E → View (State T W) (ChannelCall T) → Type 0
-  ReceivesWaiting = WaitsFor calls is_new rests_on_none IsVainReceive IsReceive IsReceiveGivenUp
+  ReceivesWaiting = WaitsFor calls (is_new capacity) rests_on_none IsVainReceive IsReceive IsReceiveGivenUp
 
   -- a message was not sent for this reason
   abbrev pub EndsUnsent : T → View (State T W) (ChannelCall T) → SendReason → View (State T W) (ChannelCall T) → Type 0
-  EndsUnsent message v Closed w = MakesAtLast calls is_new rests_on_none v (IsVainSend message) (IsSend message (Err Closed)) w
+  EndsUnsent message v Closed w = MakesAtLast calls (is_new capacity) rests_on_none v (IsVainSend message) (IsSend message (Err Closed)) w
   EndsUnsent message v Full w = ⊥
   EndsUnsent message v TimedOut w = ⊥
-  EndsUnsent message v Memory w = MakesAtLast calls is_new rests_on_none v (IsVainSend message) (IsSend message (Err Memory)) w
-  EndsUnsent message v (WaitFailed error) w = MakesSome calls is_new rests_on_none v (λ c. IsVainSend message c ⊎ IsSendGivenUp message c) w
+  EndsUnsent message v Memory w = MakesAtLast calls (is_new capacity) rests_on_none v (IsVainSend message) (IsSend message (Err Memory)) w
+  EndsUnsent message v (WaitFailed error) w = MakesSome calls (is_new capacity) rests_on_none v (λ c. IsVainSend message c ⊎ IsSendGivenUp message c) w
 
   -- The hand attempted to send this message until an attempt had this reply, which is its last call; or it could not wait.
   abbrev pub SendsBlocking : T → View (State T W) (ChannelCall T) → Result (Unit {0}) (SendError T) → View (State T W) (ChannelCall T) → Type 0
-  SendsBlocking message v (Ok sent) w = MakesAtLast calls is_new rests_on_none v (IsVainSend message) (IsSend message (Ok sent)) w
+  SendsBlocking message v (Ok sent) w = MakesAtLast calls (is_new capacity) rests_on_none v (IsVainSend message) (IsSend message (Ok sent)) w
   SendsBlocking message v (Err error) w = EndsUnsent message v error.reason w
 
   -- The same of one that receives.
   abbrev pub ReceivesBlocking : View (State T W) (ChannelCall T) → Result T RecvError → View (State T W) (ChannelCall T) → Type 0
-  ReceivesBlocking v (Ok message) w = MakesAtLast calls is_new rests_on_none v IsVainReceive (IsReceive (Some message)) w
-  ReceivesBlocking v (Err received.Closed) w = MakesAtLast calls is_new rests_on_none v IsVainReceive (IsReceive None) w
-  ReceivesBlocking v (Err (received.WaitFailed error)) w = MakesSome calls is_new rests_on_none v (λ c. IsVainReceive c ⊎ IsReceiveGivenUp c) w
+  ReceivesBlocking v (Ok message) w = MakesAtLast calls (is_new capacity) rests_on_none v IsVainReceive (IsReceive (Some message)) w
+  ReceivesBlocking v (Err received.Closed) w = MakesAtLast calls (is_new capacity) rests_on_none v IsVainReceive (IsReceive None) w
+  ReceivesBlocking v (Err (received.WaitFailed error)) w = MakesSome calls (is_new capacity) rests_on_none v (λ c. IsVainReceive c ⊎ IsReceiveGivenUp c) w
 
 -- what a wait without a limit received
 abbrev pub Says : {T E : Type 0} → Result (Option (Option T)) E → Result T RecvError → Type 0

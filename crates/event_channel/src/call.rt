@@ -50,9 +50,11 @@ pub enum ChannelCall<T> {
     Len(usize),
 }
 
-/// A channel starts open, without messages and with nobody that waits.
+/// A channel starts open, without messages, with nobody that waits, and of the capacity that was asked for.
 impl<T, W> Steps for Messages<T, W> {
     type Call = ChannelCall<T>;
+
+    type Start = Option<usize>;
 
     ghost starts = { is_new };
 

@@ -41,6 +41,7 @@ pub(crate) struct Channel<T> {
     pub(crate) capacity: Option<usize>,
     pub(crate) senders: Handles,
     pub(crate) receivers: Handles,
+    ghost asked: { lock.start ≡ capacity },
 }
 
 /// What each handle has: a share of the channel, and a runtime value of its own.
@@ -59,7 +60,7 @@ impl<T, R> Model for Link<T, R> {
 
     ghost view = { λ link. record {
       channel = (arc_value link.channel).lock;
-      capacity = (arc_value link.channel).capacity;
+      capacity = (arc_value link.channel).lock.start;
     } };
 }
 
@@ -91,10 +92,10 @@ pub(crate) fn wait_error(refused: Refused<ListenError>) -> LockError {
 impl<T: Drop> Channel<T> {
     /// An open channel without messages, with one handle of each side.
     pub(crate) fn new(alloc: Global, capacity: Option<usize>) -> Result<Self, AllocError>
-        ensures { IfOk result (λ channel. channel.capacity ≡ capacity) }
+        ensures capacity { IfOk result (λ channel. channel.lock.start ≡ capacity) }
     {
         let messages = Messages::new(alloc, capacity)?;
-        let (lock, hand) = Lock::new(alloc, messages)?;
+        let (lock, hand) = Lock::new(alloc, messages, &capacity)?;
         hand.end();
         Ok(Channel {
             lock,
@@ -114,7 +115,7 @@ impl<T: Drop> Channel<T> {
     ) -> Result<(), SendError<T>>
         requires { hand.old.seat.table_id ≡ self.now.lock.table }
         ensures hand { hand.new.seat.table_id ≡ hand.old.seat.table_id }
-        ensures call { Extends calls is_new rests_on_none hand.old.seat.me.0
+        ensures call { Extends calls (is_new self.now.lock.start) rests_on_none hand.old.seat.me.0
             (call.Send message (answer_of result)) hand.new.seat.me.0 }
         ensures returned { IfErr result (λ error. error.message ≡ message) }
         ensures reason { IfErr result (λ error. IsUnsentAtOnce error.reason) }
@@ -134,7 +135,7 @@ impl<T: Drop> Channel<T> {
     ) -> Result<Option<T>, SendError<T>>
         requires { hand.old.seat.table_id ≡ self.now.lock.table }
         ensures hand { hand.new.seat.table_id ≡ hand.old.seat.table_id }
-        ensures call { Extends calls is_new rests_on_none hand.old.seat.me.0
+        ensures call { Extends calls (is_new self.now.lock.start) rests_on_none hand.old.seat.me.0
             (call.ForceSend message (answer_of result)) hand.new.seat.me.0 }
         ensures returned { IfErr result (λ error. error.message ≡ message) }
         ensures reason { IfErr result (λ error. IsUnsent error.reason) }
@@ -158,7 +159,8 @@ impl<T: Drop> Channel<T> {
         requires { hand.old.seat.table_id ≡ self.now.lock.table }
         ensures hand { hand.new.seat.table_id ≡ hand.old.seat.table_id }
         ensures calls { (message : T) → sending.old.asked ≡ Some message → limit ≡ Limit.Never
-            → SendsWaiting message hand.old.seat.me.0 result hand.new.seat.me.0 }
+            → SendsWaiting self.now.lock.start message hand.old.seat.me.0 result
+            hand.new.seat.me.0 }
         ensures never { limit ≡ Limit.Never → IfOk result IsSome }
         ensures gets { Gets Empties sending.old.asked result sending.new.asked }
     {
@@ -169,8 +171,8 @@ impl<T: Drop> Channel<T> {
     pub(crate) fn close<R: Wait>(&self, rt: &R, hand: &mut ChannelHand<T>) -> bool
         requires { hand.old.seat.table_id ≡ self.now.lock.table }
         ensures hand { hand.new.seat.table_id ≡ hand.old.seat.table_id }
-        ensures call { Extends calls is_new rests_on_none hand.old.seat.me.0 (call.Close result)
-            hand.new.seat.me.0 }
+        ensures call { Extends calls (is_new self.now.lock.start) rests_on_none hand.old.seat.me.0
+            (call.Close result) hand.new.seat.me.0 }
     {
         self.lock.call(rt, hand, Close)
     }

@@ -1,10 +1,12 @@
 //! What follows of one history of a channel.
-ghost use Rattle.std.specs.Prelude.{◌≡◌, ◌++◌, []};
+ghost use Rattle.std.specs.Prelude.{◌≡◌, ◌≤◌, ◌+◌, ◌++◌, ℕ, Option, Err, [], ◌∷◌, length, true};
 ghost use Rattle.event_channel.specs.Calls.{calls, is_new, rests_on_none};
-ghost use Rattle.event_channel.specs.Messages.{State};
+ghost use Rattle.event_channel.specs.Messages.{State, limit_of};
 ghost use Rattle.event_channel.specs.Sent.{ChannelLog, all_of, forced_out_by, out_by, received_by, sent_by};
 ghost use Rattle.event_channel.specs.declared.call.ChannelCall.{ChannelCall};
-ghost use Rattle.event_history.specs.History.{Extends, IsAmong, LeadsTo, Runs};
+ghost use Rattle.event_channel.specs.declared.call.ChannelCall.TheVariants as call;
+ghost use Rattle.event_channel.specs.declared.error.SendReason.TheVariants.{Closed, Full};
+ghost use Rattle.event_history.specs.History.{Extends, IsAmong, LeadsTo, Runs, entry};
 ghost use Rattle.event_history.specs.declared.history.View.{View};
 
 /// In any history of a channel messages go out in the order in which they were sent: those that its calls received and those
@@ -13,21 +15,49 @@ ghost use Rattle.event_history.specs.declared.history.View.{View};
 /// out were received. So it is of the history that a hand has seen after a call. And what was received was sent: of the history
 /// that a hand has seen after a call that received a message, some call sent it.
 pub fn sent_is_received_in_order<T, W>()
-    ensures in_order { (log : ChannelLog T) (q : State T W) → LeadsTo calls is_new log q
+    ensures in_order { (capacity : Option ℕ) (log : ChannelLog T) (q : State T W)
+        → LeadsTo calls (is_new capacity) log q
         → all_of sent_by log ≡ all_of out_by log ++ q.messages }
     ensures from_any_state { (log : ChannelLog T) (q r : State T W) → Runs calls q log r
         → q.messages ++ all_of sent_by log ≡ all_of out_by log ++ r.messages }
-    ensures all_received { (log : ChannelLog T) (q : State T W) → LeadsTo calls is_new log q
-        → all_of forced_out_by log ≡ []
+    ensures all_received { (capacity : Option ℕ) (log : ChannelLog T) (q : State T W)
+        → LeadsTo calls (is_new capacity) log q → all_of forced_out_by log ≡ []
         → all_of sent_by log ≡ all_of received_by log ++ q.messages }
-    ensures as_seen { (v w : View (State T W) (ChannelCall T)) (call : ChannelCall T)
-        → Extends calls is_new rests_on_none v call w → (q : State T W)
-        × LeadsTo calls is_new w.seen q
+    ensures as_seen { (capacity : Option ℕ) (v w : View (State T W) (ChannelCall T))
+        (call : ChannelCall T) → Extends calls (is_new capacity) rests_on_none v call w
+        → (q : State T W) × LeadsTo calls (is_new capacity) w.seen q
         × (all_of sent_by w.seen ≡ all_of out_by w.seen ++ q.messages) }
-    ensures received_was_sent { (log : ChannelLog T) (q : State T W) → LeadsTo calls is_new log q
-        → (message : T) → IsAmong message (all_of received_by log)
-        → IsAmong message (all_of sent_by log) }
-    ensures seen_to_be_sent { (v w : View (State T W) (ChannelCall T)) (call : ChannelCall T)
-        → Extends calls is_new rests_on_none v call w → (message : T)
-        → IsAmong message (received_by call) → IsAmong message (all_of sent_by w.seen) }
+    ensures received_was_sent { (capacity : Option ℕ) (log : ChannelLog T) (q : State T W)
+        → LeadsTo calls (is_new capacity) log q → (message : T)
+        → IsAmong message (all_of received_by log) → IsAmong message (all_of sent_by log) }
+    ensures seen_to_be_sent { (capacity : Option ℕ) (v w : View (State T W) (ChannelCall T))
+        (call : ChannelCall T) → Extends calls (is_new capacity) rests_on_none v call w
+        → (message : T) → IsAmong message (received_by call)
+        → IsAmong message (all_of sent_by w.seen) }
+{}
+
+/// A channel has the capacity that it was made with from its first state, which is open and has no message, to its last, and
+/// never more messages than that. Where a send finds it full, by a call of a hand, it has just as many: so many more were sent
+/// by calls of the history than went out. Where a send finds it closed, a call of the history closed it.
+///
+/// Without a limit the capacity is the greatest `usize`. That a send of one's own finds room does not follow, since no clause
+/// says that nobody else has a handle.
+pub fn capacity_is_kept<T, W>()
+    ensures kept { (capacity : Option ℕ) (log : ChannelLog T) (q : State T W)
+        → LeadsTo calls (is_new capacity) log q → q.capacity ≡ limit_of capacity }
+    ensures at_most { (capacity : Option ℕ) (log : ChannelLog T) (q : State T W)
+        → LeadsTo calls (is_new capacity) log q → length q.messages ≤ limit_of capacity }
+    ensures full { (capacity : Option ℕ) (v w : View (State T W) (ChannelCall T)) (message : T)
+        → Extends calls (is_new capacity) rests_on_none v (call.Send message (Err Full)) w
+        → (q : State T W) × LeadsTo calls (is_new capacity) w.seen q
+        × (length q.messages ≡ limit_of capacity) }
+    ensures full_was_sent { (capacity : Option ℕ) (v w : View (State T W) (ChannelCall T))
+        (message : T)
+        → Extends calls (is_new capacity) rests_on_none v (call.Send message (Err Full)) w
+        → length (all_of sent_by w.seen) ≡ length (all_of out_by w.seen) + limit_of capacity }
+    ensures closed_was_closed { (capacity : Option ℕ) (v w : View (State T W) (ChannelCall T))
+        (message : T)
+        → Extends calls (is_new capacity) rests_on_none v (call.Send message (Err Closed)) w
+        → (earlier : ChannelLog T) × (later : ChannelLog T) × (by : ℕ)
+        × (w.seen ≡ earlier ++ entry by (call.Close true) ∷ later) }
 {}

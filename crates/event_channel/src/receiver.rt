@@ -103,7 +103,7 @@ impl<T: Drop, R: Wait + Clock + Clone> Receiver<T, R> {
         requires here { hand.old.seat.table_id ≡ self.now.channel.table }
         requires there { other.seat.table_id ≡ self.now.channel.table }
         ensures hand { hand.new.seat.table_id ≡ hand.old.seat.table_id }
-        ensures looks { Looks calls is_new rests_on_none
+        ensures looks { Looks calls (is_new self.now.capacity) rests_on_none
             (both_views hand.old.seat.me.0 other.seat.me.0) hand.new.seat.me.0 }
     {
         self.link.channel.lock.absorb(hand, other);
@@ -124,8 +124,8 @@ impl<T: Drop, R: Wait + Clock + Clone> Receiver<T, R> {
     pub fn try_recv_as(&self, hand: &mut ChannelHand<T>) -> Result<T, TryRecvError>
         requires { hand.old.seat.table_id ≡ self.now.channel.table }
         ensures hand { hand.new.seat.table_id ≡ hand.old.seat.table_id }
-        ensures call { Extends calls is_new rests_on_none hand.old.seat.me.0 (call.Receive result)
-            hand.new.seat.me.0 }
+        ensures call { Extends calls (is_new self.now.capacity) rests_on_none hand.old.seat.me.0
+            (call.Receive result) hand.new.seat.me.0 }
     {
         match self
             .link
@@ -165,7 +165,8 @@ impl<T: Drop, R: Wait + Clock + Clone> Receiver<T, R> {
     pub fn recv_blocking_as(&self, hand: &mut ChannelHand<T>) -> Result<T, RecvError>
         requires { hand.old.seat.table_id ≡ self.now.channel.table }
         ensures hand { hand.new.seat.table_id ≡ hand.old.seat.table_id }
-        ensures calls { ReceivesBlocking hand.old.seat.me.0 result hand.new.seat.me.0 }
+        ensures calls { ReceivesBlocking self.now.capacity hand.old.seat.me.0 result
+            hand.new.seat.me.0 }
     {
         received(self.wait(hand, Limit::Never))
     }
@@ -256,7 +257,7 @@ impl<T: Drop, R: Wait + Clock + Clone> Receiver<T, R> {
         ensures hand { hand.new.seat.table_id ≡ hand.old.seat.table_id }
         ensures never { limit ≡ Limit.Never → IfOk result IsSome }
         ensures calls { limit ≡ Limit.Never
-            → ReceivesWaiting hand.old.seat.me.0 result hand.new.seat.me.0 }
+            → ReceivesWaiting self.now.capacity hand.old.seat.me.0 result hand.new.seat.me.0 }
     {
         let mut receiving = Receiving::one();
         self.link.channel.lock.obtain(&self.link.rt, self.link.alloc, hand, &mut receiving, limit)
@@ -276,8 +277,8 @@ impl<T: Drop, R: Wait + Clock + Clone> Receiver<T, R> {
     pub fn close_as(&self, hand: &mut ChannelHand<T>) -> bool
         requires { hand.old.seat.table_id ≡ self.now.channel.table }
         ensures hand { hand.new.seat.table_id ≡ hand.old.seat.table_id }
-        ensures call { Extends calls is_new rests_on_none hand.old.seat.me.0 (call.Close result)
-            hand.new.seat.me.0 }
+        ensures call { Extends calls (is_new self.now.capacity) rests_on_none hand.old.seat.me.0
+            (call.Close result) hand.new.seat.me.0 }
     {
         self.link.channel.close(&self.link.rt, hand)
     }

@@ -62,8 +62,9 @@ fn received_in_time<T>(
 impl<'a, T: Drop, R: Wait + Clock + Clone> Model for Recv<'a, T, R> {
     ghost use Rattle.event_channel.specs.Hands.{IsOneHand};
     ghost use Rattle.event_history.specs.Lock.{LockId};
+    ghost use Rattle.std.specs.Prelude.{ℕ, Option};
 
-    ghost Value = { LockId };
+    ghost Value = { LockId (Option ℕ) };
 
     ghost view = { λ recv. recv.channel.now.lock };
 

@@ -43,7 +43,8 @@ impl<T: Drop, R: Wait + Clock + Clone> Model for Sender<T, R> {
 /// A channel in which `capacity` messages wait at most.
 ///
 /// Returns an error if `capacity` is 0 or if there is no memory. The call allocates room for `capacity` messages, so no
-/// later call allocates for a message. Both sides keep clones of `rt`.
+/// later call allocates for a message. Both sides keep clones of `rt`. The history of which a hand knows begins where the
+/// channel is open, without messages and of this capacity, which [`capacity_is_kept`](crate::capacity_is_kept) keeps.
 pub fn bounded<T: Drop, R: Wait + Clock + Clone>(
     rt: &R,
     alloc: Global,
@@ -64,7 +65,8 @@ pub fn bounded<T: Drop, R: Wait + Clock + Clone>(
 
 /// A channel in which any number of messages may wait.
 ///
-/// Returns an error if there is no memory. Both sides keep clones of `rt`.
+/// Returns an error if there is no memory. Both sides keep clones of `rt`. The history of which a hand knows begins where the
+/// channel is open, without messages and without a limit.
 pub fn unbounded<T: Drop, R: Wait + Clock + Clone>(
     rt: &R,
     alloc: Global,
@@ -132,7 +134,7 @@ impl<T: Drop, R: Wait + Clock + Clone> Sender<T, R> {
         requires here { hand.old.seat.table_id ≡ self.now.channel.table }
         requires there { other.seat.table_id ≡ self.now.channel.table }
         ensures hand { hand.new.seat.table_id ≡ hand.old.seat.table_id }
-        ensures looks { Looks calls is_new rests_on_none
+        ensures looks { Looks calls (is_new self.now.capacity) rests_on_none
             (both_views hand.old.seat.me.0 other.seat.me.0) hand.new.seat.me.0 }
     {
         self.link.channel.lock.absorb(hand, other);
@@ -158,7 +160,7 @@ impl<T: Drop, R: Wait + Clock + Clone> Sender<T, R> {
     pub fn try_send_as(&self, hand: &mut ChannelHand<T>, message: T) -> Result<(), SendError<T>>
         requires { hand.old.seat.table_id ≡ self.now.channel.table }
         ensures hand { hand.new.seat.table_id ≡ hand.old.seat.table_id }
-        ensures call { Extends calls is_new rests_on_none hand.old.seat.me.0
+        ensures call { Extends calls (is_new self.now.capacity) rests_on_none hand.old.seat.me.0
             (call.Send message (answer_of result)) hand.new.seat.me.0 }
         ensures returned { IfErr result (λ error. error.message ≡ message) }
         ensures reason { IfErr result (λ error. IsUnsentAtOnce error.reason) }
@@ -187,7 +189,7 @@ impl<T: Drop, R: Wait + Clock + Clone> Sender<T, R> {
     ) -> Result<Option<T>, SendError<T>>
         requires { hand.old.seat.table_id ≡ self.now.channel.table }
         ensures hand { hand.new.seat.table_id ≡ hand.old.seat.table_id }
-        ensures call { Extends calls is_new rests_on_none hand.old.seat.me.0
+        ensures call { Extends calls (is_new self.now.capacity) rests_on_none hand.old.seat.me.0
             (call.ForceSend message (answer_of result)) hand.new.seat.me.0 }
         ensures returned { IfErr result (λ error. error.message ≡ message) }
         ensures reason { IfErr result (λ error. IsUnsent error.reason) }
@@ -231,7 +233,8 @@ impl<T: Drop, R: Wait + Clock + Clone> Sender<T, R> {
     ) -> Result<(), SendError<T>>
         requires { hand.old.seat.table_id ≡ self.now.channel.table }
         ensures hand { hand.new.seat.table_id ≡ hand.old.seat.table_id }
-        ensures calls { SendsBlocking message hand.old.seat.me.0 result hand.new.seat.me.0 }
+        ensures calls { SendsBlocking self.now.capacity message hand.old.seat.me.0 result
+            hand.new.seat.me.0 }
         ensures returned { IfErr result (λ error. error.message ≡ message) }
         ensures reason { IfErr result (λ error. IsUnsentByWaiting error.reason) }
     {
@@ -276,7 +279,7 @@ impl<T: Drop, R: Wait + Clock + Clone> Sender<T, R> {
         requires { hand.old.seat.table_id ≡ self.now.channel.table }
         ensures hand { hand.new.seat.table_id ≡ hand.old.seat.table_id }
         ensures calls { limit ≡ Never
-            → SendsBlocking message hand.old.seat.me.0 result hand.new.seat.me.0 }
+            → SendsBlocking self.now.capacity message hand.old.seat.me.0 result hand.new.seat.me.0 }
         ensures returned { IfErr result (λ error. error.message ≡ message) }
         ensures reason { IfErr result (λ error. IsUnsentInTime error.reason) }
         ensures never { limit ≡ Never → IfErr result (λ error. IsUnsentByWaiting error.reason) }
@@ -308,8 +311,8 @@ impl<T: Drop, R: Wait + Clock + Clone> Sender<T, R> {
     pub fn close_as(&self, hand: &mut ChannelHand<T>) -> bool
         requires { hand.old.seat.table_id ≡ self.now.channel.table }
         ensures hand { hand.new.seat.table_id ≡ hand.old.seat.table_id }
-        ensures call { Extends calls is_new rests_on_none hand.old.seat.me.0 (call.Close result)
-            hand.new.seat.me.0 }
+        ensures call { Extends calls (is_new self.now.capacity) rests_on_none hand.old.seat.me.0
+            (call.Close result) hand.new.seat.me.0 }
     {
         self.link.channel.close(&self.link.rt, hand)
     }

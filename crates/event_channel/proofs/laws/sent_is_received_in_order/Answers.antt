@@ -9,7 +9,7 @@ pub returns-clause-from_any_state : goal.returns-clause-from_any_state
 returns-clause-from_any_state g c = in_order_between
 
 pub returns-clause-all_received : goal.returns-clause-all_received
-returns-clause-all_received g c log q leads none = in_order_from_start log q leads ∙ ap (λ xs. xs ++ q.messages) (all_received log none)
+returns-clause-all_received g c capacity log q leads none = in_order_from_start capacity log q leads ∙ ap (λ xs. xs ++ q.messages) (all_received log none)
 
 pub returns-clause-as_seen : goal.returns-clause-as_seen
 returns-clause-as_seen g c = in_order_as_seen

@@ -2,4 +2,4 @@ use Rattle.event_channel.proofs.WaitLemmas.{collecting_gets}
 use Rattle.event_channel.proofs.receiver.Receiver.collect.Goals as goal
 
 pub returns-clause-gets : goal.returns-clause-gets
-returns-clause-gets g c = collecting_gets _ _ _ _ c.obtain-collected.ensures.obtains
+returns-clause-gets g c = collecting_gets c.deref-2.result.now.lock.start _ _ _ _ c.obtain-collected.ensures.obtains
