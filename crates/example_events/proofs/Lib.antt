@@ -1,3 +1,4 @@
 mod AttemptLemmas
 mod HeardLemmas
+mod PassedLemmas
 mod TurnstileLemmas

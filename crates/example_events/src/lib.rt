@@ -21,6 +21,7 @@
 //!   tells from others; closed with `Ok`, the notes of each hand are entries of its record.
 //! - [`heard`]: a thread that listens, tells another one, which notifies all, and learns from it. That its listener was
 //!   notified is proved, whatever other threads do: [HISTORY.md](../../../docs/HISTORY.md) says why.
+//! - [`passed`]: a listener that is notified and dropped, and the next one, which hears it, whatever other threads do.
 //! - [`race`]: the thread of the first hand sets such a flag, and those of all others wait for it. Its record has
 //!   entries of these hands alone, and of none.
 //! - [`record_table`]: a record as a table of hand, call and reply.
@@ -39,6 +40,7 @@ pub mod flag;
 pub mod heard;
 pub mod locks;
 pub mod meeting;
+pub mod passed;
 pub mod polled;
 pub mod program;
 pub mod queue;

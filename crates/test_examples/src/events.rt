@@ -27,11 +27,16 @@ fn tell_the_first<R: Runtime>(rt: &R, event: &Event<u32>) {
 }
 
 #[test]
-fn a_tag_comes_to_who_waits_and_who_awaits(rt: HostRuntime) {
+fn a_tag_comes_to_who_waits(rt: HostRuntime) {
     let (rt, event) = (&rt, &Event::with_tag(new_id(&rt)));
     let wait = || wait_for_tag(rt, rt.alloc(), event);
     let (waited, ()) = thread::join(rt, wait, || tell_the_first(rt, event));
     check(rt, "who waits", waited, Ok(7));
+}
+
+#[test]
+fn a_tag_comes_to_who_awaits(rt: HostRuntime) {
+    let (rt, event) = (&rt, &Event::with_tag(new_id(&rt)));
     let wait = || await_tag(rt, event).expect(rt, "a tag");
     let (awaited, ()) = thread::join(rt, wait, || tell_the_first(rt, event));
     check(rt, "who awaits", awaited, 7);

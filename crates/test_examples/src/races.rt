@@ -6,20 +6,26 @@ use example_events::flag::Flag;
 use example_events::heard::hear_another;
 use example_events::locks::{count, count_with_permits};
 use example_events::meeting::wait_for_setter;
+use example_events::passed::pass_on;
 use example_events::race::race;
 use futures::test::MockTask;
 use std::sync::atomic::{AtomicBool, Ordering};
 use std::thread;
 use test_support::{for_two_seconds, spin_until};
 
-// Worked row 21, under a lock and with three permits.
+// Worked row 21, under a lock.
 #[test]
 fn ten_threads_count_to_ten(rt: HostRuntime) {
     let by_lock = |threads| count(rt, rt.alloc(), new_id(&rt), threads);
-    let by_permit = |n, permits| count_with_permits(rt, rt.alloc(), new_id(&rt), n, permits);
-    check(&rt, "no threads, a lock", by_lock(0), Ok(0));
-    check(&rt, "no threads, no permits", by_permit(0, 0), Ok(0));
+    check(&rt, "no threads", by_lock(0), Ok(0));
     for_two_seconds(&rt, || check(&rt, "a lock", by_lock(10), Ok(10))).expect(&rt, "the time");
+}
+
+// Worked row 21, with three permits.
+#[test]
+fn ten_threads_with_permits_count_to_ten(rt: HostRuntime) {
+    let by_permit = |n, permits| count_with_permits(rt, rt.alloc(), new_id(&rt), n, permits);
+    check(&rt, "no threads, no permits", by_permit(0, 0), Ok(0));
     let raced = for_two_seconds(&rt, || check(&rt, "permits", by_permit(10, 3), Ok(10)));
     raced.expect(&rt, "the time");
 }
@@ -47,6 +53,22 @@ fn two_threads_hear_what_two_others_say(rt: HostRuntime) {
     for _ in 0..100 {
         let heard = thread::join(&rt, hears, hears);
         check(&rt, "what both hear", heard, (Ok(true), Ok(true)));
+        check(&rt, "listeners", event.total_listeners(&rt), 0);
+    }
+}
+
+// Alone, the two are all that listen; beside another one that listens they are not.
+#[test]
+fn a_drop_passes_on_to_the_next(rt: HostRuntime) {
+    let event = Event::new(new_id(&rt));
+    let passes = || pass_on(&rt, rt.alloc(), &event);
+    check(&rt, "alone", passes(), Ok(Some(true)));
+    let third = event.listen(&rt, rt.alloc()).expect(&rt, "a listener");
+    check(&rt, "beside a third", passes(), Ok(None));
+    drop(third);
+    for _ in 0..100 {
+        let (one, other) = thread::join(&rt, passes, passes);
+        check(&rt, "errors", one.is_err() || other.is_err(), false);
         check(&rt, "listeners", event.total_listeners(&rt), 0);
     }
 }

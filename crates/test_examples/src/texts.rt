@@ -31,8 +31,9 @@ fn reads<V: Display + Drop, R: Runtime>(rt: &R, value: V, text: &str) {
     check(rt, "the text", shown.as_str(), text);
 }
 
+// Those of threads that share something, and of the programs.
 #[test]
-fn all_errors_have_their_texts(rt: HostRuntime) {
+fn errors_of_locks_have_their_texts(rt: HostRuntime) {
     reads(&rt, MutexError::Finished, "the lock was given");
     reads(&rt, MutexError::from(Memory), LISTENER);
     reads(&rt, MutexError::from(SerialsUsedUp), SERIALS);
@@ -41,13 +42,23 @@ fn all_errors_have_their_texts(rt: HostRuntime) {
     reads(&rt, CountError::from(MutexError::SerialsUsedUp), SERIALS);
     reads(&rt, CountError::from(SemaphoreError::Memory), LISTENER);
     reads(&rt, CountError::from(AllocError), PROGRAM);
+}
+
+// Those of threads that meet.
+#[test]
+fn errors_of_meetings_have_their_texts(rt: HostRuntime) {
+    reads(&rt, FlagError::from(SerialsUsedUp), SERIALS);
     reads(&rt, MeetingError::from(FlagError::Memory), PARKER);
     reads(&rt, MeetingError::from(AllocError), PROGRAM);
     reads(&rt, HeardError::from(Memory), LISTENER);
     reads(&rt, HeardError::from(AllocError), "no memory for a hand");
     reads(&rt, SitError::from(Memory), LISTENER);
     reads(&rt, SitError::from(NeverInserted), ABSENT);
-    reads(&rt, FlagError::from(SerialsUsedUp), SERIALS);
+}
+
+// Those of whoever waits for a tag.
+#[test]
+fn errors_of_tags_have_their_texts(rt: HostRuntime) {
     reads(&rt, TagError::from(WaitError::<u8>::NeverInserted), ABSENT);
     reads(&rt, TagError::from(WaitError::Memory(7u8)), PARKER);
     reads(&rt, TagError::from(Memory), LISTENER);
@@ -55,6 +66,10 @@ fn all_errors_have_their_texts(rt: HostRuntime) {
     reads(&rt, refused, "no tag was given");
     reads(&rt, AwaitError::from(Memory), LISTENER);
     reads(&rt, AwaitError::from(NeverInserted), ABSENT);
+}
+
+#[test]
+fn errors_of_races_have_their_texts(rt: HostRuntime) {
     let refused = RaceError::from(RecordError::Memory);
     reads(&rt, refused, "no memory for the record");
     let refused = RaceError::from(AllocError);

@@ -139,7 +139,7 @@ impl<R: Runtime> Change for Tells<'_, R> {
 }
 
 // A client is told again and again, and finds the lock taken each time. It gives up at the first reading that shows the
-// deadline that it began with, and where the clock can't be read at once.
+// deadline that it began with.
 #[test]
 fn a_timed_lock_keeps_the_deadline_that_it_began_with(rt: HostRuntime) {
     let (rt, mutex) = (&rt, &new_mutex(&rt));
@@ -155,6 +155,12 @@ fn a_timed_lock_keeps_the_deadline_that_it_began_with(rt: HostRuntime) {
     let is_given = given.expect(rt, "an answer").is_some();
     check(rt, "whether it is given", is_given, false);
     check(rt, "readings", tells.reads.get(), BEFORE + 1);
+}
+
+#[test]
+fn a_timed_lock_gives_up_where_its_clock_cannot_be_read(rt: HostRuntime) {
+    let (rt, mutex) = (&rt, &new_mutex(&rt));
+    let _held = hold(rt, mutex);
     let blind = Changed { rt, by: &NoClock };
     let given = mutex.lock_timeout(&blind, rt.alloc(), Duration::MAX);
     let is_given = given.expect(rt, "an answer").is_some();

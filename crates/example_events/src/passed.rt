@@ -1,0 +1,43 @@
+//! A listener that is notified and dropped, and the next one, which hears it.
+ghost use Rattle.std.specs.Prelude.{◌≡◌, true, IfOk, IfSome};
+
+use crate::heard::HeardError;
+use event_history::passes_on;
+use event_listener::{Event, Task};
+use std::alloc::Global;
+use std::sync::Wait;
+use std::time::Clock;
+
+/// Two listen, one is notified, and the first is dropped. Returns whether the second was notified then, if the first was: it
+/// was, whatever other threads do with the event meanwhile. `None`, if a third one listens too when they are counted, or the
+/// first was not notified.
+///
+/// A third one that listened before the second would be the next; one that listens later is behind it. The order of the calls
+/// is known as each hand knows what came before: this one hears that both listen before it counts them, the first takes that
+/// in before it is dropped, and the second takes in that drop before it is removed.
+///
+/// Returns an error if memory runs out or the event has given out all serial numbers: then no listener is left. The call
+/// allocates, and may wait for the lock of the event.
+pub fn pass_on<R>(rt: &R, alloc: Global, event: &Event) -> Result<Option<bool>, HeardError>
+where
+    R: Wait + Clock + Clone,
+    ensures { IfOk result (λ answer. IfSome answer (λ heard. heard ≡ true)) }
+{
+    let mut hand = event.hand(rt, alloc)?;
+    let mut first = hand.listen(rt, alloc)?;
+    hand.hear(&mut first);
+    let mut second = hand.listen(rt, alloc)?;
+    hand.hear(&mut second);
+    let (_, listeners) = hand.counts(rt);
+    if listeners != 2 {
+        return Ok(None);
+    }
+    let _ = hand.notify(rt, 1);
+    first.absorb(hand.tell()?);
+    if !hand.drop_listener(first) {
+        return Ok(None);
+    }
+    second.absorb(hand.tell()?);
+    passes_on::<(), Task>();
+    Ok(Some(hand.discard(second)))
+}
