@@ -150,26 +150,34 @@ fn a_receive_that_cannot_wait_loses_nothing(rt: HostRuntime) {
     let rt = &rt;
     let (sender, receiver) = make(rt, Some(2)).expect(rt, "a channel");
     let task = new_task(rt);
-    let mut stream = receiver.clone().expect(rt, "a receiver");
-    let mut many = Vec::new(rt.alloc());
     let mut receiving = receiver.recv();
     let hog = all_memory(rt);
     receives_are_refused(rt, &receiver);
     let refusal = RecvError::WaitFailed(LISTENING);
     let polled = task.poll(&mut receiving);
     check(rt, "a poll", polled, Poll::Ready(Err(refusal)));
-    // An item that says so is not the end of the stream.
+    sends(rt, &sender, &[5]);
+    are_left(rt, &receiver, &[5]);
+    drop(hog);
+    let polled = task.poll(&mut receiving);
+    check(rt, "a poll with memory", polled, Poll::Pending);
+}
+
+// An item that says so is not the end of a stream.
+#[test]
+fn an_item_that_cannot_be_waited_for_is_an_error(rt: HostRuntime) {
+    let rt = &rt;
+    let (sender, receiver) = make(rt, Some(2)).expect(rt, "a channel");
+    let (mut stream, task) = (receiver.clone().expect(rt, "a receiver"), new_task(rt));
+    let hog = all_memory(rt);
     let item = task.poll(&mut stream.next());
     check(rt, "an item", item, Poll::Ready(Some(Err(LISTENING))));
     let item = Poll::Ready(receiver.iter().next());
     check(rt, "an item", item, Poll::Ready(Some(Err(NO_MEMORY))));
     sends(rt, &sender, &[5]);
-    let refusal = RecvError::WaitFailed(NO_MEMORY);
-    refused(rt, receiver.recv_many(&mut many, 2), refusal);
-    are_left(rt, &receiver, &[5]);
+    let item = task.poll(&mut stream.next());
+    check(rt, "an item", item, Poll::Ready(Some(Ok(5))));
     drop(hog);
-    let polled = task.poll(&mut receiving);
-    check(rt, "a poll with memory", polled, Poll::Pending);
 }
 
 // Two polls make places in the queue. A receive that waits there needs no memory, nor does one that takes such a place.
@@ -200,6 +208,20 @@ fn a_receive_at_a_place_that_is_there_waits(rt: HostRuntime) {
     are_left(rt, &receiver, &[]);
 }
 
+// Room for the first message is refused, which stays in the channel.
+#[test]
+fn many_without_room_for_one_are_refused(rt: HostRuntime) {
+    let rt = &rt;
+    let (sender, receiver) = make(rt, Some(2)).expect(rt, "a channel");
+    sends(rt, &sender, &[5]);
+    let mut many = Vec::new(rt.alloc());
+    let hog = all_memory(rt);
+    let refusal = RecvError::WaitFailed(NO_MEMORY);
+    refused(rt, receiver.recv_many(&mut many, 2), refusal);
+    drop(hog);
+    are_left(rt, &receiver, &[5]);
+}
+
 // Room for one message is there, and room for more is refused.
 #[test]
 fn many_without_room_for_more_are_one(rt: HostRuntime) {
@@ -220,7 +242,7 @@ fn many_without_room_for_more_are_one(rt: HostRuntime) {
     }
 }
 
-// A message that was not taken in wakes nobody, and comes back. Those before it are all there.
+// A message that was not taken in wakes nobody, and comes back.
 #[test]
 fn a_send_that_finds_no_memory_hands_back(rt: HostRuntime) {
     let rt = &rt;
@@ -243,8 +265,13 @@ fn a_send_that_finds_no_memory_hands_back(rt: HostRuntime) {
     drop(hog);
     check(rt, "whether it was woken", task.is_woken(), false);
     check(rt, "messages", sender.len(), 0);
-    drop(receiving);
+}
 
+// Those before it are all there.
+#[test]
+fn a_channel_that_finds_no_memory_keeps_its_messages(rt: HostRuntime) {
+    let rt = &rt;
+    let (sender, receiver) = make(rt, None).expect(rt, "a channel");
     sends(rt, &sender, &[0]);
     let hog = all_memory(rt);
     let mut sent = 1usize;
@@ -265,7 +292,6 @@ fn a_send_that_finds_no_memory_hands_back(rt: HostRuntime) {
 fn calls_that_need_no_memory(rt: HostRuntime) {
     let rt = &rt;
     let (sender, receiver) = make(rt, Some(2)).expect(rt, "a channel");
-    let task = new_task(rt);
     let hog = all_memory(rt);
     sends(rt, &sender, &[1]);
     check(rt, "a send", sender.send_blocking(2), Ok(()));
@@ -275,6 +301,15 @@ fn calls_that_need_no_memory(rt: HostRuntime) {
     check(rt, "a receive", receiver.recv_blocking(), Ok(3));
     check(rt, "the next", receiver.recv_timeout(MAX), Ok(1));
     are_left(rt, &receiver, &[]);
+    drop(hog);
+}
+
+#[test]
+fn polls_clones_and_a_close_need_no_memory(rt: HostRuntime) {
+    let rt = &rt;
+    let (sender, receiver) = make(rt, Some(2)).expect(rt, "a channel");
+    let task = new_task(rt);
+    let hog = all_memory(rt);
     let polled = task.poll(&mut sender.send(3));
     check(rt, "a poll", polled, Poll::Ready(Ok(())));
     let polled = task.poll(&mut receiver.recv());
@@ -282,10 +317,24 @@ fn calls_that_need_no_memory(rt: HostRuntime) {
     let cloned = sender.clone().is_ok() && receiver.clone().is_ok();
     check(rt, "clones", cloned, true);
     check(rt, "whether it was open", sender.close(), true);
-    refused(
-        rt,
-        sender.send_timeout(8, MAX),
-        unsent(8, SendReason::Closed),
-    );
+    let refusal = unsent(8, SendReason::Closed);
+    refused(rt, sender.send_timeout(8, MAX), refusal);
+    drop(hog);
+}
+
+// Nobody waits past its limit, and one that is told before its thread blocks makes nothing to park on.
+#[test]
+fn calls_that_are_late_or_told_need_no_memory(rt: HostRuntime) {
+    let (rt, now) = (&rt, Duration::ZERO);
+    let (sender, receiver) = make(rt, Some(1)).expect(rt, "a channel");
+    let (mut told, task) = (receiver.recv(), new_task(rt));
+    check(rt, "a poll", task.poll(&mut told), Poll::Pending);
+    let hog = all_memory(rt);
+    let late = receiver.recv_timeout(now);
+    refused(rt, late, RecvTimeoutError::TimedOut);
+    sends(rt, &sender, &[7]);
+    let late = sender.send_timeout(8, now);
+    refused(rt, late, unsent(8, SendReason::TimedOut));
+    check(rt, "told", told.wait(), Ok(7));
     drop(hog);
 }

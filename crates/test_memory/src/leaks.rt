@@ -1,9 +1,15 @@
 //! What is dropped gives its memory back: where little is left, it can be made and dropped again and again.
-use crate::support::{Runtime, check, leave, new_budget, new_id, new_task};
-use event_listener::{Event, Listener};
-use event_locks::{Mutex, RwLock, Semaphore};
-use std::sync::Arc;
+use crate::support::{Runtime, Ticks, all_memory, check, leave, new_budget, new_id, new_task};
+use event_channel::{RecvTimeoutError, bounded};
+use event_listener::{Event, Limit, Listener};
+use event_locks::{Barrier, LockError, Mutex, OnceCell, RwLock, Semaphore};
+use futures::task::Poll;
+use std::cell::Cell;
+use std::io;
+use std::sync::{Arc, Wait};
+use std::time::{Clock, Duration};
 use test_event_locks::Waits;
+use test_support::{Change, Changed};
 
 // Does it so often that it would run out of memory if each time left a few bytes behind.
 fn comes_back<F: Fn(), R: Runtime>(rt: &R, make_and_drop: F)
@@ -22,7 +28,7 @@ fn event_and_listeners<R: Runtime>(rt: &R) {
     let listen = || event.listen(rt, rt.alloc()).expect(rt, "a listener");
     let (told, first, last) = (listen(), listen(), listen());
     event.notify_relaxed(rt, 1);
-    drop(told.wait());
+    check(rt, "told", told.wait().is_ok(), true);
     drop(first);
     drop(event);
     drop(last);
@@ -31,6 +37,31 @@ fn event_and_listeners<R: Runtime>(rt: &R) {
 #[test]
 fn an_event_and_its_listeners_give_the_queue_back(rt: HostRuntime) {
     comes_back(&rt, || event_and_listeners(&rt));
+}
+
+// Each listener of a hand ends by it, in another way.
+fn of_a_hand<R: Runtime>(rt: &R) {
+    let event: Event<()> = Event::new(new_id(rt));
+    let mut hand = event.hand(rt, rt.alloc()).expect(rt, "a hand");
+    let told = hand.listen(rt, rt.alloc()).expect(rt, "a listener");
+    let second = hand.listen(rt, rt.alloc()).expect(rt, "a listener");
+    let third = hand.listen(rt, rt.alloc()).expect(rt, "a listener");
+    event.notify_relaxed(rt, 1);
+    let waited = hand.wait_until(told, Limit::Never).is_ok();
+    check(rt, "told", waited, true);
+    check(rt, "dropped", hand.drop_listener(second), false);
+    check(rt, "discarded", hand.discard(third), false);
+}
+
+#[test]
+fn a_hand_and_its_listeners_give_the_queue_back(rt: HostRuntime) {
+    comes_back(&rt, || of_a_hand(&rt));
+}
+
+// One that comes while others have the lock is given nothing in no time.
+fn is_late<R: Runtime, W: Waits>(rt: &R, waits: W) {
+    let given = waits.wait_timeout(Duration::ZERO).ok();
+    check(rt, "late", given.map(|it| it.is_some()), Some(false));
 }
 
 // One that waits is told. It has the last share of its lock, and is dropped with it; or a guard has the last share.
@@ -53,6 +84,12 @@ fn of_a_semaphore<R: Runtime + Copy>(rt: &R, is_given: bool) {
     let permits = Semaphore::new(rt.alloc(), 1).expect(rt, "a semaphore");
     let permits = Arc::new(rt.alloc(), permits).expect(rt, "a share");
     let held = Semaphore::try_acquire_arc(&permits, *rt).expect(rt, "a share");
+    let another = Semaphore::try_acquire_arc(&permits, *rt)
+        .expect(rt, "a share")
+        .is_some();
+    check(rt, "another", another, false);
+    let late = Semaphore::acquire_arc(&permits, *rt, rt.alloc());
+    is_late(rt, late.expect(rt, "a share"));
     let waits = Semaphore::acquire_arc(&permits, *rt, rt.alloc()).expect(rt, "a share");
     drop(permits);
     is_told(rt, waits, held, is_given);
@@ -62,6 +99,12 @@ fn of_a_mutex<R: Runtime + Copy>(rt: &R, is_given: bool) {
     let mutex = Mutex::new(rt.alloc(), 7u64).expect(rt, "a mutex");
     let mutex = Arc::new(rt.alloc(), mutex).expect(rt, "a share");
     let held = Mutex::try_lock_arc(&mutex, *rt).expect(rt, "a share");
+    let another = Mutex::try_lock_arc(&mutex, *rt)
+        .expect(rt, "a share")
+        .is_some();
+    check(rt, "another", another, false);
+    let late = Mutex::lock_arc(&mutex, *rt, rt.alloc());
+    is_late(rt, late.expect(rt, "a share"));
     let waits = Mutex::lock_arc(&mutex, *rt, rt.alloc()).expect(rt, "a share");
     drop(mutex);
     is_told(rt, waits, held, is_given);
@@ -71,6 +114,12 @@ fn of_a_read_write_lock<R: Runtime + Copy>(rt: &R, is_given: bool) {
     let lock = RwLock::new(rt.alloc(), 7u64).expect(rt, "a lock");
     let lock = Arc::new(rt.alloc(), lock).expect(rt, "a share");
     let held = RwLock::try_read_arc(&lock, *rt).expect(rt, "a share");
+    let another = RwLock::try_write_arc(&lock, *rt)
+        .expect(rt, "a share")
+        .is_some();
+    check(rt, "another", another, false);
+    let late = RwLock::write_arc(&lock, *rt, rt.alloc());
+    is_late(rt, late.expect(rt, "a share"));
     let waits = RwLock::write_arc(&lock, *rt, rt.alloc()).expect(rt, "a share");
     drop(lock);
     is_told(rt, waits, held, is_given);
@@ -83,4 +132,146 @@ fn a_lock_is_given_back_by_the_last_one_that_was_told(rt: HostRuntime) {
         comes_back(&rt, || of_a_mutex(&rt, is_given));
         comes_back(&rt, || of_a_read_write_lock(&rt, is_given));
     }
+}
+
+fn of_a_forgotten_permit<R: Runtime + Copy>(rt: &R) {
+    let permits = Semaphore::new(rt.alloc(), 1).expect(rt, "a semaphore");
+    let permits = Arc::new(rt.alloc(), permits).expect(rt, "a share");
+    let held = Semaphore::try_acquire_arc(&permits, *rt).expect(rt, "a share");
+    held.expect(rt, "a permit").forget();
+}
+
+#[test]
+fn a_permit_that_is_forgotten_keeps_no_share(rt: HostRuntime) {
+    comes_back(&rt, || of_a_forgotten_permit(&rt));
+}
+
+#[test]
+fn a_poll_that_is_refused_keeps_no_share(rt: HostRuntime) {
+    let permits = Semaphore::new(rt.alloc(), 0).expect(&rt, "a semaphore");
+    let permits = Arc::new(rt.alloc(), permits).expect(&rt, "a share");
+    let waits = Semaphore::acquire_arc(&permits, rt, rt.alloc());
+    let (mut waits, task) = (waits.expect(&rt, "a share"), new_task(&rt));
+    let hog = all_memory(&rt);
+    let polled = task.poll(&mut waits);
+    drop(hog);
+    let is_refused = matches!(polled, Poll::Ready(Err(LockError::Listen(_))));
+    check(&rt, "whether it is refused", is_refused, true);
+    check(&rt, "shares", Arc::strong_count(&permits), 1);
+}
+
+// One that waits in a queue leaves it, and the queue goes with its lock.
+fn polls_in_vain<R: Runtime, W: Waits>(rt: &R, waits: W) {
+    let mut waits = waits;
+    waits.can_be_polled();
+    let is_pending = new_task(rt).poll(&mut waits).is_pending();
+    check(rt, "waits", is_pending, true);
+}
+
+fn of_a_barrier<R: Runtime>(rt: &R) {
+    let barrier = Barrier::new(rt.alloc(), 2);
+    polls_in_vain(rt, barrier.wait(rt, rt.alloc()));
+}
+
+fn of_a_cell<R: Runtime>(rt: &R) {
+    let cell: OnceCell<u64> = OnceCell::new(rt.alloc());
+    polls_in_vain(rt, cell.wait(rt, rt.alloc()));
+}
+
+#[test]
+fn a_barrier_and_a_cell_give_their_queues_back(rt: HostRuntime) {
+    comes_back(&rt, || of_a_barrier(&rt));
+    comes_back(&rt, || of_a_cell(&rt));
+}
+
+// A clock that shows a second more each time it is read. Each third time comes once a timed wait has stored its task, and adds
+// a permit.
+#[derive(Drop)]
+struct Gives<'a, R> {
+    rt: &'a R,
+    permits: &'a Semaphore,
+    reads: Cell<u64>,
+}
+
+impl<R: Runtime> Change for Gives<'_, R> {
+    fn read<C: Clock>(&self, _rt: &C) -> io::Result<Duration> {
+        let reads = self.reads.get();
+        self.reads.set(reads.saturating_add(1));
+        if reads % 3 == 2 {
+            self.permits.add_permits(self.rt, 1);
+        }
+        Ok(Duration::from_secs(reads))
+    }
+}
+
+// A thread makes what it parks on, and is given a permit after that, before its limit or at it.
+fn of_a_parker<R: Runtime, C: Wait + Clock>(rt: &R, clock: &C, permits: &Semaphore, limit: u64) {
+    let waits = permits.acquire(clock, rt.alloc());
+    let given = waits.wait_timeout(Duration::from_millis(limit));
+    let given = given.expect(rt, "an answer");
+    given.expect(rt, "a permit").forget();
+}
+
+fn parks_often<R: Runtime, C: Wait + Clock>(rt: &R, clock: &C, permits: &Semaphore) {
+    for limit in [9000, 1500] {
+        comes_back(rt, || of_a_parker(rt, clock, permits, limit));
+    }
+}
+
+#[test]
+fn a_thread_that_waits_gives_back_what_it_parks_on(rt: HostRuntime) {
+    let permits = &Semaphore::new(rt.alloc(), 0).expect(&rt, "a semaphore");
+    let (rt, reads) = (&rt, Cell::new(0));
+    let by = &Gives { rt, permits, reads };
+    parks_often(rt, &Changed { rt, by }, permits);
+}
+
+// A thread makes what it parks on, and comes to its limit.
+fn is_late_often<R: Runtime, C: Wait + Clock + Clone>(rt: &R, clock: &C) {
+    let sides = bounded::<u64, _>(clock, rt.alloc(), 1);
+    let (_sender, receiver) = sides.expect(rt, "a channel");
+    comes_back(rt, || {
+        let late = receiver.recv_timeout(Duration::from_millis(1500));
+        check(rt, "late", late, Err(RecvTimeoutError::TimedOut));
+    });
+}
+
+#[test]
+fn a_receive_that_is_late_gives_back_what_it_parks_on(rt: HostRuntime) {
+    let (rt, by) = (&rt, &Ticks::new());
+    is_late_often(rt, &Changed { rt, by });
+}
+
+// One message is in the channel, and each other one goes with its send.
+fn of_a_channel<R: Runtime>(rt: &R) {
+    let (sender, receiver) = bounded(rt, rt.alloc(), 1).expect(rt, "a channel");
+    let message = || vec![in rt.alloc(); 7u64; 8].expect(rt, "a message");
+    check(rt, "a send", sender.try_send(message()).is_ok(), true);
+    drop(sender.send(message()));
+    let mut waits = sender.send(message());
+    let is_pending = new_task(rt).poll(&mut waits).is_pending();
+    check(rt, "waits", is_pending, true);
+    drop(waits);
+    let late = sender.send_timeout(message(), Duration::ZERO);
+    check(rt, "late", late.is_err(), true);
+    drop(sender.clone().expect(rt, "a sender"));
+    drop(receiver.clone().expect(rt, "a receiver"));
+}
+
+// A weak handle of a channel that is closed makes no other one.
+fn of_a_weak_handle<R: Runtime>(rt: &R) {
+    let (sender, receiver) = bounded::<u64, _>(rt, rt.alloc(), 1).expect(rt, "a channel");
+    let weak_sender = sender.downgrade().expect(rt, "a weak handle");
+    let weak_receiver = receiver.downgrade().expect(rt, "a weak handle");
+    drop(sender);
+    let made = weak_sender.upgrade().expect(rt, "memory").is_some();
+    check(rt, "a sender", made, false);
+    let made = weak_receiver.upgrade().expect(rt, "memory").is_some();
+    check(rt, "a receiver", made, false);
+}
+
+#[test]
+fn a_channel_goes_with_its_handles_and_a_message_with_its_send(rt: HostRuntime) {
+    comes_back(&rt, || of_a_channel(&rt));
+    comes_back(&rt, || of_a_weak_handle(&rt));
 }

@@ -6,8 +6,8 @@
 //! | `events` | threads that are parked, and woken by one without memory: by a notification, and by the drop of a listener that was told |
 //! | `recorded` | calls on recorded events that have room for note and entry, or none for the note; each request of a wait |
 //! | `locks` | the locks, polled locks and semaphores of `example_events`, each of whose requests is refused while another one has them; the example programs, refused the counter, the flag or a thread |
-//! | `channels` | calls on channels that are refused a place in the queue, what a thread parks on, or room for a message |
-//! | `leaks` | a thousand events, listeners, waits and guards that have the last share of their lock, one after another where little memory is left: what is dropped gives its memory back |
+//! | `channels` | calls on channels that are refused a place in the queue, what a thread parks on, or room for a message; such as need none |
+//! | `leaks` | a thousand events, hands, listeners, waits, guards that have the last share of their lock, permits that are forgotten, and channels with their handles and sends, one after another where little memory is left: what is dropped gives its memory back |
 //! | `until` | attempts whose wait is refused a listener, or what its thread parks on: it leaves no listener, and one that is told hands its notification on |
 //! | `waits` | waits for each lock of `event_locks`, each of whose requests is refused; calls of these locks without memory |
 //!

@@ -150,11 +150,10 @@ fn a_polled_lock_needs_memory_for_its_slot_alone(rt: HostRuntime) {
 
 // Who would wait without a limit is refused.
 #[test]
-fn what_is_free_needs_no_memory(rt: HostRuntime) {
+fn a_permit_that_is_free_needs_no_memory(rt: HostRuntime) {
     let rt = &rt;
     let hog = all_memory(rt);
-    let wanted = Wanted::new(rt, 3);
-    let (mutex, permits) = (&wanted.mutex, &wanted.permits);
+    let permits = &Semaphore::new(new_id(rt), 3);
     let mut two = permits.try_acquire(rt).expect(rt, "a permit");
     check(rt, "a second", two.more(), true);
     drop(permits.acquire(rt, rt.alloc()).expect(rt, "the third"));
@@ -165,6 +164,14 @@ fn what_is_free_needs_no_memory(rt: HostRuntime) {
     let third = third.expect(rt, "no refusal").is_some();
     check(rt, "the third in time", third, true);
     drop(two);
+    drop(hog);
+}
+
+#[test]
+fn a_lock_that_is_free_needs_no_memory(rt: HostRuntime) {
+    let rt = &rt;
+    let hog = all_memory(rt);
+    let mutex = &Mutex::new(new_id(rt), 7u64);
     let held = mutex.lock(rt, rt.alloc()).expect(rt, "the lock");
     let refusal = mutex.lock(rt, rt.alloc()).err();
     check(rt, "a wait", refusal, Some(MutexError::Memory));

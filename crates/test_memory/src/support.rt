@@ -3,8 +3,12 @@ use event_listener::{EventId, EventIds};
 use futures::test::MockTask;
 use std::alloc::AllocGlobal;
 use std::fmt::Debug;
+use std::io;
 use std::process::Abort;
+use std::sync::atomic::{AtomicU64, Ordering};
+use std::time::{Clock, Duration};
 use test_queue_memory::{Budget, Hog};
+use test_support::Change;
 pub use test_support::Runtime;
 
 /// What is compared.
@@ -26,6 +30,27 @@ pub fn new_id<R: Abort>(rt: &R) -> EventId {
 /// A task that is not woken.
 pub fn new_task<R: Runtime>(rt: &R) -> MockTask {
     MockTask::new(rt).expect(rt, "a task")
+}
+
+/// A clock that shows a second more each time it is read: a wait of one and a half looks at it, waits, and is over.
+#[derive(Drop)]
+pub struct Ticks {
+    reads: AtomicU64,
+}
+
+impl Ticks {
+    /// A clock that begins at zero.
+    pub fn new() -> Self {
+        let reads = AtomicU64::new(0);
+        Ticks { reads }
+    }
+}
+
+impl Change for Ticks {
+    fn read<C: Clock>(&self, _rt: &C) -> io::Result<Duration> {
+        let reads = self.reads.fetch_add(1, Ordering::SeqCst);
+        Ok(Duration::from_secs(reads))
+    }
 }
 
 /// All memory.

@@ -1,28 +1,13 @@
 //! Waits for each lock of `event_locks` that are refused memory, and calls there that need none.
-use crate::support::{Runtime, Starved, all_memory, check, count_refused, leave, new_task};
+use crate::support::{Runtime, Starved, Ticks, all_memory, check, count_refused, leave, new_task};
 use event_listener::ListenError;
 use event_locks::{Barrier, LockError};
 use futures::task::Poll;
 use std::cell::Cell;
-use std::io;
-use std::sync::atomic::{AtomicU64, Ordering};
-use std::time::{Clock, Duration, Instant};
+use std::time::{Duration, Instant};
 use test_event_locks::{Case, Kind, Sharing, Waits, each};
 use test_queue_memory::Budget;
-use test_support::{Change, Changed};
-
-// A clock that shows a second more each time it is read: a wait of one and a half looks at it once, waits, and is over.
-#[derive(Drop)]
-struct Ticks {
-    reads: AtomicU64,
-}
-
-impl Change for Ticks {
-    fn read<C: Clock>(&self, _rt: &C) -> io::Result<Duration> {
-        let reads = self.reads.fetch_add(1, Ordering::SeqCst);
-        Ok(Duration::from_secs(reads))
-    }
-}
+use test_support::Changed;
 
 // A wait that ends at its limit, or a poll. It counts the refusals of a place in the queue, and of what a thread parks on.
 #[derive(Drop)]
@@ -102,8 +87,7 @@ impl<R: Runtime> Case<R> for EachIsRefused {
 
 #[test]
 fn each_request_of_a_wait_for_a_lock_is_refused(rt: HostRuntime) {
-    let reads = AtomicU64::new(0);
-    let clock = Ticks { reads };
+    let clock = Ticks::new();
     let own = Changed {
         rt: &rt,
         by: &clock,
