@@ -1,6 +1,6 @@
 //! Tests of events, listeners and recorded events by their public calls: what no clause says of who is told, and which wakers a
-//! poll keeps; of how listeners are made and what they show; of the lock of an event; of tasks that await listeners; and of
-//! recorded events. No clause can name what a lock held: these show that a call asked the queue at all.
+//! poll keeps; of how listeners are made and what they show; of the lock of an event; and of recorded events. No clause can name
+//! what a lock held: these show that a call asked the queue at all.
 //!
 //! | Module | What it tests |
 //! |---|---|
@@ -10,7 +10,6 @@
 //! | `meetings` | threads that sleep for the lock of an event: each is woken, and uses no processor time until then |
 //! | `wakes` | a task and a parked thread behind a notification of a hand, a task behind a told listener that is dropped |
 //! | `making` | the macro `listener!`; slots; a refused clone; what is shown; what threads may share; listeners that outlive their event |
-//! | `awaited` | tasks that await listeners, and move between threads: that they are woken, and how often they are polled |
 //! | `records` | more hands than memory holds; hands of other events; each call of a recorded state succeeds |
 //!
 //! Events are tested with both kinds of listener. How many each notification tells, worked rows and `soak` show, which compares
@@ -23,8 +22,6 @@
 //! several parts, is a branch at which every listener alive is dropped.
 #![tactic(auto)]
 
-#[cfg(test)]
-mod awaited;
 #[cfg(test)]
 mod locks;
 #[cfg(test)]

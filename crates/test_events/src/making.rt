@@ -108,12 +108,15 @@ struct Silent(Cell<u8>);
 
 fn is_shared_by_threads<T: Send + Sync>(_: &T) {}
 
-// A slot changes nothing until it listens.
-fn show<R: Runtime + Send + Sync>(rt: &R, event: &Event<Silent>) {
+fn show_no_queue<R: Runtime + Send + Sync>(rt: &R, event: &Event<Silent>) {
     shows(rt, event, "Event(<uninitialized>)");
     let text = "Event(\n    <uninitialized>,\n)";
     reads(rt, format!(in rt.alloc(); "{event:#?}"), text);
     is_shared_by_threads(event);
+}
+
+// A slot changes nothing until it listens.
+fn show_slots<R: Runtime + Send + Sync>(rt: &R, event: &Event<Silent>) {
     let (slot, unused) = (new_slot(rt, event), new_slot(rt, event));
     shows(rt, &slot, "StackSlot { .. }");
     is_shared_by_threads(&slot);
@@ -126,9 +129,14 @@ fn show<R: Runtime + Send + Sync>(rt: &R, event: &Event<Silent>) {
     has_listeners(rt, event, 1, false);
     shows(rt, &stacked, "StackListener { .. }");
     is_shared_by_threads(&stacked);
-    let (second, _third) = (sharing(rt, event), sharing(rt, event));
+}
+
+fn show_counts<R: Runtime + Send + Sync>(rt: &R, event: &Event<Silent>) {
+    let (first, second) = (sharing(rt, event), sharing(rt, event));
+    let _third = sharing(rt, event);
     shows(rt, &second, "EventListener { .. }");
-    is_shared_by_threads(&second);
+    is_shared_by_threads(&first);
+    let tag = || Silent(Cell::new(0));
     check(rt, "told", event.notify(rt, 2.tag_with(tag)), Ok(2));
     let text = "Event { listeners_notified: 2, listeners_total: 3 }";
     shows(rt, event, text);
@@ -143,7 +151,9 @@ fn show<R: Runtime + Send + Sync>(rt: &R, event: &Event<Silent>) {
 
 #[test]
 fn events_slots_and_listeners_are_shared_and_show_their_names(rt: HostRuntime) {
-    show(&rt, &new_event(&rt));
+    show_no_queue(&rt, &new_event(&rt));
+    show_slots(&rt, &new_event(&rt));
+    show_counts(&rt, &new_event(&rt));
 }
 
 #[test]
@@ -152,10 +162,20 @@ fn refusals_say_what_was_refused(rt: HostRuntime) {
     let used_up = used_up.expect_err(&rt, "a source at its end gives an identity");
     let absent: WaitError<u8> = WaitError::NeverInserted;
     let shown = format!(in rt.alloc();
-        "{used_up}; {}; {}; {absent}; {}; {}; {}; {}; {}; {}; {}",
+        "{used_up}; {}; {}; {absent}; {}",
         NeverInserted,
         NotifyError { told: 2 },
         WaitError::Memory(7u8),
+    );
+    let text = "event identities are used up; listener is not in the queue; \
+        a tag was refused after 2 listeners; listener is not in the queue; no memory for a parker";
+    reads(&rt, shown, text);
+}
+
+#[test]
+fn refusals_of_records_say_what_was_refused(rt: HostRuntime) {
+    let shown = format!(in rt.alloc();
+        "{}; {}; {}; {}; {}; {}",
         RecordError::Memory,
         RecordError::SerialsUsedUp,
         RecordedPollError::NeverInserted,
@@ -163,9 +183,8 @@ fn refusals_say_what_was_refused(rt: HostRuntime) {
         CloseError::HandsMissing,
         CloseError::Differs,
     );
-    let text = "event identities are used up; listener is not in the queue; \
-        a tag was refused after 2 listeners; listener is not in the queue; no memory for a parker; \
-        no memory for the record; serial numbers are used up; listener is not in the queue; \
+    let text =
+        "no memory for the record; serial numbers are used up; listener is not in the queue; \
         no memory for the record; hands are missing; notes differ from the record";
     reads(&rt, shown, text);
 }

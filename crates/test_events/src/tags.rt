@@ -59,8 +59,7 @@ fn polls<L: Listener<Refusing> + Drop, R: Runtime>(rt: &R, mut listener: L, has_
     );
 }
 
-// The third of three is refused a tag, and is not told. Then of three the first has a tag that can't be cloned. It is
-// dropped, and the second has that tag.
+// The third of three is refused a tag, and is not told.
 fn refuses_the_third<'ev, K, L, R>(rt: &R, event: &'ev Event<Refusing>, additional: bool)
 where
     K: ListenerKind<'ev, Refusing, R, Listener = L>,
@@ -78,6 +77,16 @@ where
     polls(rt, first, true);
     polls(rt, second, true);
     polls(rt, third, false);
+}
+
+// Of three the first has a tag that can't be cloned. It is dropped, and the second has that tag.
+fn passes_on_the_first<'ev, K, L, R>(rt: &R, event: &'ev Event<Refusing>, additional: bool)
+where
+    K: ListenerKind<'ev, Refusing, R, Listener = L>,
+    L: Listener<Refusing> + Drop,
+    R: Runtime,
+{
+    let next = || K::listen(rt, rt.alloc(), event).expect(rt, "a listener");
     let (first, second, third) = (next(), next(), next());
     let refused = notify_three_by(rt, event, additional, 1);
     check(rt, additional, refused, Err(NotifyError { told: 1 }));
@@ -95,9 +104,21 @@ fn refuse_the_third<R: Runtime>(rt: &R, event: &Event<Refusing>) {
     }
 }
 
+fn pass_on_the_first<R: Runtime>(rt: &R, event: &Event<Refusing>) {
+    for additional in [false, true] {
+        passes_on_the_first::<Sharing, _, R>(rt, event, additional);
+        passes_on_the_first::<Borrowing, _, R>(rt, event, additional);
+    }
+}
+
 #[test]
 fn the_third_clone_of_a_tag_is_refused(rt: HostRuntime) {
     refuse_the_third(&rt, &new_event(&rt));
+}
+
+#[test]
+fn a_tag_that_cannot_be_cloned_is_passed_on(rt: HostRuntime) {
+    pass_on_the_first(&rt, &new_event(&rt));
 }
 
 // Of three who wait the first parks its thread. That is woken, though the second is refused a tag. Later notifications

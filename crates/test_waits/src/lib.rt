@@ -9,6 +9,7 @@
 //!   listener, before it parks, as it does so, or after.
 //! - `threads`: eight threads with a hand each make one record, which has each of their calls and of their drops once; two
 //!   threads tell each other by two recorded events.
+//! - `awaited`: tasks that await listeners, and move between threads: that they are woken, and how often they are polled.
 //!
 //! `stage` is the event of a case, with the clock of its listeners, `trial` what a case makes its calls on, and `recorded`
 //! that of a recorded event, which each test closes with all its hands: their notes have to be those of its record.
@@ -19,6 +20,8 @@
 //! toolchain has for every test. Threads that race do so for two seconds.
 #![tactic(auto)]
 
+#[cfg(test)]
+mod awaited;
 #[cfg(test)]
 mod limits;
 #[cfg(test)]

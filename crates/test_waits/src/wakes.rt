@@ -12,15 +12,15 @@ fn a_while() -> Duration {
     Duration::from_millis(100)
 }
 
-// The listener is told, and its thread parks until then. One that looked again and again would use most of the time, or
-// note each look.
+// The listener is told, and its thread parks until then. One that looked again and again would use more than a tenth of the
+// time, on a busy machine too, or note each look.
 fn parks<S: Trial>(trial: &S, listener: S::Listener, wait: WaitCall, limit: Duration) {
     let rt = trial.rt();
     let before = rt.thread_cpu_time().expect(rt, "the processor time");
     trial.waits(listener, wait, limit, Some(7));
     let after = rt.thread_cpu_time().expect(rt, "the processor time");
     let used = after.saturating_sub(before);
-    check(rt, (wait, used), used < a_while() / 4, true);
+    check(rt, (wait, used), used < a_while() / 10, true);
     let steps = trial.stage().event.last_steps(rt);
     check(rt, wait, steps.is_none_or(|steps| steps.len() < 10), true);
 }
