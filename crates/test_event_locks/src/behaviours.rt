@@ -42,14 +42,17 @@ fn shows<V: Debug, R: Runtime>(rt: &R, value: &V, expected: &str) {
 }
 
 #[test]
-fn locks_and_their_guards_show_themselves(rt: HostRuntime) {
+fn a_semaphore_and_its_permits_show_themselves(rt: HostRuntime) {
     let semaphore = Arc::new(rt.alloc(), new_semaphore(&rt, 3)).expect(&rt, "memory");
     let permit = semaphore.try_acquire(&rt).expect(&rt, "a permit");
     let owned = Semaphore::try_acquire_arc(&semaphore, rt).expect(&rt, "a share");
     shows(&rt, &owned, "Some(SemaphoreGuardArc)");
     shows(&rt, &*semaphore, "Semaphore { available: 1 }");
     shows(&rt, &permit, "SemaphoreGuard");
+}
 
+#[test]
+fn a_mutex_and_its_guards_show_themselves(rt: HostRuntime) {
     let mutex = Arc::new(rt.alloc(), new_mutex(&rt, 7u64)).expect(&rt, "memory");
     shows(&rt, &*mutex, "Mutex { is_locked: false }");
     let guard = mutex.try_lock(&rt);
@@ -58,7 +61,10 @@ fn locks_and_their_guards_show_themselves(rt: HostRuntime) {
     drop(guard);
     let owned = Mutex::try_lock_arc(&mutex, rt).expect(&rt, "a share");
     shows(&rt, &owned, "Some(7)");
+}
 
+#[test]
+fn a_read_write_lock_and_its_guards_show_themselves(rt: HostRuntime) {
     let lock = new_lock(&rt, 7u64);
     let readers = (lock.try_read(&rt), lock.try_read(&rt));
     shows(&rt, &lock, "RwLock { readers: 2, is_written: false }");
@@ -95,18 +101,25 @@ fn failed() -> Result<u64, LockError> {
 #[test]
 fn a_cell_is_set_once(rt: HostRuntime) {
     let cell = OnceCell::new(rt.alloc());
-    let made = cell.get_or_try_init(&rt, rt.alloc(), failed).copied();
-    check(&rt, "failed", made, Err(LockError::Finished));
-    check(&rt, "unset", cell.get().copied(), None);
     let set = cell.set(&rt, rt.alloc(), 7).copied();
     check(&rt, "set", set, Ok(7));
     let again = cell.set(&rt, rt.alloc(), 8).copied();
     let (value, reason) = (8, SetReason::AlreadySet);
     check(&rt, "again", again, Err(SetError { value, reason }));
-    let made = cell.get_or_try_init(&rt, rt.alloc(), failed).copied();
-    check(&rt, "made", made, Ok(7));
     let seen = cell.wait(&rt, rt.alloc()).wait().expect(&rt, "the value");
     check(&rt, "seen", *seen, 7);
+}
+
+#[test]
+fn a_value_that_cannot_be_made_leaves_a_cell_unset(rt: HostRuntime) {
+    let cell = OnceCell::new(rt.alloc());
+    let made = cell.get_or_try_init(&rt, rt.alloc(), failed).copied();
+    check(&rt, "failed", made, Err(LockError::Finished));
+    check(&rt, "unset", cell.get().copied(), None);
+    let set = cell.set(&rt, rt.alloc(), 7).copied();
+    check(&rt, "set", set, Ok(7));
+    let made = cell.get_or_try_init(&rt, rt.alloc(), failed).copied();
+    check(&rt, "made", made, Ok(7));
 }
 
 // Of four threads one makes the value, and all have it.

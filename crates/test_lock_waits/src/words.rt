@@ -3,7 +3,7 @@ ghost use Rattle.event_word.specs.Rules.{Rules};
 
 use event_queue::WakeSink;
 use event_wait::Task;
-use event_word::{Kept, Word, state};
+use event_word::{Kept, Word};
 use std::sync::{Barrier, Wait};
 use std::test::Fail;
 use std::thread;
@@ -44,11 +44,13 @@ fn add<R: Wait + Clock>(rt: &R, tally: &Word<Tally, ()>, much: u64, long: Durati
     if long > Duration::ZERO {
         thread::sleep(rt, long);
     }
-    let kept = state!(held.seat, tally);
-    let before = kept.sum;
-    kept.sum = before.wrapping_add(much);
+    let Tally { sum } = held.replace(tally, Tally { sum: 0 });
+    let added = Tally {
+        sum: sum.wrapping_add(much),
+    };
+    drop(held.replace(tally, added));
     drop(tally.put_back(rt, held));
-    before
+    sum
 }
 
 // Where a round takes long, each thread but the first finds the state out for far longer than it pauses, so it sleeps, and has
@@ -73,7 +75,7 @@ fn threads_that_meet_all_get_the_state(rt: HostRuntime) -> Result<(), Fail> {
 }
 
 // A thread waits for the state, which another one has out for 300 milliseconds. One that looked at the word again and again
-// would use most of the time.
+// would use far more than ten of them, on a busy machine too.
 #[test]
 fn a_thread_that_waits_for_the_state_uses_no_processor_time(rt: HostRuntime) -> Result<(), Fail> {
     let tally = &Word::new(rt.alloc(), 0, Tally { sum: 0 }, ())?;
@@ -91,6 +93,6 @@ fn a_thread_that_waits_for_the_state_uses_no_processor_time(rt: HostRuntime) -> 
         (before, rt.thread_cpu_time())
     };
     let ((), (before, after)) = thread::join(&rt, holds, adds);
-    assert!(rt; after?.saturating_sub(before?) < Duration::from_millis(75));
+    assert!(rt; after?.saturating_sub(before?) < Duration::from_millis(10));
     Ok(())
 }
