@@ -47,6 +47,13 @@ module _ {G E : Type 0} where
   OnRefused Absent P = Unit {0}
   OnRefused (Refused error) P = P
 
+  -- what holds of why it can't wait
+  abbrev pub IfRefused : Attempted G E → (E → Type 0) → Type 0
+  IfRefused (Done grant) P = Unit {0}
+  IfRefused (Waits key) P = Unit {0}
+  IfRefused Absent P = Unit {0}
+  IfRefused (Refused error) P = P error
+
   -- only the task of one that waits on is exchanged
   abbrev pub Attempts : {W C : Type 0} → (C → Option W → W → C → Type 0) → C → Attempted G E → C → Type 0
   Attempts exchanged before (Done grant) after = after ≡ before

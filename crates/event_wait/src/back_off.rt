@@ -22,7 +22,7 @@ macro_rules! take_lock {
 #[macro_export]
 macro_rules! step {
     ($lock:expr, $rt:expr, $state:ident, $waking:ident => $step:expr) => {{
-        let mut $waking = $crate::Waking::new();
+        let mut $waking = $crate::DeferredWake::new();
         let mut $state = $crate::take_lock!($lock, $rt);
         let answer = $step;
         drop($state);
@@ -31,9 +31,9 @@ macro_rules! step {
     }};
 }
 
-// How many pauses a thread makes before each look. Whoever looks takes the word of the lock from the thread that has it,
-// so it looks seldom.
-const PAUSES: [u32; 6] = [64, 128, 256, 256, 256, 256];
+/// How many pauses a thread makes before each look at a lock that another one has. Whoever looks takes the word of the lock
+/// from the thread that has it, so it looks seldom.
+pub const PAUSES: [u32; 6] = [64, 128, 256, 256, 256, 256];
 
 /// Has the processor pause so often, each time for some tens of nanoseconds: what a thread does before it looks again for
 /// what others have for a moment. It lets no other thread run, which would cost a time slice where all processors are

@@ -1,22 +1,31 @@
-//! What waits: a state under a lock, the queues in it, and the threads and tasks that wait there. Events, the locks of
-//! `event_locks` and channels stand on it.
+//! What waits, at any lock. Events, the locks of `event_locks` and channels stand on it.
 //!
-//! A [`Lock`] holds a state. Who waits for something of the state is a [`Request`]: it says what one attempt does, made
-//! under the lock, and what leaving the queue does. One loop serves threads ([`wait`]) and one poll serves tasks ([`poll_in`]).
-//! An [`Attempt`] is a request that is tried before it waits ([`obtain`]). Loop and poll serve any lock of which a request is
-//! made ([`Serves`], [`Tries`]).
+//! Who waits for something makes a *request* of a lock ([`Waitable`]): one attempt, made under the lock, which gives it, has it
+//! wait on, or is refused, and leaving the queue at a limit. Most are attempted before they wait ([`Obtainable`]). What a lock
+//! says of its requests is one record, its [`Rules`](../specs/Rounds.antt). One loop serves a thread ([`wait`], [`obtain`])
+//! and one poll a task ([`poll_in`]), at any lock. [`Obtaining`] is a wait as a value, which holds its lock by a [`Hold`].
 //!
-//! [`take_lock!`] takes a free lock at once. While another thread has it, a thread looks ever more seldom, and sleeps at
-//! last ([`wait_for_lock`]).
+//! A [`Lock`] holds a state, and takes each [`Request`] of that state. [`waiters`] are the steps on a queue that states of locks
+//! are made of. [`take_lock!`] takes a free lock at once. While another thread has it, a thread looks ever more seldom, and
+//! sleeps at last ([`wait_for_lock`]).
+//!
+//! Read `waitable.rt` first, then `lock/wait.rt`, `request.rt`, `lock.rt` and `obtaining.rt`.
 #![tactic(auto)]
 
 mod back_off;
+mod error;
+mod hold;
 mod lock;
+mod obtaining;
 mod request;
-mod serves;
+mod waitable;
+pub mod waiters;
 
-pub use back_off::{pause, wait_for_lock};
+pub use back_off::{PAUSES, pause, wait_for_lock};
+pub use error::LockError;
+pub use hold::{Borrowed, Hold, Shared};
 pub use lock::wait::{Refused, obtain, poll_in, try_then_wait, wait};
-pub use lock::{Limit, LineSource, Lock, Parks, Task, Waking};
+pub use lock::{DeferredWake, Limit, Lock, StoreParker, Task, WakerSource};
+pub use obtaining::Obtaining;
 pub use request::{Attempt, Attempted, Request};
-pub use serves::{Serves, Tries};
+pub use waitable::{Obtainable, TakesAny, Waitable};

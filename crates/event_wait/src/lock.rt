@@ -1,24 +1,25 @@
 //! A state under a lock.
+ghost use Rattle.event_wait.specs.Rounds.{alike, of_any};
 
 mod limit;
 mod task;
 pub(crate) mod wait;
 
 pub use self::limit::Limit;
-pub use self::task::{LineSource, Parks, Task, Waking};
+pub use self::task::{DeferredWake, StoreParker, Task, WakerSource};
 use crate::request::{Attempt, Attempted, Request};
-use crate::serves::{Serves, Tries};
-use crate::{step, take_lock};
+use crate::step;
+use crate::waitable::{Obtainable, TakesAny, Waitable};
 use event_queue::TaskExchange;
 use std::marker::Model;
-use std::sync::{Mutex, MutexGuard, Wait};
+use std::sync::{Mutex, Wait};
 
 /// A state under a lock, with the queues of those that wait for something of it.
 ///
 /// A contract sees the number of the source at which tasks that wait are registered.
 pub struct Lock<S> {
     state: Mutex<S>,
-    source: LineSource,
+    source: WakerSource,
 }
 
 impl<S> Model for Lock<S> {
@@ -34,7 +35,7 @@ impl<S> Lock<S> {
     pub fn of(state: S) -> Self {
         Lock {
             state: Mutex::new(state),
-            source: LineSource::new(),
+            source: WakerSource::new(),
         }
     }
 
@@ -45,17 +46,6 @@ impl<S> Lock<S> {
         &self.state
     }
 
-    /// The state, once nobody else has it. It may wait for the lock.
-    #[inline(always)]
-    pub fn state<R: Wait>(&self, rt: &R) -> MutexGuard<'_, S> {
-        take_lock!(self, rt)
-    }
-
-    /// The state of a lock that nobody else has.
-    pub fn state_mut(&mut self) -> &mut S {
-        self.state.get_mut()
-    }
-
     /// The state alone.
     pub fn into_state(self) -> S {
         let Lock { state, source } = self;
@@ -64,21 +54,17 @@ impl<S> Lock<S> {
     }
 }
 
-impl<S, Q: Request<S>> Serves<Q> for Lock<S> {
+impl<S, Q: Request<S>> Waitable<Q> for Lock<S> {
     type Output = Q::Output;
 
     type Refusal = Q::Refusal;
 
-    ghost succeeds = { λ _. Q.succeeds };
-
-    ghost waits = { Q.waits };
-
-    ghost leaves = { λ _. Q.leaves };
+    ghost rules = { λ _. of_any Q.succeeds Q.waits Q.leaves };
 
     ghost source = { λ lock. lock };
 
     #[inline(always)]
-    fn line_source(&self) -> &LineSource {
+    fn waker_source(&self) -> &WakerSource {
         &self.source
     }
 
@@ -97,8 +83,10 @@ impl<S, Q: Request<S>> Serves<Q> for Lock<S> {
     }
 }
 
-impl<S, Q: Attempt<S>> Tries<Q> for Lock<S> {
+impl<S, Q: Attempt<S>> Obtainable<Q> for Lock<S> {
     const TRIES: u32 = Q::TRIES;
+
+    ghost trying = { λ _. alike Q.succeeds };
 
     #[inline(always)]
     fn is_waiting(&self, request: &Q) -> bool {
@@ -116,6 +104,10 @@ impl<S, Q: Attempt<S>> Tries<Q> for Lock<S> {
             step!(self, rt, state, waking => request.give_up(&mut *state, &mut waking))
         }
     }
+}
+
+impl<S, Q: Attempt<S>> TakesAny<Q> for Lock<S> {
+    ghost all_fit = { λ _ _. tt };
 }
 
 impl<S: Drop> Drop for Lock<S> {

@@ -82,20 +82,20 @@ fn wake_apart(kind: TaskKind) {
 }
 
 /// Wakes the tasks that it is handed. The last one is held back, so that it does not meet the lock under which it was
-/// handed something: [`finish`](Waking::finish) wakes it.
+/// handed something: [`finish`](DeferredWake::finish) wakes it.
 ///
 /// It is no `Drop`, so whoever makes one has to finish it. Its relation says nothing, since no contract can name what
 /// sleeps. Tests show that it wakes.
-pub struct Waking {
+pub struct DeferredWake {
     // It is nobody at first.
     held_back: TaskKind,
 }
 
-impl Waking {
+impl DeferredWake {
     /// It has woken nobody.
     #[inline(always)]
     pub fn new() -> Self {
-        Waking {
+        DeferredWake {
             held_back: TaskKind::Nobody,
         }
     }
@@ -103,14 +103,14 @@ impl Waking {
     /// Wakes the task that is held back. It is called with no lock held.
     #[inline(always)]
     pub fn finish(self) {
-        let Waking { held_back } = self;
+        let DeferredWake { held_back } = self;
         wake!(held_back)
     }
 
-    /// [`finish`](Waking::finish) after a step that seldom wakes anybody: where nobody is held back it is a few instructions.
+    /// [`finish`](DeferredWake::finish) after a step that seldom wakes anybody: where nobody is held back it is a few instructions.
     #[inline(always)]
     pub fn finish_seldom(self) {
-        let Waking { held_back } = self;
+        let DeferredWake { held_back } = self;
         match held_back {
             TaskKind::Nobody => {}
             last => wake_apart(last),
@@ -118,7 +118,7 @@ impl Waking {
     }
 }
 
-impl WakeSink<Task> for Waking {
+impl WakeSink<Task> for DeferredWake {
     ghost woke = { λ _ _ _. Unit {0} };
 
     #[inline(always)]
@@ -129,9 +129,9 @@ impl WakeSink<Task> for Waking {
 }
 
 /// Stores the task that it is given, in the place of any that is stored: that may be of a task that polled before.
-pub struct Parks {}
+pub struct StoreParker {}
 
-impl TaskExchange<Task, Option<Task>> for Parks {
+impl TaskExchange<Task, Option<Task>> for StoreParker {
     ghost exchanged = { λ _ before stored task after. StoresGiven before stored task after };
 
     fn exchange(&self, on: &mut Option<Task>, stored: Option<Task>) -> Task
@@ -152,11 +152,11 @@ impl TaskExchange<Task, Option<Task>> for Parks {
 ///
 /// A contract sees it as the number of its source.
 #[derive(Drop)]
-pub struct LineSource {
+pub struct WakerSource {
     source: Source,
 }
 
-impl Model for LineSource {
+impl Model for WakerSource {
     ghost use Rattle.std.specs.Prelude.{ℕ};
 
     ghost Value = { ℕ };
@@ -164,16 +164,16 @@ impl Model for LineSource {
     ghost view = { λ line. line.source.id };
 }
 
-impl LineSource {
+impl WakerSource {
     /// Where nobody has registered yet. The call neither allocates nor waits.
     pub fn new() -> Self {
-        LineSource {
+        WakerSource {
             source: Source::new(),
         }
     }
 }
 
-impl<'cx> TaskExchange<Task, Context<'cx>> for LineSource {
+impl<'cx> TaskExchange<Task, Context<'cx>> for WakerSource {
     ghost exchanged = { λ line before _ task after. Repolls line before task after };
 
     fn exchange(&self, cx: &mut Context<'cx>, stored: Option<Task>) -> Task

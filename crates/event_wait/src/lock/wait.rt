@@ -1,15 +1,15 @@
 //! The wait of a thread, and the poll of a task.
-ghost use Rattle.std.specs.Prelude.{◌≡◌, ◌≢◌, None, Ok, IfOk, IfSome, IsSome, OnErr};
+ghost use Rattle.std.specs.Prelude.{◌≡◌, ◌≢◌, None, Ok, IfErr, IfOk, IfSome, IsSome};
 ghost use Rattle.futures.specs.Poll.{IfReady, OnPending};
 ghost use Rattle.futures.specs.Task.{Covers, Keeps};
-ghost use Rattle.event_wait.specs.Rounds.{Obtains, SomeRounds, Waits};
+ghost use Rattle.event_wait.specs.Rounds.{Fails, Gets, Obtains, SomeRounds, Succeeds, Tries, TriesOrWaits, Waits};
 ghost use Rattle.event_wait.specs.declared.lock.limit.Limit.TheVariants.{Never};
 
 use super::limit::Limit;
-use super::task::{Parks, Task};
+use super::task::{StoreParker, Task};
 use crate::back_off::pause;
 use crate::request::Attempted;
-use crate::serves::{Serves, Tries};
+use crate::waitable::{Obtainable, Waitable};
 use futures::task::{Context, Poll};
 use std::alloc::{AllocError, Global};
 use std::sync::{Arc, Wait};
@@ -17,7 +17,7 @@ use std::thread::Parker;
 use std::time::Clock;
 
 // How many pauses a thread makes before it tries again.
-const PAUSES: u32 = 64;
+const PAUSES_TO_TRY: u32 = 64;
 
 /// Why a wait of a thread ended with no answer.
 pub enum Refused<E> {
@@ -33,23 +33,41 @@ pub enum Refused<E> {
 ///
 /// With an answer, a refusal or `None` it is in no queue. It may wait for the lock.
 #[inline(always)]
-pub fn obtain<L: Tries<Q>, Q, R: Wait + Clock>(
+pub fn obtain<L: Obtainable<Q>, Q, R: Wait + Clock>(
     lock: &L,
     rt: &R,
     alloc: Global,
     request: &mut Q,
     limit: Limit,
 ) -> Result<Option<L::Output>, Refused<L::Refusal>>
+    requires fits { (L.rules lock.now).fits request.old }
+    ensures fits { (L.rules lock.now).fits request.new }
     ensures never { limit ≡ Never → IfOk result IsSome }
-    ensures obtains { Obtains L.waits (L.succeeds lock.now) (L.leaves lock.now) (limit ≢ Never)
-        request.old result request.new }
+    ensures obtains { Obtains (L.rules lock.now) (L.trying lock.now) (limit ≢ Never)
+        request.old result
+        request.new }
 {
-    if !lock.is_waiting(request) {
-        if let Some(output) = lock.attempt(rt, request) {
-            return Ok(Some(output));
-        }
+    if let Some(output) = try_first(lock, rt, request) {
+        return Ok(Some(output));
     }
     try_then_wait(lock, rt, alloc, request, limit)
+}
+
+// Whoever has a place in the queue tries nothing: its place is where it attempts.
+#[inline(always)]
+fn try_first<L: Obtainable<Q>, Q, R: Wait>(lock: &L, rt: &R, request: &mut Q) -> Option<L::Output>
+    requires fits { (L.rules lock.now).fits request.old }
+    ensures fits { (L.rules lock.now).fits request.new }
+    ensures obtained { IfSome result (λ output.
+        Succeeds (Tries (L.rules lock.now) (L.trying lock.now))
+        (Gets (L.rules lock.now) (L.trying lock.now)) request.old output request.new) }
+    ensures tried { result ≡ None
+        → SomeRounds (Tries (L.rules lock.now) (L.trying lock.now)) request.old request.new }
+{
+    if lock.is_waiting(request) {
+        return None;
+    }
+    lock.attempt(rt, request)
 }
 
 /// Blocks the thread until it has what it requests or the limit has passed, and then leaves the queue with what it can
@@ -58,16 +76,17 @@ pub fn obtain<L: Tries<Q>, Q, R: Wait + Clock>(
 /// It makes what the thread parks on, attempts, stores its task if it waits on, looks at the limit, parks, and attempts
 /// again. If it can't wait, or memory runs out, it is where it was. It may wait for the lock.
 #[inline(always)]
-pub fn wait<L: Serves<Q>, Q, R: Wait + Clock>(
+pub fn wait<L: Waitable<Q>, Q, R: Wait + Clock>(
     lock: &L,
     rt: &R,
     alloc: Global,
     request: &mut Q,
     limit: Limit,
 ) -> Result<Option<L::Output>, Refused<L::Refusal>>
+    requires fits { (L.rules lock.now).fits request.old }
+    ensures fits { (L.rules lock.now).fits request.new }
     ensures never { limit ≡ Never → IfOk result IsSome }
-    ensures waits { Waits L.waits (L.succeeds lock.now) (L.leaves lock.now) (limit ≢ Never)
-        request.old result request.new }
+    ensures waits { Waits (L.rules lock.now) (limit ≢ Never) request.old result request.new }
 {
     let Ok(parker) = Arc::new(alloc, Parker::new()) else {
         return Err(Refused::Memory);
@@ -80,7 +99,7 @@ pub fn wait<L: Serves<Q>, Q, R: Wait + Clock>(
             };
             task = new;
         }
-        match lock.attempt_or_wait(rt, request, &Parks {}, &mut task) {
+        match lock.attempt_or_wait(rt, request, &StoreParker {}, &mut task) {
             Attempted::Done(output) => return Ok(Some(output)),
             Attempted::Waits(_) => {}
             Attempted::Absent => continue,
@@ -97,20 +116,23 @@ pub fn wait<L: Serves<Q>, Q, R: Wait + Clock>(
 
 /// Attempts what is requested, and registers the task that polls if it waits on. An error says that it can't wait, and is
 /// where it was. It may wait for the lock.
-pub fn poll_in<L: Serves<Q>, Q, R: Wait>(
+pub fn poll_in<L: Waitable<Q>, Q, R: Wait>(
     lock: &L,
     rt: &R,
     request: &mut Q,
     cx: &mut Context<'_>,
 ) -> Poll<Result<L::Output, L::Refusal>>
+    requires fits { (L.rules lock.now).fits request.old }
+    ensures fits { (L.rules lock.now).fits request.new }
     ensures succeeded { IfReady result
-        (λ answer. IfOk answer (λ output. L.succeeds lock.now request.old output request.new)) }
-    ensures refused { IfReady result (λ answer. OnErr answer (request.new ≡ request.old)) }
-    ensures pending { OnPending result (L.waits request.old request.new) }
+        (λ answer. IfOk answer (λ output. (L.rules lock.now).succeeds request.old output request.new)) }
+    ensures refused { IfReady result
+        (λ answer. IfErr answer (λ error. (L.rules lock.now).refuses request.old error request.new)) }
+    ensures pending { OnPending result ((L.rules lock.now).waits request.old request.new) }
     ensures registered { OnPending result (Covers cx.new (λ s. s ≡ L.source lock.now)) }
     ensures kept { Keeps cx.old cx.new }
 {
-    match lock.attempt_or_wait(rt, request, lock.line_source(), cx) {
+    match lock.attempt_or_wait(rt, request, lock.waker_source(), cx) {
         Attempted::Done(output) => Poll::Ready(Ok(output)),
         Attempted::Waits(_) => Poll::Pending,
         Attempted::Absent => cx.yield_now(),
@@ -123,13 +145,15 @@ fn task_of(parker: &Arc<Parker, Global>) -> Result<Option<Task>, AllocError> {
     Ok(Some(Task::parked(Arc::try_clone(parker)?)))
 }
 
-fn leave_late<L: Serves<Q>, Q, R: Wait>(
+fn leave_late<L: Waitable<Q>, Q, R: Wait>(
     lock: &L,
     rt: &R,
     request: &mut Q,
 ) -> Result<Option<L::Output>, Refused<L::Refusal>>
-    ensures left { IfOk result (λ answer. L.leaves lock.now request.old answer request.new) }
-    ensures kept { OnErr result (request.new ≡ request.old) }
+    requires fits { (L.rules lock.now).fits request.old }
+    ensures fits { (L.rules lock.now).fits request.new }
+    ensures left { IfOk result (λ answer. (L.rules lock.now).leaves request.old answer request.new) }
+    ensures failed { IfErr result (λ error. Fails (L.rules lock.now) request.old error request.new) }
 {
     match lock.leave(rt, request) {
         Ok(answer) => Ok(answer),
@@ -143,35 +167,42 @@ fn leave_late<L: Serves<Q>, Q, R: Wait>(
 /// It allocates what the thread parks on, if it has to wait. With an answer, a refusal or `None` it is in no queue. It may
 /// wait for the lock.
 #[inline(never)]
-pub fn try_then_wait<L: Tries<Q>, Q, R: Wait + Clock>(
+pub fn try_then_wait<L: Obtainable<Q>, Q, R: Wait + Clock>(
     lock: &L,
     rt: &R,
     alloc: Global,
     request: &mut Q,
     limit: Limit,
 ) -> Result<Option<L::Output>, Refused<L::Refusal>>
+    requires fits { (L.rules lock.now).fits request.old }
+    ensures fits { (L.rules lock.now).fits request.new }
     ensures never { limit ≡ Never → IfOk result IsSome }
-    ensures obtains { Obtains L.waits (L.succeeds lock.now) (L.leaves lock.now) (limit ≢ Never)
-        request.old result request.new }
+    ensures obtains { Obtains (L.rules lock.now) (L.trying lock.now) (limit ≢ Never)
+        request.old result
+        request.new }
 {
-    let answer = try_or_wait(lock, rt, alloc, request, limit);
-    if answer.is_err() {
-        lock.give_up(rt, request);
+    match try_or_wait(lock, rt, alloc, request, limit) {
+        Ok(answer) => Ok(answer),
+        Err(error) => {
+            lock.give_up(rt, request);
+            Err(error)
+        }
     }
-    answer
 }
 
 // Where there is time left, a few tries with pauses between them, and then in the queue.
 #[inline(always)]
-fn try_or_wait<L: Tries<Q>, Q, R: Wait + Clock>(
+fn try_or_wait<L: Obtainable<Q>, Q, R: Wait + Clock>(
     lock: &L,
     rt: &R,
     alloc: Global,
     request: &mut Q,
     limit: Limit,
 ) -> Result<Option<L::Output>, Refused<L::Refusal>>
+    requires fits { (L.rules lock.now).fits request.old }
+    ensures fits { (L.rules lock.now).fits request.new }
     ensures never { limit ≡ Never → IfOk result IsSome }
-    ensures obtains { Obtains L.waits (L.succeeds lock.now) (L.leaves lock.now) (limit ≢ Never)
+    ensures trying { TriesOrWaits (L.rules lock.now) (L.trying lock.now) (limit ≢ Never)
         request.old result request.new }
 {
     if limit.has_passed(rt) {
@@ -187,17 +218,21 @@ fn try_or_wait<L: Tries<Q>, Q, R: Wait + Clock>(
     }
 }
 
-// Whoever has a place in the queue tries nothing: its place is where it attempts.
-fn try_a_while<L: Tries<Q>, Q, R: Wait>(lock: &L, rt: &R, request: &mut Q) -> Option<L::Output>
-    ensures succeeded { IfSome result (λ output.
-        L.succeeds lock.now request.old output request.new) }
-    ensures kept { result ≡ None → request.new ≡ request.old }
+// The same, a few times with pauses between them.
+fn try_a_while<L: Obtainable<Q>, Q, R: Wait>(lock: &L, rt: &R, request: &mut Q) -> Option<L::Output>
+    requires fits { (L.rules lock.now).fits request.old }
+    ensures fits { (L.rules lock.now).fits request.new }
+    ensures obtained { IfSome result (λ output.
+        Succeeds (Tries (L.rules lock.now) (L.trying lock.now))
+        (Gets (L.rules lock.now) (L.trying lock.now)) request.old output request.new) }
+    ensures tried { result ≡ None
+        → SomeRounds (Tries (L.rules lock.now) (L.trying lock.now)) request.old request.new }
 {
     for _ in 0..L::TRIES {
         if lock.is_waiting(request) {
             return None;
         }
-        pause(PAUSES);
+        pause(PAUSES_TO_TRY);
         if let Some(output) = lock.attempt(rt, request) {
             return Some(output);
         }
@@ -206,20 +241,22 @@ fn try_a_while<L: Tries<Q>, Q, R: Wait>(lock: &L, rt: &R, request: &mut Q) -> Op
 }
 
 // One that polled before may have been notified since: then it need not park. Its task stays.
-fn take_if_notified<L: Tries<Q>, Q, R: Wait>(
+fn take_if_notified<L: Obtainable<Q>, Q, R: Wait>(
     lock: &L,
     rt: &R,
     request: &mut Q,
 ) -> Result<Option<L::Output>, L::Refusal>
+    requires fits { (L.rules lock.now).fits request.old }
+    ensures fits { (L.rules lock.now).fits request.new }
     ensures succeeded { IfOk result (λ answer.
-        IfSome answer (λ output. L.succeeds lock.now request.old output request.new)) }
-    ensures waited { result ≡ Ok None → SomeRounds L.waits request.old request.new }
-    ensures kept { OnErr result (request.new ≡ request.old) }
+        IfSome answer (λ output. (L.rules lock.now).succeeds request.old output request.new)) }
+    ensures waited { result ≡ Ok None → SomeRounds (L.rules lock.now).waits request.old request.new }
+    ensures refused { IfErr result (λ error. (L.rules lock.now).refuses request.old error request.new) }
 {
     if !lock.is_waiting(request) {
         return Ok(None);
     }
-    match lock.attempt_or_wait(rt, request, &Parks {}, &mut None) {
+    match lock.attempt_or_wait(rt, request, &StoreParker {}, &mut None) {
         Attempted::Done(output) => Ok(Some(output)),
         Attempted::Waits(_) => Ok(None),
         Attempted::Absent => Ok(None),

@@ -1,0 +1,70 @@
+//! How waits and guards hold their lock.
+ghost use Rattle.std.specs.Prelude.{◌≡◌};
+ghost use Rattle.std.specs.Arc.{arc_value};
+
+use std::alloc::Global;
+use std::sync::{Arc, Wait};
+use std::time::Clock;
+
+/// How a wait or a guard holds its lock and the runtime: by borrowing both, or by a share of the lock and a runtime of its
+/// own.
+pub trait Hold<L> {
+    // What a contract sees of the lock.
+    ghost held: { Self → L };
+
+    /// The runtime.
+    type Runtime: Wait + Clock;
+
+    /// The lock that it holds.
+    fn lock(&self) -> &L
+        ensures { result.now ≡ held self.now };
+
+    /// The runtime that it holds.
+    fn rt(&self) -> &Self::Runtime;
+}
+
+/// Borrows a lock and the runtime.
+#[derive(Drop)]
+pub struct Borrowed<'a, L, R> {
+    pub lock: &'a L,
+    pub rt: &'a R,
+}
+
+/// Shares a lock, so that it may go to another thread.
+#[derive(Drop)]
+pub struct Shared<L, R> {
+    pub lock: Arc<L, Global>,
+    pub rt: R,
+}
+
+impl<'a, L, R: Wait + Clock> Hold<L> for Borrowed<'a, L, R> {
+    ghost held = { λ hold. hold.lock.now };
+
+    type Runtime = R;
+
+    #[inline(always)]
+    fn lock(&self) -> &L {
+        self.lock
+    }
+
+    #[inline(always)]
+    fn rt(&self) -> &R {
+        self.rt
+    }
+}
+
+impl<L, R: Wait + Clock> Hold<L> for Shared<L, R> {
+    ghost held = { λ hold. arc_value hold.lock };
+
+    type Runtime = R;
+
+    #[inline(always)]
+    fn lock(&self) -> &L {
+        &self.lock
+    }
+
+    #[inline(always)]
+    fn rt(&self) -> &R {
+        &self.rt
+    }
+}
