@@ -1,15 +1,15 @@
 pub mod HandLemmas
 mod Keeps
-mod LawsOneOrder
-mod LawsOrder
 pub mod LawsLeft
 mod LawsNext
+mod LawsOneOrder
+mod LawsOrder
 pub mod LawsOwn
 mod LawsPassing
 mod LawsStays
 mod LawsTold
 mod LawsUntil
+mod LentLemmas
 mod Rests
 pub mod RestsOnLemmas
 mod Views
-mod WaitLemmas

@@ -1,10 +1,9 @@
 -- How a wait goes: rounds, each one call in the history, and an end.
-use Rattle.std.specs.Prelude.{◌≡◌, ◌⊎◌, List, Option, Some, None, Result, Ok, Err}
+use Rattle.std.specs.Prelude.{◌≡◌, ℕ, List, Option, Some, None, Result, Ok, Err}
 use Rattle.event_wait.specs.declared.request.Attempted.{Attempted}
 use Rattle.event_wait.specs.declared.request.Attempted.TheVariants as attempted
 use Rattle.event_wait.specs.declared.lock.wait.Refused.{Refused}
-use Rattle.event_wait.specs.declared.lock.wait.Refused.TheVariants.{Memory, Request}
-use Rattle.event_wait.specs.Rounds.{SomeRounds, OneRoundAtLeast, Succeeds, LeavesLate}
+use Rattle.event_wait.specs.Rounds.{Rules, Trying, Waits, Obtains as ObtainsBy}
 use Rattle.futures.specs.declared.task.Poll.{Poll}
 use Rattle.futures.specs.declared.task.Poll.TheVariants.{Ready, Pending}
 use Rattle.event_history.specs.declared.history.View.{View}
@@ -27,67 +26,61 @@ Polls {G = G} {E = E} attempting before Pending call = (answer : Attempted G E) 
 abbrev pub GivesUp : {S C Q : Type 0} → (S → C → S → Type 0) → (S → Type 0) → (C → List C) → (Q → Type 0) → (Q → C → Type 0) → Q × View S C → Q × View S C → Type 0
 GivesUp goes starts rests has_place giving_up before after = (¬ has_place before.0 → after ≡ before) × (has_place before.0 → (after.0 ≡ before.0) × Makes goes starts rests before.1 (giving_up before.0) after.1)
 
--- of a request and of what its hand knows
+-- of a request and of what its hand knows, each of whose attempts is the hand's next call
 module _ {S C Q G E : Type 0} (goes : S → C → S → Type 0) (starts : S → Type 0) (rests : C → List C) (attempting : Q → Attempted G E → C → Type 0) (leaving : Q → Result (Option G) E → C → Type 0) where
   abbrev pub Goes : Type 0
   Goes = Q × View S C
 
-  -- an attempt got nothing, and is the hand's next call
+  -- an attempt got nothing
   abbrev pub Round : (Q → Q → Type 0) → Goes → Goes → Type 0
   Round waits before after = waits before.0 after.0 × (answer : Attempted G E) × IsUndone answer × Makes goes starts rests before.1 (attempting before.0 answer) after.1
 
-  -- an attempt got this
-  abbrev pub Gets : (Q → G → Q → Type 0) → Goes → G → Goes → Type 0
-  Gets succeeds before output after = succeeds before.0 output after.0 × Makes goes starts rests before.1 (attempting before.0 (attempted.Done output)) after.1
+  -- what the lock says of one that waits
+  abbrev pub by_hand : (Q → Q → Type 0) → (Q → G → Q → Type 0) → (Q → Option G → Q → Type 0) → Rules Goes G E
+  by_hand waits succeeds leaves = record {
+    fits = λ _. Unit {0};
+    succeeds = λ before output after. succeeds before.0 output after.0 × Makes goes starts rests before.1 (attempting before.0 (attempted.Done output)) after.1;
+    waits = Round waits;
+    refuses = λ before error after. (after.0 ≡ before.0) × Makes goes starts rests before.1 (attempting before.0 (attempted.Refused error)) after.1;
+    leaves = λ before answer after. leaves before.0 answer after.0 × Makes goes starts rests before.1 (leaving before.0 (Ok answer)) after.1;
+    stays = λ before error after. (after.0 ≡ before.0) × Makes goes starts rests before.1 (leaving before.0 (Err error)) after.1;
+  }
 
-  -- it left, with this
-  abbrev pub Leaves : (Q → Option G → Q → Type 0) → Goes → Option G → Goes → Type 0
-  Leaves leaves before answer after = leaves before.0 answer after.0 × Makes goes starts rests before.1 (leaving before.0 (Ok answer)) after.1
+  -- and of one that is attempted before
+  abbrev pub tried_by_hand : (Q → G → Q → Type 0) → (Q → Option G → C → Type 0) → (Q → Type 0) → (Q → C → Type 0) → Trying Goes G
+  tried_by_hand succeeds trying has_place giving_up = record {
+    gives = λ before output after. succeeds before.0 output after.0 × Makes goes starts rests before.1 (trying before.0 (Some output)) after.1;
+    misses = λ before after. (after.0 ≡ before.0) × Makes goes starts rests before.1 (trying before.0 None) after.1;
+    gives_up = GivesUp goes starts rests has_place giving_up;
+  }
 
-  -- an attempt, or leaving, was refused, and it is where it was
-  abbrev pub IsRefused : Goes → E → Goes → Type 0
-  IsRefused before error after = (after.0 ≡ before.0) × (Makes goes starts rests before.1 (attempting before.0 (attempted.Refused error)) after.1 ⊎ Makes goes starts rests before.1 (leaving before.0 (Err error)) after.1)
+  module _ (waits : Q → Q → Type 0) (succeeds : Q → G → Q → Type 0) (leaves : Q → Option G → Q → Type 0) (may_end : Type 0) where
+    -- how a wait ends
+    abbrev pub EndsWait : Goes → Result (Option G) (Refused E) → Goes → Type 0
+    EndsWait = Waits (by_hand waits succeeds leaves) may_end
 
-  -- a round, or an attempt of one that would not wait, which got nothing and left it as it was
-  abbrev pub Tries : (Q → Q → Type 0) → (Q → Option G → C → Type 0) → Goes → Goes → Type 0
-  Tries waits trying before after = Round waits before after ⊎ ((after.0 ≡ before.0) × Makes goes starts rests before.1 (trying before.0 None) after.1)
+    -- of one that is attempted before, and gives up its place where it fails
+    abbrev pub EndsObtaining : (Q → Option G → C → Type 0) → (Q → Type 0) → (Q → C → Type 0) → Goes → Result (Option G) (Refused E) → Goes → Type 0
+    EndsObtaining trying has_place giving_up = ObtainsBy (by_hand waits succeeds leaves) (tried_by_hand succeeds trying has_place giving_up) may_end
 
-  -- an attempt got this, one that would have waited or one that would not
-  abbrev pub Obtains : (Q → G → Q → Type 0) → (Q → Option G → C → Type 0) → Goes → G → Goes → Type 0
-  Obtains succeeds trying before output after = Gets succeeds before output after ⊎ (succeeds before.0 output after.0 × Makes goes starts rests before.1 (trying before.0 (Some output)) after.1)
+-- A request and its hand are lent for a wait. What the wait says of what is lent holds of what it lends.
+module _ {A B : Type 0} (names : A → ℕ × ℕ) (seen : A → B) where
+  -- those that lent stay the same, and this is done by what they lent
+  abbrev pub Lends : (B → B → Type 0) → A → A → Type 0
+  Lends step before after = (names after ≡ names before) × step (seen before) (seen after)
 
-  -- memory was refused, or an attempt was
-  abbrev pub Fails : Goes → Refused E → Goes → Type 0
-  Fails before Memory after = after ≡ before
-  Fails before (Request error) after = IsRefused before error after
+  abbrev pub LendsTo : {X : Type 0} → (B → X → B → Type 0) → A → X → A → Type 0
+  LendsTo step before said after = (names after ≡ names before) × step (seen before) said (seen after)
 
-  module _ (waits : Q → Q → Type 0) (succeeds : Q → G → Q → Type 0) (leaves : Q → Option G → Q → Type 0) where
-    -- after some rounds and tries the next attempt got this
-    abbrev pub HasObtained : (Q → Option G → C → Type 0) → Goes → G → Goes → Type 0
-    HasObtained trying = Succeeds (Tries waits trying) (Obtains succeeds trying) (Leaves leaves)
+  abbrev pub lent : {G E : Type 0} → (A → Type 0) → Rules B G E → Rules A G E
+  lent fits rules = record {
+    fits = fits;
+    succeeds = LendsTo rules.succeeds;
+    waits = Lends rules.waits;
+    refuses = LendsTo rules.refuses;
+    leaves = LendsTo rules.leaves;
+    stays = LendsTo rules.stays;
+  }
 
-    module _ (may_end : Type 0) where
-      -- after a round at least the limit had passed, and it left with this
-      abbrev pub IsLate : Goes → Option G → Goes → Type 0
-      IsLate = LeavesLate (Round waits) (Gets succeeds) (Leaves leaves) (OneRoundAtLeast (Round waits)) may_end
-
-      -- how a wait ends that has a limit or has none: after some rounds an attempt got it, it was late or it failed
-      abbrev pub EndsWait : Goes → Result (Option G) (Refused E) → Goes → Type 0
-      EndsWait before (Ok (Some output)) after = Succeeds (Round waits) (Gets succeeds) (Leaves leaves) before output after ⊎ IsLate before (Some output) after
-      EndsWait before (Ok None) after = IsLate before None after
-      EndsWait before (Err error) after = (between : Goes) × SomeRounds (Round waits) before between × Fails between error after
-
-      -- of one that also tries without waiting: it may be late with no round
-      abbrev pub IsTooLate : (Q → Option G → C → Type 0) → Goes → Option G → Goes → Type 0
-      IsTooLate trying = LeavesLate (Tries waits trying) (Obtains succeeds trying) (Leaves leaves) (SomeRounds (Tries waits trying)) may_end
-
-      -- how it ends, up to a refusal
-      abbrev pub EndsTrying : (Q → Option G → C → Type 0) → Goes → Result (Option G) (Refused E) → Goes → Type 0
-      EndsTrying trying before (Ok (Some output)) after = HasObtained trying before output after ⊎ IsTooLate trying before (Some output) after
-      EndsTrying trying before (Ok None) after = IsTooLate trying before None after
-      EndsTrying trying before (Err error) after = (between : Goes) × SomeRounds (Tries waits trying) before between × Fails between error after
-
-      -- how obtaining ends: refused, it gives up its place
-      abbrev pub EndsObtaining : (Q → Option G → C → Type 0) → (Q → Type 0) → (Q → C → Type 0) → Goes → Result (Option G) (Refused E) → Goes → Type 0
-      EndsObtaining trying has_place giving_up before (Ok answer) after = EndsTrying trying before (Ok answer) after
-      EndsObtaining trying has_place giving_up before (Err error) after = (refused : Goes) × EndsTrying trying before (Err error) refused × GivesUp goes starts rests has_place giving_up refused after
+  abbrev pub lent_tries : {G : Type 0} → Trying B G → Trying A G
+  lent_tries trying = record { gives = LendsTo trying.gives; misses = Lends trying.misses; gives_up = Lends trying.gives_up }

@@ -47,13 +47,13 @@ impl<S, C> Hand<S, C> {
 
     /// The hand at rest.
     #[inline(always)]
-    pub fn rest(self) -> Resting<S, C>
+    pub fn rest(self) -> IdleHand<S, C>
         ensures { (result.rest.badge.table_id ≡ self.seat.table_id)
             × (result.rest.badge.views ≡ self.seat.me.0 ∷ []) }
     {
         let rest = Rest::of(self.into_seat().into_badge());
         let identity = Identity::of_rest(&rest);
-        Resting { rest, identity }
+        IdleHand { rest, identity }
     }
 }
 
@@ -72,7 +72,7 @@ impl<S: Steps> Hand<S, S::Call> {
 /// threads, so a listener keeps its hand so. It can't be dropped either.
 ///
 /// `rest.badge.views` is what the hand knows, a list of one, or of none while it is out.
-pub struct Resting<S, C> {
+pub struct IdleHand<S, C> {
     pub rest: Rest<View<S, C>>,
     // No other crate names it, so none puts another hand in the place of this one.
     identity: Identity,
@@ -82,7 +82,7 @@ pub struct Resting<S, C> {
         × (rest.badge.id ≡ identity.id) × (length rest.badge.views ≡ identity.hands) },
 }
 
-impl<S, C> Resting<S, C> {
+impl<S, C> IdleHand<S, C> {
     /// Takes the hand out, for a call.
     #[inline(always)]
     pub fn take(&mut self) -> Hand<S, C>
@@ -114,7 +114,7 @@ impl<S, C> Resting<S, C> {
         ensures { (result.seat.table_id ≡ self.rest.badge.table_id)
             × (self.rest.badge.views ≡ result.seat.me.0 ∷ []) }
     {
-        let Resting { rest, identity: _ } = self;
+        let IdleHand { rest, identity: _ } = self;
         Hand::of(rest.into_badge().into_seat())
     }
 }

@@ -16,10 +16,13 @@
 //! ([`own_listener_stays`]).
 //!
 //! A [`Lock`] is a traced state with queues of those that wait for something of it: a [`Request`] waits by
-//! [`Lock::wait`] (a thread) or [`Lock::poll_in`] (a task), and an [`Attempt`] tries first ([`Lock::obtain`]). Each of their
-//! attempts is a call of the history. A call of one's own is a [`Step`], made by [`perform!`], [`perform_first!`] or
+//! [`Lock::wait`] (a thread) or [`Lock::poll_in`] (a task), and an [`Attempt`] tries first ([`Lock::obtain`]). These are the
+//! loop and the poll of `event_wait`; each attempt is a call of the history. A call of one's own is a [`Step`], made by [`perform!`], [`perform_first!`] or
 //! [`Lock::call`]; [`steps`] has those of a queue, and what follows of the history of a queue stands in laws, as
-//! [`tag_was_told`]. A [`Resting`] hand is one that makes no call, which threads may share.
+//! [`tag_was_told`]. An [`IdleHand`] is one that makes no call, which threads may share.
+//!
+//! Read `history.rt` and `rule.rt` first, then `traced.rt`, `hand.rt`, `step.rt`, `lock.rt` and `lock/by_hand.rt`; of a queue
+//! `steps.rt` and `laws.rt`.
 //!
 //! It is not said that a call comes to an end, or in which order calls stand of hands that never heard of each other.
 #![tactic(auto)]
@@ -39,7 +42,7 @@ pub mod steps;
 mod tests;
 mod traced;
 
-pub use hand::{Hand, Resting};
+pub use hand::{Hand, IdleHand};
 pub use history::{Entry, Made, Met, Named, Steps, View};
 pub use laws::{
     first_told_first, never_absent, one_history_one_order, own_listener_stays, owns_on, passes_on,

@@ -1,12 +1,10 @@
 //! A state under a lock, with the queues of those that wait for something of it.
 ghost use Rattle.std.specs.Prelude.{◌≡◌, ◌↔◌, Option, Result, [], IfOk, IfErr, OnErr};
 ghost use Rattle.event_wait.specs.declared.request.Attempted.{Attempted};
-ghost use Rattle.event_wait.specs.Attempted.{Attempts, OnDone, OnRefused, OnUndone, OnWaits};
-ghost use Rattle.event_history.specs.Waiting.{Polls};
-ghost use Rattle.futures.specs.Poll.{IfReady, OnPending};
-ghost use Rattle.futures.specs.Task.{Covers, Keeps};
+ghost use Rattle.event_wait.specs.Attempted.{Attempts, OnDone, OnRefused, OnUndone};
 ghost use Rattle.event_history.specs.History.{AreAmong, Extends, ExtendsThat, Looks, Makes, both_views, newcomer};
 
+mod by_hand;
 mod obtain;
 mod wait;
 
@@ -17,8 +15,7 @@ use crate::step::Step;
 use crate::traced::Traced;
 use crate::{make, take_out};
 use event_queue::TaskExchange;
-use event_wait::{Attempted, LineSource, Parks, Task, Waking};
-use futures::task::{Context, Poll};
+use event_wait::{Attempted, DeferredWake, Task, WakerSource};
 use std::alloc::{AllocError, Global};
 use std::marker::{Brand, Model};
 use std::sync::Wait;
@@ -30,7 +27,7 @@ use std::sync::Wait;
 #[derive(Drop)]
 pub struct Lock<S: Steps> {
     traced: Traced<S>,
-    source: LineSource,
+    source: WakerSource,
 }
 
 impl<S: Steps> Model for Lock<S> {
@@ -61,7 +58,7 @@ impl<S: Steps> Lock<S> {
             × (made.1.seat.me.0 ≡ newcomer [])) }
     {
         let (traced, hand) = Traced::new(alloc, state, start)?;
-        let source = LineSource::new();
+        let source = WakerSource::new();
         Ok((Lock { traced, source }, hand))
     }
 
@@ -76,7 +73,7 @@ impl<S: Steps> Lock<S> {
 
     /// Where a task registers that polls one which waits.
     #[inline(always)]
-    pub fn line_source(&self) -> &LineSource
+    pub fn waker_source(&self) -> &WakerSource
         ensures { result.now ≡ self.now.source }
     {
         &self.source
@@ -168,7 +165,7 @@ impl<S: Steps> Lock<S> {
     /// Makes one call that may wake others, as a call of this hand: the last of them once the lock is given back. It may wait
     /// for the lock, and allocates what the step allocates.
     #[inline(always)]
-    pub fn call<K: Step<S, Waking>, R: Wait>(
+    pub fn call<K: Step<S, DeferredWake>, R: Wait>(
         &self,
         rt: &R,
         hand: &mut Hand<S, S::Call>,
@@ -182,20 +179,21 @@ impl<S: Steps> Lock<S> {
         ensures call { Extends S.goes (S.starts self.now.start) S.rests hand.old.seat.me.0
             (K.call step result) hand.new.seat.me.0 }
     {
-        let mut waking = Waking::new();
+        let mut waking = DeferredWake::new();
         let reply = self.traced.perform(rt, hand, step, &mut waking);
         waking.finish();
         reply
     }
 
-    // A thread attempts, and stores its task if it waits on.
+    // Attempts, with the task that the exchange makes if it waits on.
     #[inline(always)]
-    fn attempt_or_park<Q: Request<S>, R: Wait>(
+    fn ask<Q: Request<S>, C, X: TaskExchange<Task, C>, R: Wait>(
         &self,
         rt: &R,
         hand: &mut Hand<S, S::Call>,
         request: &mut Q,
-        task: &mut Option<Task>,
+        exchange: &X,
+        on: &mut C,
     ) -> Attempted<Q::Output, Q::Refusal>
         requires hand { hand.old.seat.table_id ≡ self.now.table }
         requires rests { AreAmong (Q.rests request.old) hand.old.seat.me.0.mine }
@@ -206,32 +204,9 @@ impl<S: Steps> Lock<S> {
         ensures succeeded { OnDone result (λ output. Q.succeeds request.old output request.new) }
         ensures waited { OnUndone result (Q.waits request.old request.new) }
         ensures kept { OnRefused result (request.new ≡ request.old) }
+        ensures exchanged { Attempts (X.exchanged exchange.now) on.old result on.new }
     {
-        self.attempt_named::<Brand, _, _, _, _>(rt, hand, request, &Parks {}, task)
-    }
-
-    // A task attempts, and is registered if it waits on.
-    #[inline(always)]
-    fn attempt_in<Q: Request<S>, R: Wait>(
-        &self,
-        rt: &R,
-        hand: &mut Hand<S, S::Call>,
-        request: &mut Q,
-        cx: &mut Context<'_>,
-    ) -> Attempted<Q::Output, Q::Refusal>
-        requires hand { hand.old.seat.table_id ≡ self.now.table }
-        requires rests { AreAmong (Q.rests request.old) hand.old.seat.me.0.mine }
-        ensures hand { hand.new.seat.table_id ≡ hand.old.seat.table_id }
-        ensures rests { AreAmong (Q.rests request.new) hand.new.seat.me.0.mine }
-        ensures call { Makes S.goes (S.starts self.now.start) S.rests hand.old.seat.me.0
-            (Q.attempting request.old result) hand.new.seat.me.0 }
-        ensures succeeded { OnDone result (λ output. Q.succeeds request.old output request.new) }
-        ensures waited { OnUndone result (Q.waits request.old request.new) }
-        ensures refused { OnRefused result (request.new ≡ request.old) }
-        ensures registered { OnWaits result (Covers cx.new (λ s. s ≡ self.now.source)) }
-        ensures kept { Keeps cx.old cx.new }
-    {
-        self.attempt_named::<Brand, _, _, _, _>(rt, hand, request, &self.source, cx)
+        self.attempt_named::<Brand, _, _, _, _>(rt, hand, request, exchange, on)
     }
 
     fn attempt_named<
@@ -261,7 +236,7 @@ impl<S: Steps> Lock<S> {
         ensures kept { OnRefused result (request.new ≡ request.old) }
         ensures exchanged { Attempts (X.exchanged exchange.now) on.old result on.new }
     {
-        let mut waking = Waking::new();
+        let mut waking = DeferredWake::new();
         let traced = &self.traced;
         let seat = &mut hand.seat;
         take_out!(traced, rt, seat);
@@ -270,37 +245,6 @@ impl<S: Steps> Lock<S> {
         traced.give_back::<Brand, _, _>(seat, &answer, &*request);
         waking.finish_seldom();
         answer
-    }
-
-    /// Attempts what is requested, and registers the task that polls if it waits on. An error says that it can't wait, and
-    /// is where it was. It may wait for the lock.
-    #[inline(always)]
-    pub fn poll_in<Q: Request<S>, R: Wait>(
-        &self,
-        rt: &R,
-        hand: &mut Hand<S, S::Call>,
-        request: &mut Q,
-        cx: &mut Context<'_>,
-    ) -> Poll<Result<Q::Output, Q::Refusal>>
-        requires hand { hand.old.seat.table_id ≡ self.now.table }
-        requires rests { AreAmong (Q.rests request.old) hand.old.seat.me.0.mine }
-        ensures hand { hand.new.seat.table_id ≡ hand.old.seat.table_id }
-        ensures rests { AreAmong (Q.rests request.new) hand.new.seat.me.0.mine }
-        ensures call { Makes S.goes (S.starts self.now.start) S.rests hand.old.seat.me.0
-            (Polls Q.attempting request.old result) hand.new.seat.me.0 }
-        ensures succeeded { IfReady result
-            (λ answer. IfOk answer (λ output. Q.succeeds request.old output request.new)) }
-        ensures refused { IfReady result (λ answer. OnErr answer (request.new ≡ request.old)) }
-        ensures pending { OnPending result (Q.waits request.old request.new) }
-        ensures registered { OnPending result (Covers cx.new (λ s. s ≡ self.now.source)) }
-        ensures kept { Keeps cx.old cx.new }
-    {
-        match self.attempt_in(rt, hand, request, cx) {
-            Attempted::Done(output) => Poll::Ready(Ok(output)),
-            Attempted::Waits(_) => Poll::Pending,
-            Attempted::Absent => cx.yield_now(),
-            Attempted::Refused(error) => Poll::Ready(Err(error)),
-        }
     }
 
     // Leaves the queue at the limit, with what can still be had.
@@ -344,7 +288,7 @@ impl<S: Steps> Lock<S> {
         ensures left { IfOk result (λ answer. Q.leaves request.old answer request.new) }
         ensures kept { OnErr result (request.new ≡ request.old) }
     {
-        let mut waking = Waking::new();
+        let mut waking = DeferredWake::new();
         let traced = &self.traced;
         let seat = &mut hand.seat;
         take_out!(traced, rt, seat);

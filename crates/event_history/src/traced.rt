@@ -9,8 +9,8 @@ use crate::rule::{
     Absorb, Arrive, Begins, Enter, GiveBack, Look, Mark, Rule, Sleep, Take, Tell, Wake,
 };
 use atomic_table::{Refused, Seat, Table};
+use event_wait::{PAUSES, pause};
 use std::alloc::{AllocError, Global};
-use std::hint;
 use std::marker::Brand;
 use std::sync::Wait;
 
@@ -20,10 +20,6 @@ const FREE: u64 = 0;
 const TAKEN: u64 = 1;
 
 const AWAITED: u64 = 2;
-
-// How many pauses a thread makes before each look. Whoever looks takes the word from the thread that has the state, so it
-// looks seldom.
-const PAUSES: [u32; 6] = [64, 128, 256, 256, 256, 256];
 
 /// A state that threads share, under a lock, with one history of all calls on it.
 ///
@@ -214,14 +210,6 @@ impl<S: Steps> Traced<S> {
         ensures looks { Looks S.goes B.begins S.rests seat.old.me.0 seat.new.me.0 }
     {
         self.table.shared.load::<Look<S, B>>(seat, 0);
-    }
-}
-
-// Has the processor pause so often, each time for some tens of nanoseconds. It lets no other thread run, which would cost a
-// time slice where all processors are busy.
-fn pause(times: u32) {
-    for _ in 0..times {
-        hint::spin_loop();
     }
 }
 

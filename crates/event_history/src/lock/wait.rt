@@ -1,25 +1,24 @@
-//! The wait of a thread.
-ghost use Rattle.std.specs.Prelude.{◌≡◌, ◌≢◌, IfOk, IsSome};
-ghost use Rattle.event_history.specs.History.{AreAmong};
-ghost use Rattle.event_history.specs.Waiting.{EndsWait};
+//! Waits of a thread, and the poll of a task: those of `event_wait`, each of whose attempts is a call of the hand.
+ghost use Rattle.std.specs.Prelude.{◌≡◌, ◌≢◌, IfOk, IsSome, OnErr};
+ghost use Rattle.futures.specs.Poll.{IfReady, OnPending};
+ghost use Rattle.futures.specs.Task.{Covers, Keeps};
+ghost use Rattle.event_history.specs.History.{AreAmong, Makes};
+ghost use Rattle.event_history.specs.Waiting.{EndsObtaining, EndsWait, Polls};
 ghost use Rattle.event_wait.specs.declared.lock.limit.Limit.TheVariants.{Never};
 
 use super::Lock;
+use super::by_hand::ByHand;
 use crate::hand::Hand;
 use crate::history::Steps;
-use crate::request::Request;
-use event_wait::{Attempted, Limit, Refused, Task};
-use std::alloc::{AllocError, Global};
-use std::sync::{Arc, Wait};
-use std::thread::Parker;
+use crate::request::{Attempt, Request};
+use event_wait::{Limit, Refused};
+use futures::task::{Context, Poll};
+use std::alloc::Global;
+use std::sync::Wait;
 use std::time::Clock;
 
 impl<S: Steps> Lock<S> {
-    /// Blocks the thread until it has what it requests or the limit has passed, and then leaves the queue with what it can
-    /// still get, if anything.
-    ///
-    /// It makes what the thread parks on, attempts, stores its task if it waits on, looks at the limit, parks, and attempts
-    /// again. If it can't wait, or memory runs out, it is where it was. It may wait for the lock.
+    /// [`event_wait::wait`], by this hand.
     #[inline(always)]
     pub fn wait<Q: Request<S>, R: Wait + Clock>(
         &self,
@@ -38,37 +37,71 @@ impl<S: Steps> Lock<S> {
             Q.waits Q.succeeds Q.leaves (limit ≢ Never) (request.old, hand.old.seat.me.0) result
             (request.new, hand.new.seat.me.0) }
     {
-        let Ok(parker) = Arc::new(alloc, Parker::new()) else {
-            return Err(Refused::Memory);
-        };
-        let mut task = None;
-        for _ in rt.forever() {
-            if task.is_none() {
-                let Ok(new) = task_of(&parker) else {
-                    return Err(Refused::Memory);
-                };
-                task = new;
-            }
-            match self.attempt_or_park(rt, hand, request, &mut task) {
-                Attempted::Done(output) => return Ok(Some(output)),
-                Attempted::Waits(_) => {}
-                Attempted::Absent => continue,
-                Attempted::Refused(error) => return Err(Refused::Request(error)),
-            }
-            match limit.left(rt) {
-                None => parker.park(rt),
-                Some(left) if left.is_zero() => match self.leave(rt, hand, request) {
-                    Ok(answer) => return Ok(answer),
-                    Err(error) => return Err(Refused::Request(error)),
-                },
-                Some(left) => parker.park_timeout(rt, left),
-            }
-        }
-        unreachable!()
+        let mut by = ByHand { hand, request };
+        let answer = event_wait::wait(self, rt, alloc, &mut by, limit);
+        let ByHand {
+            hand: _,
+            request: _,
+        } = by;
+        answer
     }
-}
 
-// The task of the thread that parks on this parker.
-fn task_of(parker: &Arc<Parker, Global>) -> Result<Option<Task>, AllocError> {
-    Ok(Some(Task::parked(Arc::try_clone(parker)?)))
+    /// [`event_wait::obtain`], by this hand.
+    #[inline(always)]
+    pub fn obtain<Q: Attempt<S>, R: Wait + Clock>(
+        &self,
+        rt: &R,
+        alloc: Global,
+        hand: &mut Hand<S, S::Call>,
+        request: &mut Q,
+        limit: Limit,
+    ) -> Result<Option<Q::Output>, Refused<Q::Refusal>>
+        requires hand { hand.old.seat.table_id ≡ self.now.table }
+        requires rests { AreAmong (Q.rests request.old) hand.old.seat.me.0.mine }
+        ensures hand { hand.new.seat.table_id ≡ hand.old.seat.table_id }
+        ensures rests { AreAmong (Q.rests request.new) hand.new.seat.me.0.mine }
+        ensures never { limit ≡ Never → IfOk result IsSome }
+        ensures obtains { EndsObtaining S.goes (S.starts self.now.start) S.rests Q.attempting Q.leaving Q.waits
+            Q.succeeds Q.leaves (limit ≢ Never) Q.trying Q.has_place Q.giving_up
+            (request.old, hand.old.seat.me.0) result (request.new, hand.new.seat.me.0) }
+    {
+        let mut by = ByHand { hand, request };
+        let answer = event_wait::obtain(self, rt, alloc, &mut by, limit);
+        let ByHand {
+            hand: _,
+            request: _,
+        } = by;
+        answer
+    }
+
+    /// [`event_wait::poll_in`], by this hand.
+    #[inline(always)]
+    pub fn poll_in<Q: Request<S>, R: Wait>(
+        &self,
+        rt: &R,
+        hand: &mut Hand<S, S::Call>,
+        request: &mut Q,
+        cx: &mut Context<'_>,
+    ) -> Poll<Result<Q::Output, Q::Refusal>>
+        requires hand { hand.old.seat.table_id ≡ self.now.table }
+        requires rests { AreAmong (Q.rests request.old) hand.old.seat.me.0.mine }
+        ensures hand { hand.new.seat.table_id ≡ hand.old.seat.table_id }
+        ensures rests { AreAmong (Q.rests request.new) hand.new.seat.me.0.mine }
+        ensures call { Makes S.goes (S.starts self.now.start) S.rests hand.old.seat.me.0
+            (Polls Q.attempting request.old result) hand.new.seat.me.0 }
+        ensures succeeded { IfReady result
+            (λ answer. IfOk answer (λ output. Q.succeeds request.old output request.new)) }
+        ensures refused { IfReady result (λ answer. OnErr answer (request.new ≡ request.old)) }
+        ensures pending { OnPending result (Q.waits request.old request.new) }
+        ensures registered { OnPending result (Covers cx.new (λ s. s ≡ self.now.source)) }
+        ensures kept { Keeps cx.old cx.new }
+    {
+        let mut by = ByHand { hand, request };
+        let polled = event_wait::poll_in(self, rt, &mut by, cx);
+        let ByHand {
+            hand: _,
+            request: _,
+        } = by;
+        polled
+    }
 }
