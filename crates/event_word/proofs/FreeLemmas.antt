@@ -8,7 +8,7 @@ use Rattle.event_queue.specs.declared.notice.Notice.{Notice}
 use Rattle.event_queue.specs.Key.{is_key, without}
 use Rattle.event_queue.proofs.OrderLemmas.{length-remove_entry}
 use Rattle.event_queue.specs.Queue.{Queue}
-use Rattle.event_word.specs.Line.{HasLeft, TellsUpTo, told_anew}
+use Rattle.event_wait.specs.Line.{HasLeft, TellsUpTo, told_anew}
 use Rattle.event_word.specs.Turns.{State, Comes, Joins, WaitsOn, is_among}
 use Rattle.event_word.specs.Free.{free_of, IsOpen, IsShut, one_starving_is_told, ServesWith, ServesTheStarving, NobodyWaits, ShutsForTheStarving, Stands}
 use Rattle.event_word.specs.declared.line.Queued.{Queued}

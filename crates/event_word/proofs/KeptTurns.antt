@@ -6,7 +6,7 @@ use Rattle.event_queue.specs.Key.{is_key}
 use Rattle.event_queue.specs.Queue.{Queue, IsQueue, order_of, listeners_of}
 use Rattle.event_queue.proofs.OrderLemmas.{Rises, NoneIs, Rises-back, All-back, lookup-none_is, none_before, none_is-without, other_serial}
 use Rattle.event_queue.proofs.QueueLemmas.{rises_along}
-use Rattle.event_word.specs.Line.{HasLeft, TellsUpTo, told_anew}
+use Rattle.event_wait.specs.Line.{HasLeft, TellsUpTo, told_anew}
 use Rattle.event_word.specs.Turns.{State, FewCame, HasJoined, IsLine, Joins, KeepsTurns, WaitsOn, is_among, next_turn, turn_in, turn_of}
 use Rattle.event_word.proofs.TurnLemmas.{is_key-itself, same_key, some_is, turn_at}
 use Rattle.event_word.specs.declared.line.Queued.{Queued}

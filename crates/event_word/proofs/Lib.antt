@@ -1,5 +1,3 @@
-pub mod LengthLemmas
-pub mod LineLemmas
 pub mod QueuesLemmas
 pub mod WordKeeps
 pub mod TurnLemmas

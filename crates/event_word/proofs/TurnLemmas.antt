@@ -14,7 +14,7 @@ use Rattle.event_queue.specs.Queue.{Queue, IsAbsent, IsQueue, order_of}
 use Rattle.event_queue.proofs.OrderLemmas.{NoneIs, Rises, All-append, All-filter, All-implied, none_is-without, other_serial}
 use Rattle.event_queue.specs.Register.{OnNotified, after_storing}
 use Rattle.event_queue.proofs.QueueLemmas.{IsAbsent-none, rises_along, order_of-push, order_of-after_storing}
-use Rattle.event_word.specs.Line.{HasLeft, IsNotInUnlessWaits, TellsUpTo, told_anew}
+use Rattle.event_wait.specs.Line.{HasLeft, IsNotInUnlessWaits, TellsUpTo, told_anew}
 use Rattle.event_word.specs.Turns.{State, is_among, AllDiffer, HasTurnFrom, HaveTurnsFrom, IsLine, Joins, StoresInTurn, WaitsOn, next_turn}
 use Rattle.event_word.specs.declared.line.Queued.{Queued}
 
@@ -127,12 +127,6 @@ among-left key old new is = rw is (among-none (without key old) key (none_is-wit
 
 pub among-absent : {T W : Type 0} (key : Key) (q : Queue T W) → IsAbsent key q → is_among (order_of q) key ≡ false
 among-absent key q absent = among-none (order_of q) key (IsAbsent-none key q absent)
-
-pub not_in-looked : {T W C : Type 0} (exchanged : C → Option W → W → C → Type 0) (old new : Queue T W) (key : Key) (before after : C) (result : RegisterResult T)
-    → RegistersWith exchanged old key before result new after → OnNotified result (order_of new ≡ without key (order_of old)) → IsNotInUnlessWaits result key new
-not_in-looked exchanged old new key before after (Notified tag) step order = among-left key (order_of old) (order_of new) order
-not_in-looked exchanged old new key before after Registered step order = tt
-not_in-looked exchanged old new key before after NeverInserted step order = rw step.1 (among-absent key old step.0)
 
 all_among-more : (keys more : List Key) (some : List Key) → AllByRecursion (λ key. is_among keys key ≡ true) some → AllByRecursion (λ key. is_among (keys ++ more) key ≡ true) some
 all_among-more keys more some all = All-implied (λ key. is_among keys key ≡ true) (λ key. is_among (keys ++ more) key ≡ true) some (λ key h. among-more keys more key h) all

@@ -12,3 +12,8 @@ IfGoing (Taking new) P = Unit {0}
 abbrev pub IfTaking : Leaving → (ℕ → Type 0) → Type 0
 IfTaking (Going new) P = Unit {0}
 IfTaking (Taking new) P = P new
+
+-- the word that one leaves who goes
+abbrev pub becomes : Leaving → ℕ
+becomes (Going new) = new
+becomes (Taking new) = new

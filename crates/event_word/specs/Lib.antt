@@ -1,12 +1,8 @@
-pub mod Line
-pub mod Left
-pub mod Attempted
-pub mod Refused
 pub mod Turns
 pub mod Free
 pub mod Rules
 pub mod Competing
-pub mod Competitor
+pub mod Contender
 pub mod Word
 pub mod Count
 pub mod Queues

@@ -1,17 +1,17 @@
 -- The queues of a read-write lock, and what holds of them and of the number that counts who has the value.
-use Rattle.std.specs.Prelude.{◌≡◌, ℕ, ◌+◌, ◌%◌, ◌<◌, ◌≤◌, ◌^◌, ◌⊎◌, ◌↔◌, IsTrue, IsFalse, Option, Some, None, Result, Ok, Err, length}
+use Rattle.std.specs.Prelude.{◌≡◌, ℕ, zero, suc, ◌+◌, ◌%◌, ◌<◌, ◌≤◌, ◌^◌, ◌⊎◌, ◌↔◌, IsTrue, IsFalse, Option, Some, None, Result, Ok, Err, length}
 use Rattle.event_queue.specs.declared.key.Key.{Key}
 use Rattle.event_queue.specs.declared.reply.ListenError.{ListenError}
 use Rattle.event_queue.specs.Insert.{Inserts}
 use Rattle.event_queue.specs.Queue.{listeners_of}
 use Rattle.event_wait.specs.declared.lock.task.Task.{Task}
 use Rattle.event_word.specs.Count.{IsCount, readers_of, writers_of}
-use Rattle.event_word.specs.Line.{HandsOut}
+use Rattle.event_wait.specs.Line.{HandsOut}
 use Rattle.event_word.specs.Rules.{Rules}
 use Rattle.event_word.specs.declared.word.rule.View.{View}
 use Rattle.event_word.specs.Word.{Changes, EasesFrom, Stays, Takes}
-use Rattle.event_word.specs.declared.error.LockError.{LockError}
-use Rattle.event_word.specs.declared.error.LockError.TheVariants.{Listen, Memory, TooManyReaders, Finished}
+use Rattle.event_wait.specs.declared.error.LockError.{LockError}
+use Rattle.event_wait.specs.declared.error.LockError.TheVariants.{Listen, Memory, TooManyReaders, Finished}
 use Rattle.event_word.specs.declared.shares.queues.Queues.{Queues}
 use Rattle.event_word.specs.declared.shares.queues.Next.{Next}
 use Rattle.event_word.specs.declared.shares.queues.Next.TheVariants.{Nobody, Readers, Writer}
@@ -161,6 +161,11 @@ pub record Renumbers (by : ℕ → ℕ) (before after : View) : Type 0 where
 abbrev pub given : {G : Type 0} → Option G → ℕ
 given None = 0
 given (Some grant) = 1
+
+-- so much if there is any, else nothing
+abbrev pub if_any : ℕ → ℕ → ℕ
+if_any zero n = 0
+if_any (suc m) n = n
 
 -- it counts so many more
 abbrev pub CountsMore : ℕ → View → View → Type 0

@@ -11,7 +11,7 @@ use Rattle.event_queue.specs.Insert.{JoinsStoring, SerialsAreUsedUp}
 use Rattle.event_queue.specs.Key.{is_key, without}
 use Rattle.event_queue.specs.Queue.{Queue, IsAbsent, order_of, listeners_of, told_leaves}
 use Rattle.event_queue.specs.Register.{after_storing}
-use Rattle.event_word.specs.Line.{woken_up_to}
+use Rattle.event_wait.specs.Line.{woken_up_to}
 use Rattle.event_word.specs.declared.line.Queued.{Queued}
 
 -- the queue; the keys of those in it that starve; how many notified ones have come, ever

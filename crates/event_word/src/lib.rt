@@ -6,24 +6,27 @@
 //! by a compare-exchange that fails where the word has changed: then it notifies again. What is out can't be dropped.
 //!
 //! What a lock says of its number and its state is its [`Kept::rules`]. [`Competing`] is the state of a semaphore and a mutex,
-//! whose queue is a [`Line`]; [`Queues`] is that of a read-write lock. [`waiters`] are the steps on a queue that any lock's
-//! state is made of, a channel's too. Nobody needs this crate to use a lock: [`event_locks`](../../event_locks/README.md) has
-//! them.
+//! whose queue is a [`Line`]; [`Queues`] is that of a read-write lock, to which one comes by a [`Right`]. Nobody needs this crate
+//! to use a lock: [`event_locks`](../../event_locks/README.md) has them.
+//!
+//! Read `word.rt` and `word/rule.rt` first, then `word/take.rt`; for a semaphore and a mutex `line.rt`, `line/competing.rt` and
+//! `word/competing.rt`; for a read-write lock `shares/queues.rt`, `shares/right.rt`, `shares/steps.rt` and
+//! `shares/requests.rt`.
 #![tactic(auto)]
 
-mod error;
 mod line;
 mod shares;
-pub mod waiters;
 mod word;
 
-pub use error::LockError;
 pub use line::competing::{Competing, Counted, OneValue, Permits, the_starving_find_one};
-pub use line::competitor::{Arrival, Coming, Competitor};
+pub use line::contender::{Arrival, Coming, Contender};
 pub use line::counts::Counts;
 pub use line::{Line, Queued, turns_are_kept_along};
 pub use shares::counts::RwLockCounts;
 pub use shares::number::{is_written, readers};
 pub use shares::queues::Queues;
-pub use shares::rights::{Out, ReadShare, WriteShare};
+pub use shares::reading::Reading;
+pub use shares::right::Right;
+pub use shares::share::{Out, ReadShare, Share, WriteShare};
+pub use shares::writing::Writing;
 pub use word::{Held, Kept, Permit, Seat, Shelf, Step, View, Word};

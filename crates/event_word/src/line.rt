@@ -10,15 +10,15 @@ ghost use Rattle.event_queue.specs.Insert.{IsInsertionBy};
 ghost use Rattle.event_queue.specs.Key.{without};
 ghost use Rattle.event_queue.specs.Queue.{IsQueue, listeners_of};
 ghost use Rattle.event_queue.specs.Register.{IsRegistration};
-ghost use Rattle.event_word.specs.Line.{HasLeft, TellsUpTo, woken_up_to};
+ghost use Rattle.event_wait.specs.Line.{HasLeft, TellsUpTo, woken_up_to};
 ghost use Rattle.event_word.specs.Turns.{State, CannotJoin, FewCame, HasJoined, Joins, KeepsTurns, Looks, NobodyWaitsPastItsTurn, StoresInTurn, task_of, turn_or, woken_tasks};
 
 pub mod competing;
-pub mod competitor;
+pub mod contender;
 pub mod counts;
 
-use crate::waiters;
 use event_queue::{Key, List, ListenError, RegisterResult, TaskExchange, WakeSink};
+use event_wait::waiters;
 use std::alloc::{AllocError, Global};
 use std::marker::Model;
 

@@ -2,6 +2,9 @@
 pub mod counts;
 pub mod number;
 pub mod queues;
+pub mod reading;
 mod requests;
-pub mod rights;
+pub mod right;
+pub mod share;
 mod steps;
+pub mod writing;

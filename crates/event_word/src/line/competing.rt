@@ -1,17 +1,16 @@
 //! Those that compete for what a lock's number counts.
 ghost use Rattle.std.specs.Prelude.{◌≡◌, ℕ, ◌<◌, ◌≤◌, true, Some, None, IfOk, OnErr};
 ghost use Rattle.event_wait.specs.Attempted.{Stores};
-ghost use Rattle.event_word.specs.Competitor.{Comes, Loses, NobodyIsBy, coming_of, count_of, losses_after};
+ghost use Rattle.event_word.specs.Contender.{Comes, Loses, NobodyIsBy, coming_of, count_of, losses_after};
 ghost use Rattle.event_word.specs.Free.{IsOpen, NobodyWaits, ServesTheStarving, ServesWith, Stands, free_of, one_starving_is_told};
 ghost use Rattle.event_word.specs.Competing.{rules_of};
 ghost use Rattle.event_word.specs.Turns.{State};
 
 use super::Line;
-use super::competitor::{Coming, PATIENCE};
-use crate::error::LockError;
+use super::contender::{Coming, PATIENCE};
 use crate::word::Kept;
 use event_queue::{Key, RegisterResult, TaskExchange, WakeSink};
-use event_wait::Task;
+use event_wait::{LockError, Task};
 use std::alloc::Global;
 use std::marker::PhantomData;
 

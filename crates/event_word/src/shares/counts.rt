@@ -5,7 +5,7 @@ ghost use Rattle.event_word.specs.Queues.{IsExclusive, NobodyWaitsInVain};
 ghost use Rattle.event_word.specs.Word.{HasState};
 
 use super::queues::Queues;
-use super::rights::Out;
+use super::share::Out;
 use crate::word::Word;
 use crate::word::held::state;
 use event_wait::Task;

@@ -1,18 +1,17 @@
 //! The queues of a read-write lock.
 ghost use Rattle.std.specs.Prelude.{◌≡◌, ℕ, ◌+◌, ◌*◌, ◌<◌, ◌≤◌, ◌^◌, ◌↔◌, length, IsTrue, IsFalse, IfErr, IfOk, OnErr};
 ghost use Rattle.event_queue.specs.Exchange.{JoinsWithTask, RegistersWith};
-ghost use Rattle.event_word.specs.Attempted.{CannotJoin};
+ghost use Rattle.event_wait.specs.Joining.{CannotJoin};
 ghost use Rattle.event_word.specs.Count.{readers_of, writers_of};
-ghost use Rattle.event_word.specs.Line.{HasLeft, IsNotIn, IsNotInUnlessWaits, Looked, left_by};
+ghost use Rattle.event_wait.specs.Line.{HasLeft, IsNotIn, IsNotInUnlessWaits, Looked, left_by};
 ghost use Rattle.event_word.specs.Queues.{HasNoRoom, IsAWriterThere, IsExclusive, IsNext, IsQuiet, LetsNextIn, LetsReadersIn, MayUpgrade, NoWriterIsThere, NobodyWaitsInVain, ReadersStay, RefusesReader, WritersStay, joined_by, reading, writing};
 
 use super::counts::RwLockCounts;
 use super::number;
-use crate::error::LockError;
-use crate::waiters::{hand_all, hand_out, join_line, leave_line, look_for, somebody_waits};
 use crate::word::Kept;
-use event_queue::{Key, List, ListenError, RegisterResult, TaskExchange, WakeSink};
+use event_queue::{List, WakeSink};
 use event_wait::Task;
+use event_wait::waiters::{hand_all, hand_out, somebody_waits};
 use std::alloc::Global;
 
 // The number of one reader.
@@ -25,8 +24,8 @@ const ONE_READER: u64 = 2;
 /// that wait.
 #[derive(Drop)]
 pub struct Queues<W> {
-    read_line: List<(), W>,
-    write_line: List<(), W>,
+    pub(super) read_line: List<(), W>,
+    pub(super) write_line: List<(), W>,
     // Whether the readers go first where both wait: a writer has the value, or had it last.
     readers_first: bool,
 }
@@ -37,16 +36,6 @@ pub enum Next {
     Nobody,
     Readers,
     Writer,
-}
-
-// Whether it waits, by which key, or why not.
-fn joined(waits: Result<Key, ListenError>) -> Result<Key, LockError>
-    ensures { result ≡ joined_by waits }
-{
-    match waits {
-        Ok(key) => Ok(key),
-        Err(error) => Err(LockError::Listen(error)),
-    }
 }
 
 // How many wait in a queue, and are not notified.
@@ -96,7 +85,7 @@ impl<W> Queues<W> {
     }
 
     // Whether one reader more can be counted.
-    fn has_room(&self, number: u64) -> bool
+    pub(super) fn has_room(&self, number: u64) -> bool
         ensures room { IsTrue result
             → reading number self.now + length self.now.read_line.waiting + 2 < 2 ^ 60 }
         ensures none { IsFalse result → HasNoRoom number self.now }
@@ -126,7 +115,7 @@ impl<W> Queues<W> {
     }
 
     // Whether a writer writes, was let in, or waits.
-    fn is_wanted(&self, number: u64) -> bool
+    pub(super) fn is_wanted(&self, number: u64) -> bool
         ensures wanted { IsTrue result → IsAWriterThere number self.now }
         ensures unwanted { IsFalse result → NoWriterIsThere number self.now }
     {
@@ -136,153 +125,12 @@ impl<W> Queues<W> {
         self.write_line.total_listeners() > 0
     }
 
-    /// Whether a newcomer may read: no writer writes, was let in or waits, and one reader more can be counted.
-    pub fn may_read(&self, number: u64) -> bool
-        ensures yes { IsTrue result → NoWriterIsThere number self.now }
-        ensures counted { IsTrue result → IsExclusive number self.now
-            → IsExclusive (number + 2) self.now }
-        ensures no { IsFalse result → NoWriterIsThere number self.now → HasNoRoom number self.now }
-    {
-        self.has_room(number) && !self.is_wanted(number)
-    }
-
-    /// Whether a newcomer may write: nobody has the value, was let in or waits.
-    pub fn may_write(&self, number: u64) -> bool
-        ensures yes { IsTrue result ↔ ((number ≡ 0) × IsQuiet self.now) }
-        ensures counted { IsTrue result → IsExclusive number self.now
-            → IsExclusive (number + 1) self.now }
-    {
-        number == 0 && self.is_quiet()
-    }
-
     /// Whether the reader that asks may write from here on: it is the only one, no other one was let in, and no writer waits.
     pub fn may_upgrade(&self, number: u64) -> bool
         ensures yes { IsTrue result ↔ MayUpgrade number self.now }
         ensures counted { IsTrue result → IsExclusive number self.now → IsExclusive 1 self.now }
     {
         number == ONE_READER && !self.read_line.is_notified() && !somebody_waits(&self.write_line)
-    }
-
-    /// A newcomer waits in its queue to read, with the task that the exchange makes. It may allocate. An error leaves all as it
-    /// was.
-    pub fn wait_to_read<C, X: TaskExchange<W, C>>(
-        &mut self,
-        number: u64,
-        exchange: &X,
-        on: &mut C,
-    ) -> Result<Key, LockError>
-        ensures joins { IfOk result (λ key.
-            JoinsWithTask (X.exchanged exchange.now) self.old.read_line on.old key
-            self.new.read_line on.new) }
-        ensures others { WritersStay self.old self.new }
-        ensures refused { OnErr result ((self.new ≡ self.old) × (on.new ≡ on.old)) }
-        ensures reason { IfErr result (λ error. RefusesReader error number self.old self.new) }
-        ensures alone { IsExclusive number self.old → IsExclusive number self.new }
-    {
-        if !self.has_room(number) {
-            return Err(LockError::TooManyReaders);
-        }
-        joined(join_line(&mut self.read_line, exchange, on))
-    }
-
-    /// A newcomer waits in its queue to write, with the task that the exchange makes. It may allocate. An error leaves all as it
-    /// was.
-    pub fn wait_to_write<C, X: TaskExchange<W, C>>(
-        &mut self,
-        exchange: &X,
-        on: &mut C,
-    ) -> Result<Key, LockError>
-        ensures joins { IfOk result (λ key.
-            JoinsWithTask (X.exchanged exchange.now) self.old.write_line on.old key
-            self.new.write_line on.new) }
-        ensures others { ReadersStay self.old self.new }
-        ensures refused { OnErr result ((self.new ≡ self.old) × (on.new ≡ on.old)) }
-        ensures reason { IfErr result (λ error.
-            CannotJoin error self.old.write_line self.new.write_line) }
-        ensures alone { (n : ℕ) → IsExclusive n self.old → IsExclusive n self.new }
-    {
-        joined(join_line(&mut self.write_line, exchange, on))
-    }
-
-    /// Whether this reader was let in: then it leaves its queue, and the number is to count it. Else it stores its task.
-    pub fn look_read<C, X: TaskExchange<W, C>>(
-        &mut self,
-        key: Key,
-        exchange: &X,
-        on: &mut C,
-    ) -> RegisterResult<()>
-        ensures looked { Looked (X.exchanged exchange.now) on.old result on.new }
-        ensures step { RegistersWith (X.exchanged exchange.now) self.old.read_line key on.old result
-            self.new.read_line on.new }
-        ensures told { length self.new.read_line.told + left_by result
-            ≡ length self.old.read_line.told }
-        ensures waiting { length self.new.read_line.waiting ≡ length self.old.read_line.waiting }
-        ensures gone { IsNotInUnlessWaits result key self.new.read_line }
-        ensures others { WritersStay self.old self.new }
-        ensures counted { (n : ℕ) → IsExclusive n self.old
-            → IsExclusive (n + 2 * left_by result) self.new }
-    {
-        look_for(&mut self.read_line, key, exchange, on)
-    }
-
-    /// Whether this writer was let in: then it leaves its queue, and the number is to count it. Else it stores its task.
-    pub fn look_write<C, X: TaskExchange<W, C>>(
-        &mut self,
-        key: Key,
-        exchange: &X,
-        on: &mut C,
-    ) -> RegisterResult<()>
-        ensures looked { Looked (X.exchanged exchange.now) on.old result on.new }
-        ensures step { RegistersWith (X.exchanged exchange.now) self.old.write_line key on.old
-            result self.new.write_line on.new }
-        ensures told { length self.new.write_line.told + left_by result
-            ≡ length self.old.write_line.told }
-        ensures waiting { length self.new.write_line.waiting ≡ length self.old.write_line.waiting }
-        ensures gone { IsNotInUnlessWaits result key self.new.write_line }
-        ensures others { ReadersStay self.old self.new }
-        ensures counted { (n : ℕ) → IsExclusive n self.old
-            → IsExclusive (n + left_by result) self.new }
-    {
-        look_for(&mut self.write_line, key, exchange, on)
-    }
-
-    /// Takes this reader out of its queue. Returns whether it was let in: then the number is to count it, or it goes at once.
-    pub fn leave_read(&mut self, key: Key) -> bool
-    where
-        W: Drop,
-        ensures let_in { IsTrue result → length self.new.read_line.told + 1
-            ≡ length self.old.read_line.told }
-        ensures not_yet { IsFalse result
-            → length self.new.read_line.told ≡ length self.old.read_line.told }
-        ensures waiting { length self.new.read_line.waiting ≤ length self.old.read_line.waiting }
-        ensures left { HasLeft key self.old.read_line self.new.read_line }
-        ensures gone { IsNotIn key self.new.read_line }
-        ensures writers { WritersStay self.old self.new }
-        ensures alone { (n : ℕ) → IsExclusive n self.old → IsExclusive n self.new }
-        ensures counted { IsTrue result → (n : ℕ) → IsExclusive n self.old
-            → IsExclusive (n + 2) self.new }
-    {
-        leave_line(&mut self.read_line, key).was_told()
-    }
-
-    /// Takes this writer out of its queue. Returns whether it was let in: then the number is to count it, or it goes at once. If
-    /// no other one is there, the readers are let in before the queues are put back.
-    pub fn leave_write(&mut self, key: Key) -> bool
-    where
-        W: Drop,
-        ensures let_in { IsTrue result → length self.new.write_line.told + 1
-            ≡ length self.old.write_line.told }
-        ensures not_yet { IsFalse result
-            → length self.new.write_line.told ≡ length self.old.write_line.told }
-        ensures waiting { length self.new.write_line.waiting ≤ length self.old.write_line.waiting }
-        ensures left { HasLeft key self.old.write_line self.new.write_line }
-        ensures gone { IsNotIn key self.new.write_line }
-        ensures readers { ReadersStay self.old self.new }
-        ensures alone { (n : ℕ) → IsExclusive n self.old → IsExclusive n self.new }
-        ensures counted { IsTrue result → (n : ℕ) → IsExclusive n self.old
-            → IsExclusive (n + 1) self.new }
-    {
-        leave_line(&mut self.write_line, key).was_told()
     }
 
     /// Lets all readers in that wait: the writer reads from here on.

@@ -1,20 +1,19 @@
 //! What those that compete for a lock do with its state out.
 ghost use Rattle.std.specs.Prelude.{◌≡◌, ◌<◌, ◌≤◌, true, Some, None, IfOk, OnErr};
 ghost use Rattle.atomic_table.specs.Table.{rest};
-ghost use Rattle.event_word.specs.Competitor.{Comes, NobodyIsBy, coming_of, count_of, losses_after};
+ghost use Rattle.event_word.specs.Contender.{Comes, NobodyIsBy, coming_of, count_of, losses_after};
 ghost use Rattle.event_word.specs.Free.{ServesTheStarving, ServesWith, Stands, free_of, IsShut};
 ghost use Rattle.event_word.specs.Word.{HasState};
 ghost use Rattle.event_wait.specs.Attempted.{Stores};
 
 use super::Word;
 use super::held::Held;
-use crate::error::LockError;
 use crate::line::competing::{Competing, Counted, SHUT, free};
-use crate::line::competitor::Arrival;
+use crate::line::contender::Arrival;
 use crate::line::counts::Counts;
 use crate::word::held::state;
 use event_queue::{Key, TaskExchange};
-use event_wait::Task;
+use event_wait::{LockError, Task};
 use std::sync::Wait;
 
 impl<C: Counted, V> Word<Competing<C>, V> {

@@ -8,12 +8,8 @@ use super::kept::Kept;
 use super::rule::{Change, LookAgain, Move, Put, Swap, Take};
 use super::{AWAITED, CROWDED, ONE, OUT, Seat, Word};
 use crate::word::held::state;
-use event_wait::{Waking, pause};
+use event_wait::{DeferredWake, PAUSES, pause};
 use std::sync::Wait;
-
-// How many pauses a thread makes before each look. Whoever looks takes the word from the thread that has the state, so it
-// looks seldom.
-const PAUSES: [u32; 6] = [64, 128, 256, 256, 256, 256];
 
 // A thread parks on the low half of the word, where the code is.
 const PARKED_BITS: u64 = 0x1_0000_0000;
@@ -143,7 +139,7 @@ impl<S: Kept, V> Word<S, V> {
             × (result.me ≡ beside held.seat.me) }
     {
         let Held { mut seat } = held;
-        let mut waking = Waking::new();
+        let mut waking = DeferredWake::new();
         for _ in rt.forever() {
             if self.try_to_put_back(&mut seat, &mut waking) {
                 waking.finish();
@@ -153,7 +149,7 @@ impl<S: Kept, V> Word<S, V> {
         unreachable!()
     }
 
-    fn try_to_put_back(&self, seat: &mut Seat<S, V>, waking: &mut Waking) -> bool
+    fn try_to_put_back(&self, seat: &mut Seat<S, V>, waking: &mut DeferredWake) -> bool
         requires seat { seat.old.table_id ≡ self.now.table.shared.table_id }
         requires promised { HasState S.rules.promised seat.old.me }
         ensures seat { seat.new.table_id ≡ seat.old.table_id }
@@ -214,7 +210,7 @@ impl<S: Kept, V> Word<S, V> {
     }
 
     // Notifies those that wait. Returns whether somebody waits still.
-    fn settle(&self, seat: &mut Seat<S, V>, number: u64, waking: &mut Waking) -> bool
+    fn settle(&self, seat: &mut Seat<S, V>, number: u64, waking: &mut DeferredWake) -> bool
         requires seat { seat.old.table_id ≡ self.now.table.shared.table_id }
         requires number { (number < 2 ^ 62) × S.rules.fits number }
         requires promised { HasState (λ n q. (n ≡ number) × S.rules.promised number q

@@ -1,6 +1,6 @@
 use Rattle.std.proofs.Common.{rules}
-use Rattle.event_word.proofs.LineLemmas.{woken_within}
-use Rattle.event_word.specs.Line.{woken_up_to}
+use Rattle.event_wait.proofs.LineLemmas.{woken_within}
+use Rattle.event_wait.specs.Line.{woken_up_to}
 use Rattle.event_word.proofs.line.tell_up_to.Goals as goal
 
 pub returns-clause-wakes : goal.returns-clause-wakes

@@ -1,7 +1,7 @@
 use Rattle.std.proofs.Common.{refl, ap}
 use Rattle.event_queue.specs.declared.reply.RegisterResult.TheVariants.{Notified}
 use Rattle.event_word.specs.Turns.{StoresInTurn}
-use Rattle.event_word.proofs.LengthLemmas.{looked}
+use Rattle.event_wait.proofs.LengthLemmas.{looked}
 use Rattle.event_word.proofs.KeptTurns.{turns-on}
 use Rattle.event_word.proofs.TurnLemmas.{line-came, line-waits, waits_on}
 use Rattle.event_word.proofs.line.Line.look.Goals as goal

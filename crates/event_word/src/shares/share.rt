@@ -1,34 +1,30 @@
 //! The rights to read and to write. Each is made of a step of the word that counts it, and only a call below makes such a step.
-ghost use Rattle.std.specs.Prelude.{◌≡◌, ◌+◌, ◌-◌, ◌%◌, Some, IfSome, MatchOption, MatchResult};
-ghost use Rattle.event_word.specs.Count.{readers_of, writers_of};
+ghost use Rattle.std.specs.Prelude.{◌≡◌, ◌+◌, ◌%◌, Some, IfSome, MatchOption, MatchResult};
+ghost use Rattle.event_word.specs.Count.{writers_of};
 ghost use Rattle.event_word.specs.Queues.{IsExclusive, Recounts};
 ghost use Rattle.event_word.specs.Word.{HasState, number_of};
 
 use super::queues::Queues;
+use super::reading::Reading;
+use super::right::Right;
+use super::writing::Writing;
 use crate::word::{Held, Origin, Seat, Step, Word};
 use event_wait::Task;
-use std::marker::Model;
+use std::marker::{Model, PhantomData};
 
-/// The right to read, which the number counts. It is no `Drop`: whoever has it counts itself out. A contract sees of which word
-/// it is.
-pub struct ReadShare {
+/// A right that the number counts. It is no `Drop`: whoever has it counts itself out. A contract sees of which word it is.
+pub struct Share<K> {
     origin: Origin,
+    of: PhantomData<K>,
 }
 
-/// The right to write, as the right to read.
-pub struct WriteShare {
-    origin: Origin,
-}
+/// The right to read.
+pub type ReadShare = Share<Reading>;
 
-impl Model for ReadShare {
-    ghost use Rattle.atomic_table.specs.Seated.{TableId};
+/// The right to write.
+pub type WriteShare = Share<Writing>;
 
-    ghost Value = { TableId };
-
-    ghost view = { λ share. share.origin.table_id };
-}
-
-impl Model for WriteShare {
+impl<K> Model for Share<K> {
     ghost use Rattle.atomic_table.specs.Seated.{TableId};
 
     ghost Value = { TableId };
@@ -42,18 +38,40 @@ pub type At = Seat<Queues<Task>, ()>;
 /// The queues, out with one thread.
 pub type Out = Held<Queues<Task>, ()>;
 
-impl ReadShare {
-    /// The right of the reader that this step counts.
+impl<K> Share<K> {
     #[inline(always)]
-    pub(crate) fn counted(step: Step) -> Self
-        requires { number_of step.to ≡ number_of step.from + 2 }
-        ensures { result ≡ step.origin.table_id }
+    fn new(origin: Origin) -> Self
+        ensures { result ≡ origin.table_id }
     {
-        ReadShare {
-            origin: step.into_origin(),
+        Share {
+            origin,
+            of: PhantomData,
         }
     }
+}
 
+impl<K: Right<Task>> Share<K> {
+    /// The right of the one that this step counts.
+    #[inline(always)]
+    pub(crate) fn counted(step: Step) -> Self
+        requires { number_of step.to ≡ number_of step.from + K.COUNTS }
+        ensures { result ≡ step.origin.table_id }
+    {
+        Share::new(step.into_origin())
+    }
+
+    /// One goes: this step, of its word, counts one less, if it counts one, as it does for each right.
+    #[inline(always)]
+    pub(crate) fn end(self, step: Step)
+        requires own { step.origin.table_id ≡ self }
+        requires ends { K.ends (number_of step.from) (number_of step.to) }
+    {
+        let Share { origin: _, of: _ } = self;
+        drop(step);
+    }
+}
+
+impl Share<Reading> {
     /// The reader writes from here on: this step, of its word, counts a writer in its place.
     #[inline(always)]
     pub(crate) fn upgraded(self, step: Step) -> WriteShare
@@ -61,36 +79,12 @@ impl ReadShare {
         requires counts { (number_of step.from ≡ 2) × (number_of step.to ≡ 1) }
         ensures { result ≡ self }
     {
-        let ReadShare { origin: _ } = self;
-        WriteShare {
-            origin: step.into_origin(),
-        }
-    }
-
-    /// The reader goes: this step, of its word, counts one less, if it counts one, as it does for each right.
-    #[inline(always)]
-    pub(crate) fn end(self, step: Step)
-        requires own { step.origin.table_id ≡ self }
-        requires readers { readers_of (number_of step.to) ≡ readers_of (number_of step.from) - 1 }
-        requires writers { writers_of (number_of step.to) ≡ writers_of (number_of step.from) }
-    {
-        let ReadShare { origin: _ } = self;
-        drop(step);
+        let Share { origin: _, of: _ } = self;
+        Share::new(step.into_origin())
     }
 }
 
-impl WriteShare {
-    /// The right of the writer that this step counts.
-    #[inline(always)]
-    pub(crate) fn counted(step: Step) -> Self
-        requires { number_of step.to ≡ number_of step.from + 1 }
-        ensures { result ≡ step.origin.table_id }
-    {
-        WriteShare {
-            origin: step.into_origin(),
-        }
-    }
-
+impl Share<Writing> {
     /// The writer reads from here on: this step, of its word, counts a reader in its place. An error counted no writer, which is
     /// so for no right.
     #[inline(always)]
@@ -102,20 +96,9 @@ impl WriteShare {
             (λ made. writers_of (number_of made.to) ≡ 0) }
         ensures { result ≡ self }
     {
-        let WriteShare { origin } = self;
+        let Share { origin, of: _ } = self;
         drop(step);
-        ReadShare { origin }
-    }
-
-    /// The writer goes: this step, of its word, counts none.
-    #[inline(always)]
-    pub(crate) fn end(self, step: Step)
-        requires own { step.origin.table_id ≡ self }
-        requires readers { readers_of (number_of step.to) ≡ readers_of (number_of step.from) }
-        requires writers { writers_of (number_of step.to) ≡ 0 }
-    {
-        let WriteShare { origin: _ } = self;
-        drop(step);
+        Share::new(origin)
     }
 }
 

@@ -1,7 +1,7 @@
 //! One that competes.
 ghost use Rattle.std.specs.Prelude.{◌≡◌, ℕ, if◌then◌else◌};
-ghost use Rattle.event_word.specs.Competitor.{count_of};
-ghost use Rattle.event_word.specs.declared.line.competitor.Coming.{Coming};
+ghost use Rattle.event_word.specs.Contender.{count_of};
+ghost use Rattle.event_word.specs.declared.line.contender.Coming.{Coming};
 
 use event_queue::Key;
 use std::marker::Model;
@@ -11,17 +11,17 @@ pub const PATIENCE: u32 = 2;
 
 /// One that competes. The contract of a wait sees how often it lost.
 #[derive(Drop)]
-pub struct Competitor {
+pub struct Contender {
     /// By which key it is in the queue, if it is there.
     pub place: Option<Key>,
     /// How often it was notified and found nothing.
     pub losses: u32,
 }
 
-impl Model for Competitor {
+impl Model for Contender {
     ghost Value = { ℕ };
 
-    ghost view = { λ competitor. competitor.losses };
+    ghost view = { λ contender. contender.losses };
 }
 
 /// How one comes to attempt.
@@ -78,13 +78,13 @@ impl Arrival {
     }
 }
 
-impl Competitor {
+impl Contender {
     /// One that comes, and has lost nothing.
     #[inline(always)]
     pub fn new() -> Self
         ensures { result ≡ 0 }
     {
-        Competitor {
+        Contender {
             place: None,
             losses: 0,
         }

@@ -1,5 +1,5 @@
 use Rattle.std.specs.Prelude.{◌≡◌}
-use Rattle.event_word.proofs.shares.steps.Word+Queues+Task+unit.try_reader_again.Given as goal
+use Rattle.event_word.proofs.shares.steps.Word+Queues+Task+unit.attempt_again.Given as goal
 
 abbrev pub invariant-loop : goal.invariant-loop
 invariant-loop g l = l.seat.table_id ≡ l.initial.seat.table_id
