@@ -6,9 +6,11 @@ use Rattle.event_queue.specs.declared.key.Key.{Key}
 use Rattle.event_queue.specs.declared.reply.ListenError.{ListenError}
 use Rattle.event_queue.specs.Key.{is_key}
 use Rattle.event_queue.specs.Queue.{Queue}
-use Rattle.event_wait.specs.Rounds.{Obtains}
+use Rattle.event_wait.specs.Rounds.{Rules, Tries, Gets, Obtains, alike, of_any, Fails as FailsBy}
+use Rattle.event_wait.specs.declared.lock.wait.Refused.{Refused}
+use Rattle.event_wait.specs.declared.lock.wait.Refused.TheVariants.{Memory, Request}
 use Rattle.event_wait.proofs.RoundLemmas.{some_keep}
-use Rattle.event_word.specs.Line.{Leaves, WaitsBy, CannotWait, waits_untold, waiting_with}
+use Rattle.event_wait.specs.Line.{Leaves, WaitsBy, CannotWait, waits_untold, waiting_with}
 use Rattle.event_monitor.specs.Watched.{Fails, Gives, IsBlocked, LastAttempt, Succeeds, Watches}
 use Rattle.event_monitor.specs.declared.monitor.watched.Waiter.{Waiter}
 
@@ -64,18 +66,38 @@ module _ {V C W : Type 0} (fails : C → V → Type 0) (value : V) where
     waited key old before (Ok waits) new after step refused all = joined key old before waits new after step all
     waited key old before (Err error) new after step refused all = left key old new refused.leaves all
 
--- what a wait returns is what an attempt gave, and one that is late has failed
-pub gave : {V C G E : Type 0} (gives : C → V → G → V → Type 0) (fails : C → V → Type 0) (may_end : Type 0) (condition : C) (result : Result (Option G) E) (after : C)
-    → Obtains (λ b a. a ≡ b) (Succeeds gives) (LastAttempt gives fails) may_end condition result after
-    → IfOk result (λ answer. IfSome answer (Gives gives condition)) × IfOk result (λ answer. answer ≡ None → Fails fails condition) × (after ≡ condition)
-gave gives fails may_end condition (Ok (Some output)) after (inl round) =
-    let same = some_keep (λ b a. a ≡ b) _ (λ c. c) (λ _ _ same. same) condition round.between round.waited in
-    (rw same at round.succeeded.given, (λ no. absurd (let none : Some output ≡ None = no in cc)), round.succeeded.kept ∙ same)
-gave gives fails may_end condition (Ok (Some output)) after (inr late) =
-    let same = some_keep (λ b a. a ≡ b) _ (λ c. c) (λ _ _ same. same) condition late.between late.waited in
-    (rw same at late.left.given, (λ no. absurd (let none : Some output ≡ None = no in cc)), late.left.kept ∙ same)
-gave gives fails may_end condition (Ok None) after late =
-    let same = some_keep (λ b a. a ≡ b) _ (λ c. c) (λ _ _ same. same) condition late.between late.waited in
-    (tt, (λ _. rw same at late.left.1), late.left.0 ∙ same)
-gave gives fails may_end condition (Err error) after some =
-    (tt, tt, some_keep (λ b a. a ≡ b) _ (λ c. c) (λ _ _ same. same) condition after some)
+module _ {V C G : Type 0} (E : Type 0) (gives : C → V → G → V → Type 0) (fails : C → V → Type 0) where
+  -- what the lock says of one that waits for this
+  abbrev asks : Rules C G E
+  asks = of_any (Succeeds gives) (λ b a. a ≡ b) (LastAttempt gives fails)
+
+  tried : (before after : C) → Tries asks (alike (Succeeds gives)) before after → after ≡ before
+  tried before after (inl same) = same
+  tried before after (inr same) = same
+
+  got : (before : C) (output : G) (after : C) → Gets asks (alike (Succeeds gives)) before output after → Succeeds gives before output after
+  got before output after (inl gave) = gave
+  got before output after (inr gave) = gave
+
+  refused : (before : C) (error : Refused E) (after : C) → FailsBy asks before error after → after ≡ before
+  refused before Memory after same = same
+  refused before (Request error) after (inl same) = same
+  refused before (Request error) after (inr same) = same
+
+  -- what a wait returns is what an attempt gave, and one that is late has failed
+  pub gave : (may_end : Type 0) (condition : C) (result : Result (Option G) (Refused E)) (after : C)
+      → Obtains asks (alike (Succeeds gives)) may_end condition result after
+      → IfOk result (λ answer. IfSome answer (Gives gives condition)) × IfOk result (λ answer. answer ≡ None → Fails fails condition) × (after ≡ condition)
+  gave may_end condition (Ok (Some output)) after (inl round) =
+      let same = some_keep (Tries asks (alike (Succeeds gives))) _ (λ c. c) tried condition round.between round.waited in
+      let last = got round.between output after round.succeeded in
+      (rw same at last.given, (λ no. absurd (let none : Some output ≡ None = no in cc)), last.kept ∙ same)
+  gave may_end condition (Ok (Some output)) after (inr late) =
+      let same = some_keep (Tries asks (alike (Succeeds gives))) _ (λ c. c) tried condition late.between late.waited in
+      (rw same at late.left.given, (λ no. absurd (let none : Some output ≡ None = no in cc)), late.left.kept ∙ same)
+  gave may_end condition (Ok None) after late =
+      let same = some_keep (Tries asks (alike (Succeeds gives))) _ (λ c. c) tried condition late.between late.waited in
+      (tt, (λ _. rw same at late.left.1), late.left.0 ∙ same)
+  gave may_end condition (Err error) after ends =
+      let tried_some = some_keep (Tries asks (alike (Succeeds gives))) _ (λ c. c) tried condition ends.1.0 ends.1.1 in
+      (tt, tt, ends.2 ∙ refused ends.1.0 error ends.0 ends.1.2 ∙ tried_some)

@@ -1,4 +1,3 @@
-pub mod Obtained
-pub mod Rounds
 pub mod Once
+pub mod Rounds
 pub mod Watched

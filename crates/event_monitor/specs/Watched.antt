@@ -5,9 +5,9 @@ use Rattle.std.specs.Fn.{Once, FnOnceReturnsAtMut}
 use Rattle.std.specs.List.{AllByRecursion}
 use Rattle.event_queue.specs.declared.key.Key.{Key}
 use Rattle.event_queue.specs.Queue.{Queue}
-use Rattle.event_word.specs.Line.{TellsAll, WaitsBy, CannotWait, after_leaving, woken_at_once}
-use Rattle.event_word.specs.declared.error.LockError.{LockError}
-use Rattle.event_word.specs.declared.error.LockError.TheVariants.{Listen, Memory, TooManyReaders, Finished}
+use Rattle.event_wait.specs.Line.{TellsAll, WaitsBy, CannotWait, after_leaving, woken_at_once}
+use Rattle.event_wait.specs.declared.error.LockError.{LockError}
+use Rattle.event_wait.specs.declared.error.LockError.TheVariants.{Listen, Memory, TooManyReaders, Finished}
 use Rattle.event_wait.specs.declared.request.Attempted.{Attempted}
 use Rattle.event_wait.specs.declared.request.Attempted.TheVariants.{Done, Waits, Absent, Refused}
 use Rattle.event_monitor.specs.declared.monitor.watched.Waiter.{Waiter}

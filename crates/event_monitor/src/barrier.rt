@@ -6,12 +6,10 @@ ghost use Rattle.event_queue.specs.Queue.{order_of};
 mod rounds;
 
 pub use self::rounds::{Ended, Rounds};
-use crate::lock::{Hold, Obtaining};
-use crate::seat::{HandsOut, Seat};
+use crate::ticket::{Handoff, Ticket};
 use event_queue::{Key, TaskExchange, WakeSink};
-use event_wait::{Attempted, Lock, Task};
-use event_word::LockError;
-use event_word::waiters::found;
+use event_wait::waiters::found;
+use event_wait::{Attempted, Hold, Lock, LockError, Obtaining, Task};
 use futures::Future;
 use futures::task::{Context, Poll};
 use std::alloc::Global;
@@ -32,7 +30,7 @@ pub struct Barrier {
 #[must_use = "it arrives only once it is waited on or polled"]
 #[derive(Drop)]
 pub struct BarrierWait<'a, R: Wait + Clock> {
-    obtaining: Obtaining<Lock<Rounds<Task>>, Seat<Ended>, Arriving<'a, R>>,
+    obtaining: Obtaining<Lock<Rounds<Task>>, Ticket<Ended>, Arriving<'a, R>>,
 }
 
 /// A round has ended.
@@ -52,7 +50,7 @@ impl Barrier {
     /// Arrives, and waits until all have.
     pub fn wait<'a, R: Wait + Clock>(&'a self, rt: &'a R, alloc: Global) -> BarrierWait<'a, R> {
         BarrierWait {
-            obtaining: Obtaining::new(Arriving { barrier: self, rt }, alloc, Seat::new()),
+            obtaining: Obtaining::new(Arriving { barrier: self, rt }, alloc, Ticket::new()),
         }
     }
 }
@@ -135,17 +133,17 @@ impl<'a, R: Wait + Clock> Hold<Lock<Rounds<Task>>> for Arriving<'a, R> {
     }
 }
 
-impl HandsOut<Ended> for Rounds<Task> {
+impl Handoff<Ended> for Rounds<Task> {
     const TRIES: u32 = 0;
 
     // It is in the queue no more, and so has not arrived in a round that goes on.
     ghost withdraws = { λ old key new. order_of new.line ≡ without key (order_of old.line) };
 
-    fn try_hand<K: WakeSink<Task>>(&mut self, sink: &mut K) -> Option<Ended> {
+    fn try_grant<K: WakeSink<Task>>(&mut self, sink: &mut K) -> Option<Ended> {
         self.try_end(sink)
     }
 
-    fn hand_or_wait<C, X: TaskExchange<Task, C>, K: WakeSink<Task>>(
+    fn grant_or_queue<C, X: TaskExchange<Task, C>, K: WakeSink<Task>>(
         &mut self,
         key: Option<Key>,
         exchange: &X,
@@ -162,7 +160,7 @@ impl HandsOut<Ended> for Rounds<Task> {
         self.leave_round(key)
     }
 
-    fn withdraw<K: WakeSink<Task>>(&mut self, key: Key, _sink: &mut K) {
+    fn cancel<K: WakeSink<Task>>(&mut self, key: Key, _sink: &mut K) {
         drop(self.leave_round(key));
     }
 }

@@ -1,7 +1,7 @@
 //! Why nothing was set.
 ghost use Rattle.std.specs.Prelude.{◌≡◌};
 
-use event_word::LockError;
+use event_wait::LockError;
 use std::error::Error;
 use std::fmt;
 use std::fmt::{Debug, Display, Formatter};

@@ -7,8 +7,9 @@ mod watched;
 
 pub use self::watched::{Condition, Waiter, Watched};
 use event_queue::{Key, TaskExchange, WakeSink};
-use event_wait::{Attempt, Attempted, Limit, Lock, Refused, Request, Task, Tries, poll_in, step};
-use event_word::LockError;
+use event_wait::{
+    Attempt, Attempted, Limit, Lock, LockError, Obtainable, Refused, Request, Task, poll_in, step,
+};
 use futures::Future;
 use futures::task::{Context, Poll};
 use std::alloc::Global;

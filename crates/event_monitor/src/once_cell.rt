@@ -1,18 +1,16 @@
 //! A cell that is set once.
 ghost use Rattle.std.specs.Prelude.{◌≡◌, ◌⊎◌, Err, IfErr, IfSome, IsSomeAnd};
 ghost use Rattle.std.specs.Fn.{FnOnceReturns};
-ghost use Rattle.event_word.specs.Refused.{IsMadeOfOne};
+ghost use Rattle.event_wait.specs.Refused.{IsMadeOfOne};
 
 mod once;
 
 pub use self::once::{IsSet, Once, Turn};
 use crate::error::{SetError, SetReason};
-use crate::lock::{Hold, Obtaining};
-use crate::seat::{HandsOut, Seat};
+use crate::ticket::{Handoff, Ticket};
 use event_queue::{Key, TaskExchange, WakeSink};
-use event_wait::{Attempted, Lock, Task, step};
-use event_word::LockError;
-use event_word::waiters::found;
+use event_wait::waiters::found;
+use event_wait::{Attempted, Hold, Lock, LockError, Obtaining, Task, step};
 use futures::Future;
 use futures::task::{Context, Poll};
 use std::alloc::Global;
@@ -51,7 +49,7 @@ pub struct Vacant<'a, T, R: Wait + Clock> {
 #[must_use = "nothing is asked for until it is waited on or polled"]
 #[derive(Drop)]
 pub struct Claiming<'a, T, R: Wait + Clock> {
-    obtaining: Obtaining<Lock<Once<Task>>, Seat<Turn>, Asking<'a, T, R>>,
+    obtaining: Obtaining<Lock<Once<Task>>, Ticket<Turn>, Asking<'a, T, R>>,
 }
 
 /// A wait for the value of a cell, by whoever sets it. It asks once it is waited on or polled, and not before.
@@ -62,7 +60,7 @@ pub struct Claiming<'a, T, R: Wait + Clock> {
 #[must_use = "nothing is asked for until it is waited on or polled"]
 #[derive(Drop)]
 pub struct Seeing<'a, T, R: Wait + Clock> {
-    obtaining: Obtaining<Lock<Once<Task>>, Seat<IsSet>, Asking<'a, T, R>>,
+    obtaining: Obtaining<Lock<Once<Task>>, Ticket<IsSet>, Asking<'a, T, R>>,
 }
 
 impl<T> OnceCell<T> {
@@ -82,14 +80,14 @@ impl<T> OnceCell<T> {
     /// A wait for the value, or for the turn to make it: while another one makes it, this one waits.
     pub fn claim<'a, R: Wait + Clock>(&'a self, rt: &'a R, alloc: Global) -> Claiming<'a, T, R> {
         Claiming {
-            obtaining: Obtaining::new(Asking { cell: self, rt }, alloc, Seat::new()),
+            obtaining: Obtaining::new(Asking { cell: self, rt }, alloc, Ticket::new()),
         }
     }
 
     /// A wait until the value is set, by whoever sets it.
     pub fn wait<'a, R: Wait + Clock>(&'a self, rt: &'a R, alloc: Global) -> Seeing<'a, T, R> {
         Seeing {
-            obtaining: Obtaining::new(Asking { cell: self, rt }, alloc, Seat::new()),
+            obtaining: Obtaining::new(Asking { cell: self, rt }, alloc, Ticket::new()),
         }
     }
 
@@ -372,14 +370,14 @@ impl<'a, T, R: Wait + Clock> Asking<'a, T, R> {
     }
 }
 
-impl HandsOut<Turn> for Once<Task> {
+impl Handoff<Turn> for Once<Task> {
     const TRIES: u32 = 0;
 
-    fn try_hand<K: WakeSink<Task>>(&mut self, _sink: &mut K) -> Option<Turn> {
+    fn try_grant<K: WakeSink<Task>>(&mut self, _sink: &mut K) -> Option<Turn> {
         self.try_make()
     }
 
-    fn hand_or_wait<C, X: TaskExchange<Task, C>, K: WakeSink<Task>>(
+    fn grant_or_queue<C, X: TaskExchange<Task, C>, K: WakeSink<Task>>(
         &mut self,
         key: Option<Key>,
         exchange: &X,
@@ -396,21 +394,21 @@ impl HandsOut<Turn> for Once<Task> {
         self.leave_making(key)
     }
 
-    fn withdraw<K: WakeSink<Task>>(&mut self, key: Key, sink: &mut K) {
+    fn cancel<K: WakeSink<Task>>(&mut self, key: Key, sink: &mut K) {
         if let Some(turn) = self.leave_making(key) {
             self.give_back(turn, sink);
         }
     }
 }
 
-impl HandsOut<IsSet> for Once<Task> {
+impl Handoff<IsSet> for Once<Task> {
     const TRIES: u32 = 0;
 
-    fn try_hand<K: WakeSink<Task>>(&mut self, _sink: &mut K) -> Option<IsSet> {
+    fn try_grant<K: WakeSink<Task>>(&mut self, _sink: &mut K) -> Option<IsSet> {
         self.try_use()
     }
 
-    fn hand_or_wait<C, X: TaskExchange<Task, C>, K: WakeSink<Task>>(
+    fn grant_or_queue<C, X: TaskExchange<Task, C>, K: WakeSink<Task>>(
         &mut self,
         key: Option<Key>,
         exchange: &X,
@@ -427,7 +425,7 @@ impl HandsOut<IsSet> for Once<Task> {
         self.leave_using(key)
     }
 
-    fn withdraw<K: WakeSink<Task>>(&mut self, key: Key, _sink: &mut K) {
+    fn cancel<K: WakeSink<Task>>(&mut self, key: Key, _sink: &mut K) {
         self.leave_using(key);
     }
 }

@@ -4,14 +4,13 @@ ghost use Rattle.event_queue.specs.Exchange.{RegistersWith};
 ghost use Rattle.event_queue.specs.Key.{without};
 ghost use Rattle.event_queue.specs.Queue.{order_of};
 ghost use Rattle.event_wait.specs.Attempted.{OnDone, OnRefused, OnWaits};
-ghost use Rattle.event_word.specs.Attempted.{CannotJoin, Comes, IfRefused};
-ghost use Rattle.event_word.specs.Line.{HandsOut, Looked, OnGranted, as_told, left_by};
+ghost use Rattle.event_wait.specs.Joining.{CannotJoin, Comes, IfRefused};
+ghost use Rattle.event_wait.specs.Line.{HandsOut, Looked, OnGranted, as_told, left_by};
 ghost use Rattle.event_monitor.specs.Rounds.{NobodyWaitsInVain};
 
 use event_queue::{Key, List, RegisterResult, TaskExchange, WakeSink};
-use event_wait::{Attempted, Task};
-use event_word::LockError;
-use event_word::waiters::{Left, hand_all, join_line, leave_line, look_for};
+use event_wait::waiters::{Left, hand_all, join_line, leave_line, look_for};
+use event_wait::{Attempted, LockError, Task};
 use std::alloc::Global;
 use std::marker::Model;
 

@@ -2,13 +2,12 @@
 ghost use Rattle.std.specs.Prelude.{◌≡◌, [], None, IfErr, IfOk, IfSome, IsSome, OnErr};
 ghost use Rattle.std.specs.Fn.{FnOnceReturnsAtMut};
 ghost use Rattle.std.specs.List.{FoldsTo};
-ghost use Rattle.event_word.specs.Line.{CannotWait, Leaves, TellsAll, WaitsBy};
+ghost use Rattle.event_wait.specs.Line.{CannotWait, Leaves, TellsAll, WaitsBy};
 ghost use Rattle.event_monitor.specs.Watched.{NobodyWaitsInVain, Obtains, Watches, stored_by, woken_by_attempting, woken_by_trying, woken_tasks};
 
 use event_queue::{Key, List, ListenError, TaskExchange, WakeSink};
-use event_wait::Attempted;
-use event_word::LockError;
-use event_word::waiters::{leave, tell_all, wait_in_line, waiting};
+use event_wait::waiters::{leave, tell_all, wait_in_line, waiting};
+use event_wait::{Attempted, LockError};
 use std::alloc::Global;
 use std::marker::Model;
 

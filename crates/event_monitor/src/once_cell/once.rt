@@ -6,14 +6,13 @@ ghost use Rattle.event_queue.specs.Exchange.{RegistersWith};
 ghost use Rattle.event_queue.specs.Key.{without};
 ghost use Rattle.event_queue.specs.Queue.{order_of};
 ghost use Rattle.event_wait.specs.Attempted.{OnDone, OnRefused, OnWaits};
-ghost use Rattle.event_word.specs.Attempted.{CannotJoin, Comes, IfRefused};
-ghost use Rattle.event_word.specs.Line.{HandsOut, Looked, OnGranted, TellsAll, as_told, is_granted, left_by};
+ghost use Rattle.event_wait.specs.Joining.{CannotJoin, Comes, IfRefused};
+ghost use Rattle.event_wait.specs.Line.{HandsOut, Looked, OnGranted, TellsAll, as_told, is_granted, left_by};
 ghost use Rattle.event_monitor.specs.Once.{MakersStay, NobodyWaitsInVain, making_at, making_by, turn_at, turns};
 
 use event_queue::{Key, List, RegisterResult, TaskExchange, WakeSink};
-use event_wait::{Attempted, Task};
-use event_word::LockError;
-use event_word::waiters::{hand_all, hand_out, join_line, leave_line, look_for, waiting};
+use event_wait::waiters::{hand_all, hand_out, join_line, leave_line, look_for, waiting};
+use event_wait::{Attempted, LockError, Task};
 use std::alloc::Global;
 use std::marker::Model;
 

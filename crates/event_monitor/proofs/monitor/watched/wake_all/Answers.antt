@@ -1,6 +1,6 @@
 use Rattle.std.proofs.Common.{rules}
-use Rattle.event_word.proofs.LineLemmas.{woken_within}
-use Rattle.event_word.specs.Line.{woken_at_once}
+use Rattle.event_wait.proofs.LineLemmas.{woken_within}
+use Rattle.event_wait.specs.Line.{woken_at_once}
 use Rattle.event_monitor.proofs.monitor.watched.wake_all.Goals as goal
 
 pub returns-clause-wakes : goal.returns-clause-wakes

@@ -4,12 +4,11 @@ ghost use Rattle.event_queue.specs.declared.key.Key.{Key};
 ghost use Rattle.event_wait.specs.Attempted.{Attempts, LeavesBy};
 
 use event_queue::{Key, TaskExchange, WakeSink};
-use event_wait::{Attempt, Attempted, Request, Task};
-use event_word::LockError;
+use event_wait::{Attempt, Attempted, LockError, Request, Task};
 use std::marker::{Model, PhantomData};
 
 /// A state that hands something to those that come, or that wait for it in its queue.
-pub trait HandsOut<G> {
+pub trait Handoff<G> {
     /// How often a thread that was not handed it at once pauses and tries again before it waits in the queue.
     const TRIES: u32 = 8;
 
@@ -17,11 +16,11 @@ pub trait HandsOut<G> {
     ghost withdraws: { Self → Key → Self → Type 0 } = { λ _ _ _. ⊤ };
 
     /// Hands it to one that comes, if nobody is due before.
-    fn try_hand<K: WakeSink<Task>>(&mut self, sink: &mut K) -> Option<G>;
+    fn try_grant<K: WakeSink<Task>>(&mut self, sink: &mut K) -> Option<G>;
 
     /// Hands it to one that comes, or that waits by this key, and then is in the queue no more; else has it wait, with the
     /// task that the exchange makes.
-    fn hand_or_wait<C, X: TaskExchange<Task, C>, K: WakeSink<Task>>(
+    fn grant_or_queue<C, X: TaskExchange<Task, C>, K: WakeSink<Task>>(
         &mut self,
         key: Option<Key>,
         exchange: &X,
@@ -35,39 +34,39 @@ pub trait HandsOut<G> {
     fn leave<K: WakeSink<Task>>(&mut self, key: Key, sink: &mut K) -> Option<G>;
 
     /// Takes this one out of the queue, and hands on what it can have.
-    fn withdraw<K: WakeSink<Task>>(&mut self, key: Key, sink: &mut K)
+    fn cancel<K: WakeSink<Task>>(&mut self, key: Key, sink: &mut K)
         ensures { withdraws self.old key self.new };
 }
 
 /// The place of one that wants a `G` of a state, in its queue, if it has one.
-pub struct Seat<G> {
+pub struct Ticket<G> {
     key: Option<Key>,
     wanted: PhantomData<G>,
 }
 
-impl<G> Model for Seat<G> {
+impl<G> Model for Ticket<G> {
     ghost Value = { Unit {0} };
 
     ghost view = { λ _. tt };
 }
 
-impl<G> Seat<G> {
+impl<G> Ticket<G> {
     #[inline(always)]
     pub(crate) fn new() -> Self {
-        Seat {
+        Ticket {
             key: None,
             wanted: PhantomData,
         }
     }
 }
 
-impl<G> Drop for Seat<G> {
+impl<G> Drop for Ticket<G> {
     fn drop(self) {
-        let Seat { key: _, wanted: _ } = self;
+        let Ticket { key: _, wanted: _ } = self;
     }
 }
 
-impl<G, S: HandsOut<G>> Request<S> for Seat<G> {
+impl<G, S: Handoff<G>> Request<S> for Ticket<G> {
     type Output = G;
 
     type Refusal = LockError;
@@ -83,7 +82,7 @@ impl<G, S: HandsOut<G>> Request<S> for Seat<G> {
         on: &mut C,
         sink: &mut K,
     ) -> Attempted<G, LockError> {
-        let attempted = state.hand_or_wait(self.key, exchange, on, sink);
+        let attempted = state.grant_or_queue(self.key, exchange, on, sink);
         self.key = attempted.key();
         attempted
     }
@@ -95,12 +94,12 @@ impl<G, S: HandsOut<G>> Request<S> for Seat<G> {
     ) -> Result<Option<G>, LockError> {
         match self.key.take() {
             Some(key) => Ok(state.leave(key, sink)),
-            None => Ok(state.try_hand(sink)),
+            None => Ok(state.try_grant(sink)),
         }
     }
 }
 
-impl<G, S: HandsOut<G>> Attempt<S> for Seat<G> {
+impl<G, S: Handoff<G>> Attempt<S> for Ticket<G> {
     const TRIES: u32 = S::TRIES;
 
     fn is_waiting(&self) -> bool {
@@ -109,12 +108,12 @@ impl<G, S: HandsOut<G>> Attempt<S> for Seat<G> {
 
     #[inline(always)]
     fn attempt<K: WakeSink<Task>>(&mut self, state: &mut S, sink: &mut K) -> Option<G> {
-        state.try_hand(sink)
+        state.try_grant(sink)
     }
 
     fn give_up<K: WakeSink<Task>>(&mut self, state: &mut S, sink: &mut K) {
         if let Some(key) = self.key.take() {
-            state.withdraw(key, sink);
+            state.cancel(key, sink);
         }
     }
 }
