@@ -1,4 +1,7 @@
 //! Locks for threads and tasks, of which is proved in the code that runs that nobody waits in vain.
+//!
+//! A semaphore, a mutex and a read-write lock are each a [`Word`](event_word::Word) of `event_word`, with its guards and waits.
+//! A barrier, a cell that is set once and a monitor are those of `event_monitor`. Read `semaphore.rt` first.
 #![tactic(auto)]
 
 mod mutex;
@@ -11,7 +14,8 @@ pub use event_monitor::{
     Barrier, BarrierWait, BarrierWaitResult, Claim, Claiming, Condition, Monitor, OnceCell, Seeing,
     SetError, SetReason, Until, Vacant,
 };
-pub use event_word::{Counts, LockError, RwLockCounts};
+pub use event_wait::LockError;
+pub use event_word::{Counts, RwLockCounts};
 pub use mutex::{Lock, LockArc, Mutex, MutexGuard, MutexGuardArc};
 pub use rw_lock::{
     Read, ReadArc, RwLock, RwLockReadGuard, RwLockReadGuardArc, RwLockWriteGuard,

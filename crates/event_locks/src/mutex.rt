@@ -1,10 +1,11 @@
 //! A mutex.
 ghost use Rattle.std.specs.Prelude.{◌≡◌, ◌<◌, [], IfSome, true};
 ghost use Rattle.atomic_table.specs.Table.{rest};
+ghost use Rattle.event_wait.specs.Rounds.{gives_what, tries_for};
 ghost use Rattle.event_wait.specs.Attempted.{Attempts, OnDone, OnRefused, OnUndone, key_of};
 ghost use Rattle.event_locks.specs.Losses.{LosesOnceAtMost};
-ghost use Rattle.event_word.specs.Competitor.{coming_of, losses_after};
-ghost use Rattle.event_word.specs.declared.line.competitor.Coming.TheVariants.{Notified};
+ghost use Rattle.event_word.specs.Contender.{coming_of, losses_after};
+ghost use Rattle.event_word.specs.declared.line.contender.Coming.TheVariants.{Notified};
 ghost use Rattle.event_word.specs.Free.{ServesTheStarving, Stands, free_of};
 ghost use Rattle.event_word.specs.Word.{HasPlace, HasState, HasValue, HasValueToo};
 
@@ -14,10 +15,12 @@ mod lock;
 pub use self::guard::{MutexGuard, MutexGuardArc};
 pub use self::lock::{Lock, LockArc};
 use crate::taker::Taker;
-use event_monitor::{Borrowed, Obtaining, Shared};
 use event_queue::{Key, TaskExchange};
-use event_wait::{Attempted, LineSource, Serves, Task, Tries};
-use event_word::{Coming, Competing, Competitor, Counts, Held, LockError, OneValue, Seat, Word};
+use event_wait::{
+    Attempted, Borrowed, LockError, Obtainable, Obtaining, Shared, TakesAny, Task, Waitable,
+    WakerSource,
+};
+use event_word::{Coming, Competing, Contender, Counts, Held, OneValue, Seat, Word};
 use std::alloc::{AllocError, Global};
 use std::fmt;
 use std::fmt::{Debug, Formatter};
@@ -38,7 +41,7 @@ use std::time::Clock;
 #[derive(Drop)]
 pub struct Mutex<T> {
     word: Word<Competing<OneValue>, T>,
-    source: LineSource,
+    source: WakerSource,
 }
 
 /// The right to the value, which a seat at the lock's table has out.
@@ -51,7 +54,7 @@ impl<T: Drop> Mutex<T> {
         let line = Competing::new(alloc);
         Ok(Mutex {
             word: Word::new(alloc, 1, line, value)?,
-            source: LineSource::new(),
+            source: WakerSource::new(),
         })
     }
 
@@ -159,24 +162,19 @@ impl<T: Drop> Mutex<T> {
     }
 }
 
-impl<T: Drop> Serves<Taker> for Mutex<T> {
+impl<T: Drop> Waitable<Taker> for Mutex<T> {
     type Output = Lent<T>;
 
     type Refusal = LockError;
 
-    ghost succeeds = { λ mutex before lent after. (after ≡ before)
-        × (lent.table_id ≡ mutex.word.table.shared.table_id) × HasValue lent.me };
-
-    ghost waits = { λ before after. LosesOnceAtMost before.competitor after.competitor };
-
-    ghost leaves = { λ mutex before answer after. (after ≡ before)
-        × IfSome answer (λ lent. (lent.table_id ≡ mutex.word.table.shared.table_id)
-        × HasValue lent.me) };
+    ghost rules = { λ mutex.
+        gives_what (λ lent. (lent.table_id ≡ mutex.word.table.shared.table_id) × HasValue lent.me)
+        (λ before after. LosesOnceAtMost before.contender after.contender) };
 
     ghost source = { λ mutex. mutex.source };
 
     #[inline(always)]
-    fn line_source(&self) -> &LineSource {
+    fn waker_source(&self) -> &WakerSource {
         &self.source
     }
 
@@ -188,7 +186,7 @@ impl<T: Drop> Serves<Taker> for Mutex<T> {
         on: &mut C,
     ) -> Attempted<Lent<T>, LockError> {
         let (_, mut held) = self.word.take(rt);
-        let Competitor { place, losses } = &mut request.competitor;
+        let Contender { place, losses } = &mut request.contender;
         let attempted = self.attempt_held(rt, &mut held, place, losses, exchange, on);
         let lent = self.word.put_back(rt, held);
         match attempted {
@@ -203,7 +201,7 @@ impl<T: Drop> Serves<Taker> for Mutex<T> {
         let (_, mut held) = self.word.take(rt);
         let coming = self
             .word
-            .leave(&mut held, &mut request.competitor.place)
+            .leave(&mut held, &mut request.contender.place)
             .coming();
         let took = self.word.take_value(rt, &mut held, coming.is_notified());
         let lent = self.word.put_back(rt, held);
@@ -211,7 +209,11 @@ impl<T: Drop> Serves<Taker> for Mutex<T> {
     }
 }
 
-impl<T: Drop> Tries<Taker> for Mutex<T> {
+impl<T: Drop> Obtainable<Taker> for Mutex<T> {
+    ghost trying = { λ mutex.
+        tries_for (λ lent. (lent.table_id ≡ mutex.word.table.shared.table_id)
+        × HasValue lent.me) };
+
     #[inline(always)]
     fn is_waiting(&self, request: &Taker) -> bool {
         request.is_waiting()
@@ -225,10 +227,14 @@ impl<T: Drop> Tries<Taker> for Mutex<T> {
     fn give_up<R: Wait>(&self, rt: &R, request: &mut Taker) {
         if request.is_waiting() {
             let (_, mut held) = self.word.take(rt);
-            self.word.leave(&mut held, &mut request.competitor.place);
+            self.word.leave(&mut held, &mut request.contender.place);
             drop(self.word.put_back(rt, held));
         }
     }
+}
+
+impl<T: Drop> TakesAny<Taker> for Mutex<T> {
+    ghost all_fit = { λ _ _. tt };
 }
 
 impl<T: Drop> Debug for Mutex<T> {

@@ -6,10 +6,9 @@ mod requests;
 mod waits;
 
 pub use self::guard::{RwLockReadGuard, RwLockReadGuardArc, RwLockWriteGuard, RwLockWriteGuardArc};
-use self::requests::{Reader, Writer};
+use self::requests::Place;
 pub use self::waits::{Read, ReadArc, Write, WriteArc};
-use event_monitor::{Borrowed, Obtaining, Shared};
-use event_wait::{LineSource, Task};
+use event_wait::{Borrowed, Obtaining, Shared, Task, WakerSource};
 use event_word::{Queues, RwLockCounts, Word, is_written, readers};
 use std::alloc::{AllocError, Global};
 use std::fmt;
@@ -25,7 +24,7 @@ use std::time::Clock;
 #[derive(Drop)]
 pub struct RwLock<T> {
     word: Word<Queues<Task>, ()>,
-    source: LineSource,
+    source: WakerSource,
     // Nobody waits for this lock. Who may read or write it has been settled before, and whoever forgets a guard of it forgets
     // the right to it as well.
     value: sync::RwLock<T>,
@@ -37,7 +36,7 @@ impl<T: Drop> RwLock<T> {
     pub fn new(alloc: Global, value: T) -> Result<Self, AllocError> {
         Ok(RwLock {
             word: Word::new(alloc, 0, Queues::new(alloc), ())?,
-            source: LineSource::new(),
+            source: WakerSource::new(),
             value: sync::RwLock::new(value),
         })
     }
@@ -49,7 +48,7 @@ impl<T> RwLock<T> {
     #[must_use = "a guard that is dropped at once gives back what it holds"]
     #[inline(always)]
     pub fn try_read<'a, R: Wait + Clock>(&'a self, rt: &'a R) -> Option<RwLockReadGuard<'a, T, R>> {
-        let share = self.word.try_reader(rt)?;
+        let share = self.word.attempt(rt)?;
         Some(RwLockReadGuard::new(Borrowed { lock: self, rt }, share))
     }
 
@@ -61,7 +60,7 @@ impl<T> RwLock<T> {
         &'a self,
         rt: &'a R,
     ) -> Option<RwLockWriteGuard<'a, T, R>> {
-        let share = self.word.try_writer(rt)?;
+        let share = self.word.attempt(rt)?;
         Some(RwLockWriteGuard::new(Borrowed { lock: self, rt }, share))
     }
 
@@ -76,7 +75,7 @@ impl<T> RwLock<T> {
         T: Drop,
     {
         let lock = Arc::try_clone(this)?;
-        match lock.word.try_reader(&rt) {
+        match lock.word.attempt(&rt) {
             Some(share) => Ok(Some(RwLockReadGuardArc::new(Shared { lock, rt }, share))),
             None => Ok(None),
         }
@@ -93,7 +92,7 @@ impl<T> RwLock<T> {
         T: Drop,
     {
         let lock = Arc::try_clone(this)?;
-        match lock.word.try_writer(&rt) {
+        match lock.word.attempt(&rt) {
             Some(share) => Ok(Some(RwLockWriteGuardArc::new(Shared { lock, rt }, share))),
             None => Ok(None),
         }
@@ -102,13 +101,13 @@ impl<T> RwLock<T> {
     /// A wait for the value to be read, until no writer has it or has come before.
     #[inline(always)]
     pub fn read<'a, R: Wait + Clock>(&'a self, rt: &'a R, alloc: Global) -> Read<'a, T, R> {
-        Read::new(Obtaining::new(Borrowed { lock: self, rt }, alloc, Reader::new()))
+        Read::new(Obtaining::new(Borrowed { lock: self, rt }, alloc, Place::new()))
     }
 
     /// A wait for the value to be written, until nobody else has it.
     #[inline(always)]
     pub fn write<'a, R: Wait + Clock>(&'a self, rt: &'a R, alloc: Global) -> Write<'a, T, R> {
-        Write::new(Obtaining::new(Borrowed { lock: self, rt }, alloc, Writer::new()))
+        Write::new(Obtaining::new(Borrowed { lock: self, rt }, alloc, Place::new()))
     }
 
     /// A wait for the value to be read, by a guard that may go to another thread. It returns an error if no share of the
@@ -122,7 +121,7 @@ impl<T> RwLock<T> {
         T: Drop,
     {
         let lock = Arc::try_clone(this)?;
-        Ok(ReadArc::new(Obtaining::new(Shared { lock, rt }, alloc, Reader::new())))
+        Ok(ReadArc::new(Obtaining::new(Shared { lock, rt }, alloc, Place::new())))
     }
 
     /// A wait for the value to be written, by a guard that may go to another thread. It returns an error if no share of the
@@ -136,7 +135,7 @@ impl<T> RwLock<T> {
         T: Drop,
     {
         let lock = Arc::try_clone(this)?;
-        Ok(WriteArc::new(Obtaining::new(Shared { lock, rt }, alloc, Writer::new())))
+        Ok(WriteArc::new(Obtaining::new(Shared { lock, rt }, alloc, Place::new())))
     }
 
     /// How it stands at some moment of this call: who waits is next only once those have gone that have the value. It takes no

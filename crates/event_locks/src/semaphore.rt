@@ -1,9 +1,10 @@
 //! A semaphore.
 ghost use Rattle.std.specs.Prelude.{◌≡◌, ◌<◌, true, IfSome};
+ghost use Rattle.event_wait.specs.Rounds.{gives_what, tries_for};
 ghost use Rattle.event_wait.specs.Attempted.{Attempts, OnDone, OnRefused, OnUndone, key_of};
 ghost use Rattle.event_locks.specs.Losses.{LosesOnceAtMost};
-ghost use Rattle.event_word.specs.Competitor.{coming_of, losses_after};
-ghost use Rattle.event_word.specs.declared.line.competitor.Coming.TheVariants.{Notified};
+ghost use Rattle.event_word.specs.Contender.{coming_of, losses_after};
+ghost use Rattle.event_word.specs.declared.line.contender.Coming.TheVariants.{Notified};
 ghost use Rattle.event_word.specs.Free.{ServesTheStarving, Stands, free_of};
 ghost use Rattle.event_word.specs.Word.{HasState};
 
@@ -13,10 +14,12 @@ mod guard;
 pub use self::acquire::{Acquire, AcquireArc};
 pub use self::guard::{SemaphoreGuard, SemaphoreGuardArc};
 use crate::taker::Taker;
-use event_monitor::{Borrowed, Obtaining, Shared};
 use event_queue::{Key, TaskExchange};
-use event_wait::{Attempted, LineSource, Serves, Task, Tries};
-use event_word::{Coming, Competing, Competitor, Counts, Held, LockError, Permit, Permits, Word};
+use event_wait::{
+    Attempted, Borrowed, LockError, Obtainable, Obtaining, Shared, TakesAny, Task, Waitable,
+    WakerSource,
+};
+use event_word::{Coming, Competing, Contender, Counts, Held, Permit, Permits, Word};
 use std::alloc::{AllocError, Global};
 use std::fmt;
 use std::fmt::{Debug, Formatter};
@@ -34,7 +37,7 @@ use std::time::Clock;
 #[derive(Drop)]
 pub struct Semaphore {
     word: Word<Competing<Permits>, ()>,
-    source: LineSource,
+    source: WakerSource,
 }
 
 impl Semaphore {
@@ -47,7 +50,7 @@ impl Semaphore {
         let line = Competing::new(alloc);
         Ok(Semaphore {
             word: Word::new(alloc, permits.min(Self::MAX_PERMITS) as u64, line, ())?,
-            source: LineSource::new(),
+            source: WakerSource::new(),
         })
     }
 
@@ -155,23 +158,19 @@ impl Semaphore {
     }
 }
 
-impl Serves<Taker> for Semaphore {
+impl Waitable<Taker> for Semaphore {
     type Output = Permit;
 
     type Refusal = LockError;
 
-    ghost succeeds = { λ semaphore before permit after. (after ≡ before)
-        × (permit ≡ semaphore.word.table.shared.table_id) };
-
-    ghost waits = { λ before after. LosesOnceAtMost before.competitor after.competitor };
-
-    ghost leaves = { λ semaphore before answer after. (after ≡ before)
-        × IfSome answer (λ permit. permit ≡ semaphore.word.table.shared.table_id) };
+    ghost rules = { λ semaphore.
+        gives_what (λ permit. permit ≡ semaphore.word.table.shared.table_id)
+        (λ before after. LosesOnceAtMost before.contender after.contender) };
 
     ghost source = { λ semaphore. semaphore.source };
 
     #[inline(always)]
-    fn line_source(&self) -> &LineSource {
+    fn waker_source(&self) -> &WakerSource {
         &self.source
     }
 
@@ -183,7 +182,7 @@ impl Serves<Taker> for Semaphore {
         on: &mut C,
     ) -> Attempted<Permit, LockError> {
         let (_, mut held) = self.word.take(rt);
-        let Competitor { place, losses } = &mut request.competitor;
+        let Contender { place, losses } = &mut request.contender;
         let attempted = self.attempt_held(rt, &mut held, place, losses, exchange, on);
         drop(self.word.put_back(rt, held));
         attempted
@@ -193,7 +192,7 @@ impl Serves<Taker> for Semaphore {
         let (_, mut held) = self.word.take(rt);
         let coming = self
             .word
-            .leave(&mut held, &mut request.competitor.place)
+            .leave(&mut held, &mut request.contender.place)
             .coming();
         let permit = self.word.take_permit(rt, &mut held, coming.is_notified());
         drop(self.word.put_back(rt, held));
@@ -201,7 +200,10 @@ impl Serves<Taker> for Semaphore {
     }
 }
 
-impl Tries<Taker> for Semaphore {
+impl Obtainable<Taker> for Semaphore {
+    ghost trying = { λ semaphore.
+        tries_for (λ permit. permit ≡ semaphore.word.table.shared.table_id) };
+
     #[inline(always)]
     fn is_waiting(&self, request: &Taker) -> bool {
         request.is_waiting()
@@ -215,10 +217,14 @@ impl Tries<Taker> for Semaphore {
     fn give_up<R: Wait>(&self, rt: &R, request: &mut Taker) {
         if request.is_waiting() {
             let (_, mut held) = self.word.take(rt);
-            self.word.leave(&mut held, &mut request.competitor.place);
+            self.word.leave(&mut held, &mut request.contender.place);
             drop(self.word.put_back(rt, held));
         }
     }
+}
+
+impl TakesAny<Taker> for Semaphore {
+    ghost all_fit = { λ _ _. tt };
 }
 
 impl Debug for Semaphore {

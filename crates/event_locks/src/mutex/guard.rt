@@ -5,7 +5,7 @@ ghost use Rattle.event_word.specs.Word.{HasPlace, HasValue};
 ghost use Rattle.std.specs.Arc.{arc_value};
 
 use super::{Lent, Mutex};
-use event_monitor::{Borrowed, Shared};
+use event_wait::{Borrowed, Shared};
 use std::alloc::Global;
 use std::fmt;
 use std::fmt::{Debug, Formatter};

@@ -6,8 +6,8 @@ ghost use Rattle.event_locks.specs.Reads.{Reads};
 ghost use Rattle.event_monitor.specs.Watched.{Changes};
 
 use super::RwLock;
-use event_monitor::{Borrowed, Shared};
-use event_word::{ReadShare, WriteShare};
+use event_wait::{Borrowed, Shared};
+use event_word::{Reading, Share, Writing};
 use std::fmt;
 use std::fmt::{Debug, Formatter};
 use std::marker::Model;
@@ -15,30 +15,17 @@ use std::ops::{Deref, DerefMut};
 use std::sync::{self, Wait};
 use std::time::Clock;
 
-// Where a right to read goes back.
-struct Reading<'a, T, R> {
+// Where a right goes back.
+struct Held<'a, T, R, K> {
     hold: Borrowed<'a, RwLock<T>, R>,
-    share: ReadShare,
-    ghost own: { share ≡ hold.lock.now.word.table.shared.table_id },
-}
-
-// Where a right to write goes back.
-struct Writing<'a, T, R> {
-    hold: Borrowed<'a, RwLock<T>, R>,
-    share: WriteShare,
+    share: Share<K>,
     ghost own: { share ≡ hold.lock.now.word.table.shared.table_id },
 }
 
 // The same, with a share of the lock.
-struct ReadingArc<T, R> {
+struct HeldArc<T, R, K> {
     hold: Shared<RwLock<T>, R>,
-    share: ReadShare,
-    ghost own: { share ≡ (arc_value hold.lock).word.table.shared.table_id },
-}
-
-struct WritingArc<T, R> {
-    hold: Shared<RwLock<T>, R>,
-    share: WriteShare,
+    share: Share<K>,
     ghost own: { share ≡ (arc_value hold.lock).word.table.shared.table_id },
 }
 
@@ -46,28 +33,28 @@ struct WritingArc<T, R> {
 #[must_use = "a guard that is dropped at once ends the reading"]
 pub struct RwLockReadGuard<'a, T, R: Wait + Clock> {
     value: sync::RwLockReadGuard<'a, T>,
-    place: Reading<'a, T, R>,
+    held: Held<'a, T, R, Reading>,
 }
 
 /// The value of a read-write lock, to be written. Dropping the guard ends the writing. A contract sees the value.
 #[must_use = "a guard that is dropped at once ends the writing"]
 pub struct RwLockWriteGuard<'a, T, R: Wait + Clock> {
     value: sync::RwLockWriteGuard<'a, T>,
-    place: Writing<'a, T, R>,
+    held: Held<'a, T, R, Writing>,
 }
 
 /// The right to read the value of a read-write lock, which shares the lock and so may go to another thread. Dropping it ends the
 /// reading.
 #[must_use = "a guard that is dropped at once ends the reading"]
 pub struct RwLockReadGuardArc<T: Drop, R: Wait + Clock + Drop> {
-    place: ReadingArc<T, R>,
+    held: HeldArc<T, R, Reading>,
 }
 
 /// The right to write the value of a read-write lock, which shares the lock and so may go to another thread. Dropping it ends the
 /// writing.
 #[must_use = "a guard that is dropped at once ends the writing"]
 pub struct RwLockWriteGuardArc<T: Drop, R: Wait + Clock + Drop> {
-    place: WritingArc<T, R>,
+    held: HeldArc<T, R, Writing>,
 }
 
 impl<'a, T, R: Wait + Clock> Model for RwLockReadGuard<'a, T, R> {
@@ -88,7 +75,7 @@ impl<'a, T, R: Wait + Clock> Model for RwLockWriteGuard<'a, T, R> {
 
 impl<'a, T, R: Wait + Clock> RwLockReadGuard<'a, T, R> {
     #[inline(always)]
-    pub(crate) fn new(hold: Borrowed<'a, RwLock<T>, R>, share: ReadShare) -> Self
+    pub(crate) fn new(hold: Borrowed<'a, RwLock<T>, R>, share: Share<Reading>) -> Self
         requires { share ≡ hold.lock.now.word.table.shared.table_id }
     {
         let value = match hold.lock.value.try_read() {
@@ -97,15 +84,15 @@ impl<'a, T, R: Wait + Clock> RwLockReadGuard<'a, T, R> {
         };
         RwLockReadGuard {
             value,
-            place: Reading { hold, share },
+            held: Held { hold, share },
         }
     }
 
     /// Writes from here on, if nobody else reads and no writer waits; else the guard comes back. Where others wait it may wait
     /// for the queues. It takes no memory.
     pub fn try_upgrade(self) -> Result<RwLockWriteGuard<'a, T, R>, RwLockReadGuard<'a, T, R>> {
-        let RwLockReadGuard { value, place } = self;
-        let Reading { hold, share } = place;
+        let RwLockReadGuard { value, held } = self;
+        let Held { hold, share } = held;
         drop(value);
         match hold.lock.word.try_upgrade(hold.rt, share) {
             Ok(share) => Ok(RwLockWriteGuard::new(hold, share)),
@@ -116,7 +103,7 @@ impl<'a, T, R: Wait + Clock> RwLockReadGuard<'a, T, R> {
 
 impl<'a, T, R: Wait + Clock> RwLockWriteGuard<'a, T, R> {
     #[inline(always)]
-    pub(crate) fn new(hold: Borrowed<'a, RwLock<T>, R>, share: WriteShare) -> Self
+    pub(crate) fn new(hold: Borrowed<'a, RwLock<T>, R>, share: Share<Writing>) -> Self
         requires { share ≡ hold.lock.now.word.table.shared.table_id }
     {
         let value = match hold.lock.value.try_write() {
@@ -125,15 +112,15 @@ impl<'a, T, R: Wait + Clock> RwLockWriteGuard<'a, T, R> {
         };
         RwLockWriteGuard {
             value,
-            place: Writing { hold, share },
+            held: Held { hold, share },
         }
     }
 
     /// Reads from here on, with no writer in between. All readers that wait are let in. Where others wait it may wait for the
     /// queues.
     pub fn downgrade(self) -> RwLockReadGuard<'a, T, R> {
-        let RwLockWriteGuard { value, place } = self;
-        let Writing { hold, share } = place;
+        let RwLockWriteGuard { value, held } = self;
+        let Held { hold, share } = held;
         drop(value);
         let share = hold.lock.word.downgrade(hold.rt, share);
         RwLockReadGuard::new(hold, share)
@@ -141,11 +128,11 @@ impl<'a, T, R: Wait + Clock> RwLockWriteGuard<'a, T, R> {
 }
 
 impl<T: Drop, R: Wait + Clock + Drop> RwLockReadGuardArc<T, R> {
-    pub(crate) fn new(hold: Shared<RwLock<T>, R>, share: ReadShare) -> Self
+    pub(crate) fn new(hold: Shared<RwLock<T>, R>, share: Share<Reading>) -> Self
         requires { share ≡ (arc_value hold.lock).word.table.shared.table_id }
     {
         RwLockReadGuardArc {
-            place: ReadingArc { hold, share },
+            held: HeldArc { hold, share },
         }
     }
 
@@ -154,7 +141,7 @@ impl<T: Drop, R: Wait + Clock + Drop> RwLockReadGuardArc<T, R> {
         requires { F.IsAlwaysCallable read }
         ensures { Reads F.FnOnce read result }
     {
-        let hold = &self.place.hold;
+        let hold = &self.held.hold;
         let lock = &hold.lock.value;
         match lock.try_read() {
             Some(value) => lend(&*value, read),
@@ -164,8 +151,8 @@ impl<T: Drop, R: Wait + Clock + Drop> RwLockReadGuardArc<T, R> {
 
     /// As [`RwLockReadGuard::try_upgrade`].
     pub fn try_upgrade(self) -> Result<RwLockWriteGuardArc<T, R>, RwLockReadGuardArc<T, R>> {
-        let RwLockReadGuardArc { place } = self;
-        let ReadingArc { hold, share } = place;
+        let RwLockReadGuardArc { held } = self;
+        let HeldArc { hold, share } = held;
         match hold.lock.word.try_upgrade(&hold.rt, share) {
             Ok(share) => Ok(RwLockWriteGuardArc::new(hold, share)),
             Err(share) => Err(RwLockReadGuardArc::new(hold, share)),
@@ -174,11 +161,11 @@ impl<T: Drop, R: Wait + Clock + Drop> RwLockReadGuardArc<T, R> {
 }
 
 impl<T: Drop, R: Wait + Clock + Drop> RwLockWriteGuardArc<T, R> {
-    pub(crate) fn new(hold: Shared<RwLock<T>, R>, share: WriteShare) -> Self
+    pub(crate) fn new(hold: Shared<RwLock<T>, R>, share: Share<Writing>) -> Self
         requires { share ≡ (arc_value hold.lock).word.table.shared.table_id }
     {
         RwLockWriteGuardArc {
-            place: WritingArc { hold, share },
+            held: HeldArc { hold, share },
         }
     }
 
@@ -187,7 +174,7 @@ impl<T: Drop, R: Wait + Clock + Drop> RwLockWriteGuardArc<T, R> {
         requires { F.IsAlwaysCallable write }
         ensures { Changes F.FnOnce write result }
     {
-        let hold = &self.place.hold;
+        let hold = &self.held.hold;
         let lock = &hold.lock.value;
         match lock.try_write() {
             Some(mut value) => lend_mut(&mut *value, write),
@@ -197,8 +184,8 @@ impl<T: Drop, R: Wait + Clock + Drop> RwLockWriteGuardArc<T, R> {
 
     /// As [`RwLockWriteGuard::downgrade`].
     pub fn downgrade(self) -> RwLockReadGuardArc<T, R> {
-        let RwLockWriteGuardArc { place } = self;
-        let WritingArc { hold, share } = place;
+        let RwLockWriteGuardArc { held } = self;
+        let HeldArc { hold, share } = held;
         let share = hold.lock.word.downgrade(&hold.rt, share);
         RwLockReadGuardArc::new(hold, share)
     }
@@ -253,36 +240,36 @@ impl<T, R: Wait + Clock> DerefMut for RwLockWriteGuard<'_, T, R> {
 impl<T, R: Wait + Clock> Drop for RwLockReadGuard<'_, T, R> {
     #[inline(always)]
     fn drop(self) {
-        let RwLockReadGuard { value, place } = self;
-        let Reading { hold, share } = place;
+        let RwLockReadGuard { value, held } = self;
+        let Held { hold, share } = held;
         drop(value);
-        hold.lock.word.end_reading(hold.rt, share);
+        hold.lock.word.end(hold.rt, share);
     }
 }
 
 impl<T, R: Wait + Clock> Drop for RwLockWriteGuard<'_, T, R> {
     #[inline(always)]
     fn drop(self) {
-        let RwLockWriteGuard { value, place } = self;
-        let Writing { hold, share } = place;
+        let RwLockWriteGuard { value, held } = self;
+        let Held { hold, share } = held;
         drop(value);
-        hold.lock.word.end_writing(hold.rt, share);
+        hold.lock.word.end(hold.rt, share);
     }
 }
 
 impl<T: Drop, R: Wait + Clock + Drop> Drop for RwLockReadGuardArc<T, R> {
     fn drop(self) {
-        let RwLockReadGuardArc { place } = self;
-        let ReadingArc { hold, share } = place;
-        hold.lock.word.end_reading(&hold.rt, share);
+        let RwLockReadGuardArc { held } = self;
+        let HeldArc { hold, share } = held;
+        hold.lock.word.end(&hold.rt, share);
     }
 }
 
 impl<T: Drop, R: Wait + Clock + Drop> Drop for RwLockWriteGuardArc<T, R> {
     fn drop(self) {
-        let RwLockWriteGuardArc { place } = self;
-        let WritingArc { hold, share } = place;
-        hold.lock.word.end_writing(&hold.rt, share);
+        let RwLockWriteGuardArc { held } = self;
+        let HeldArc { hold, share } = held;
+        hold.lock.word.end(&hold.rt, share);
     }
 }
 

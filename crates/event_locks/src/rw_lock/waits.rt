@@ -4,9 +4,9 @@ ghost use Rattle.std.specs.Arc.{arc_value};
 
 use super::RwLock;
 use super::guard::{RwLockReadGuard, RwLockReadGuardArc, RwLockWriteGuard, RwLockWriteGuardArc};
-use super::requests::{Reader, Writer};
-use event_monitor::{Borrowed, Obtaining, Shared};
-use event_word::LockError;
+use super::requests::Place;
+use event_wait::{Borrowed, LockError, Obtaining, Shared};
+use event_word::{Reading, Writing};
 use futures::Future;
 use futures::task::{Context, Poll};
 use std::sync::Wait;
@@ -21,19 +21,21 @@ use std::time::{Clock, Duration, Instant};
 #[must_use = "nothing is asked for until it is waited on or polled"]
 #[derive(Drop)]
 pub struct Read<'a, T, R: Wait + Clock> {
-    obtaining: Obtaining<RwLock<T>, Reader, Borrowed<'a, RwLock<T>, R>>,
+    obtaining: Obtaining<RwLock<T>, Place<Reading>, Borrowed<'a, RwLock<T>, R>>,
 }
 
 /// A wait for the value of a read-write lock, to be read, that shares the lock and so may go to another thread; else as [`Read`].
 #[must_use = "nothing is asked for until it is waited on or polled"]
 #[derive(Drop)]
 pub struct ReadArc<T: Drop, R: Wait + Clock + Drop> {
-    obtaining: Obtaining<RwLock<T>, Reader, Shared<RwLock<T>, R>>,
+    obtaining: Obtaining<RwLock<T>, Place<Reading>, Shared<RwLock<T>, R>>,
 }
 
 impl<'a, T, R: Wait + Clock> Read<'a, T, R> {
     #[inline(always)]
-    pub(crate) fn new(obtaining: Obtaining<RwLock<T>, Reader, Borrowed<'a, RwLock<T>, R>>) -> Self {
+    pub(crate) fn new(
+        obtaining: Obtaining<RwLock<T>, Place<Reading>, Borrowed<'a, RwLock<T>, R>>,
+    ) -> Self {
         Read { obtaining }
     }
 
@@ -75,7 +77,9 @@ impl<'a, T, R: Wait + Clock> Read<'a, T, R> {
 }
 
 impl<T: Drop, R: Wait + Clock + Drop> ReadArc<T, R> {
-    pub(crate) fn new(obtaining: Obtaining<RwLock<T>, Reader, Shared<RwLock<T>, R>>) -> Self {
+    pub(crate) fn new(
+        obtaining: Obtaining<RwLock<T>, Place<Reading>, Shared<RwLock<T>, R>>,
+    ) -> Self {
         ReadArc { obtaining }
     }
 
@@ -148,19 +152,21 @@ impl<T: Drop, R: Wait + Clock + Drop> Future for ReadArc<T, R> {
 #[must_use = "nothing is asked for until it is waited on or polled"]
 #[derive(Drop)]
 pub struct Write<'a, T, R: Wait + Clock> {
-    obtaining: Obtaining<RwLock<T>, Writer, Borrowed<'a, RwLock<T>, R>>,
+    obtaining: Obtaining<RwLock<T>, Place<Writing>, Borrowed<'a, RwLock<T>, R>>,
 }
 
 /// A wait for the value of a read-write lock, to be written, that shares the lock and so may go to another thread; else as [`Write`].
 #[must_use = "nothing is asked for until it is waited on or polled"]
 #[derive(Drop)]
 pub struct WriteArc<T: Drop, R: Wait + Clock + Drop> {
-    obtaining: Obtaining<RwLock<T>, Writer, Shared<RwLock<T>, R>>,
+    obtaining: Obtaining<RwLock<T>, Place<Writing>, Shared<RwLock<T>, R>>,
 }
 
 impl<'a, T, R: Wait + Clock> Write<'a, T, R> {
     #[inline(always)]
-    pub(crate) fn new(obtaining: Obtaining<RwLock<T>, Writer, Borrowed<'a, RwLock<T>, R>>) -> Self {
+    pub(crate) fn new(
+        obtaining: Obtaining<RwLock<T>, Place<Writing>, Borrowed<'a, RwLock<T>, R>>,
+    ) -> Self {
         Write { obtaining }
     }
 
@@ -202,7 +208,9 @@ impl<'a, T, R: Wait + Clock> Write<'a, T, R> {
 }
 
 impl<T: Drop, R: Wait + Clock + Drop> WriteArc<T, R> {
-    pub(crate) fn new(obtaining: Obtaining<RwLock<T>, Writer, Shared<RwLock<T>, R>>) -> Self {
+    pub(crate) fn new(
+        obtaining: Obtaining<RwLock<T>, Place<Writing>, Shared<RwLock<T>, R>>,
+    ) -> Self {
         WriteArc { obtaining }
     }
 

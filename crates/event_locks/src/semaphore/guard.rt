@@ -3,7 +3,7 @@ ghost use Rattle.std.specs.Prelude.{◌≡◌};
 ghost use Rattle.std.specs.Arc.{arc_value};
 
 use super::Semaphore;
-use event_monitor::{Borrowed, Hold, Shared};
+use event_wait::{Borrowed, Hold, Shared};
 use event_word::Permit;
 use std::alloc::Global;
 use std::fmt;
