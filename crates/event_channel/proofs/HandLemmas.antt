@@ -9,11 +9,11 @@ use Rattle.event_wait.specs.declared.request.Attempted.TheVariants as attempted
 use Rattle.event_wait.specs.declared.lock.wait.Refused.{Refused}
 use Rattle.event_wait.specs.declared.lock.wait.Refused.TheVariants.{Memory, Request}
 use Rattle.event_wait.specs.Attempted.{LeavesBy}
-use Rattle.event_word.specs.declared.error.LockError.{LockError}
-use Rattle.event_wait.specs.Rounds.{Rounds}
+use Rattle.event_wait.specs.declared.error.LockError.{LockError}
+use Rattle.event_wait.specs.Rounds.{Rounds, Rules, Trying, Tries, Fails, Gets as GetsBy}
 use Rattle.event_history.specs.declared.history.View.{View}
 use Rattle.event_history.specs.History.{Makes}
-use Rattle.event_history.specs.Waiting.{Fails, GivesUp, IsUndone, Obtains, Tries}
+use Rattle.event_history.specs.Waiting.{GivesUp, IsUndone}
 use Rattle.event_channel.specs.declared.call.ChannelCall.{ChannelCall}
 use Rattle.event_channel.specs.declared.error.SendReason.{SendReason}
 use Rattle.event_channel.specs.declared.error.SendReason.TheVariants as reason
@@ -24,7 +24,7 @@ use Rattle.event_channel.specs.Hands.{EndsUnsent, IsVainSend, IsSend, IsSendGive
 use Rattle.event_channel.specs.Messages.{State}
 use Rattle.event_channel.specs.Requests.{GivesUpReceiving, GivesUpSending, NotRefused, ReceivesOrLeaves, ReceivesOrWaits, SendsOrLeaves, SendsOrWaits, TriesToReceive, TriesToSend}
 use Rattle.event_channel.specs.Waits.{Empties, Gets}
-use Rattle.event_channel.proofs.WaitLemmas.{Ends}
+use Rattle.event_channel.proofs.WaitLemmas.{Ends, asks, tries}
 
 module _ {S C : Type 0} (goes : S → C → S → Type 0) (starts : S → Type 0) (rests : C → List C) where
   as_well : (P R : C → Type 0) → ((c : C) → P c → R c) → (v w : View S C) → Makes goes starts rests v P w → Makes goes starts rests v R w
@@ -52,8 +52,14 @@ module _ {S C A G E : Type 0} (goes : S → C → S → Type 0) (starts : S → 
   abbrev Goes : Type 0
   Goes = Asking A × View S C
 
+  abbrev these : Rules Goes G E
+  these = asks goes starts rests attempting leaving trying giving_up succeeds leaves
+
+  abbrev tried : Trying Goes G
+  tried = tries goes starts rests attempting leaving trying giving_up succeeds leaves
+
   abbrev Tried : Goes → Goes → Type 0
-  Tried = Tries goes starts rests (λ (q : Asking A). attempting q.asked) (λ (q : Asking A). leaving q.asked) AsksOn (λ (q : Asking A). trying q.asked)
+  Tried = Tries these tried
 
   abbrev Vain : View S C → View S C → Type 0
   Vain v w = Makes goes starts rests v vain w
@@ -61,8 +67,8 @@ module _ {S C A G E : Type 0} (goes : S → C → S → Type 0) (starts : S → 
   one : (before after : Goes) → before.0.asked ≡ a → Tried before after → (after.0.asked ≡ a) × Vain before.1 after.1
   one before after is (inl round) =
       (round.0 ∙ is, as_well goes starts rests (attempting before.0.asked round.1) vain (λ c h. vain_round round.1 c round.2 (subst (λ p. attempting p round.1 c) is h)) before.1 after.1 round.3)
-  one before after is (inr tried) =
-      (ap (λ (q : Asking A). q.asked) tried.0 ∙ is, as_well goes starts rests (trying before.0.asked None) vain (λ c h. vain_try c (subst (λ p. trying p None c) is h)) before.1 after.1 tried.1)
+  one before after is (inr missed) =
+      (ap (λ (q : Asking A). q.asked) missed.0 ∙ is, as_well goes starts rests (trying before.0.asked None) vain (λ c h. vain_try c (subst (λ p. trying p None c) is h)) before.1 after.1 missed.1)
 
   all : (n : ℕ) (before after : Goes) → before.0.asked ≡ a → Rounds Tried n before after → (after.0.asked ≡ a) × Rounds Vain n before.1 after.1
   all zero before after is same = (ap (λ (g : Goes). g.0.asked) same ∙ is, ap (λ (g : Goes). g.1) same)
@@ -71,21 +77,21 @@ module _ {S C A G E : Type 0} (goes : S → C → S → Type 0) (starts : S → 
       let late = one between after earlier.0 last in
       (late.0, (between.1, earlier.1, late.1))
 
-  got : (before : Goes) (output : G) (after : Goes) → before.0.asked ≡ a → Obtains goes starts rests (λ (q : Asking A). attempting q.asked) (λ (q : Asking A). leaving q.asked) (λ (q : Asking A) (output : G) (r : Asking A). succeeds q.asked output r.asked) (λ (q : Asking A). trying q.asked) before output after → Makes goes starts rests before.1 (gets output) after.1
+  got : (before : Goes) (output : G) (after : Goes) → before.0.asked ≡ a → GetsBy these tried before output after → Makes goes starts rests before.1 (gets output) after.1
   got before output after is (inl round) =
       as_well goes starts rests (attempting before.0.asked (attempted.Done output)) (gets output) (λ c h. got_round output c (subst (λ p. attempting p (attempted.Done output) c) is h)) before.1 after.1 round.1
-  got before output after is (inr tried) =
-      as_well goes starts rests (trying before.0.asked (Some output)) (gets output) (λ c h. got_try output c (subst (λ p. trying p (Some output) c) is h)) before.1 after.1 tried.1
+  got before output after is (inr gave) =
+      as_well goes starts rests (trying before.0.asked (Some output)) (gets output) (λ c h. got_try output c (subst (λ p. trying p (Some output) c) is h)) before.1 after.1 gave.1
 
   abbrev Both : C → Type 0
   Both c = vain c ⊎ over c
 
-  failed : (before between : Goes) (error : Refused E) (after : Goes) → between.0.asked ≡ a → MakesSome goes starts rests before.1 Both between.1 → Fails goes starts rests (λ (q : Asking A). attempting q.asked) (λ (q : Asking A). leaving q.asked) between error after → (after.0.asked ≡ a) × MakesSome goes starts rests before.1 Both after.1
+  failed : (before between : Goes) (error : Refused E) (after : Goes) → between.0.asked ≡ a → MakesSome goes starts rests before.1 Both between.1 → Fails these between error after → (after.0.asked ≡ a) × MakesSome goes starts rests before.1 Both after.1
   failed before between Memory after is some same =
       (ap (λ (g : Goes). g.0.asked) same ∙ is, subst (λ (g : Goes). MakesSome goes starts rests before.1 Both g.1) (sym same) some)
-  failed before between (Request error) after is some (same, inl refused) =
+  failed before between (Request error) after is some (inl (same, refused)) =
       (ap (λ (q : Asking A). q.asked) same ∙ is, more goes starts rests Both before.1 between.1 after.1 some (as_well goes starts rests (attempting between.0.asked (attempted.Refused error)) Both (λ c h. inr (refused_round error c (subst (λ p. attempting p (attempted.Refused error) c) is h))) between.1 after.1 refused))
-  failed before between (Request error) after is some (same, inr refused) =
+  failed before between (Request error) after is some (inr (same, refused)) =
       (ap (λ (q : Asking A). q.asked) same ∙ is, more goes starts rests Both before.1 between.1 after.1 some (as_well goes starts rests (leaving between.0.asked (Err error)) Both (λ c h. inr (refused_leaving error c (subst (λ p. leaving p (Err error) c) is h))) between.1 after.1 refused))
 
   gave_up : (before between after : Goes) → between.0.asked ≡ a → MakesSome goes starts rests before.1 Both between.1 → GivesUp goes starts rests HasPlace (λ (q : Asking A). giving_up q.asked) between after → MakesSome goes starts rests before.1 Both after.1

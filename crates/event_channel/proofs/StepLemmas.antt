@@ -8,7 +8,7 @@ use Rattle.event_queue.specs.declared.reply.ListenError.{ListenError}
 use Rattle.event_queue.specs.declared.reply.ListenError.TheVariants.{Memory}
 use Rattle.event_queue.specs.Queue.{Queue}
 use Rattle.event_history.specs.History.{RestsOn}
-use Rattle.event_word.specs.Line.{WaitsBy}
+use Rattle.event_wait.specs.Line.{WaitsBy}
 use Rattle.event_wait.specs.declared.request.Attempted.TheVariants.{Done, Waits, Absent, Refused}
 use Rattle.event_channel.specs.declared.call.ChannelCall.{ChannelCall}
 use Rattle.event_channel.specs.declared.call.ChannelCall.TheVariants as call

@@ -6,10 +6,10 @@ use Rattle.event_wait.specs.declared.request.Attempted.{Attempted}
 use Rattle.event_wait.specs.declared.lock.wait.Refused.{Refused}
 use Rattle.event_wait.specs.declared.lock.wait.Refused.TheVariants.{Memory, Request}
 use Rattle.event_wait.specs.Attempted.{LeavesBy}
-use Rattle.event_wait.specs.Rounds.{SomeRounds}
+use Rattle.event_wait.specs.Rounds.{Rules, Trying, SomeRounds, Tries, Gets as GetsBy, Fails}
 use Rattle.event_wait.proofs.RoundLemmas.{some_keep}
 use Rattle.event_history.specs.declared.history.View.{View}
-use Rattle.event_history.specs.Waiting.{EndsObtaining, Fails, GivesUp, Obtains, Tries}
+use Rattle.event_history.specs.Waiting.{EndsObtaining, GivesUp, by_hand, tried_by_hand}
 use Rattle.event_queue.specs.declared.key.Key.{Key}
 use Rattle.event_queue.specs.declared.reply.ListenError.{ListenError}
 use Rattle.event_channel.specs.declared.call.ChannelCall.{ChannelCall}
@@ -23,9 +23,18 @@ use Rattle.event_channel.specs.Waits.{Empties, Gets}
 
 -- of one that asks for this, with any key
 module _ {S C A G E : Type 0} (goes : S → C → S → Type 0) (starts : S → Type 0) (rests : C → List C) (attempting : A → Attempted G E → C → Type 0) (leaving : A → Result (Option G) E → C → Type 0)
-    (trying : A → Option G → C → Type 0) (giving_up : A → C → Type 0) (succeeds : A → G → A → Type 0) (leaves : A → Option G → A → Type 0) (may_end : Type 0) where
-  abbrev pub Ends : Asking A × View S C → Result (Option G) (Refused E) → Asking A × View S C → Type 0
-  Ends = EndsObtaining goes starts rests (λ (q : Asking A). attempting q.asked) (λ (q : Asking A). leaving q.asked) AsksOn (λ (q : Asking A) (output : G) (r : Asking A). succeeds q.asked output r.asked)
+    (trying : A → Option G → C → Type 0) (giving_up : A → C → Type 0) (succeeds : A → G → A → Type 0) (leaves : A → Option G → A → Type 0) where
+  -- what the lock says of it
+  abbrev pub asks : Rules (Asking A × View S C) G E
+  asks = by_hand goes starts rests (λ (q : Asking A). attempting q.asked) (λ (q : Asking A). leaving q.asked) AsksOn (λ (q : Asking A) (output : G) (r : Asking A). succeeds q.asked output r.asked)
+      (λ (q : Asking A) (answer : Option G) (r : Asking A). leaves q.asked answer r.asked)
+
+  abbrev pub tries : Trying (Asking A × View S C) G
+  tries = tried_by_hand goes starts rests (λ (q : Asking A). attempting q.asked) (λ (q : Asking A). leaving q.asked) (λ (q : Asking A) (output : G) (r : Asking A). succeeds q.asked output r.asked)
+      (λ (q : Asking A). trying q.asked) HasPlace (λ (q : Asking A). giving_up q.asked)
+
+  abbrev pub Ends : Type 0 → Asking A × View S C → Result (Option G) (Refused E) → Asking A × View S C → Type 0
+  Ends may_end = EndsObtaining goes starts rests (λ (q : Asking A). attempting q.asked) (λ (q : Asking A). leaving q.asked) AsksOn (λ (q : Asking A) (output : G) (r : Asking A). succeeds q.asked output r.asked)
       (λ (q : Asking A) (answer : Option G) (r : Asking A). leaves q.asked answer r.asked) may_end (λ (q : Asking A). trying q.asked) HasPlace (λ (q : Asking A). giving_up q.asked)
 
 module _ {S C A G E : Type 0} (goes : S → C → S → Type 0) (starts : S → Type 0) (rests : C → List C) (attempting : A → Attempted G E → C → Type 0) (leaving : A → Result (Option G) E → C → Type 0)
@@ -33,25 +42,30 @@ module _ {S C A G E : Type 0} (goes : S → C → S → Type 0) (starts : S → 
   abbrev Goes : Type 0
   Goes = Asking A × View S C
 
+  abbrev these : Rules Goes G E
+  these = asks goes starts rests attempting leaving trying giving_up succeeds (LeavesBy succeeds)
+
+  abbrev tried : Trying Goes G
+  tried = tries goes starts rests attempting leaving trying giving_up succeeds (LeavesBy succeeds)
+
   abbrev Tried : Goes → Goes → Type 0
-  Tried = Tries goes starts rests (λ (q : Asking A). attempting q.asked) (λ (q : Asking A). leaving q.asked) AsksOn (λ (q : Asking A). trying q.asked)
+  Tried = Tries these tried
 
   kept_once : (before after : Goes) → Tried before after → after.0.asked ≡ before.0.asked
   kept_once before after (inl round) = round.0
-  kept_once before after (inr tried) = ap (λ (q : Asking A). q.asked) tried.0
+  kept_once before after (inr missed) = ap (λ (q : Asking A). q.asked) missed.0
 
   same : (before after : Goes) → SomeRounds Tried before after → after.0.asked ≡ before.0.asked
   same before after some = some_keep Tried A (λ g. g.0.asked) kept_once before after some
 
-  obtained : (before : Goes) (output : G) (after : Goes)
-      → Obtains goes starts rests (λ (q : Asking A). attempting q.asked) (λ (q : Asking A). leaving q.asked) (λ (q : Asking A) (output : G) (r : Asking A). succeeds q.asked output r.asked) (λ (q : Asking A). trying q.asked) before output after
-      → succeeds before.0.asked output after.0.asked
+  obtained : (before : Goes) (output : G) (after : Goes) → GetsBy these tried before output after → succeeds before.0.asked output after.0.asked
   obtained before output after (inl got) = got.0
   obtained before output after (inr got) = got.0
 
-  failed : (before : Goes) (error : Refused E) (after : Goes) → Fails goes starts rests (λ (q : Asking A). attempting q.asked) (λ (q : Asking A). leaving q.asked) before error after → after.0.asked ≡ before.0.asked
+  failed : (before : Goes) (error : Refused E) (after : Goes) → Fails these before error after → after.0.asked ≡ before.0.asked
   failed before Memory after same = ap (λ (g : Goes). g.0.asked) same
-  failed before (Request error) after refused = ap (λ (q : Asking A). q.asked) refused.0
+  failed before (Request error) after (inl refused) = ap (λ (q : Asking A). q.asked) refused.0
+  failed before (Request error) after (inr stayed) = ap (λ (q : Asking A). q.asked) stayed.0
 
   gave_up : (before after : Goes) → GivesUp goes starts rests HasPlace (λ (q : Asking A). giving_up q.asked) before after → after.0.asked ≡ before.0.asked
   gave_up before after left = by before.0.key refl

@@ -3,7 +3,7 @@ use Rattle.std.proofs.Common.{ap, sym, length, [], ◌∷◌, Option, Some, Ok}
 use Rattle.std.specs.List.{FoldsTo}
 use Rattle.event_queue.proofs.TellingLemmas.{FoldsTo-append}
 use Rattle.event_queue.specs.declared.key.Key.{Key}
-use Rattle.event_word.specs.Line.{woken_by_leaving}
+use Rattle.event_wait.specs.Line.{woken_by_leaving}
 use Rattle.event_wait.specs.declared.request.Attempted.TheVariants.{Done}
 use Rattle.event_channel.specs.Messages.{State, room_in}
 use Rattle.event_channel.specs.Steps.{KeepsAllButReceivers, KeepsAllButSenders, KeepsAllButStreams, Pushes, Takes, woken_by_pushing, woken_by_taking}

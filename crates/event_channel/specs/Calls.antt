@@ -1,7 +1,7 @@
 -- What each call does to the state under a channel's lock.
 use Rattle.std.specs.Prelude.{◌≡◌, ◌↔◌, ℕ, Bool, true, false, IsTrue, List, [], ◌∷◌, length, Option, Some, None, Result, Ok, Err}
 use Rattle.event_queue.specs.declared.key.Key.{Key}
-use Rattle.event_word.specs.Line.{LeavesThenTells}
+use Rattle.event_wait.specs.Line.{LeavesThenTells}
 use Rattle.event_channel.specs.declared.call.ChannelCall.{ChannelCall}
 use Rattle.event_channel.specs.declared.call.ChannelCall.TheVariants as call
 use Rattle.event_channel.specs.declared.error.SendError.{SendError}

@@ -1,6 +1,6 @@
 -- What each call does to the messages.
 use Rattle.std.specs.Prelude.{◌≡◌, ℕ, ◌<◌, ◌++◌, List, [], ◌∷◌, Option, Some, None, true, false, length}
-use Rattle.event_word.specs.Line.{TellsUpTo, TellsAll, or_more, woken_up_to, woken_at_once}
+use Rattle.event_wait.specs.Line.{TellsUpTo, TellsAll, or_more, woken_up_to, woken_at_once}
 use Rattle.event_channel.specs.Messages.{State, IsFull, IsBounded, room_in}
 use Rattle.event_channel.specs.declared.error.SendReason.{SendReason}
 use Rattle.event_channel.specs.declared.error.SendReason.TheVariants.{Closed, Full, TimedOut, Memory, WaitFailed}

@@ -3,7 +3,7 @@ use Rattle.std.specs.Prelude.{◌≡◌, List, [], ◌∷◌, ◌++◌, Option, 
 use Rattle.event_queue.specs.declared.key.Key.{Key}
 use Rattle.event_queue.specs.declared.reply.ListenError.{ListenError}
 use Rattle.event_queue.specs.Queue.{Queue}
-use Rattle.event_word.specs.Line.{LeavesThenTells, WaitsBy, CannotWait, woken_by_leaving}
+use Rattle.event_wait.specs.Line.{LeavesThenTells, WaitsBy, CannotWait, woken_by_leaving}
 use Rattle.event_wait.specs.declared.request.Attempted.{Attempted}
 use Rattle.event_wait.specs.declared.request.Attempted.TheVariants.{Done, Waits, Absent, Refused}
 use Rattle.event_channel.specs.Errors.{IsUnsent}

@@ -3,7 +3,7 @@ ghost use Rattle.event_channel.specs.Calls.{calls, is_new, rests_on_none};
 
 use crate::error::{SendReason, TryRecvError};
 use crate::messages::Messages;
-use event_history::{Hand, Resting, Steps};
+use event_history::{Hand, IdleHand, Steps};
 use event_queue::{Key, ListenError};
 use event_wait::{Attempted, Task};
 use std::collections::LinkedList;
@@ -13,7 +13,7 @@ use std::collections::LinkedList;
 pub type ChannelHand<T> = Hand<Messages<T, Task>, ChannelCall<T>>;
 
 // The hand of one that waits, between its calls.
-pub(crate) type RestingHand<T> = Resting<Messages<T, Task>, ChannelCall<T>>;
+pub(crate) type RestingHand<T> = IdleHand<Messages<T, Task>, ChannelCall<T>>;
 
 /// A call on the state under a channel's lock, with its reply. No value of it is made when a program runs.
 ///

@@ -14,8 +14,7 @@ use crate::sending::Sending;
 use crate::steps::{Close, IsClosed, IsFull, Len, Push, PushForced};
 use event_history::{Lock, perform};
 use event_queue::ListenError;
-use event_wait::{Limit, Refused, Task, Waking};
-use event_word::LockError;
+use event_wait::{DeferredWake, Limit, LockError, Refused, Task};
 use std::alloc::{AllocError, Global};
 use std::marker::Model;
 use std::sync::atomic::{AtomicUsize, Ordering};
@@ -120,7 +119,7 @@ impl<T: Drop> Channel<T> {
         ensures returned { IfErr result (λ error. error.message ≡ message) }
         ensures reason { IfErr result (λ error. IsUnsentAtOnce error.reason) }
     {
-        let mut waking = Waking::new();
+        let mut waking = DeferredWake::new();
         let answer = perform!(self.lock, rt, hand, Push { message }, &mut waking);
         waking.finish_seldom();
         answer
@@ -140,7 +139,7 @@ impl<T: Drop> Channel<T> {
         ensures returned { IfErr result (λ error. error.message ≡ message) }
         ensures reason { IfErr result (λ error. IsUnsent error.reason) }
     {
-        let mut waking = Waking::new();
+        let mut waking = DeferredWake::new();
         let answer = perform!(self.lock, rt, hand, PushForced { message }, &mut waking);
         waking.finish_seldom();
         answer

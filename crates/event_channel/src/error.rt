@@ -1,7 +1,7 @@
 //! Why a message was not sent, or none received.
 ghost use Rattle.std.specs.Prelude.{◌≡◌, ◌↔◌, IsTrue};
 
-use event_word::LockError;
+use event_wait::LockError;
 use std::error::Error;
 use std::fmt;
 use std::fmt::{Debug, Display, Formatter};

@@ -4,7 +4,7 @@ ghost use Rattle.event_channel.specs.Iter.{iter_left, try_iter_left};
 
 use crate::error::RecvError;
 use crate::receiver::Receiver;
-use event_word::LockError;
+use event_wait::LockError;
 use std::fmt;
 use std::fmt::{Debug, Formatter};
 use std::sync::{Forever, Wait};

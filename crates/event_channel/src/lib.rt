@@ -2,6 +2,9 @@
 //!
 //! [`bounded`] makes a channel in which a given number of messages wait at most, [`unbounded`] one without a limit. Both return a
 //! [`Sender`] and a [`Receiver`], which are shared by clones.
+//!
+//! Read `messages.rt` first, the state under the lock, then `sending.rt` and `receiving.rt`, the requests of both sides,
+//! `channel.rt`, `sender.rt` and `receiver.rt`.
 #![tactic(auto)]
 
 mod call;
@@ -21,7 +24,7 @@ mod steps;
 pub use call::{ChannelCall, ChannelHand};
 pub use channel::ChannelError;
 pub use error::{RecvError, RecvTimeoutError, SendError, SendReason, TryRecvError};
-pub use event_word::LockError;
+pub use event_wait::LockError;
 pub use iter::{Iter, TryIter};
 pub use laws::{capacity_is_kept, sent_is_received_in_order};
 pub use messages::{Messages, received_in_order};

@@ -2,7 +2,7 @@
 ghost use Rattle.std.specs.Prelude.{◌≡◌, ◌+◌, ◌-◌, ◌<◌, ◌≤◌, ◌↔◌, min, true, false, [], ◌∷◌, ◌++◌, take, drop, length, vec_len, vec_capacity, IfOk, IfErr, OnErr, IsTrue, IsFalse};
 ghost use Rattle.std.specs.List.{FoldsTo};
 ghost use Rattle.std.specs.VecDeque.{deque_capacity};
-ghost use Rattle.event_word.specs.Line.{TellsAll, TellsUpTo, or_more, woken_up_to, woken_at_once};
+ghost use Rattle.event_wait.specs.Line.{TellsAll, TellsUpTo, or_more, woken_up_to, woken_at_once};
 ghost use Rattle.event_channel.specs.Errors.{IsUnsent, IsUnsentAtOnce};
 ghost use Rattle.event_channel.specs.Messages.{NobodyWaitsInVain, IsFull, limit_of, new_state, room_in};
 ghost use Rattle.event_channel.specs.Order.{IsReceivedInOrder};
@@ -12,7 +12,7 @@ mod waits;
 
 use crate::error::{SendError, SendReason, TryRecvError};
 use event_queue::{List, WakeSink};
-use event_word::waiters::{tell_all, tell_more};
+use event_wait::waiters::{tell_all, tell_more};
 use std::alloc::{AllocError, AllocFailed, Global};
 use std::collections::VecDeque;
 use std::marker::Model;

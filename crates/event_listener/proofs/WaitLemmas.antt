@@ -5,7 +5,7 @@ use Rattle.event_queue.specs.declared.key.Key.{Key}
 use Rattle.event_queue.specs.declared.reply.RegisterResult.TheVariants as register
 use Rattle.event_queue.specs.declared.reply.State.{State}
 use Rattle.event_queue.specs.declared.reply.State.TheVariants as state
-use Rattle.event_wait.specs.Rounds.{Rounds}
+use Rattle.event_wait.specs.Rounds.{Rounds, Rules, Fails}
 use Rattle.event_wait.specs.declared.lock.task.Task.{Task}
 use Rattle.event_wait.specs.declared.lock.wait.Refused.{Refused}
 use Rattle.event_wait.specs.declared.lock.wait.Refused.TheVariants.{Memory, Request}
@@ -65,13 +65,17 @@ module _ (T E R : Type 0) where
       let round = one_round key waited.0 after most.0 last.1 last.2 last.3 in
       (ap (λ (p : Place). p.key) last.0 ∙ most.0, (waited.0.1, most.1, round), own_stored key waited.0.1 after.1 register.Registered round.0 round.1 round.2 refl most.2)
 
+  -- what the lock says of its request
+  abbrev asks : Rules (Goes T) (Result T E) R
+  asks = waiting.by_hand calls is_empty rests_on attempting leaving Same (λ before output after. after ≡ before) (λ before left after. after ≡ before)
+
   abbrev Ends : Type 0 → Goes T → Result (Option (Result T E)) (Refused R) → Goes T → Type 0
   Ends may_end = waiting.EndsWait calls is_empty rests_on attempting leaving Same (λ before output after. after ≡ before) (λ before left after. after ≡ before) may_end
 
   -- it is never refused
-  never : (before : Goes T) (error : R) (after : Goes T) → waiting.IsRefused calls is_empty rests_on attempting leaving before error after → ⊥
-  never before error after (same, inl made) = made.1
-  never before error after (same, inr made) = made.1
+  never : (before : Goes T) (error : R) (after : Goes T) → Fails asks before (Request error) after → ⊥
+  never before error after (inl refused) = refused.1.1
+  never before error after (inr stayed) = stayed.1.1
 
   -- how it ends
   pub waits_by : (may_end : Type 0) (key : Key) (before after : Goes T) → before.0.key ≡ key → OwnsListener key before.1.mine → (waited : Result (Option (Result T E)) (Refused R)) → Ends may_end before waited after

@@ -11,7 +11,7 @@ use crate::listener::EventListener;
 use event_history::steps::{Counts, Insert, Notify};
 use event_history::{Hand, Lock, QueueCall, perform_first};
 use event_queue::{IntoNotification, List, ListenError, NotifyError};
-use event_wait::{Task, Waking};
+use event_wait::{DeferredWake, Task};
 pub use hand::EventHand;
 pub use identity::{EventId, EventIds, IdsUsedUp, given_numbers_are_distinct};
 use std::alloc::{AllocError, Global};
@@ -197,7 +197,7 @@ impl<T> Event<T> {
         let Some(shared) = self.shared.get() else {
             return Ok(0);
         };
-        let mut waking = Waking::new();
+        let mut waking = DeferredWake::new();
         let step = Notify { notification };
         let (hand, (_, told)) = perform_first!(
             shared,

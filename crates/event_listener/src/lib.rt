@@ -7,7 +7,8 @@
 //! A call that may wait for the lock takes the runtime value, and a call that may allocate takes the allocator. A
 //! listener keeps a clone of the runtime value for its own calls.
 //!
-//! The queue itself is the crate `event_queue`. Its public names are exported here too.
+//! The queue itself is the crate `event_queue`. Its public names are exported here too. Read `event.rt` first, then
+//! `listener/queue_listener.rt` and `listener/place.rt`; of events that record `recorded/step.rt` and `recorded/event.rt`.
 //!
 //! The examples below are in the crate `example_events`, where they are proved.
 //!

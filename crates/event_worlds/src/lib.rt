@@ -4,7 +4,7 @@
 //! A client of a lock goes from [`Place`] to place, by what it learns: [`Place::after`] is its whole table. A
 //! [`MutexWorld`] is a lock with its clients, in any number, each step of whom is one call; a [`SemaphoreWorld`] is a
 //! lock of several permits, whose clients go by the same table, and so do the senders and the receivers of a
-//! [`ChannelWorld`].
+//! [`ChannelWorld`]. Read `world/place.rt` first, then `world/mutex.rt`.
 #![tactic(auto)]
 
 pub mod world;

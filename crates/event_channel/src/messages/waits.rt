@@ -1,7 +1,7 @@
 //! One that sends or receives, and waits where it can't.
 ghost use Rattle.std.specs.Prelude.{◌≡◌, None, Some, length};
 ghost use Rattle.std.specs.List.{FoldsTo};
-ghost use Rattle.event_word.specs.Line.{LeavesThenTells, woken_by_leaving};
+ghost use Rattle.event_wait.specs.Line.{LeavesThenTells, woken_by_leaving};
 ghost use Rattle.event_wait.specs.Attempted.{Attempts, OnDone, OnRefused, OnUndone};
 ghost use Rattle.event_channel.specs.Messages.{room_in};
 ghost use Rattle.event_channel.specs.Steps.{KeepsAllButSenders, KeepsAllButReceivers, KeepsAllButStreams};
@@ -11,7 +11,7 @@ use super::Messages;
 use crate::error::{SendReason, TryRecvError};
 use event_queue::{Key, ListenError, TaskExchange, WakeSink};
 use event_wait::Attempted;
-use event_word::waiters::{leave_then_tell, wait_in_line};
+use event_wait::waiters::{leave_then_tell, wait_in_line};
 
 // Puts back what was taken out.
 pub(crate) fn put_back<T>(slot: &mut Option<T>, value: T)

@@ -4,7 +4,9 @@ use Rattle.std.specs.Option.{option_transpose}
 use Rattle.std.proofs.lemmas.List.{append-nil, append_assoc, replicate_more}
 use Rattle.std.proofs.Math.Numerals.{suc-eq-add-one}
 use Rattle.event_queue.specs.declared.key.Key.{Key}
-use Rattle.event_wait.specs.Rounds.{Rounds, Waits}
+use Rattle.event_wait.specs.declared.lock.wait.Refused.{Refused}
+use Rattle.event_wait.specs.declared.lock.wait.Refused.TheVariants.{Memory, Request}
+use Rattle.event_wait.specs.Rounds.{Rules, Rounds, Fails, Waits, of_any}
 use Rattle.event_listener.specs.declared.listener.wait_error.WaitError.{WaitError}
 use Rattle.event_listener.specs.declared.listener.wait_error.WaitError.TheVariants as wait
 use Rattle.event_listener.specs.declared.recorded.hand.Note.{Note}
@@ -48,8 +50,18 @@ module _ {T : Type 0} where
     returned listener (Ok answer) = answered (option_transpose answer)
     returned listener (Err refused) = Err (wait.Memory listener)
 
-    pub noted_wait : (may_end : Type 0) (before : RecordedPlace T) (listener : RecordedListening) (result : Result (Option (Result T E)) R) (after : RecordedPlace T)
-        → before.key ≡ listener.key → Waits WaitsOn Succeeds Leaves may_end before result after
+  module _ (E : Type 0) {R : Type 0} where
+    -- what the lock says of a listener that waits
+    abbrev asks : Rules (RecordedPlace T) (Result T E) R
+    asks = of_any Succeeds WaitsOn Leaves
+
+    where_it_was : (before : RecordedPlace T) (error : Refused R) (after : RecordedPlace T) → Fails asks before error after → after ≡ before
+    where_it_was before Memory after same = same
+    where_it_was before (Request error) after (inl same) = same
+    where_it_was before (Request error) after (inr same) = same
+
+    pub noted_wait : (may_end : Type 0) (before : RecordedPlace T) (listener : RecordedListening) (result : Result (Option (Result T E)) (Refused R)) (after : RecordedPlace T)
+        → before.key ≡ listener.key → Waits asks may_end before result after
         → NotesWait may_end listener before.hand (returned listener result) after.hand
     noted_wait may_end before listener (Ok (Some (Ok tag))) after key (inl round) =
         let earlier = noted_rounds round.waited.0 before round.between round.waited.1 in
@@ -79,7 +91,8 @@ module _ {T : Type 0} where
         let earlier = noted_rounds (suc late.waited.0) before late.between late.waited.1 in
         let last = rw (earlier.0, earlier.1, key) at late.left.1 in
         record { rounds = suc late.waited.0; last = _; notes = last; ended = inr (record { has_deadline = late.has_limit; registered = omega arith; removal = refl }) }
-    noted_wait may_end before listener (Err refused) after key some =
-        let earlier = noted_rounds some.0 before after some.1 in
-        let last = rw (key) at earlier.1 in
+    noted_wait may_end before listener (Err refused) after key failed =
+        let some = failed.1 in
+        let earlier = noted_rounds some.0 before failed.0 some.1 in
+        let last = rw (key) at (ap (λ place. place.hand) (where_it_was failed.0 refused after failed.2) ∙ earlier.1) in
         record { rounds = some.0; last = []; notes = rw (append-nil (before.hand.notes ++ replicate some.0 (still_waiting listener.key))) last; ended = (refl, refl) }

@@ -13,7 +13,7 @@ use crate::listener::{EventListener, Hold, QueueListener, WaitError};
 use event_history::perform;
 use event_history::steps::{Counts, Insert, Notify};
 use event_queue::{IntoNotification, ListenError, NotifyError};
-use event_wait::{Limit, Waking};
+use event_wait::{DeferredWake, Limit};
 use std::alloc::{AllocError, Global};
 use std::marker::Model;
 use std::sync::{Arc, Wait};
@@ -97,7 +97,7 @@ impl<T> EventHand<T> {
         let step = Notify {
             notification: n.into_notification(),
         };
-        let mut waking = Waking::new();
+        let mut waking = DeferredWake::new();
         let (_, told) = perform!(
             self.shared,
             rt,

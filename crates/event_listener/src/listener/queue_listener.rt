@@ -19,9 +19,9 @@ use super::polled::poll_of;
 use super::{Listener, NeverInserted, WaitError, WaitReason};
 use crate::event::{Event, EventHand, QueueHand, Shared};
 use event_history::steps::{Register, RegisterWith, Remove};
-use event_history::{QueueCall, Resting, perform};
+use event_history::{IdleHand, QueueCall, perform};
 use event_queue::{Key, List, State};
-use event_wait::{Limit, Task, Waking};
+use event_wait::{DeferredWake, Limit, Task};
 use futures::Future;
 use futures::task::{Context, Poll, Waker};
 use std::alloc::Global;
@@ -51,7 +51,7 @@ pub type StackListener<'ev, T, R> = QueueListener<T, &'ev Shared<T>, R>;
 pub struct QueueListener<T, H: Hold<T>, R: Wait + Clock + Clone> {
     held: H,
     membership: Membership,
-    hand: Resting<List<T, Task>, QueueCall<T, Task>>,
+    hand: IdleHand<List<T, Task>, QueueCall<T, Task>>,
     event_number: u64,
     runtime: R,
     alloc: Global,
@@ -258,7 +258,7 @@ impl<T, H: Hold<T>, R: Wait + Clock + Clone> QueueListener<T, H, R> {
             propagate,
         };
         // It wakes somebody only if a notification is propagated.
-        let mut waking = Waking::new();
+        let mut waking = DeferredWake::new();
         let former = perform!(
             held.queue(),
             &runtime,
@@ -349,7 +349,7 @@ impl<T: Drop, H: Hold<T> + Drop, R: Wait + Clock + Clone> Listener<T> for QueueL
         let lock = self.held.queue();
         let step = RegisterWith {
             key: self.membership.key(),
-            exchange: lock.line_source(),
+            exchange: lock.waker_source(),
         };
         let mut hand = self.hand.take();
         let found = perform!(lock, &self.runtime, hand, step, cx, |step, queue, on| {
