@@ -1,15 +1,8 @@
 //! What the tests share.
 use event_channel::{Receiver, Sender, bounded, unbounded};
 use std::fmt::Debug;
-use std::marker::Send;
 use std::process::Abort;
-use std::thread::Threads;
-pub use test_support::Runtime;
-
-/// What tests with threads ask of a runtime value.
-pub trait SharedRuntime: Runtime + Threads + Sync + Send {}
-
-impl<R: Runtime + Threads + Sync + Send> SharedRuntime for R {}
+pub use test_support::{Runtime, SharedRuntime};
 
 /// The answer is the expected one. Where it is not, the message has both, and what was asked. The assertion stands here
 /// once, in a generic function, and is proved once.

@@ -3,12 +3,8 @@ use event_listener::{EventId, EventIds};
 use futures::test::MockTask;
 use std::alloc::AllocGlobal;
 use std::fmt::Debug;
-use std::io;
 use std::process::Abort;
-use std::sync::atomic::{AtomicU64, Ordering};
-use std::time::{Clock, Duration};
-use test_queue_memory::{Budget, Hog};
-use test_support::Change;
+use test_queue_memory::{Budget, Hog, Starved};
 pub use test_support::Runtime;
 
 /// What is compared.
@@ -32,27 +28,6 @@ pub fn new_task<R: Runtime>(rt: &R) -> MockTask {
     MockTask::new(rt).expect(rt, "a task")
 }
 
-/// A clock that shows a second more each time it is read: a wait of one and a half looks at it, waits, and is over.
-#[derive(Drop)]
-pub struct Ticks {
-    reads: AtomicU64,
-}
-
-impl Ticks {
-    /// A clock that begins at zero.
-    pub fn new() -> Self {
-        let reads = AtomicU64::new(0);
-        Ticks { reads }
-    }
-}
-
-impl Change for Ticks {
-    fn read<C: Clock>(&self, _rt: &C) -> io::Result<Duration> {
-        let reads = self.reads.fetch_add(1, Ordering::SeqCst);
-        Ok(Duration::from_secs(reads))
-    }
-}
-
 /// All memory.
 pub fn all_memory<R: Abort + AllocGlobal>(rt: &R) -> Hog {
     Hog::new(rt.alloc()).expect(rt, "all memory")
@@ -68,21 +43,21 @@ pub fn leave<R: Abort>(rt: &R, budget: &mut Budget, bytes: usize) {
     budget.leave(bytes).expect(rt, "so much of the reserve");
 }
 
-/// A call that is made with little memory.
-pub trait Starved {
-    /// Makes the call on something new with so many bytes, and answers whether it was granted. Where it was refused, it has
-    /// looked at what stands.
-    fn is_granted(&self, budget: &mut Budget, bytes: usize) -> bool;
-}
-
 /// Makes the call with no memory, and with more each time until it is granted, so that each of its requests is refused in
 /// its turn. Answers how often it was refused.
 pub fn count_refused<S: Starved, R: Abort + AllocGlobal>(rt: &R, call: &S) -> usize {
     let mut budget = new_budget(rt);
-    for (refused, bytes) in (0..).zip((0..Budget::MOST).step_by(Budget::STEP)) {
-        if call.is_granted(&mut budget, bytes) {
-            return refused;
-        }
+    match budget.count_refused(call) {
+        Some(refused) => refused,
+        None => panic!(rt; "no budget serves"),
     }
-    panic!(rt; "no budget serves")
+}
+
+/// Does it so often that it would run out of memory if each time left a few bytes behind.
+pub fn comes_back<F: Fn(), R: Abort + AllocGlobal>(rt: &R, make_and_drop: F)
+    requires { F.IsAlwaysCallable make_and_drop }
+{
+    let mut budget = new_budget(rt);
+    let done = budget.do_often(make_and_drop);
+    done.expect(rt, "so much of the reserve");
 }

@@ -1,5 +1,5 @@
-//! All memory of a process, taken for real by a [`Hog`] or, but for a reserve, by a [`Budget`]; hooks that refuse it to calls
-//! of texts; and tests of `event_queue`, of what no clause says.
+//! All memory of a process, taken for real by a [`Hog`] or, but for a reserve, by a [`Budget`]; calls that are made with little
+//! ([`Starved`]); hooks that refuse it to calls of texts; and tests of `event_queue`, of what no clause says.
 //!
 //! - `hooks`: [`Refusing`] refuses each request for memory in its turn, [`Starving`] each that must not be made.
 //! - `memory`: a hog refuses every request until it is dropped; a budget grants what it says, and no more.
@@ -21,9 +21,11 @@ mod hooks;
 mod memory;
 #[cfg(test)]
 mod queue;
+mod starved;
 #[cfg(test)]
 mod support;
 
 pub use budget::Budget;
 pub use hog::Hog;
 pub use hooks::{Calls, Refusing, Stage, Starving, Wrong};
+pub use starved::Starved;

@@ -2,6 +2,7 @@
 use std::alloc::AllocError;
 use std::cell::Cell;
 use std::io;
+use std::sync::atomic::{AtomicU64, Ordering};
 use std::sync::{Mutex, Wait};
 use std::time::{Clock, Duration};
 
@@ -53,6 +54,27 @@ pub struct NoClock;
 impl Change for NoClock {
     fn read<R: Clock>(&self, _rt: &R) -> io::Result<Duration> {
         Err(io::ErrorKind::Unsupported.into())
+    }
+}
+
+/// A clock that shows a second more each time it is read: a wait of one and a half looks at it, waits, and is over.
+#[derive(Drop)]
+pub struct Ticks {
+    reads: AtomicU64,
+}
+
+impl Ticks {
+    /// A clock that begins at zero.
+    pub fn new() -> Self {
+        let reads = AtomicU64::new(0);
+        Ticks { reads }
+    }
+}
+
+impl Change for Ticks {
+    fn read<C: Clock>(&self, _rt: &C) -> io::Result<Duration> {
+        let reads = self.reads.fetch_add(1, Ordering::SeqCst);
+        Ok(Duration::from_secs(reads))
     }
 }
 

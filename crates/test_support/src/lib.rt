@@ -3,8 +3,9 @@
 //!
 //! - Listeners and tasks: [`ListenerKind`]s, so that a test is run with each; [`WaitCall`] names a wait, for the same;
 //!   [`any_waker`].
-//! - Runtimes: [`Runtime`] is what a test asks of its runtime value. [`Changed`] is one with a [`Change`]: of what its
-//!   clock shows, as by [`NoClock`], or of what happens when that is read or the runtime value is cloned.
+//! - Runtimes: [`Runtime`] is what a test asks of its runtime value, [`SharedRuntime`] what one with threads does.
+//!   [`Changed`] is one with a [`Change`]: of what its clock shows, as by [`NoClock`] or [`Ticks`], or of what happens when
+//!   that is read or the runtime value is cloned.
 //! - Programs: a [`Screen`] keeps what one prints.
 //! - Threads: [`for_two_seconds`], as long as a race takes, and [`spin_until`].
 //!
@@ -19,9 +20,9 @@ mod waits;
 mod wakers;
 
 pub use calls_events::{Borrowing, ListenerKind, Sharing, waker_of};
-pub use changed::{Change, Changed, NoClock};
+pub use changed::{Change, Changed, NoClock, Ticks};
 pub use loops::{for_two_seconds, spin_until};
-pub use runtimes::Runtime;
+pub use runtimes::{Runtime, SharedRuntime};
 pub use screen::Screen;
 pub use waits::{WaitCall, deadline_after};
 pub use wakers::any_waker;

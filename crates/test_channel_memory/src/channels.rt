@@ -1,16 +1,16 @@
 //! What channels leave where memory is refused: a message is in the channel or comes back, and is never lost.
-use crate::support::{Answer, Runtime, Starved, all_memory, check, count_refused, leave, new_task};
+use crate::support::{Answer, Runtime, all_memory, check, count_refused, leave, new_task};
 use event_channel::{
     ChannelError, LockError, Receiver, RecvError, RecvTimeoutError, SendError, SendReason, Sender,
     TryRecvError, bounded, unbounded,
 };
-use event_listener::ListenError;
+use event_queue::ListenError;
 use futures::StreamExt;
 use futures::task::Poll;
 use std::alloc::AllocError;
 use std::cell::Cell;
 use std::time::Duration;
-use test_queue_memory::Budget;
+use test_queue_memory::{Budget, Starved};
 
 const LISTENING: LockError = LockError::Listen(ListenError::Memory);
 
