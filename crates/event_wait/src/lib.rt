@@ -6,7 +6,7 @@
 //! and one poll a task ([`poll_in`]), at any lock. [`Obtaining`] is a wait as a value, which holds its lock by a [`Hold`].
 //!
 //! A [`Lock`] holds a state, and takes each [`Request`] of that state. [`waiters`] are the steps on a queue that states of locks
-//! are made of. [`take_lock!`] takes a free lock at once. While another thread has it, a thread looks ever more seldom, and
+//! are made of, and [`FairQueue`] a queue in which each that waits has a turn. [`take_lock!`] takes a free lock at once. While another thread has it, a thread looks ever more seldom, and
 //! sleeps at last ([`wait_for_lock`]).
 //!
 //! Read `waitable.rt` first, then `lock/wait.rt`, `request.rt`, `lock.rt` and `obtaining.rt`.
@@ -14,6 +14,7 @@
 
 mod back_off;
 mod error;
+mod fair_queue;
 mod hold;
 mod lock;
 mod obtaining;
@@ -23,6 +24,7 @@ pub mod waiters;
 
 pub use back_off::{PAUSES, pause, wait_for_lock};
 pub use error::LockError;
+pub use fair_queue::{FairQueue, Queued, turns_are_kept_along};
 pub use hold::{Borrowed, Hold, Shared};
 pub use lock::wait::{Refused, obtain, poll_in, try_then_wait, wait};
 pub use lock::{DeferredWake, Limit, Lock, StoreParker, Task, WakerSource};

@@ -30,8 +30,8 @@ pub trait Waitable<Q> {
     fn waker_source(&self) -> &WakerSource
         ensures { result.now ≡ source self.now };
 
-    /// Attempts it; one that gets nothing waits on, with the task that the exchange makes. One that can't is where it was. It
-    /// may wait for the lock.
+    /// Attempts it; one that gets nothing waits on, with the task that the exchange makes. What became of one that can't, the
+    /// lock's rules say. It may wait for the lock.
     fn attempt_or_wait<C, X: TaskExchange<Task, C>, R: Wait>(
         &self,
         rt: &R,

@@ -74,7 +74,7 @@ fn try_first<L: Obtainable<Q>, Q, R: Wait>(lock: &L, rt: &R, request: &mut Q) ->
 /// still get, if anything.
 ///
 /// It makes what the thread parks on, attempts, stores its task if it waits on, looks at the limit, parks, and attempts
-/// again. If it can't wait, or memory runs out, it is where it was. It may wait for the lock.
+/// again. If memory runs out, it is where it was; if it can't wait, the lock's rules say where. It may wait for the lock.
 #[inline(always)]
 pub fn wait<L: Waitable<Q>, Q, R: Wait + Clock>(
     lock: &L,
@@ -114,8 +114,9 @@ pub fn wait<L: Waitable<Q>, Q, R: Wait + Clock>(
     unreachable!()
 }
 
-/// Attempts what is requested, and registers the task that polls if it waits on. An error says that it can't wait, and is
-/// where it was. It may wait for the lock.
+/// Attempts what is requested, and registers the task that polls if it waits on. An error says that it can't wait: the lock's
+/// rules say what it left. It may wait for the lock.
+#[inline(always)]
 pub fn poll_in<L: Waitable<Q>, Q, R: Wait>(
     lock: &L,
     rt: &R,

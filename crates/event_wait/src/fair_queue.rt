@@ -1,0 +1,325 @@
+//! A fair queue of those that compete with newcomers: for the permits of a semaphore, or the value of a mutex.
+//!
+//! Who is notified has nothing yet: it comes, leaves the queue, and attempts again; where it finds nothing it goes to the end.
+//! Each that waits has a *turn*: no more notified ones come before it than that says. One that was notified and found nothing
+//! twice *starves*, until it has come again.
+ghost use Rattle.std.specs.Prelude.{◌≡◌, ◌+◌, ◌<◌, ◌≤◌, [], ◌∷◌, ◌++◌, length, map, true, if◌then◌else◌, vec_len, vec_capacity, IfOk, IfErr, OnOk, OnErr};
+ghost use Rattle.std.specs.List.{FoldsTo};
+ghost use Rattle.event_queue.specs.Exchange.{InsertsWith, RegistersWith};
+ghost use Rattle.event_queue.specs.Insert.{IsInsertionBy};
+ghost use Rattle.event_queue.specs.Key.{without};
+ghost use Rattle.event_queue.specs.Queue.{IsQueue, listeners_of};
+ghost use Rattle.event_queue.specs.Register.{IsRegistration};
+ghost use Rattle.event_wait.specs.Line.{HasLeft, TellsUpTo, woken_up_to};
+ghost use Rattle.event_wait.specs.FairQueue.{State, CannotJoin, FewCame, HasJoined, Joins, KeepsTurns, Looks, NobodyWaitsPastItsTurn, StoresInTurn, task_of, turn_or, woken_tasks};
+
+use crate::waiters;
+use event_queue::{Key, List, ListenError, RegisterResult, TaskExchange, WakeSink};
+use std::alloc::{AllocError, Global};
+use std::marker::Model;
+
+/// One that waits: its task, and its turn.
+#[derive(Drop)]
+pub struct Queued<W> {
+    pub(crate) task: W,
+    pub(crate) turn: u64,
+}
+
+/// The queue, the keys of those in it that starve, and how many notified ones have come.
+#[derive(Drop)]
+pub struct FairQueue<W> {
+    queue: List<(), Queued<W>>,
+    starving: Vec<Key, Global>,
+    came: u64,
+}
+
+impl<W> Model for FairQueue<W> {
+    ghost use Rattle.event_wait.specs.FairQueue.{State, IsFairQueue};
+
+    ghost Value = { State W };
+
+    ghost view = { λ l. record { queue = l.queue; starving = l.starving.items; came = l.came } };
+
+    ghost invariant = { λ l. IsFairQueue (record {
+      queue = l.queue;
+      starving = l.starving.items;
+      came = l.came;
+    }) };
+}
+
+impl<W> FairQueue<W> {
+    /// A queue in which nobody is, and from which nobody came. It takes no memory.
+    pub fn new(alloc: Global) -> Self
+        ensures told { result.queue.told ≡ [] }
+        ensures waiting { result.queue.waiting ≡ [] }
+        ensures starving { result.starving ≡ [] }
+        ensures came { result.came ≡ 0 }
+    {
+        FairQueue {
+            queue: List::new(alloc),
+            starving: Vec::new(alloc),
+            came: 0,
+        }
+    }
+
+    /// How many are notified, and have not come.
+    pub fn told(&self) -> usize
+        ensures { result ≡ length self.now.queue.told }
+    {
+        self.queue.listeners_notified()
+    }
+
+    /// How many wait, and are not notified.
+    pub fn waiting(&self) -> usize
+        ensures { result ≡ length self.now.queue.waiting }
+    {
+        self.queue.total_listeners() - self.queue.listeners_notified()
+    }
+
+    /// How many of those in the queue, notified or not, starve.
+    pub fn starving(&self) -> usize
+        ensures { result ≡ length self.now.starving }
+    {
+        self.starving.len()
+    }
+
+    /// Notifies the first that wait until so many of the queue are notified, if there are as many, and wakes them in order.
+    pub fn tell<S: WakeSink<W>>(&mut self, free: usize, sink: &mut S)
+        ensures step { TellsUpTo free self.old.queue self.new.queue }
+        ensures kept { self.new ≡ record self.old { queue = self.new.queue } }
+        ensures turns { KeepsTurns self.old self.new }
+        ensures wakes { FoldsTo S.woke sink.old (woken_tasks free self.old) sink.new }
+    {
+        tell_up_to(&mut self.queue, free, sink);
+    }
+
+    /// Looks whether this one was notified. Then it has come: it leaves the queue, and starves no more. One that waits keeps its
+    /// place and its turn, and stores the task that the exchange makes of the one that it stored. It takes no memory.
+    pub fn look<C, X: TaskExchange<W, C>>(
+        &mut self,
+        key: Key,
+        exchange: &X,
+        on: &mut C,
+    ) -> RegisterResult<()>
+        ensures looks { Looks (X.exchanged exchange.now) key self.old on.old
+            result self.new on.new }
+        ensures turns { KeepsTurns self.old self.new }
+        ensures queue { IsQueue self.old.queue }
+    {
+        let turn = turn_at_end(&self.queue, self.came);
+        match look_in_turn(&mut self.queue, key, turn, exchange, on) {
+            RegisterResult::Notified(()) => {
+                self.came += 1;
+                strike_off(&mut self.starving, key);
+                RegisterResult::Notified(())
+            }
+            RegisterResult::Registered => RegisterResult::Registered,
+            RegisterResult::NeverInserted => RegisterResult::NeverInserted,
+        }
+    }
+
+    /// Has a newcomer wait at the end of the queue, with the task that the exchange makes: its turn is after all that came and
+    /// all that are in the queue. One that starves is counted among those that do. It may allocate. An error says that it is in
+    /// no queue: then nothing has changed.
+    pub fn join<C, X: TaskExchange<W, C>>(
+        &mut self,
+        exchange: &X,
+        on: &mut C,
+        starves: bool,
+    ) -> Result<Key, ListenError>
+        ensures joins { IfOk result (λ key.
+            Joins (X.exchanged exchange.now) starves key self.old on.old self.new on.new) }
+        ensures turn { IfOk result (λ key. HasJoined key self.old self.new) }
+        ensures turns { KeepsTurns self.old self.new }
+        ensures kept { OnErr result (self.new ≡ self.old) }
+        ensures unused { OnErr result (on.new ≡ on.old) }
+        ensures reason { IfErr result (λ error. CannotJoin starves error self.old) }
+    {
+        let turn = turn_at_end(&self.queue, self.came);
+        make_room(&mut self.starving, starves)?;
+        let key = join_in_turn(&mut self.queue, turn, exchange, on)?;
+        count_in(&mut self.starving, starves, key);
+        Ok(key)
+    }
+
+    /// Takes this one out of the queue, and counts it no more among those that starve. Returns whether it was notified; what it
+    /// was notified of is passed on to nobody. One that is not in the queue changes nothing.
+    pub fn leave(&mut self, key: Key) -> bool
+    where
+        W: Drop,
+        ensures notified { result ≡ true → length self.new.queue.told + 1
+            ≡ length self.old.queue.told }
+        ensures left { HasLeft key self.old.queue self.new.queue }
+        ensures starving { self.new.starving ≡ without key self.old.starving }
+        ensures came { self.new.came ≡ self.old.came }
+        ensures turns { KeepsTurns self.old self.new }
+    {
+        let left = waiters::leave_line(&mut self.queue, key);
+        strike_off(&mut self.starving, key);
+        left.was_told()
+    }
+
+    /// Nobody waits past its turn: all that came, those that are notified, and those that wait before it, are no more together
+    /// than its turn says.
+    pub fn nobody_waits_past_its_turn(&self)
+        ensures { NobodyWaitsPastItsTurn self.now }
+    {
+        let _ = &self.came;
+    }
+
+    /// While one waits, no more notified ones come than were in the queue before it, notified or not.
+    pub fn few_come_before_one(&self)
+        ensures { FewCame self.now }
+    {
+        let _ = &self.came;
+    }
+}
+
+/// What keeps the turns, and then keeps them again, keeps them: so turns are kept along all calls.
+pub fn turns_are_kept_along<W>()
+    ensures { (first between last : State W) → KeepsTurns first between → KeepsTurns between last
+        → KeepsTurns first last }
+{}
+
+// The turn of one that is put at the end of the queue now.
+fn turn_at_end<W>(queue: &List<(), Queued<W>>, came: u64) -> u64
+    requires { came + listeners_of queue.now ≤ queue.now.next_serial }
+    ensures turn { result ≡ came + listeners_of queue.now }
+    ensures queue { IsQueue queue.now }
+{
+    came + queue.total_listeners() as u64
+}
+
+// Takes this key out of those that starve, if it is one of them.
+fn strike_off(starving: &mut Vec<Key, Global>, key: Key)
+    ensures { starving.new.items ≡ without key starving.old.items }
+{
+    starving.retain(|other| key != *other);
+}
+
+// Makes room for one more among those that starve, if one is to come.
+fn make_room(starving: &mut Vec<Key, Global>, starves: bool) -> Result<(), ListenError>
+    ensures kept { starving.new.items ≡ starving.old.items }
+    ensures room { OnOk result (starves ≡ true → vec_len starving.new < vec_capacity starving.new) }
+    ensures refused { IfErr result (λ error. (starves ≡ true) × (error ≡ ListenError.Memory)) }
+{
+    if !starves {
+        return Ok(());
+    }
+    match starving.reserve(1) {
+        Ok(()) => Ok(()),
+        Err(AllocError) => Err(ListenError::Memory),
+    }
+}
+
+// Counts this one among those that starve, if it does.
+fn count_in(starving: &mut Vec<Key, Global>, starves: bool, key: Key)
+    requires { starves ≡ true → vec_len starving.old < vec_capacity starving.old }
+    ensures { starving.new.items
+        ≡ (if starves then starving.old.items ++ key ∷ [] else starving.old.items) }
+{
+    if starves {
+        starving.push_reserved(key);
+    }
+}
+
+// Notifies as `waiters::tell` does, and wakes the tasks of those notified.
+fn tell_up_to<W, S: WakeSink<W>>(queue: &mut List<(), Queued<W>>, n: usize, sink: &mut S)
+    ensures queue { IsQueue queue.old }
+    ensures step { TellsUpTo n queue.old queue.new }
+    ensures wakes { FoldsTo S.woke sink.old
+        (map (λ waiter. waiter.task) (woken_up_to n queue.old)) sink.new }
+{
+    let mut tasks = Tasks { sink };
+    waiters::tell(queue, n, &mut tasks);
+    let Tasks { sink: _ } = tasks;
+}
+
+// Wakes the tasks of those that it is handed.
+#[derive(Drop)]
+struct Tasks<'s, K> {
+    sink: &'s mut K,
+}
+
+impl<'s, W, K: WakeSink<W>> WakeSink<Queued<W>> for Tasks<'s, K> {
+    ghost woke = { λ before waiter after. (after.sink.ghost_name ≡ before.sink.ghost_name)
+        × K.woke before.sink.now waiter.task after.sink.now };
+
+    fn wake(&mut self, waiter: Queued<W>)
+        ensures { (self.new.sink.ghost_name ≡ self.old.sink.ghost_name)
+            × K.woke self.old.sink.now waiter.task self.new.sink.now }
+    {
+        let Queued { task, turn: _ } = waiter;
+        self.sink.wake(task);
+    }
+}
+
+// Looks for one that, if it waits, stores the task that the exchange makes, and keeps its turn.
+fn look_in_turn<W, C, X: TaskExchange<W, C>>(
+    queue: &mut List<(), Queued<W>>,
+    key: Key,
+    turn: u64,
+    exchange: &X,
+    on: &mut C,
+) -> RegisterResult<()>
+    ensures { IsRegistration
+        (RegistersWith (StoresInTurn (X.exchanged exchange.now) turn) queue.old key on.old result
+        queue.new on.new) queue.old key result queue.new }
+{
+    let in_turn = InTurn {
+        turn,
+        tasks: exchange,
+    };
+    queue.register_with_uncounted(key, &in_turn, on)
+}
+
+// Has a newcomer with this turn wait at the end, with the task that the exchange makes.
+fn join_in_turn<W, C, X: TaskExchange<W, C>>(
+    queue: &mut List<(), Queued<W>>,
+    turn: u64,
+    exchange: &X,
+    on: &mut C,
+) -> Result<Key, ListenError>
+    ensures { IsInsertionBy (InsertsWith (StoresInTurn (X.exchanged exchange.now) turn) queue.old
+        on.old result queue.new on.new) queue.old result queue.new }
+{
+    let in_turn = InTurn {
+        turn,
+        tasks: exchange,
+    };
+    queue.insert_with_uncounted(&in_turn, on)
+}
+
+// Makes one that waits of the task that the exchange makes: it keeps its turn, and a newcomer gets this one.
+#[derive(Drop)]
+struct InTurn<'x, X> {
+    turn: u64,
+    tasks: &'x X,
+}
+
+impl<'x, W, C, X: TaskExchange<W, C>> TaskExchange<Queued<W>, C> for InTurn<'x, X> {
+    ghost exchanged = { λ in_turn before stored waiter after.
+        StoresInTurn (X.exchanged in_turn.tasks.now) in_turn.turn before stored waiter after };
+
+    fn exchange(&self, on: &mut C, stored: Option<Queued<W>>) -> Queued<W>
+        ensures { StoresInTurn (X.exchanged self.now.tasks.now) self.now.turn on.old
+            stored result on.new }
+    {
+        let (stored, turn) = parted(stored, self.turn);
+        Queued {
+            task: self.tasks.exchange(on, stored),
+            turn,
+        }
+    }
+}
+
+// The task and the turn of one that waits; of a newcomer, none and this turn.
+fn parted<W>(waiter: Option<Queued<W>>, turn: u64) -> (Option<W>, u64)
+    ensures task { result.0 ≡ task_of waiter }
+    ensures turn { result.1 ≡ turn_or turn waiter }
+{
+    match waiter {
+        Some(Queued { task, turn }) => (Some(task), turn),
+        None => (None, turn),
+    }
+}
