@@ -11,7 +11,7 @@ use Rattle.atomic_table.specs.Table.{State, Step, step, Act, keeps, takes, gives
 use Rattle.atomic_table.proofs.Lists.{exchanged, at_last, at_set, set_again, set_else, set_here}
 use Rattle.event_history.specs.declared.history.Entry.{Entry}
 use Rattle.event_history.specs.declared.history.View.{View}
-use Rattle.event_history.specs.History.{entry, calls_by, StartsWith, AreAmong, EachRests, newcomer, met_of, both_views, Runs, LeadsTo}
+use Rattle.event_history.specs.History.{Machine, entry, calls_by, StartsWith, AreAmong, EachRests, newcomer, met_of, both_views, Runs, LeadsTo}
 use Rattle.event_history.specs.Rule.{IsOut, spent_view, Knows, Fits, Stands, Kept, Sat, Holds, arrived, entered, owing, marked, taken, extended, looked}
 use Rattle.event_history.proofs.RestsOnLemmas.{rests_none, rests_more}
 use Rattle.event_history.proofs.Views.{at_below, all_set, all_more, calls_own, calls_other, Goes_on, each_on, each_stood, fits_on, alive_is_none, set_on, call_on, newcomer_fits, fits_set, fits_more}
@@ -22,7 +22,7 @@ nothing_spent e = true≢false e
 not_two_and_zero : (n : ℕ) → n ≡ 2 → n ≡ 0 → ⊥
 not_two_and_zero n two zero = omega (arith, two, zero)
 
-module _ {S C : Type 0} (starts : S → Type 0) (goes : S → C → S → Type 0) (rests : C → List C) where
+module _ {S C : Type 0} (machine : Machine S C) where
   abbrev V : Type 0
   V = View S C
 
@@ -33,20 +33,20 @@ module _ {S C : Type 0} (starts : S → Type 0) (goes : S → C → S → Type 0
   M = Sat S C
 
   abbrev Law : St → Type 0
-  Law = Kept starts goes rests
+  Law = Kept machine
 
   abbrev There : ℕ → List (home.Option S) → List V → List (Entry C) → Type 0
-  There = Stands starts goes
+  There = Stands machine
 
-  runs_snoc : (s : S) (log : List (Entry C)) (m : S) (e : Entry C) (t : S) → Runs goes s log m → goes m e.call t → Runs goes s (log ++ e ∷ []) t
-  runs_snoc s [] m e t is g = (t, subst (λ (x : S). goes x e.call t) (sym is) g, refl)
+  runs_snoc : (s : S) (log : List (Entry C)) (m : S) (e : Entry C) (t : S) → Runs machine.goes s log m → machine.goes m e.call t → Runs machine.goes s (log ++ e ∷ []) t
+  runs_snoc s [] m e t is g = (t, subst (λ (x : S). machine.goes x e.call t) (sym is) g, refl)
   runs_snoc s (x ∷ xs) m e t r g = (r.0, r.1, runs_snoc r.0 xs m e t r.2 g)
 
-  leads_snoc : (log : List (Entry C)) (m : S) (e : Entry C) (t : S) → LeadsTo goes starts log m → goes m e.call t → LeadsTo goes starts (log ++ e ∷ []) t
+  leads_snoc : (log : List (Entry C)) (m : S) (e : Entry C) (t : S) → LeadsTo machine log m → machine.goes m e.call t → LeadsTo machine (log ++ e ∷ []) t
   leads_snoc log m e t r g = (r.0, r.1, runs_snoc r.0 log m e t r.2 g)
 
   -- the word becomes n, and the rest of the rule is known
-  placed : (s : St) (k : Law s) (n : ℕ) (hs : List (home.Option S)) (vs : List V) (log : List (Entry C)) → There n hs vs log → ((by : ℕ) (v : V) → get_elem? vs by ≡ some v → Fits vs log by v) → ((by : ℕ) → length vs ≤ by → calls_by by log ≡ []) → EachRests rests log
+  placed : (s : St) (k : Law s) (n : ℕ) (hs : List (home.Option S)) (vs : List V) (log : List (Entry C)) → There n hs vs log → ((by : ℕ) (v : V) → get_elem? vs by ≡ some v → Fits vs log by v) → ((by : ℕ) → length vs ≤ by → calls_by by log ≡ []) → EachRests machine.rests log
       → Law (record { words = set s.words 0 n; homes = hs; views = vs })
   placed s k n hs vs log there fits others rested = record {
     log = log;
@@ -185,7 +185,7 @@ module _ {S C : Type 0} (starts : S → Type 0) (goes : S → C → S → Type 0
   nonempty : (q : S) → (q ∷ []) ≡ [] → ⊥
   nonempty q e = search (arith, e)
 
-  returned : (owes : Bool) (s : St) (k : Law s) (id : ℕ) (m : M) (q r : S) (call : C) → m.0.out ≡ q ∷ [] → goes q call r → get_elem? s.views id ≡ some m.0 → (x : ℕ) (hs : List (home.Option S)) → There x hs s.views k.log
+  returned : (owes : Bool) (s : St) (k : Law s) (id : ℕ) (m : M) (q r : S) (call : C) → m.0.out ≡ q ∷ [] → machine.goes q call r → get_elem? s.views id ≡ some m.0 → (x : ℕ) (hs : List (home.Option S)) → There x hs s.views k.log
       → There 0 (put_back hs ((0, r) ∷ [])) (set s.views id (owing owes (brings k.log id m call))) (k.log ++ entry id call ∷ [])
   returned owes s k id m q r call has g me x [] h = absurd h
   returned owes s k id m q r call has g me x (some p ∷ hs) h = absurd (nonempty q (sym has ∙ h.2 id m.0 me))
@@ -194,23 +194,23 @@ module _ {S C : Type 0} (starts : S → Type 0) (goes : S → C → S → Type 0
       let p = h.2 in
       let own : IsOut owner p id (q ∷ []) = subst (λ (o : List S). IsOut owner p id o) has (h.4 id m.0 me) in (
         refl,
-        leads_snoc k.log p (entry id call) r h.3 (subst (λ (y : S). goes y call r) own.1 g),
+        leads_snoc k.log p (entry id call) r h.3 (subst (λ (y : S). machine.goes y call r) own.1 g),
         all_set (λ _ v. v.out ≡ []) s.views id (owing owes (brings k.log id m call)) refl (λ by v ne at. not_out owner p by v.out (h.4 by v at) (λ e. ne (e ∙ sym own.0))),
       )
 
-  outside : (id : ℕ) (m : M) (q : S) → m.0.out ≡ q ∷ [] → (x : ℕ) (hs : List (home.Option S)) (vs : List V) (log : List (Entry C)) → get_elem? vs id ≡ some m.0 → There x hs vs log → LeadsTo goes starts log q
+  outside : (id : ℕ) (m : M) (q : S) → m.0.out ≡ q ∷ [] → (x : ℕ) (hs : List (home.Option S)) (vs : List V) (log : List (Entry C)) → get_elem? vs id ≡ some m.0 → There x hs vs log → LeadsTo machine log q
   outside id m q has x [] vs log me h = absurd h
   outside id m q has x (some p ∷ hs) vs log me h = absurd (nonempty q (sym has ∙ h.2 id m.0 me))
   outside id m q has x (none ∷ hs) vs log me h =
       let own : IsOut h.1 h.2 id (q ∷ []) = subst (λ (o : List S). IsOut h.1 h.2 id o) has (h.4 id m.0 me) in
-      subst (λ (y : S). LeadsTo goes starts log y) (sym own.1) h.3
+      subst (λ (y : S). LeadsTo machine log y) (sym own.1) h.3
 
   -- of the start less may be said
-  began : (begins : S → Type 0) → ((q : S) → starts q → begins q) → (log : List (Entry C)) (t : S) → LeadsTo goes starts log t → LeadsTo goes begins log t
+  began : (begins : S → Type 0) → ((q : S) → machine.starts q → begins q) → (log : List (Entry C)) (t : S) → LeadsTo machine log t → LeadsTo (record machine { starts = begins }) log t
   began begins weaker log t (s, is, runs) = (s, weaker s is, runs)
 
   -- a seat gives the state back after a call
-  pub puts : (begins : S → Type 0) → ((q : S) → starts q → begins q) → (n id : ℕ) (m : M) (made : C → Type 0) (q r : S) (call : C) → made call → m.0.out ≡ q ∷ [] → m.1 ≡ (0, r) ∷ [] → goes q call r → m.0.spent ≡ false → AreAmong (rests call) m.0.mine → Allows Law n id m 0 (λ _. 0) (extended begins goes rests made (step n 0 0 0 none) m)
+  pub puts : (begins : S → Type 0) → ((q : S) → machine.starts q → begins q) → (n id : ℕ) (m : M) (made : C → Type 0) (q r : S) (call : C) → made call → m.0.out ≡ q ∷ [] → m.1 ≡ (0, r) ∷ [] → machine.goes q call r → m.0.spent ≡ false → AreAmong (machine.rests call) m.0.mine → Allows Law n id m 0 (λ _. 0) (extended (record machine { starts = begins }) made (step n 0 0 0 none) m)
   puts begins weaker n id m made q r call is has holds g alive among s k wide me word =
       let e : Entry C = entry id call in
       let log' : List (Entry C) = k.log ++ e ∷ [] in
@@ -220,7 +220,7 @@ module _ {S C : Type 0} (starts : S → Type 0) (goes : S → C → S → Type 0
       let vs' : List V = set s.views id w in
       let fit = k.fits id m.0 me in
       let own : calls_by id log' ≡ m.0.mine ++ call ∷ [] = calls_own id k.log e refl ∙ ap (λ (l : List C). l ++ call ∷ []) (fit.own alive) in
-      let rested : EachRests rests log' = rests_more rests k.log e k.rested (subst (λ (l : List C). AreAmong (rests call) l) (sym (fit.own alive)) among) in
+      let rested : EachRests machine.rests log' = rests_more machine.rests k.log e k.rested (subst (λ (l : List C). AreAmong (machine.rests call) l) (sym (fit.own alive)) among) in
       let there : There 0 (put_back s.homes m.1) vs' log' =
       subst (λ (c : List (ℕ × S)). There 0 (put_back s.homes c) vs' log') (sym holds) (returned (eqb found 2) s k id m q r call has g me found s.homes k.stands) in
       let on : Goes_on s.views vs' k.log log' = call_on s.views k.log id m.0 w e me alive refl in (
@@ -250,7 +250,7 @@ module _ {S C : Type 0} (starts : S → Type 0) (goes : S → C → S → Type 0
               mine = refl;
               each_once = own;
               idle = (refl, refl, refl, refl);
-              runs = began begins weaker _ q (subst (λ (l : List (Entry C)). LeadsTo goes starts l q) fit.begins.1 (outside id m q has (get_or s.words 0 0) s.homes s.views k.log me k.stands));
+              runs = began begins weaker _ q (subst (λ (l : List (Entry C)). LeadsTo machine l q) fit.begins.1 (outside id m q has (get_or s.words 0 0) s.homes s.views k.log me k.stands));
               step = g;
               rested = rested;
             },
@@ -260,13 +260,13 @@ module _ {S C : Type 0} (starts : S → Type 0) (goes : S → C → S → Type 0
         ),
       )
 
-  leads : (x : ℕ) (hs : List (home.Option S)) (vs : List V) (log : List (Entry C)) → There x hs vs log → (t : S) × LeadsTo goes starts log t
+  leads : (x : ℕ) (hs : List (home.Option S)) (vs : List V) (log : List (Entry C)) → There x hs vs log → (t : S) × LeadsTo machine log t
   leads x [] vs log h = absurd h
   leads x (none ∷ hs) vs log h = (h.2, h.3)
   leads x (some q ∷ hs) vs log h = (q, h.1)
 
   -- a seat sees the history so far
-  pub looks : (begins : S → Type 0) → ((q : S) → starts q → begins q) → (n id : ℕ) (m : M) → m.0.spent ≡ false → Allows Law n id m 0 (λ y. y) (looked begins goes rests (step n 0 0 0 none) m)
+  pub looks : (begins : S → Type 0) → ((q : S) → machine.starts q → begins q) → (n id : ℕ) (m : M) → m.0.spent ≡ false → Allows Law n id m 0 (λ y. y) (looked (record machine { starts = begins }) (step n 0 0 0 none) m)
   looks begins weaker n id m alive s k wide me word =
       let w : V = record m.0 { by = id ∷ []; seen = k.log } in
       let fit = k.fits id m.0 me in
@@ -331,12 +331,12 @@ module _ {S C : Type 0} (starts : S → Type 0) (goes : S → C → S → Type 0
         rested = k.rested;
       }
 
-  pub opens : (q : S) → starts q → Law (opening (0 ∷ []) (q ∷ []) (newcomer []))
+  pub opens : (q : S) → machine.starts q → Law (opening (0 ∷ []) (q ∷ []) (newcomer []))
   opens q is = record {
     log = [];
     wide = refl;
     fits = all_more (λ by v. Fits (newcomer [] ∷ []) [] by v) [] (newcomer []) (newcomer_fits (newcomer [] ∷ []) [] [] 0 ([], refl) refl) (λ j b at. absurd (some-ne-none b (sym at)));
     others = λ by _. refl;
     stands = (refl, (q, is, refl), all_more (λ _ v. v.out ≡ []) [] (newcomer []) refl (λ j b at. absurd (some-ne-none b (sym at))));
-    rested = rests_none rests;
+    rested = rests_none machine.rests;
   }

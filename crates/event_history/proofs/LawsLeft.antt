@@ -9,7 +9,7 @@ use Rattle.event_history.specs.declared.history.View.{View}
 use Rattle.event_history.specs.declared.queue_call.QueueCall.{QueueCall}
 use Rattle.event_history.specs.declared.queue_call.QueueCall.TheVariants as call
 use Rattle.event_history.specs.History.{Leads}
-use Rattle.event_history.specs.Queue.{calls, is_empty, rests_on, TakesOut, IsTakenOut, LeavesNone, NoneLeft, LeavesOnly, OnlyLeft}
+use Rattle.event_history.specs.Queue.{queue_machine, TakesOut, IsTakenOut, LeavesNone, NoneLeft, LeavesOnly, OnlyLeft}
 use Rattle.event_history.specs.Laws.{OwnsListener}
 use Rattle.event_history.proofs.LawsOwn.{joins, own_registered, own_removed}
 
@@ -74,24 +74,24 @@ module _ {T W : Type 0} where
   last_left key (x ∷ xs) c none takes left = (last_taken key c x xs takes left.0, last_left key xs c none takes left.1)
 
   -- a hand's next call, which inserts none
-  pub none_kept : (v w : View (Queue T W) (QueueCall T W)) (c : QueueCall T W) (before after : Queue T W) → Leads calls is_empty rests_on v c before after w → LeavesNone c [] → NoneLeft v.mine → NoneLeft w.mine
+  pub none_kept : (v w : View (Queue T W) (QueueCall T W)) (c : QueueCall T W) (before after : Queue T W) → Leads queue_machine v c before after w → LeavesNone c [] → NoneLeft v.mine → NoneLeft w.mine
   none_kept v w c before after l none left = subst NoneLeft (sym l.mine) (none_more v.mine c none left)
 
-  pub only_kept : (key : Key) (v w : View (Queue T W) (QueueCall T W)) (c : QueueCall T W) (before after : Queue T W) → Leads calls is_empty rests_on v c before after w → LeavesNone c [] → OnlyLeft key v.mine → OnlyLeft key w.mine
+  pub only_kept : (key : Key) (v w : View (Queue T W) (QueueCall T W)) (c : QueueCall T W) (before after : Queue T W) → Leads queue_machine v c before after w → LeavesNone c [] → OnlyLeft key v.mine → OnlyLeft key w.mine
   only_kept key v w c before after l none left = subst (OnlyLeft key) (sym l.mine) (only_more key v.mine c (only_of_none key c [] none) left)
 
   -- its next call inserts this one
-  pub only_joined : (key : Key) (v w : View (Queue T W) (QueueCall T W)) (before after : Queue T W) → Leads calls is_empty rests_on v (joins key) before after w → NoneLeft v.mine → OnlyLeft key w.mine
+  pub only_joined : (key : Key) (v w : View (Queue T W) (QueueCall T W)) (before after : Queue T W) → Leads queue_machine v (joins key) before after w → NoneLeft v.mine → OnlyLeft key w.mine
   only_joined key v w before after l left = subst (OnlyLeft key) (sym l.mine) (only_more key v.mine (joins key) (inl refl) (all_only key v.mine left))
 
   -- its next call is a registration that stores no task, or a removal, of its own listener: none is left
-  pub left_registered : (key : Key) (v w : View (Queue T W) (QueueCall T W)) (reply : RegisterResult T) (before after : Queue T W) → Leads calls is_empty rests_on v (call.Register key reply) before after w → reply ≢ register.Registered
+  pub left_registered : (key : Key) (v w : View (Queue T W) (QueueCall T W)) (reply : RegisterResult T) (before after : Queue T W) → Leads queue_machine v (call.Register key reply) before after w → reply ≢ register.Registered
       → OwnsListener key v.mine → OnlyLeft key v.mine → NoneLeft w.mine
   left_registered key v w register.Registered before after l took owns left = absurd (took refl)
   left_registered key v w register.NeverInserted before after l took owns left = absurd (own_registered key v w register.NeverInserted before after l owns refl)
   left_registered key v w (register.Notified tag) before after l took owns left = subst NoneLeft (sym l.mine) (last_left key v.mine (call.Register key (register.Notified tag)) tt refl left)
 
-  pub left_removed : (key : Key) (v w : View (Queue T W) (QueueCall T W)) (propagate : Bool) (reply : Option (State T W)) (before after : Queue T W) → Leads calls is_empty rests_on v (call.Remove key propagate reply) before after w
+  pub left_removed : (key : Key) (v w : View (Queue T W) (QueueCall T W)) (propagate : Bool) (reply : Option (State T W)) (before after : Queue T W) → Leads queue_machine v (call.Remove key propagate reply) before after w
       → OwnsListener key v.mine → OnlyLeft key v.mine → NoneLeft w.mine
   left_removed key v w propagate None before after l owns left = absurd (true≢false (sym (own_removed key v w propagate None before after l owns)))
   left_removed key v w propagate (Some was) before after l owns left = subst NoneLeft (sym l.mine) (last_left key v.mine (call.Remove key propagate (Some was)) tt refl left)

@@ -16,7 +16,7 @@ use Rattle.event_history.specs.declared.history.View.{View}
 use Rattle.event_history.specs.declared.queue_call.QueueCall.{QueueCall}
 use Rattle.event_history.specs.declared.queue_call.QueueCall.TheVariants as call
 use Rattle.event_history.specs.History.{entry, calls_by, IsAmong, Runs, LeadsTo, Leads}
-use Rattle.event_history.specs.Queue.{calls, is_empty, rests_on}
+use Rattle.event_history.specs.Queue.{calls, queue_machine}
 use Rattle.event_history.specs.Laws.{QueueLog, IsTold, Waits, IsIn, EachStays, Listens, OwnsListener, FindsTold}
 use Rattle.event_history.proofs.HandLemmas.{among_more}
 use Rattle.event_history.proofs.RestsOnLemmas.{among_front, among_back}
@@ -78,7 +78,7 @@ module _ {T W : Type 0} where
   only_two a b c q two ha hb hc apart = two_keys a b c (order_of q) (length-order q ∙ two) (in_order a q ha) (in_order b q hb) (in_order c q hc) apart
 
   -- whoever is in the queue was in it when one had listened that has no lower serial
-  was_there : (key other : Key) (n : ℕ) (log later : QueueLog T W) (q r : Queue T W) → LeadsTo calls is_empty log q → LeadsTo calls is_empty (log ++ later) r → IsAmong (joins other) (calls_by n log)
+  was_there : (key other : Key) (n : ℕ) (log later : QueueLog T W) (q r : Queue T W) → LeadsTo queue_machine log q → LeadsTo queue_machine (log ++ later) r → IsAmong (joins other) (calls_by n log)
       → key.serial ≤ other.serial → IsIn key r → IsIn key q
   was_there key other n log later q r led leads among below here =
       ⊎_elim
@@ -98,7 +98,7 @@ module _ {T W : Type 0} where
           let o : Entry (QueueCall T W) = entry n (joins other) in
           let whole : log ++ later ≡ at.0 ++ o ∷ ((at.1 ++ m.0) ++ e ∷ l.later) =
           l.inserted ∙ (ap (λ (es : QueueLog T W). es ++ e ∷ l.later) (m.1 ∙ (ap (λ (es : QueueLog T W). es ++ m.0) at.2 ∙ append_assoc at.0 (o ∷ at.1) m.0)) ∙ append_assoc at.0 (o ∷ (at.1 ++ m.0)) (e ∷ l.later)) in
-          omega (arith, below, serials_rise other key n l.by at.0 (at.1 ++ m.0) l.later r (subst (λ (es : QueueLog T W). LeadsTo calls is_empty es r) whole leads))
+          omega (arith, below, serials_rise other key n l.by at.0 (at.1 ++ m.0) l.later r (subst (λ (es : QueueLog T W). LeadsTo queue_machine es r) whole leads))
 
   -- a removal found the listener notified
   found_told : (key : Key) (old new : Queue T W) (reply : Option (State T W)) → Removes old key true reply new → FindsTold true reply → (notice : Notice T) × (lookup (is_key key) old.told ≡ Some notice)
@@ -109,12 +109,12 @@ module _ {T W : Type 0} where
   found_told key old new (Some (was.Lost additional tag)) s f = (record { additional = additional; tag = tag }, s.1)
   found_told key old new (Some (was.Passed to)) s f = let v = found_value (lookup (is_key key) old.told) (λ n. PassesTo (to ∷ []) n (told_leaves key old) new) s.1 in (v.0, v.1)
 
-  left_gone : (key : Key) (log : QueueLog T W) (old new : Queue T W) (reply : Option (State T W)) → LeadsTo calls is_empty log old → Removes old key true reply new → FindsTold true reply → IsIn key new → ⊥
+  left_gone : (key : Key) (log : QueueLog T W) (old new : Queue T W) (reply : Option (State T W)) → LeadsTo queue_machine log old → Removes old key true reply new → FindsTold true reply → IsIn key new → ⊥
   left_gone key log old new None leads s f here = f
   left_gone key log old new (Some state) leads s f here = let gone = removed_gone old key true state new (sound log old leads) s in not_absent key new here gone.absent
 
   -- one is notified after the drop, so the first one is
-  one_told : (a b : Key) (log : QueueLog T W) (old new : Queue T W) (reply : Option (State T W)) (notice : Notice T) → LeadsTo calls is_empty log old → calls old (call.Remove a true reply) new
+  one_told : (a b : Key) (log : QueueLog T W) (old new : Queue T W) (reply : Option (State T W)) (notice : Notice T) → LeadsTo queue_machine log old → calls old (call.Remove a true reply) new
       → lookup (is_key a) old.told ≡ Some notice → IsIn b new → IsTold b new ⊎ ((c : Key) × IsTold c new)
   one_told a b log old new reply notice leads step told (inr t) = inl t
   one_told a b log old new reply notice leads step told (inl w) = by_many (how_many 1 notice.additional (told_leaves a old)) refl where
@@ -137,7 +137,7 @@ module _ {T W : Type 0} where
       at_most false told waiting = omega arith
 
   -- so whoever has nobody before it is notified
-  next_told : (a b : Key) (log whole : QueueLog T W) (old new : Queue T W) (reply : Option (State T W)) → LeadsTo calls is_empty log old → LeadsTo calls is_empty whole new → calls old (call.Remove a true reply) new → FindsTold true reply
+  next_told : (a b : Key) (log whole : QueueLog T W) (old new : Queue T W) (reply : Option (State T W)) → LeadsTo queue_machine log old → LeadsTo queue_machine whole new → calls old (call.Remove a true reply) new → FindsTold true reply
       → IsIn b new → ((c : Key) → IsIn c new → c.serial ≤ b.serial → c ≡ b) → IsTold b new
   next_told a b log whole old new reply leads led step finds here first =
       let t = found_told a old new reply step.0 finds in
@@ -149,7 +149,7 @@ module _ {T W : Type 0} where
           (λ no. let most : c.0.serial ≤ b.serial = omega (arith, no) in subst (λ (k : Key). IsTold k new) (first c.0 (inr c.1) most) c.1)
 
   pub next_removed : (a b : Key) (x y m n told : ℕ) (former reply : Option (State T W)) (propagate : Bool) (v w : View (Queue T W) (QueueCall T W)) (earlier between later : QueueLog T W) (before after : Queue T W)
-      → Leads calls is_empty rests_on v (call.Remove b propagate reply) before after w → OwnsListener b v.mine
+      → Leads queue_machine v (call.Remove b propagate reply) before after w → OwnsListener b v.mine
       → v.seen ≡ earlier ++ entry m (call.Counts told 2) ∷ (between ++ entry n (call.Remove a true former) ∷ later)
       → IsAmong (joins a) (calls_by x earlier) → IsAmong (joins b) (calls_by y earlier) → FindsTold true former → FindsTold propagate reply
   next_removed a b x y m n told former reply propagate v w earlier between later before after l own is in_a in_b finds =
@@ -179,7 +179,7 @@ module _ {T W : Type 0} where
       old : Queue T W
       old = dropped.0
 
-      leads : LeadsTo calls is_empty front old
+      leads : LeadsTo queue_machine front old
       leads = dropped.1
 
       run : Runs calls old (drops ∷ (later ++ l.between)) before
@@ -188,7 +188,7 @@ module _ {T W : Type 0} where
       next : Queue T W
       next = run.0
 
-      led : LeadsTo calls is_empty log next
+      led : LeadsTo queue_machine log next
       led = (leads.0, leads.1, run_more front drops leads.0 old next leads.2 run.1)
 
       counted : Parts earlier (counts ∷ between) old
@@ -204,10 +204,10 @@ module _ {T W : Type 0} where
       in_log = among_more y (joins b) front (drops ∷ []) (among_more y (joins b) earlier (counts ∷ between) in_b)
 
       b_next : IsIn b next
-      b_next = was_there b b y log (later ++ l.between) next before led (subst (λ (es : QueueLog T W). LeadsTo calls is_empty es before) (whole ∙ sym (append_assoc front (drops ∷ []) (later ++ l.between))) l.runs) in_log (omega arith) (own_at_call b v w (call.Remove b propagate reply) before after l own)
+      b_next = was_there b b y log (later ++ l.between) next before led (subst (λ (es : QueueLog T W). LeadsTo queue_machine es before) (whole ∙ sym (append_assoc front (drops ∷ []) (later ++ l.between))) l.runs) in_log (omega arith) (own_at_call b v w (call.Remove b propagate reply) before after l own)
 
       in_then : (c : Key) → IsIn c next → c.serial ≤ b.serial → IsIn c at_count
-      in_then c here below = was_there c b y earlier (counts ∷ (between ++ drops ∷ [])) at_count next counted.1 (subst (λ (es : QueueLog T W). LeadsTo calls is_empty es next) (append_assoc earlier (counts ∷ between) (drops ∷ [])) led) in_b below here
+      in_then c here below = was_there c b y earlier (counts ∷ (between ++ drops ∷ [])) at_count next counted.1 (subst (λ (es : QueueLog T W). LeadsTo queue_machine es next) (append_assoc earlier (counts ∷ between) (drops ∷ [])) led) in_b below here
 
       a_old : IsIn a old
       a_old = let t = found_told a old next former run.1.0 finds in inr (ap is_some t.1)

@@ -15,7 +15,7 @@ use Rattle.event_queue.specs.Remove.{PassesTo}
 use Rattle.event_history.specs.declared.queue_call.QueueCall.{QueueCall}
 use Rattle.event_history.specs.declared.queue_call.QueueCall.TheVariants as call
 use Rattle.event_history.specs.History.{Runs, LeadsTo}
-use Rattle.event_history.specs.Queue.{calls, Does, is_empty}
+use Rattle.event_history.specs.Queue.{calls, queue_machine, Does, is_empty}
 use Rattle.event_history.specs.Laws.{QueueLog, IsTold}
 use Rattle.event_history.proofs.LawsStays.{found_value}
 
@@ -155,13 +155,13 @@ module _ {T W : Type 0} where
   shown-empty : (q : Queue T W) → is_empty q → shown q ≡ ([], [])
   shown-empty q empty = let told = empty.0 in let waiting = empty.1 in λ i. (kinds (told i), keys_of (waiting i))
 
-  shown-led : (log : QueueLog T W) (q : Queue T W) → LeadsTo calls is_empty log q → shown q ≡ act_each log ([], [])
+  shown-led : (log : QueueLog T W) (q : Queue T W) → LeadsTo queue_machine log q → shown q ≡ act_each log ([], [])
   shown-led log q leads = acts_along log leads.0 q leads.2 ∙ ap (act_each log) (shown-empty leads.0 leads.1)
 
-  pub one_order : (log : QueueLog T W) (q r : Queue T W) → LeadsTo calls is_empty log q → LeadsTo calls is_empty log r → (keys_of q.told ≡ keys_of r.told) × (keys_of q.waiting ≡ keys_of r.waiting)
+  pub one_order : (log : QueueLog T W) (q r : Queue T W) → LeadsTo queue_machine log q → LeadsTo queue_machine log r → (keys_of q.told ≡ keys_of r.told) × (keys_of q.waiting ≡ keys_of r.waiting)
   one_order log q r one other =
       let same : shown q ≡ shown r = shown-led log q one ∙ sym (shown-led log r other) in
       (sym (kinds-keys q.told) ∙ (ap (λ (s : Order). keys_of s.0) same ∙ kinds-keys r.told), ap (λ (s : Order). s.1) same)
 
-  pub told_too : (key : Key) (log : QueueLog T W) (q r : Queue T W) → LeadsTo calls is_empty log q → LeadsTo calls is_empty log r → IsTold key q → IsTold key r
+  pub told_too : (key : Key) (log : QueueLog T W) (q r : Queue T W) → LeadsTo queue_machine log q → LeadsTo queue_machine log r → IsTold key q → IsTold key r
   told_too key log q r one other told = (IsSome-lookup_same_keys (is_key key) q.told r.told (one_order log q r one other).0).0 told

@@ -16,7 +16,7 @@ use Rattle.event_history.specs.declared.history.Entry.{Entry}
 use Rattle.event_history.specs.declared.queue_call.QueueCall.{QueueCall}
 use Rattle.event_history.specs.declared.queue_call.QueueCall.TheVariants as call
 use Rattle.event_history.specs.History.{entry, Runs, LeadsTo}
-use Rattle.event_history.specs.Queue.{calls, Does, is_empty}
+use Rattle.event_history.specs.Queue.{calls, queue_machine, Does, is_empty}
 use Rattle.event_history.specs.Laws.{QueueLog, IsTold, Waits, IsIn}
 use Rattle.event_history.proofs.LawsStays.{found_value}
 
@@ -39,7 +39,7 @@ module _ {T W : Type 0} where
   sound_run [] q r run h = subst IsSound run h
   sound_run (e ∷ es) q r run h = sound_run es run.0 r run.2 (inl run.1.1)
 
-  pub sound : (log : QueueLog T W) (r : Queue T W) → LeadsTo calls is_empty log r → IsSound r
+  pub sound : (log : QueueLog T W) (r : Queue T W) → LeadsTo queue_machine log r → IsSound r
   sound log r leads = sound_run log leads.0 r leads.2 (inr leads.1)
 
   pub nobody_told : (key : Key) (q : Queue T W) → is_empty q → IsTold key q → ⊥
@@ -59,7 +59,7 @@ module _ {T W : Type 0} where
   first_told a b q (inl queue) less told (inl w) = absurd (omega (arith, less, told_below a b q queue w told))
   first_told a b q (inr empty) less told (inl w) = absurd (nobody_told b q empty told)
 
-  pub told_first : (a b : Key) (log : QueueLog T W) (q : Queue T W) → LeadsTo calls is_empty log q → a.serial < b.serial → IsTold b q → IsIn a q → IsTold a q
+  pub told_first : (a b : Key) (log : QueueLog T W) (q : Queue T W) → LeadsTo queue_machine log q → a.serial < b.serial → IsTold b q → IsIn a q → IsTold a q
   told_first a b log q leads = first_told a b q (sound log q leads)
 
   same_serial : (old new q : Queue T W) → new ≡ q → q.next_serial ≡ old.next_serial → old.next_serial ≤ new.next_serial
@@ -97,7 +97,7 @@ module _ {T W : Type 0} where
   run_split (e ∷ es) later q r run = let rest = run_split es later run.0 r run.2 in (rest.0, (run.0, run.1, rest.1), rest.2)
 
   pub serials_rise : (a b : Key) (x y : ℕ) (earlier between later : QueueLog T W) (q : Queue T W)
-      → LeadsTo calls is_empty (earlier ++ entry x (call.Insert (Ok a)) ∷ (between ++ entry y (call.Insert (Ok b)) ∷ later)) q → a.serial < b.serial
+      → LeadsTo queue_machine (earlier ++ entry x (call.Insert (Ok a)) ∷ (between ++ entry y (call.Insert (Ok b)) ∷ later)) q → a.serial < b.serial
   serials_rise a b x y earlier between later q leads =
       let i : Entry (QueueCall T W) = entry x (call.Insert (Ok a)) in
       let j : Entry (QueueCall T W) = entry y (call.Insert (Ok b)) in

@@ -16,7 +16,7 @@ use Rattle.event_history.specs.declared.history.View.{View}
 use Rattle.event_history.specs.declared.queue_call.QueueCall.{QueueCall}
 use Rattle.event_history.specs.declared.queue_call.QueueCall.TheVariants as call
 use Rattle.event_history.specs.History.{entry, calls_by, IsAmong, AreAmong, EachRests, LeadsTo, Leads, Looks}
-use Rattle.event_history.specs.Queue.{calls, is_empty, rests_on}
+use Rattle.event_history.specs.Queue.{queue_machine, rests_on}
 use Rattle.event_history.specs.Laws.{QueueLog, IsIn, Stays, EachStays, AllStay, Listens, OwnsListener}
 use Rattle.event_history.specs.Waiting.{IsUndone, Round}
 use Rattle.event_history.proofs.Views.{cond-append, calls_own}
@@ -110,12 +110,12 @@ module _ {T W : Type 0} where
     by_hand false k rest = rest k
 
   -- nobody joins twice by one key
-  pub not_twice : (key : Key) (m n : ℕ) (earlier between later : QueueLog T W) (q : Queue T W) → LeadsTo calls is_empty (earlier ++ entry m (joins key) ∷ (between ++ entry n (joins key) ∷ later)) q → ⊥
+  pub not_twice : (key : Key) (m n : ℕ) (earlier between later : QueueLog T W) (q : Queue T W) → LeadsTo queue_machine (earlier ++ entry m (joins key) ∷ (between ++ entry n (joins key) ∷ later)) q → ⊥
   not_twice key m n earlier between later q leads = lt_irrefl key.serial (serials_rise key key m n earlier between later q leads)
 
   -- so a call of another hand does not rest on that joining
   module _ (key : Key) (number : ℕ) (earlier : QueueLog T W) (q : Queue T W) where
-    other_rests : (n : ℕ) (front back : QueueLog T W) → LeadsTo calls is_empty (earlier ++ entry number (joins key) ∷ (front ++ back)) q → n ≢ number → IsAmong (joins key) (calls_by n (earlier ++ entry number (joins key) ∷ front)) → ⊥
+    other_rests : (n : ℕ) (front back : QueueLog T W) → LeadsTo queue_machine (earlier ++ entry number (joins key) ∷ (front ++ back)) q → n ≢ number → IsAmong (joins key) (calls_by n (earlier ++ entry number (joins key) ∷ front)) → ⊥
     other_rests n front back leads apart h =
         let parts : IsAmong (joins key) (calls_by n earlier ++ calls_by n (entry number (joins key) ∷ front)) = subst (λ (l : List (QueueCall T W)). IsAmong (joins key) l) (calls_append n earlier (entry number (joins key) ∷ front)) h in
         ⊎_elim before after (among_either (joins key) (calls_by n earlier) (calls_by n (entry number (joins key) ∷ front)) parts)
@@ -125,7 +125,7 @@ module _ {T W : Type 0} where
             let s = stands n (joins key) earlier k in
             let whole : earlier ++ entry number (joins key) ∷ (front ++ back) ≡ s.0 ++ entry n (joins key) ∷ (s.1 ++ entry number (joins key) ∷ (front ++ back)) =
             ap (λ (l : QueueLog T W). l ++ entry number (joins key) ∷ (front ++ back)) s.2 ∙ append_assoc s.0 (entry n (joins key) ∷ s.1) (entry number (joins key) ∷ (front ++ back)) in
-            not_twice key n number s.0 s.1 (front ++ back) q (subst (λ (l : QueueLog T W). LeadsTo calls is_empty l q) whole leads)
+            not_twice key n number s.0 s.1 (front ++ back) q (subst (λ (l : QueueLog T W). LeadsTo queue_machine l q) whole leads)
 
         after : IsAmong (joins key) (calls_by n (entry number (joins key) ∷ front)) → ⊥
         after k =
@@ -133,10 +133,10 @@ module _ {T W : Type 0} where
             let among : IsAmong (joins key) (calls_by n front) = subst (λ (b : Bool). IsAmong (joins key) (cond b (joins key ∷ calls_by n front) (calls_by n front))) (ne_eqb number n apart') k in
             let s = stands n (joins key) front among in
             let rest : front ++ back ≡ s.0 ++ entry n (joins key) ∷ (s.1 ++ back) = ap (λ (l : QueueLog T W). l ++ back) s.2 ∙ append_assoc s.0 (entry n (joins key) ∷ s.1) back in
-            not_twice key number n earlier s.0 (s.1 ++ back) q (subst (λ (l : QueueLog T W). LeadsTo calls is_empty (earlier ++ entry number (joins key) ∷ l) q) rest leads)
+            not_twice key number n earlier s.0 (s.1 ++ back) q (subst (λ (l : QueueLog T W). LeadsTo queue_machine (earlier ++ entry number (joins key) ∷ l) q) rest leads)
 
     -- each later call lets it stay
-    stays_at : (later : QueueLog T W) → LeadsTo calls is_empty (earlier ++ entry number (joins key) ∷ later) q → EachRests rests_on (earlier ++ entry number (joins key) ∷ later) → AllStay key (calls_by number later)
+    stays_at : (later : QueueLog T W) → LeadsTo queue_machine (earlier ++ entry number (joins key) ∷ later) q → EachRests rests_on (earlier ++ entry number (joins key) ∷ later) → AllStay key (calls_by number later)
         → (front : QueueLog T W) (e : Entry (QueueCall T W)) (back : QueueLog T W) → later ≡ front ++ e ∷ back → Stays key e.call
     stays_at later leads each all front e back is = ⊎_elim (λ s. s) rested (stays_or_rests key e.call) where
       at : earlier ++ entry number (joins key) ∷ later ≡ (earlier ++ entry number (joins key) ∷ front) ++ e ∷ back
@@ -146,13 +146,13 @@ module _ {T W : Type 0} where
       rested on =
           let among : AreAmong (joins key ∷ []) (calls_by e.by (earlier ++ entry number (joins key) ∷ front)) = subst (λ (l : List (QueueCall T W)). AreAmong l (calls_by e.by (earlier ++ entry number (joins key) ∷ front))) on (each (earlier ++ entry number (joins key) ∷ front) back e at) in
           dite (ℕ_discrete e.by number) (λ same. own_stays key number e front back (subst (λ (l : QueueLog T W). AllStay key (calls_by number l)) is all) same)
-          (λ apart. absurd (other_rests e.by front (e ∷ back) (subst (λ (l : QueueLog T W). LeadsTo calls is_empty (earlier ++ entry number (joins key) ∷ l) q) is leads) apart among.0))
+          (λ apart. absurd (other_rests e.by front (e ∷ back) (subst (λ (l : QueueLog T W). LeadsTo queue_machine (earlier ++ entry number (joins key) ∷ l) q) is leads) apart among.0))
 
   each_stays : (key : Key) (log : QueueLog T W) → ((front : QueueLog T W) (e : Entry (QueueCall T W)) (back : QueueLog T W) → log ≡ front ++ e ∷ back → Stays key e.call) → EachStays key log
   each_stays key [] f = tt
   each_stays key (e ∷ es) f = (f [] e es refl, each_stays key es (λ front x back is. f (e ∷ front) x back (ap (λ (l : QueueLog T W). e ∷ l) is)))
 
-  pub own_listens : (key : Key) (number : ℕ) (log : QueueLog T W) (q : Queue T W) → LeadsTo calls is_empty log q → EachRests rests_on log → OwnsListener key (calls_by number log) → Listens key log
+  pub own_listens : (key : Key) (number : ℕ) (log : QueueLog T W) (q : Queue T W) → LeadsTo queue_machine log q → EachRests rests_on log → OwnsListener key (calls_by number log) → Listens key log
   own_listens key number log q leads each own =
       let s = splits number log own.earlier (joins key) own.later own.joined in
       let all : AllStay key (calls_by number s.1) = subst (λ (l : List (QueueCall T W)). AllStay key l) (sym s.3) own.stays in
@@ -161,14 +161,14 @@ module _ {T W : Type 0} where
         by = number;
         later = s.1;
         inserted = s.2;
-        stays = each_stays key s.1 (stays_at key number s.0 q s.1 (subst (λ (l : QueueLog T W). LeadsTo calls is_empty l q) s.2 leads) (subst (λ (l : QueueLog T W). EachRests rests_on l) s.2 each) all);
+        stays = each_stays key s.1 (stays_at key number s.0 q s.1 (subst (λ (l : QueueLog T W). LeadsTo queue_machine l q) s.2 leads) (subst (λ (l : QueueLog T W). EachRests rests_on l) s.2 each) all);
       }
 
-  pub own_is_in : (key : Key) (number : ℕ) (log : QueueLog T W) (q : Queue T W) → LeadsTo calls is_empty log q → EachRests rests_on log → OwnsListener key (calls_by number log) → IsIn key q
+  pub own_is_in : (key : Key) (number : ℕ) (log : QueueLog T W) (q : Queue T W) → LeadsTo queue_machine log q → EachRests rests_on log → OwnsListener key (calls_by number log) → IsIn key q
   own_is_in key number log q leads each own = listened key log q leads (own_listens key number log q leads each own)
 
   -- what the history before a call has of the hand
-  pub own_before : (key : Key) (v w : View (Queue T W) (QueueCall T W)) (c : QueueCall T W) (before after : Queue T W) (l : Leads calls is_empty rests_on v c before after w) → OwnsListener key v.mine
+  pub own_before : (key : Key) (v w : View (Queue T W) (QueueCall T W)) (c : QueueCall T W) (before after : Queue T W) (l : Leads queue_machine v c before after w) → OwnsListener key v.mine
       → EachRests rests_on (v.seen ++ l.between) × OwnsListener key (calls_by l.number (v.seen ++ l.between))
   own_before key v w c before after l own =
       let log : QueueLog T W = v.seen ++ l.between in
@@ -178,27 +178,27 @@ module _ {T W : Type 0} where
       (each, subst (λ (calls : List (QueueCall T W)). OwnsListener key calls) (sym same) own)
 
   -- it is there when the hand makes its next call
-  pub own_at_call : (key : Key) (v w : View (Queue T W) (QueueCall T W)) (c : QueueCall T W) (before after : Queue T W) → Leads calls is_empty rests_on v c before after w → OwnsListener key v.mine → IsIn key before
+  pub own_at_call : (key : Key) (v w : View (Queue T W) (QueueCall T W)) (c : QueueCall T W) (before after : Queue T W) → Leads queue_machine v c before after w → OwnsListener key v.mine → IsIn key before
   own_at_call key v w c before after l own = let b = own_before key v w c before after l own in own_is_in key l.number (v.seen ++ l.between) before l.runs b.0 b.1
 
-  pub own_at_look : (key : Key) (v w : View (Queue T W) (QueueCall T W)) (l : Looks calls is_empty rests_on v w) → OwnsListener key w.mine → IsIn key l.led
+  pub own_at_look : (key : Key) (v w : View (Queue T W) (QueueCall T W)) (l : Looks queue_machine v w) → OwnsListener key w.mine → IsIn key l.led
   own_at_look key v w l own = own_is_in key l.number w.seen l.led l.runs l.rested (subst (λ (calls : List (QueueCall T W)). OwnsListener key calls) (sym l.each_once) own)
 
-  pub own_registered : (key : Key) (v w : View (Queue T W) (QueueCall T W)) (reply : RegisterResult T) (before after : Queue T W) → Leads calls is_empty rests_on v (call.Register key reply) before after w → OwnsListener key v.mine → reply ≢ register.NeverInserted
+  pub own_registered : (key : Key) (v w : View (Queue T W) (QueueCall T W)) (reply : RegisterResult T) (before after : Queue T W) → Leads queue_machine v (call.Register key reply) before after w → OwnsListener key v.mine → reply ≢ register.NeverInserted
   own_registered key v w reply before after l own = not_never key before after reply l.step (own_at_call key v w (call.Register key reply) before after l own)
 
-  pub own_removed : (key : Key) (v w : View (Queue T W) (QueueCall T W)) (propagate : Bool) (reply : Option (State T W)) (before after : Queue T W) → Leads calls is_empty rests_on v (call.Remove key propagate reply) before after w → OwnsListener key v.mine → IsSome reply
+  pub own_removed : (key : Key) (v w : View (Queue T W) (QueueCall T W)) (propagate : Bool) (reply : Option (State T W)) (before after : Queue T W) → Leads queue_machine v (call.Remove key propagate reply) before after w → OwnsListener key v.mine → IsSome reply
   own_removed key v w propagate reply before after l own = finds_it key before after propagate reply l.step (own_at_call key v w (call.Remove key propagate reply) before after l own)
 
   -- how a hand comes by one, and keeps it
-  pub own_joined : (key : Key) (v w : View (Queue T W) (QueueCall T W)) (before after : Queue T W) → Leads calls is_empty rests_on v (joins key) before after w → OwnsListener key w.mine
+  pub own_joined : (key : Key) (v w : View (Queue T W) (QueueCall T W)) (before after : Queue T W) → Leads queue_machine v (joins key) before after w → OwnsListener key w.mine
   own_joined key v w before after l = record { earlier = v.mine; later = []; joined = l.mine; stays = tt }
 
   all_stay_more : (key : Key) (cs : List (QueueCall T W)) (c : QueueCall T W) → AllStay key cs → Stays key c → AllStay key (cs ++ c ∷ [])
   all_stay_more key [] c all stays = (stays, tt)
   all_stay_more key (x ∷ xs) c all stays = (all.0, all_stay_more key xs c all.1 stays)
 
-  pub own_kept : (key : Key) (v w : View (Queue T W) (QueueCall T W)) (c : QueueCall T W) (before after : Queue T W) → Leads calls is_empty rests_on v c before after w → Stays key c → OwnsListener key v.mine → OwnsListener key w.mine
+  pub own_kept : (key : Key) (v w : View (Queue T W) (QueueCall T W)) (c : QueueCall T W) (before after : Queue T W) → Leads queue_machine v c before after w → Stays key c → OwnsListener key v.mine → OwnsListener key w.mine
   own_kept key v w c before after l stays own = record {
     earlier = own.earlier;
     later = own.later ++ c ∷ [];
@@ -206,7 +206,7 @@ module _ {T W : Type 0} where
     stays = all_stay_more key own.later c own.stays stays;
   }
 
-  pub own_stored : (key : Key) (v w : View (Queue T W) (QueueCall T W)) (reply : RegisterResult T) (before after : Queue T W) → Leads calls is_empty rests_on v (call.Register key reply) before after w → reply ≡ register.Registered
+  pub own_stored : (key : Key) (v w : View (Queue T W) (QueueCall T W)) (reply : RegisterResult T) (before after : Queue T W) → Leads queue_machine v (call.Register key reply) before after w → reply ≡ register.Registered
       → OwnsListener key v.mine → OwnsListener key w.mine
   own_stored key v w reply before after l is own = own_kept key v w (call.Register key reply) before after l (subst (λ (r : RegisterResult T). Stays {T = T} {W = W} key (call.Register key r)) (sym is) tt) own
 
@@ -216,7 +216,7 @@ module _ {T W : Type 0} where
   -- rounds of a wait keep it, if no attempt that gets nothing takes it out
   module _ {Q G E : Type 0} (attempting : Q → Attempted G E → QueueCall T W → Type 0) (leaving : Q → Result (Option G) E → QueueCall T W → Type 0) (waits : Q → Q → Type 0) (key : Key) (is : Q → Type 0) where
     pub own_along : ((before after : Q) → waits before after → is before → is after) → ((q : Q) (answer : Attempted G E) (c : QueueCall T W) → is q → IsUndone answer → attempting q answer c → Stays key c)
-        → (rounds : ℕ) (before after : Q × View (Queue T W) (QueueCall T W)) → Rounds (Round calls is_empty rests_on attempting leaving waits) rounds before after → is before.0 → OwnsListener key before.1.mine
+        → (rounds : ℕ) (before after : Q × View (Queue T W) (QueueCall T W)) → Rounds (Round queue_machine attempting leaving waits) rounds before after → is before.0 → OwnsListener key before.1.mine
         → is after.0 × OwnsListener key after.1.mine
     own_along keeps stays zero before after same here own = subst (λ (g : Q × View (Queue T W) (QueueCall T W)). is g.0 × OwnsListener key g.1.mine) (sym same) (here, own)
     own_along keeps stays (suc rounds) before after waited here own =

@@ -12,7 +12,7 @@ use Rattle.event_queue.proofs.LawLemmas.{untold-waiting}
 use Rattle.event_queue.proofs.QueueLemmas.{IsQueue-told_leaves}
 use Rattle.event_history.specs.declared.queue_call.QueueCall.TheVariants as call
 use Rattle.event_history.specs.History.{LeadsTo}
-use Rattle.event_history.specs.Queue.{calls, is_empty}
+use Rattle.event_history.specs.Queue.{calls, queue_machine}
 use Rattle.event_history.specs.Laws.{QueueLog, GoesToFirst}
 use Rattle.event_history.proofs.LawsStays.{found_value, self_key}
 use Rattle.event_history.proofs.LawsOrder.{IsSound, sound, nobody_told}
@@ -96,12 +96,12 @@ module _ {T W : Type 0} where
   told_queue key notice q (inl queue) told = queue
   told_queue key notice q (inr empty) told = absurd (nobody_told key q empty (rw told refl))
 
-  pub passes_on_wanted : (key : Key) (log : QueueLog T W) (old new : Queue T W) (notice : Notice T) (reply : Option (State T W)) → LeadsTo calls is_empty log old
+  pub passes_on_wanted : (key : Key) (log : QueueLog T W) (old new : Queue T W) (notice : Notice T) (reply : Option (State T W)) → LeadsTo queue_machine log old
       → lookup (is_key key) old.told ≡ Some notice → calls old (call.Remove key true reply) new → how_many 1 notice.additional (told_leaves key old) ≡ 1
       → (to : Key) × (reply ≡ Some (was.Passed to)) × GoesToFirst to notice old new
   passes_on_wanted key log old new notice reply leads told s = passes key old new notice reply (told_queue key notice old (sound log old leads) told) told s.0
 
-  pub passes_on_unwanted : (key : Key) (log : QueueLog T W) (old new : Queue T W) (notice : Notice T) (reply : Option (State T W)) → LeadsTo calls is_empty log old
+  pub passes_on_unwanted : (key : Key) (log : QueueLog T W) (old new : Queue T W) (notice : Notice T) (reply : Option (State T W)) → LeadsTo queue_machine log old
       → lookup (is_key key) old.told ≡ Some notice → calls old (call.Remove key true reply) new → how_many 1 notice.additional (told_leaves key old) ≡ 0
       → (reply ≡ Some (was.Lost notice.additional notice.tag)) × (new ≡ told_leaves key old)
   passes_on_unwanted key log old new notice reply leads told s = loses key old new notice reply (told_queue key notice old (sound log old leads) told) told s.0

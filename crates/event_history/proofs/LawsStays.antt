@@ -21,7 +21,7 @@ use Rattle.event_history.specs.declared.history.Entry.{Entry}
 use Rattle.event_history.specs.declared.queue_call.QueueCall.{QueueCall}
 use Rattle.event_history.specs.declared.queue_call.QueueCall.TheVariants as call
 use Rattle.event_history.specs.History.{entry, Runs, LeadsTo}
-use Rattle.event_history.specs.Queue.{calls, Does, is_empty}
+use Rattle.event_history.specs.Queue.{calls, queue_machine, Does}
 use Rattle.event_history.specs.Laws.{QueueLog, IsTold, Waits, IsIn, Stays, EachStays, Listens, TellsFirst}
 
 module _ {X : Type 0} where
@@ -134,7 +134,7 @@ module _ {T W : Type 0} where
   run_from (e ∷ es) later q r run = run_from es later run.0 r run.2
 
   -- the listener whose listening stands in the history is in the queue, if it did not leave
-  pub listened : (key : Key) (log : QueueLog T W) (r : Queue T W) → LeadsTo calls is_empty log r → Listens key log → IsIn key r
+  pub listened : (key : Key) (log : QueueLog T W) (r : Queue T W) → LeadsTo queue_machine log r → Listens key log → IsIn key r
   listened key log r leads l =
       let e : Entry (QueueCall T W) = entry l.by (call.Insert (Ok key)) in
       let whole : Runs calls leads.0 (l.earlier ++ e ∷ l.later) r = subst (λ (es : QueueLog T W). Runs calls leads.0 es r) l.inserted leads.2 in

@@ -18,7 +18,7 @@ use Rattle.event_history.specs.declared.history.Entry.{Entry}
 use Rattle.event_history.specs.declared.queue_call.QueueCall.{QueueCall}
 use Rattle.event_history.specs.declared.queue_call.QueueCall.TheVariants as call
 use Rattle.event_history.specs.History.{entry, Runs, LeadsTo}
-use Rattle.event_history.specs.Queue.{calls, Does, is_empty}
+use Rattle.event_history.specs.Queue.{calls, queue_machine, Does, is_empty}
 use Rattle.event_history.specs.Laws.{QueueLog, Waits, IsIn, Stays, EachStays, Listens, MayTell, WasTold}
 use Rattle.event_history.proofs.LawsStays.{Has, found_value, to, not_absent}
 use Rattle.event_history.proofs.LawsOrder.{IsSound, run_split, nobody_told, nobody_waits}
@@ -267,11 +267,11 @@ module _ {T W : Type 0} where
   nobody_in q empty key (inl w) = absurd (nobody_waits key q empty w)
   nobody_in q empty key (inr t) = absurd (nobody_told key q empty t)
 
-  pub all_listened : (key : Key) (log : QueueLog T W) (q : Queue T W) → LeadsTo calls is_empty log q → IsIn key q → Listens key log
+  pub all_listened : (key : Key) (log : QueueLog T W) (q : Queue T W) → LeadsTo queue_machine log q → IsIn key q → Listens key log
   all_listened key log q leads h = listened_along [] log leads.0 q (inr leads.1) (nobody_in leads.0 leads.1) leads.2 key h
 
   -- whoever is told at the end was told at the start of the rest, or a call of the rest told it
-  told_along : (key : Key) (notice : Notice T) (log rest : QueueLog T W) (q r : Queue T W) → IsSound q → AllListened log q → LeadsTo calls is_empty log q → Runs calls q rest r → lookup (is_key key) r.told ≡ Some notice
+  told_along : (key : Key) (notice : Notice T) (log rest : QueueLog T W) (q r : Queue T W) → IsSound q → AllListened log q → LeadsTo queue_machine log q → Runs calls q rest r → lookup (is_key key) r.told ≡ Some notice
       → (lookup (is_key key) q.told ≡ Some notice) ⊎ WasTold key notice (log ++ rest) r
   told_along key notice log [] q r queue all leads run told = inl (told_in key notice q r (sym run) told)
   told_along key notice log (e ∷ es) q r queue all leads run told =
@@ -299,18 +299,18 @@ module _ {T W : Type 0} where
       here : lookup (is_key key) run.0.told ≡ Some notice → (lookup (is_key key) q.told ≡ Some notice) ⊎ WasTold key notice (log ++ e ∷ es) r
       here there = ⊎_elim (λ e. inl e) (λ g. inr (now there g)) (got_from key notice q run.0 e.call queue run.1.0 there)
 
-  pub was_told : (key : Key) (log : QueueLog T W) (q : Queue T W) (notice : Notice T) → LeadsTo calls is_empty log q → lookup (is_key key) q.told ≡ Some notice → WasTold key notice log q
+  pub was_told : (key : Key) (log : QueueLog T W) (q : Queue T W) (notice : Notice T) → LeadsTo queue_machine log q → lookup (is_key key) q.told ≡ Some notice → WasTold key notice log q
   was_told key log q notice leads told =
       ⊎_elim (λ e. absurd (nobody_told key leads.0 leads.1 (ap is_some e))) (λ w. w)
       (told_along key notice [] log leads.0 q (inr leads.1) (nobody_in leads.0 leads.1) (leads.0, leads.1, refl) leads.2 told)
 
-  pub tag_taken : (key : Key) (log : QueueLog T W) (q next : Queue T W) (tag : T) → LeadsTo calls is_empty log q → calls q (call.Register key (register.Notified tag)) next
+  pub tag_taken : (key : Key) (log : QueueLog T W) (q next : Queue T W) (tag : T) → LeadsTo queue_machine log q → calls q (call.Register key (register.Notified tag)) next
       → (notice : Notice T) × (notice.tag ≡ tag) × WasTold key notice log q
   tag_taken key log q next tag leads step =
       let f = found_value (lookup (is_key key) q.told) (λ notice. notice.tag ≡ tag) step.0.0 in
       (f.0, f.2, was_told key log q f.0 leads f.1)
 
-  pub tag_stood : (key : Key) (by : ℕ) (earlier later : QueueLog T W) (end : Queue T W) (tag : T) → LeadsTo calls is_empty (earlier ++ entry by (call.Register key (register.Notified tag)) ∷ later) end
+  pub tag_stood : (key : Key) (by : ℕ) (earlier later : QueueLog T W) (end : Queue T W) (tag : T) → LeadsTo queue_machine (earlier ++ entry by (call.Register key (register.Notified tag)) ∷ later) end
       → (q : Queue T W) × (notice : Notice T) × (notice.tag ≡ tag) × WasTold key notice earlier q
   tag_stood key by earlier later end tag leads =
       let split = run_split earlier (entry by (call.Register key (register.Notified tag)) ∷ later) leads.0 end leads.2 in

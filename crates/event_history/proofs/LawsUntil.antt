@@ -18,7 +18,7 @@ use Rattle.event_history.specs.declared.history.View.{View}
 use Rattle.event_history.specs.declared.queue_call.QueueCall.{QueueCall}
 use Rattle.event_history.specs.declared.queue_call.QueueCall.TheVariants as call
 use Rattle.event_history.specs.History.{entry, calls_by, IsAmong, EachRests, Runs, LeadsTo, Leads, Looks}
-use Rattle.event_history.specs.Queue.{calls, Does, is_empty, rests_on}
+use Rattle.event_history.specs.Queue.{calls, queue_machine, Does, rests_on}
 use Rattle.event_history.specs.Laws.{QueueLog, IsTold, Waits, IsIn, Stays, EachStays, OwnsListener, FindsTold, TellsFirst}
 use Rattle.event_history.proofs.LawsStays.{found_value, has_left, has_other, has_length, not_absent, listened, tells_me, tells_first}
 use Rattle.event_history.proofs.LawsOrder.{IsSound, sound, some_value, nobody_told, run_split}
@@ -69,31 +69,31 @@ module _ {T W : Type 0} where
   stays_parts key (e ∷ es) back stays = let rest = stays_parts key es back stays.1 in ((stays.0, rest.0), rest.1)
 
   -- a listener that a hand owns stays from where it joined
-  stays_from : (key : Key) (number n : ℕ) (log earlier later : QueueLog T W) (q : Queue T W) → LeadsTo calls is_empty log q → EachRests rests_on log → OwnsListener key (calls_by number log)
+  stays_from : (key : Key) (number n : ℕ) (log earlier later : QueueLog T W) (q : Queue T W) → LeadsTo queue_machine log q → EachRests rests_on log → OwnsListener key (calls_by number log)
       → log ≡ earlier ++ entry n (joins key) ∷ later → EachStays key later
   stays_from key number n log earlier later q leads each own is =
       let l = own_listens key number log q leads each own in
       let whole : l.earlier ++ entry l.by (joins key) ∷ l.later ≡ earlier ++ entry n (joins key) ∷ later = sym l.inserted ∙ is in
       ⊎_elim (λ same. subst (EachStays key) same l.stays)
       (λ apart. absurd (⊎_elim
-      (λ m. not_twice key l.by n l.earlier m.0 later q (subst (λ (es : QueueLog T W). LeadsTo calls is_empty es q) (l.inserted ∙ ap (λ (es : QueueLog T W). l.earlier ++ entry l.by (joins key) ∷ es) m.1) leads))
-      (λ m. not_twice key n l.by earlier m.0 l.later q (subst (λ (es : QueueLog T W). LeadsTo calls is_empty es q) (is ∙ ap (λ (es : QueueLog T W). earlier ++ entry n (joins key) ∷ es) m.1) leads))
+      (λ m. not_twice key l.by n l.earlier m.0 later q (subst (λ (es : QueueLog T W). LeadsTo queue_machine es q) (l.inserted ∙ ap (λ (es : QueueLog T W). l.earlier ++ entry l.by (joins key) ∷ es) m.1) leads))
+      (λ m. not_twice key n l.by earlier m.0 l.later q (subst (λ (es : QueueLog T W). LeadsTo queue_machine es q) (is ∙ ap (λ (es : QueueLog T W). earlier ++ entry n (joins key) ∷ es) m.1) leads))
       apart))
       (cut l.earlier l.later earlier later (entry l.by (joins key)) (entry n (joins key)) whole)
 
   -- the run of a history, cut in two
   abbrev pub Parts : QueueLog T W → QueueLog T W → Queue T W → Type 0
-  Parts earlier later q = (m : Queue T W) × LeadsTo calls is_empty earlier m × Runs calls m later q
+  Parts earlier later q = (m : Queue T W) × LeadsTo queue_machine earlier m × Runs calls m later q
 
-  pub parts : (log earlier later : QueueLog T W) (q : Queue T W) → LeadsTo calls is_empty log q → log ≡ earlier ++ later → Parts earlier later q
+  pub parts : (log earlier later : QueueLog T W) (q : Queue T W) → LeadsTo queue_machine log q → log ≡ earlier ++ later → Parts earlier later q
   parts log earlier later q leads is =
       let whole : Runs calls leads.0 (earlier ++ later) q = subst (λ (es : QueueLog T W). Runs calls leads.0 es q) is leads.2 in
       let split = run_split earlier later leads.0 q whole in
       (split.0, (leads.0, leads.1, split.1), split.2)
 
   -- whoever was notified at a point of the history is so at its end, if a hand owns it there
-  pub told_stands : (key : Key) (number : ℕ) (log earlier later : QueueLog T W) (q r : Queue T W) → LeadsTo calls is_empty log r → EachRests rests_on log → OwnsListener key (calls_by number log)
-      → log ≡ earlier ++ later → LeadsTo calls is_empty earlier q → IsTold key q → IsTold key r
+  pub told_stands : (key : Key) (number : ℕ) (log earlier later : QueueLog T W) (q r : Queue T W) → LeadsTo queue_machine log r → EachRests rests_on log → OwnsListener key (calls_by number log)
+      → log ≡ earlier ++ later → LeadsTo queue_machine earlier q → IsTold key q → IsTold key r
   told_stands key number log earlier later q r leads each own is led told =
       let l = all_listened key earlier q led (inr told) in
       let place : log ≡ l.earlier ++ entry l.by (joins key) ∷ (l.later ++ later) = is ∙ (ap (λ (es : QueueLog T W). es ++ later) l.inserted ∙ append_assoc l.earlier (entry l.by (joins key) ∷ l.later) later) in
@@ -101,15 +101,15 @@ module _ {T W : Type 0} where
       let p = parts log earlier later r leads is in
       told_run key later p.0 r (told_too key earlier q p.0 led p.1 told) p.2 (stays_parts key l.later later stays).1
 
-  pub told_at_call : (key : Key) (v w : View (Queue T W) (QueueCall T W)) (c : QueueCall T W) (earlier later : QueueLog T W) (q before after : Queue T W) → Leads calls is_empty rests_on v c before after w → OwnsListener key v.mine
-      → v.seen ≡ earlier ++ later → LeadsTo calls is_empty earlier q → IsTold key q → IsTold key before
+  pub told_at_call : (key : Key) (v w : View (Queue T W) (QueueCall T W)) (c : QueueCall T W) (earlier later : QueueLog T W) (q before after : Queue T W) → Leads queue_machine v c before after w → OwnsListener key v.mine
+      → v.seen ≡ earlier ++ later → LeadsTo queue_machine earlier q → IsTold key q → IsTold key before
   told_at_call key v w c earlier later q before after l own is led told =
       let b = own_before key v w c before after l own in
       let whole : v.seen ++ l.between ≡ earlier ++ (later ++ l.between) = ap (λ (es : QueueLog T W). es ++ l.between) is ∙ append_assoc earlier later l.between in
       told_stands key l.number (v.seen ++ l.between) earlier (later ++ l.between) q before l.runs b.0 b.1 whole led told
 
-  pub told_at_look : (key : Key) (v w : View (Queue T W) (QueueCall T W)) (earlier later : QueueLog T W) (q : Queue T W) (l : Looks calls is_empty rests_on v w) → OwnsListener key w.mine
-      → w.seen ≡ earlier ++ later → LeadsTo calls is_empty earlier q → IsTold key q → IsTold key l.led
+  pub told_at_look : (key : Key) (v w : View (Queue T W) (QueueCall T W)) (earlier later : QueueLog T W) (q : Queue T W) (l : Looks queue_machine v w) → OwnsListener key w.mine
+      → w.seen ≡ earlier ++ later → LeadsTo queue_machine earlier q → IsTold key q → IsTold key l.led
   told_at_look key v w earlier later q l own is led told =
       told_stands key l.number w.seen earlier later q l.led l.runs l.rested (subst (λ (calls : List (QueueCall T W)). OwnsListener key calls) (sym l.each_once) own) is led told
 
@@ -119,12 +119,12 @@ module _ {T W : Type 0} where
   not_both key q (inr empty) waits told = nobody_told key q empty told
 
   -- what whoever is notified is answered
-  pub told_registered : (key : Key) (log : QueueLog T W) (q next : Queue T W) (reply : RegisterResult T) → LeadsTo calls is_empty log q → IsTold key q → calls q (call.Register key reply) next → (tag : T) × (reply ≡ register.Notified tag)
+  pub told_registered : (key : Key) (log : QueueLog T W) (q next : Queue T W) (reply : RegisterResult T) → LeadsTo queue_machine log q → IsTold key q → calls q (call.Register key reply) next → (tag : T) × (reply ≡ register.Notified tag)
   told_registered key log q next (register.Notified tag) leads told s = (tag, refl)
   told_registered key log q next register.Registered leads told s = absurd (let stored = s.0.1 in not_both key q (sound log q leads) stored.0 told)
   told_registered key log q next register.NeverInserted leads told s = absurd (not_absent key q (inr told) s.0.0)
 
-  pub told_removed : (key : Key) (log : QueueLog T W) (q next : Queue T W) (propagate : Bool) (reply : Option (State T W)) → LeadsTo calls is_empty log q → IsTold key q → calls q (call.Remove key propagate reply) next → FindsTold propagate reply
+  pub told_removed : (key : Key) (log : QueueLog T W) (q next : Queue T W) (propagate : Bool) (reply : Option (State T W)) → LeadsTo queue_machine log q → IsTold key q → calls q (call.Remove key propagate reply) next → FindsTold propagate reply
   told_removed key log q next propagate None leads told s = absurd (not_absent key q (inr told) s.0.0)
   told_removed key log q next propagate (Some was.Created) leads told s = absurd (not_both key q (sound log q leads) (ap is_some s.0.0) told)
   told_removed key log q next propagate (Some (was.Task task)) leads told s = absurd (not_both key q (sound log q leads) (ap is_some s.0.0) told)
@@ -159,7 +159,7 @@ module _ {T W : Type 0} where
       tells_enough key old new (2 ^ 64 - 1) told additional s (omega (arith, queue.slots_fit, as_many old new (2 ^ 64 - 1) told additional s)) h
 
   -- one that stands in the history after the listener joined left it notified
-  other_stands : (key : Key) (number joiner by : ℕ) (additional : Bool) (told : ℕ) (log earlier later : QueueLog T W) (r : Queue T W) → LeadsTo calls is_empty log r → EachRests rests_on log → OwnsListener key (calls_by number log)
+  other_stands : (key : Key) (number joiner by : ℕ) (additional : Bool) (told : ℕ) (log earlier later : QueueLog T W) (r : Queue T W) → LeadsTo queue_machine log r → EachRests rests_on log → OwnsListener key (calls_by number log)
       → log ≡ earlier ++ entry by (call.Notify (2 ^ 64 - 1) additional (Ok told)) ∷ later → IsAmong (joins key) (calls_by joiner earlier) → IsTold key r
   other_stands key number joiner by additional told log earlier later r leads each own is among =
       let e : Entry (QueueCall T W) = entry by (call.Notify (2 ^ 64 - 1) additional (Ok told)) in
@@ -172,26 +172,26 @@ module _ {T W : Type 0} where
       told_run key later on.0 r (tells_greatest key p.0 on.0 told additional on.1 here) on.2 stays.1.1
 
   pub other_at_call : (key : Key) (joiner by : ℕ) (additional : Bool) (told : ℕ) (v w : View (Queue T W) (QueueCall T W)) (c : QueueCall T W) (earlier later : QueueLog T W) (before after : Queue T W)
-      → Leads calls is_empty rests_on v c before after w → OwnsListener key v.mine → v.seen ≡ earlier ++ entry by (call.Notify (2 ^ 64 - 1) additional (Ok told)) ∷ later → IsAmong (joins key) (calls_by joiner earlier) → IsTold key before
+      → Leads queue_machine v c before after w → OwnsListener key v.mine → v.seen ≡ earlier ++ entry by (call.Notify (2 ^ 64 - 1) additional (Ok told)) ∷ later → IsAmong (joins key) (calls_by joiner earlier) → IsTold key before
   other_at_call key joiner by additional told v w c earlier later before after l own is among =
       let e : Entry (QueueCall T W) = entry by (call.Notify (2 ^ 64 - 1) additional (Ok told)) in
       let b = own_before key v w c before after l own in
       let whole : v.seen ++ l.between ≡ earlier ++ e ∷ (later ++ l.between) = ap (λ (es : QueueLog T W). es ++ l.between) is ∙ append_assoc earlier (e ∷ later) l.between in
       other_stands key l.number joiner by additional told (v.seen ++ l.between) earlier (later ++ l.between) before l.runs b.0 b.1 whole among
 
-  pub other_at_look : (key : Key) (joiner by : ℕ) (additional : Bool) (told : ℕ) (v w : View (Queue T W) (QueueCall T W)) (earlier later : QueueLog T W) (l : Looks calls is_empty rests_on v w) → OwnsListener key w.mine
+  pub other_at_look : (key : Key) (joiner by : ℕ) (additional : Bool) (told : ℕ) (v w : View (Queue T W) (QueueCall T W)) (earlier later : QueueLog T W) (l : Looks queue_machine v w) → OwnsListener key w.mine
       → w.seen ≡ earlier ++ entry by (call.Notify (2 ^ 64 - 1) additional (Ok told)) ∷ later → IsAmong (joins key) (calls_by joiner earlier) → IsTold key l.led
   other_at_look key joiner by additional told v w earlier later l own is among =
       other_stands key l.number joiner by additional told w.seen earlier later l.led l.runs l.rested (subst (λ (calls : List (QueueCall T W)). OwnsListener key calls) (sym l.each_once) own) is among
 
   pub other_registered : (key : Key) (joiner by : ℕ) (additional : Bool) (told : ℕ) (v w : View (Queue T W) (QueueCall T W)) (reply : RegisterResult T) (earlier later : QueueLog T W) (before after : Queue T W)
-      → Leads calls is_empty rests_on v (call.Register key reply) before after w → OwnsListener key v.mine → v.seen ≡ earlier ++ entry by (call.Notify (2 ^ 64 - 1) additional (Ok told)) ∷ later → IsAmong (joins key) (calls_by joiner earlier)
+      → Leads queue_machine v (call.Register key reply) before after w → OwnsListener key v.mine → v.seen ≡ earlier ++ entry by (call.Notify (2 ^ 64 - 1) additional (Ok told)) ∷ later → IsAmong (joins key) (calls_by joiner earlier)
       → (tag : T) × (reply ≡ register.Notified tag)
   other_registered key joiner by additional told v w reply earlier later before after l own is among =
       told_registered key (v.seen ++ l.between) before after reply l.runs (other_at_call key joiner by additional told v w (call.Register key reply) earlier later before after l own is among) l.step
 
   pub other_removed : (key : Key) (joiner by : ℕ) (additional : Bool) (told : ℕ) (v w : View (Queue T W) (QueueCall T W)) (propagate : Bool) (reply : Option (State T W)) (earlier later : QueueLog T W) (before after : Queue T W)
-      → Leads calls is_empty rests_on v (call.Remove key propagate reply) before after w → OwnsListener key v.mine → v.seen ≡ earlier ++ entry by (call.Notify (2 ^ 64 - 1) additional (Ok told)) ∷ later → IsAmong (joins key) (calls_by joiner earlier)
+      → Leads queue_machine v (call.Remove key propagate reply) before after w → OwnsListener key v.mine → v.seen ≡ earlier ++ entry by (call.Notify (2 ^ 64 - 1) additional (Ok told)) ∷ later → IsAmong (joins key) (calls_by joiner earlier)
       → FindsTold propagate reply
   other_removed key joiner by additional told v w propagate reply earlier later before after l own is among =
       told_removed key (v.seen ++ l.between) before after propagate reply l.runs (other_at_call key joiner by additional told v w (call.Remove key propagate reply) earlier later before after l own is among) l.step

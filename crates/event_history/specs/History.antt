@@ -2,6 +2,7 @@
 use Rattle.std.specs.Prelude.{◌≡◌, ◌≢◌, ◌⊎◌, ℕ, false, cond, eqb, List, [], ◌∷◌, ◌++◌}
 use Rattle.event_history.specs.declared.history.Entry.{Entry}
 use Rattle.event_history.specs.declared.history.Met.{Met}
+use Rattle.event_history.specs.declared.history.Steps as steps
 use Rattle.event_history.specs.declared.history.View.{View}
 
 module _ {C : Type 0} where
@@ -75,56 +76,72 @@ module _ {C : Type 0} (log : List (Entry C)) where
   EachStood (n ∷ ns) [] = ⊥
   EachStood (n ∷ ns) (m ∷ ms) = Stood n m × EachStood ns ms
 
-module _ {S C : Type 0} (goes : S → C → S → Type 0) where
-  -- these calls lead from one state to the other
-  abbrev pub Runs : S → List (Entry C) → S → Type 0
-  Runs s [] t = s ≡ t
-  Runs s (e ∷ es) t = (m : S) × goes s e.call m × Runs m es t
+-- what calls may do to a state
+pub record Machine (S C : Type 0) : Type 1 where
+  -- before all calls
+  pub starts : S → Type 0
+  -- from a state a call leads to a state
+  pub goes : S → C → S → Type 0
+  -- the calls of the same hand that a call comes after
+  pub rests : C → List C
 
-  module _ (starts : S → Type 0) where
-    -- they lead there from a state at the start
-    abbrev pub LeadsTo : List (Entry C) → S → Type 0
-    LeadsTo log t = (s : S) × starts s × Runs s log t
+module _ {S C Start : Type 0} (of : steps.Ghosts S C Start) where
+  -- of a state whose steps these are, where this is known of it before all calls
+  abbrev pub machine_from : (S → Type 0) → Machine S C
+  machine_from starts = record { starts = starts; goes = of.goes; rests = of.rests }
 
-    module _ (rests : C → List C) where
-      -- The history after a call begins with all that the caller had seen, and ends with the call, which is one more of the
-      -- caller's. The history before the call leads to a state from which the call leads to the one after it. Each call of
-      -- the history comes after those of its hand that it rests on.
-      pub record Leads (v : View S C) (call : C) (before after : S) (w : View S C) : Type 0 where
-        pub between : List (Entry C)
-        pub number : ℕ
-        pub hand : (w.by ≡ number ∷ []) × IsNumber number v.by
-        pub seen : w.seen ≡ (v.seen ++ between) ++ entry number call ∷ []
-        pub mine : w.mine ≡ v.mine ++ call ∷ []
-        pub each_once : calls_by number w.seen ≡ w.mine
-        pub idle : (w.out ≡ []) × (w.spent ≡ false) × (w.met ≡ v.met) × (w.owes ≡ false)
-        pub runs : LeadsTo (v.seen ++ between) before
-        pub step : goes before call after
-        pub rested : EachRests rests w.seen
+  -- the same, where this was given of its start
+  abbrev pub machine_of : Start → Machine S C
+  machine_of start = machine_from (of.starts start)
 
-      abbrev pub Extends : View S C → C → View S C → Type 0
-      Extends v call w = (before : S) × (after : S) × Leads v call before after w
+-- these calls lead from one state to the other
+abbrev pub Runs : {S C : Type 0} → (S → C → S → Type 0) → S → List (Entry C) → S → Type 0
+Runs goes s [] t = s ≡ t
+Runs {S = S} goes s (e ∷ es) t = (m : S) × goes s e.call m × Runs goes m es t
 
-      -- the same, by a call of which this is said
-      abbrev pub Makes : View S C → (C → Type 0) → View S C → Type 0
-      Makes v is w = (call : C) × is call × Extends v call w
+module _ {S C : Type 0} (machine : Machine S C) where
+  -- they lead there from a state at the start
+  abbrev pub LeadsTo : List (Entry C) → S → Type 0
+  LeadsTo log t = (s : S) × machine.starts s × Runs machine.goes s log t
 
-      -- the same, and of the state before and after the call this holds
-      abbrev pub ExtendsThat : (S → S → Type 0) → View S C → C → View S C → Type 0
-      ExtendsThat P v call w = (before : S) × (after : S) × Leads v call before after w × P before after
+  -- The history after a call begins with all that the caller had seen, and ends with the call, which is one more of the
+  -- caller's. The history before the call leads to a state from which the call leads to the one after it. Each call of
+  -- the history comes after those of its hand that it rests on.
+  pub record Leads (v : View S C) (call : C) (before after : S) (w : View S C) : Type 0 where
+    pub between : List (Entry C)
+    pub number : ℕ
+    pub hand : (w.by ≡ number ∷ []) × IsNumber number v.by
+    pub seen : w.seen ≡ (v.seen ++ between) ++ entry number call ∷ []
+    pub mine : w.mine ≡ v.mine ++ call ∷ []
+    pub each_once : calls_by number w.seen ≡ w.mine
+    pub idle : (w.out ≡ []) × (w.spent ≡ false) × (w.met ≡ v.met) × (w.owes ≡ false)
+    pub runs : LeadsTo (v.seen ++ between) before
+    pub step : machine.goes before call after
+    pub rested : EachRests machine.rests w.seen
 
-      -- The hand has seen one history of all hands: it leads to some state, begins with all that the hand had seen, and has
-      -- just those calls of the hand that it made; and so of each hand that it took in. All these are different hands.
-      pub record Looks (v w : View S C) : Type 0 where
-        pub number : ℕ
-        pub hand : (w.by ≡ number ∷ []) × IsNumber number v.by
-        pub seen : StartsWith w.seen v.seen
-        pub mine : w.mine ≡ v.mine
-        pub each_once : calls_by number w.seen ≡ w.mine
-        pub idle : (w.out ≡ v.out) × (w.spent ≡ v.spent) × (w.met ≡ v.met) × (w.owes ≡ v.owes)
-        pub led : S
-        pub runs : LeadsTo w.seen led
-        pub rested : EachRests rests w.seen
-        pub others : List ℕ
-        pub met : EachStood w.seen others w.met
-        pub differ : AllDiffer (number ∷ others)
+  abbrev pub Extends : View S C → C → View S C → Type 0
+  Extends v call w = (before : S) × (after : S) × Leads v call before after w
+
+  -- the same, by a call of which this is said
+  abbrev pub Makes : View S C → (C → Type 0) → View S C → Type 0
+  Makes v is w = (call : C) × is call × Extends v call w
+
+  -- the same, and of the state before and after the call this holds
+  abbrev pub ExtendsThat : (S → S → Type 0) → View S C → C → View S C → Type 0
+  ExtendsThat P v call w = (before : S) × (after : S) × Leads v call before after w × P before after
+
+  -- The hand has seen one history of all hands: it leads to some state, begins with all that the hand had seen, and has
+  -- just those calls of the hand that it made; and so of each hand that it took in. All these are different hands.
+  pub record Looks (v w : View S C) : Type 0 where
+    pub number : ℕ
+    pub hand : (w.by ≡ number ∷ []) × IsNumber number v.by
+    pub seen : StartsWith w.seen v.seen
+    pub mine : w.mine ≡ v.mine
+    pub each_once : calls_by number w.seen ≡ w.mine
+    pub idle : (w.out ≡ v.out) × (w.spent ≡ v.spent) × (w.met ≡ v.met) × (w.owes ≡ v.owes)
+    pub led : S
+    pub runs : LeadsTo w.seen led
+    pub rested : EachRests machine.rests w.seen
+    pub others : List ℕ
+    pub met : EachStood w.seen others w.met
+    pub differ : AllDiffer (number ∷ others)

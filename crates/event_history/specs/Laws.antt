@@ -12,7 +12,7 @@ use Rattle.event_history.specs.declared.history.Entry.{Entry}
 use Rattle.event_history.specs.declared.queue_call.QueueCall.{QueueCall}
 use Rattle.event_history.specs.declared.queue_call.QueueCall.TheVariants.{Insert, Register, Remove, Notify}
 use Rattle.event_history.specs.History.{entry, Runs, LeadsTo}
-use Rattle.event_history.specs.Queue.{calls, is_empty}
+use Rattle.event_history.specs.Queue.{calls, queue_machine}
 
 -- a history of a queue
 abbrev pub QueueLog : Type 0 → Type 0 → Type 0
@@ -96,7 +96,7 @@ module _ {T W : Type 0} where
     pub tells : MayTell key call
     pub before : Queue T W
     pub after : Queue T W
-    pub led : LeadsTo calls is_empty earlier before
+    pub led : LeadsTo queue_machine earlier before
     pub step : calls before call after
     pub leads_on : Runs calls after later q
     pub listened : Listens key earlier

@@ -1,3 +1,4 @@
+pub mod Hands
 pub mod History
 pub mod Laws
 pub mod Lock

@@ -10,6 +10,7 @@ use Rattle.event_queue.specs.Queue.{Queue, IsQueue, IsAbsent, listeners_of, how_
 use Rattle.event_queue.specs.Insert.{Inserts}
 use Rattle.event_queue.specs.Register.{Registers}
 use Rattle.event_queue.specs.Remove.{Removes}
+use Rattle.event_history.specs.History.{Machine}
 use Rattle.event_history.specs.declared.queue_call.QueueCall.{QueueCall}
 use Rattle.event_history.specs.declared.queue_call.QueueCall.TheVariants.{Insert, Register, Remove, Notify, Counts}
 
@@ -48,6 +49,9 @@ module _ {T W : Type 0} where
   rests_on (Register key reply) = Insert (Ok key) ∷ []
   rests_on (Remove key propagate reply) = Insert (Ok key) ∷ []
   rests_on _ = []
+
+  abbrev pub queue_machine : Machine (Queue T W) (QueueCall T W)
+  queue_machine = record { starts = is_empty; goes = calls; rests = rests_on }
 
   -- the call takes that listener out: with its tag, or by removing it
   abbrev pub TakesOut : Key → QueueCall T W → Type 0

@@ -7,7 +7,7 @@ use Rattle.atomic_table.specs.Table.{State, Me, Step, rest}
 use Rattle.event_history.specs.declared.history.Entry.{Entry}
 use Rattle.event_history.specs.declared.history.Met.{Met}
 use Rattle.event_history.specs.declared.history.View.{View}
-use Rattle.event_history.specs.History.{calls_by, StartsWith, IsNumber, AllDiffer, Stood, EachRests, LeadsTo, Leads, Looks, newcomer}
+use Rattle.event_history.specs.History.{Machine, calls_by, StartsWith, IsNumber, AllDiffer, Stood, EachRests, LeadsTo, Leads, Looks, newcomer}
 
 -- only the owner has a state out, and it is this one
 abbrev pub IsOut : {S : Type 0} → ℕ → S → ℕ → List S → Type 0
@@ -42,20 +42,20 @@ module _ {S C : Type 0} where
       pub met : KnowsEach others v.met
       pub differ : AllDiffer others
 
-module _ {S C : Type 0} (starts : S → Type 0) (goes : S → C → S → Type 0) where
+module _ {S C : Type 0} (machine : Machine S C) where
   -- the state at home, or the one that a hand has taken out, is where the history leads
   abbrev pub Stands : ℕ → List (home.Option S) → List (View S C) → List (Entry C) → Type 0
   Stands w [] views log = ⊥
-  Stands w (none ∷ hs) views log = (w ≢ 0) × (owner : ℕ) × (q : S) × LeadsTo goes starts log q × ((by : ℕ) (v : View S C) → get_elem? views by ≡ some v → IsOut owner q by v.out)
-  Stands w (some q ∷ hs) views log = (w ≡ 0) × LeadsTo goes starts log q × ((by : ℕ) (v : View S C) → get_elem? views by ≡ some v → v.out ≡ [])
+  Stands w (none ∷ hs) views log = (w ≢ 0) × (owner : ℕ) × (q : S) × LeadsTo machine log q × ((by : ℕ) (v : View S C) → get_elem? views by ≡ some v → IsOut owner q by v.out)
+  Stands w (some q ∷ hs) views log = (w ≡ 0) × LeadsTo machine log q × ((by : ℕ) (v : View S C) → get_elem? views by ≡ some v → v.out ≡ [])
 
-  pub record Kept (rests : C → List C) (s : State S (View S C)) : Type 0 where
+  pub record Kept (s : State S (View S C)) : Type 0 where
     pub log : List (Entry C)
     pub wide : length s.words ≡ 1
     pub fits : (by : ℕ) (v : View S C) → get_elem? s.views by ≡ some v → Fits s.views log by v
     pub others : (by : ℕ) → length s.views ≤ by → calls_by by log ≡ []
     pub stands : Stands (slice_index s.words 0) s.homes s.views log
-    pub rested : EachRests rests log
+    pub rested : EachRests machine.rests log
 
 -- a seat's view, and what it has taken out
 abbrev pub Sat : Type 0 → Type 0 → Type 0
@@ -98,10 +98,10 @@ module _ {S C : Type 0} where
   abbrev pub Arrived : Bool → Sat S C → Type 0
   Arrived takes n = (seen : List (Entry C)) × MatchBool takes (Holds (newcomer seen) n) (n ≡ (newcomer seen, []))
 
-  module _ (starts : S → Type 0) (goes : S → C → S → Type 0) (rests : C → List C) where
+  module _ (machine : Machine S C) where
     -- the state that was out is at home, changed by the call
     abbrev pub Returns : Sat S C → C → View S C → Type 0
-    Returns m call w = (q : S) × (r : S) × (m.0.out ≡ q ∷ []) × (m.1 ≡ (0, r) ∷ []) × Leads goes starts rests m.0 call q r w
+    Returns m call w = (q : S) × (r : S) × (m.0.out ≡ q ∷ []) × (m.1 ≡ (0, r) ∷ []) × Leads machine m.0 call q r w
 
     -- by a call of which this was said; where the word was 2, the seat owes the mark that it wrote over
     abbrev pub PutsBack : (C → Type 0) → Sat S C → ℕ → Sat S C → Type 0
@@ -111,4 +111,4 @@ module _ {S C : Type 0} where
     extended made st m r n = PutsBack made m r n
 
     abbrev pub looked : Step S → Sat S C → ℕ → Sat S C → Type 0
-    looked st m r n = (n.1 ≡ m.1) × Looks goes starts rests m.0 n.0
+    looked st m r n = (n.1 ≡ m.1) × Looks machine m.0 n.0

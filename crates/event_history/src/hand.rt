@@ -12,7 +12,8 @@ use std::mem;
 ///
 /// It can't be dropped: it ends by [`Hand::end`], or another one takes it in. So what a hand owes before it ends, it does.
 ///
-/// `seat.me.0` is what it knows. Between two calls it has no state out, and owes nobody a wake.
+/// In clauses `known_by` says what it knows, and `IsOf` of which table it is. Between two calls it has no state out, and
+/// owes nobody a wake.
 pub struct Hand<S, C> {
     pub seat: Seat<S, View<S, C>>,
     // No other crate names it, so none takes a hand apart, or puts another seat in the place of this one: a hand that owes
@@ -24,6 +25,8 @@ pub struct Hand<S, C> {
 }
 
 impl<S, C> Hand<S, C> {
+    ghost use Rattle.event_history.specs.Hands.{known_by};
+
     /// The hand of a seat that has no state out.
     #[doc(hidden)]
     #[inline(always)]
@@ -49,7 +52,7 @@ impl<S, C> Hand<S, C> {
     #[inline(always)]
     pub fn rest(self) -> IdleHand<S, C>
         ensures { (result.rest.badge.table_id ≡ self.seat.table_id)
-            × (result.rest.badge.views ≡ self.seat.me.0 ∷ []) }
+            × (result.rest.badge.views ≡ known_by self ∷ []) }
     {
         let rest = Rest::of(self.into_seat().into_badge());
         let identity = Identity::of_rest(&rest);
@@ -58,11 +61,13 @@ impl<S, C> Hand<S, C> {
 }
 
 impl<S: Steps> Hand<S, S::Call> {
+    ghost use Rattle.event_history.specs.Hands.{known_by};
+
     /// Ends the hand, once it has done what its calls ask of it: of a queue, once each listener that one of them inserted is
     /// taken out by another. It is nothing when a program runs.
     #[inline(always)]
     pub fn end(self)
-        requires { S.may_end self.seat.me.0.mine }
+        requires { S.may_end (known_by self).mine }
     {
         drop(self.into_seat());
     }
@@ -83,12 +88,14 @@ pub struct IdleHand<S, C> {
 }
 
 impl<S, C> IdleHand<S, C> {
+    ghost use Rattle.event_history.specs.Hands.{IsOf, known_by};
+
     /// Takes the hand out, for a call.
     #[inline(always)]
     pub fn take(&mut self) -> Hand<S, C>
         requires { (v : View S C) × (self.old.rest.badge.views ≡ v ∷ []) }
-        ensures hand { (result.seat.table_id ≡ self.old.rest.badge.table_id)
-            × (self.old.rest.badge.views ≡ result.seat.me.0 ∷ []) }
+        ensures hand { IsOf self.old.rest.badge.table_id result
+            × (self.old.rest.badge.views ≡ known_by result ∷ []) }
         ensures left { self.new.rest.badge.views ≡ [] }
     {
         let rest = mem::replace(&mut self.rest, Rest::of(Badge::blank()));
@@ -101,7 +108,7 @@ impl<S, C> IdleHand<S, C> {
     pub fn put(&mut self, hand: Hand<S, C>)
         requires { self.old.rest.badge.views ≡ [] }
         ensures { (self.new.rest.badge.table_id ≡ hand.seat.table_id)
-            × (self.new.rest.badge.views ≡ hand.seat.me.0 ∷ []) }
+            × (self.new.rest.badge.views ≡ known_by hand ∷ []) }
     {
         self.rest = Rest::of(hand.into_seat().into_badge());
         self.identity = Identity::of_rest(&self.rest);
@@ -111,8 +118,8 @@ impl<S, C> IdleHand<S, C> {
     #[inline(always)]
     pub fn into_hand(self) -> Hand<S, C>
         requires { (v : View S C) × (self.rest.badge.views ≡ v ∷ []) }
-        ensures { (result.seat.table_id ≡ self.rest.badge.table_id)
-            × (self.rest.badge.views ≡ result.seat.me.0 ∷ []) }
+        ensures { IsOf self.rest.badge.table_id result
+            × (self.rest.badge.views ≡ known_by result ∷ []) }
     {
         let IdleHand { rest, identity: _ } = self;
         Hand::of(rest.into_badge().into_seat())

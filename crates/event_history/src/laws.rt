@@ -13,8 +13,8 @@ ghost use Rattle.event_history.specs.declared.history.Entry.{Entry};
 ghost use Rattle.event_history.specs.declared.history.View.{View};
 ghost use Rattle.event_history.specs.declared.queue_call.QueueCall.{QueueCall};
 ghost use Rattle.event_history.specs.declared.queue_call.QueueCall.TheVariants.{Insert, Register, Remove, Notify, Counts};
-ghost use Rattle.event_history.specs.History.{entry, calls_by, newcomer, StartsWith, IsAmong, AreAmong, EachRests, Runs, LeadsTo, Leads, Extends, Looks};
-ghost use Rattle.event_history.specs.Queue.{calls, is_empty, rests_on};
+ghost use Rattle.event_history.specs.History.{entry, calls_by, newcomer, StartsWith, IsAmong, AreAmong, EachRests, Runs, LeadsTo, Leads, Extends, Looks, machine_of};
+ghost use Rattle.event_history.specs.Queue.{calls, queue_machine, rests_on};
 ghost use Rattle.event_history.specs.Laws.{QueueLog, IsTold, Waits, IsIn, Stays, EachStays, Listens, OwnsListener, FindsTold, TellsFirst, GoesToFirst, WasTold};
 
 use crate::history::Steps;
@@ -22,17 +22,17 @@ use crate::history::Steps;
 /// A listener whose listening stands in a history, and which no later call took out, is in the queue that the history leads
 /// to.
 pub fn stays<T, W>()
-    ensures { (key : Key) (log : QueueLog T W) (q : Queue T W) → LeadsTo calls is_empty log q
+    ensures { (key : Key) (log : QueueLog T W) (q : Queue T W) → LeadsTo queue_machine log q
         → Listens key log → IsIn key q }
 {}
 
 /// So a registration of it is not answered that it was never inserted, and a removal of it finds it.
 pub fn never_absent<T, W>()
     ensures registered { (key : Key) (log : QueueLog T W) (q next : Queue T W)
-        (reply : RegisterResult T) → LeadsTo calls is_empty log q → Listens key log
+        (reply : RegisterResult T) → LeadsTo queue_machine log q → Listens key log
         → calls q (Register key reply) next → reply ≢ NeverInserted }
     ensures removed { (key : Key) (log : QueueLog T W) (q next : Queue T W) (propagate : Bool)
-        (reply : Option (State T W)) → LeadsTo calls is_empty log q → Listens key log
+        (reply : Option (State T W)) → LeadsTo queue_machine log q → Listens key log
         → calls q (Remove key propagate reply) next → IsSome reply }
 {}
 
@@ -41,20 +41,20 @@ pub fn never_absent<T, W>()
 /// removal of it finds it.
 pub fn own_listener_stays<T, W>()
     ensures stands { (key : Key) (number : ℕ) (log : QueueLog T W) (q : Queue T W)
-        → LeadsTo calls is_empty log q → EachRests rests_on log
+        → LeadsTo queue_machine log q → EachRests rests_on log
         → OwnsListener key (calls_by number log) → IsIn key q }
     ensures called { (key : Key) (v w : View (Queue T W) (QueueCall T W)) (call : QueueCall T W)
-        (before after : Queue T W) → Leads calls is_empty rests_on v call before after w
+        (before after : Queue T W) → Leads queue_machine v call before after w
         → OwnsListener key v.mine → IsIn key before }
     ensures looked { (key : Key) (v w : View (Queue T W) (QueueCall T W))
-        (looks : Looks calls is_empty rests_on v w) → OwnsListener key w.mine → IsIn key looks.led }
+        (looks : Looks queue_machine v w) → OwnsListener key w.mine → IsIn key looks.led }
     ensures registered { (key : Key) (v w : View (Queue T W) (QueueCall T W))
         (reply : RegisterResult T) (before after : Queue T W)
-        → Leads calls is_empty rests_on v (Register key reply) before after w
+        → Leads queue_machine v (Register key reply) before after w
         → OwnsListener key v.mine → reply ≢ NeverInserted }
     ensures removed { (key : Key) (v w : View (Queue T W) (QueueCall T W)) (propagate : Bool)
         (reply : Option (State T W)) (before after : Queue T W)
-        → Leads calls is_empty rests_on v (Remove key propagate reply) before after w
+        → Leads queue_machine v (Remove key propagate reply) before after w
         → OwnsListener key v.mine → IsSome reply }
 {}
 
@@ -62,14 +62,14 @@ pub fn own_listener_stays<T, W>()
 /// out, such as a registration that stores a task. Such a hand may register and remove it.
 pub fn owns_on<T, W>()
     ensures joined { (key : Key) (v w : View (Queue T W) (QueueCall T W)) (before after : Queue T W)
-        → Leads calls is_empty rests_on v (Insert (Ok key)) before after w
+        → Leads queue_machine v (Insert (Ok key)) before after w
         → OwnsListener key w.mine }
     ensures kept { (key : Key) (v w : View (Queue T W) (QueueCall T W)) (call : QueueCall T W)
-        (before after : Queue T W) → Leads calls is_empty rests_on v call before after w
+        (before after : Queue T W) → Leads queue_machine v call before after w
         → Stays key call → OwnsListener key v.mine → OwnsListener key w.mine }
     ensures stored { (key : Key) (v w : View (Queue T W) (QueueCall T W)) (reply : RegisterResult T)
         (before after : Queue T W)
-        → Leads calls is_empty rests_on v (Register key reply) before after w → reply ≡ Registered
+        → Leads queue_machine v (Register key reply) before after w → reply ≡ Registered
         → OwnsListener key v.mine → OwnsListener key w.mine }
     ensures may_call { (key : Key) (mine : List (QueueCall T W)) → OwnsListener key mine
         → AreAmong (Insert (Ok key) ∷ []) mine }
@@ -99,10 +99,10 @@ pub fn tells_all<T, W>()
 /// Whichever states one history leads to, the same listeners are notified in each, and the same wait, in the same order. So who
 /// is notified after a call is known wherever the history up to that call is.
 pub fn one_history_one_order<T, W>()
-    ensures told { (log : QueueLog T W) (q other : Queue T W) → LeadsTo calls is_empty log q
-        → LeadsTo calls is_empty log other → keys_of q.told ≡ keys_of other.told }
-    ensures waiting { (log : QueueLog T W) (q other : Queue T W) → LeadsTo calls is_empty log q
-        → LeadsTo calls is_empty log other → keys_of q.waiting ≡ keys_of other.waiting }
+    ensures told { (log : QueueLog T W) (q other : Queue T W) → LeadsTo queue_machine log q
+        → LeadsTo queue_machine log other → keys_of q.told ≡ keys_of other.told }
+    ensures waiting { (log : QueueLog T W) (q other : Queue T W) → LeadsTo queue_machine log q
+        → LeadsTo queue_machine log other → keys_of q.waiting ≡ keys_of other.waiting }
 {}
 
 /// A notified listener stays notified until the hand that it joined by takes its tag or removes it. So one that was notified
@@ -112,27 +112,27 @@ pub fn told_until_own_call<T, W>()
     ensures run { (key : Key) (later : QueueLog T W) (q r : Queue T W) → IsTold key q
         → Runs calls q later r → EachStays key later → IsTold key r }
     ensures stands { (key : Key) (number : ℕ) (log earlier later : QueueLog T W) (q r : Queue T W)
-        → LeadsTo calls is_empty log r → EachRests rests_on log
+        → LeadsTo queue_machine log r → EachRests rests_on log
         → OwnsListener key (calls_by number log) → log ≡ earlier ++ later
-        → LeadsTo calls is_empty earlier q → IsTold key q → IsTold key r }
+        → LeadsTo queue_machine earlier q → IsTold key q → IsTold key r }
     ensures called { (key : Key) (v w : View (Queue T W) (QueueCall T W)) (call : QueueCall T W)
         (earlier later : QueueLog T W) (q before after : Queue T W)
-        → Leads calls is_empty rests_on v call before after w → OwnsListener key v.mine
-        → v.seen ≡ earlier ++ later → LeadsTo calls is_empty earlier q → IsTold key q
+        → Leads queue_machine v call before after w → OwnsListener key v.mine
+        → v.seen ≡ earlier ++ later → LeadsTo queue_machine earlier q → IsTold key q
         → IsTold key before }
     ensures looked { (key : Key) (v w : View (Queue T W) (QueueCall T W))
-        (earlier later : QueueLog T W) (q : Queue T W) (looks : Looks calls is_empty rests_on v w)
-        → OwnsListener key w.mine → w.seen ≡ earlier ++ later → LeadsTo calls is_empty earlier q
+        (earlier later : QueueLog T W) (q : Queue T W) (looks : Looks queue_machine v w)
+        → OwnsListener key w.mine → w.seen ≡ earlier ++ later → LeadsTo queue_machine earlier q
         → IsTold key q → IsTold key looks.led }
 {}
 
 /// A registration of a notified listener is answered its tag, and a removal of one finds it notified.
 pub fn told_is_found<T, W>()
     ensures registered { (key : Key) (log : QueueLog T W) (q next : Queue T W)
-        (reply : RegisterResult T) → LeadsTo calls is_empty log q → IsTold key q
+        (reply : RegisterResult T) → LeadsTo queue_machine log q → IsTold key q
         → calls q (Register key reply) next → (tag : T) × (reply ≡ Notified tag) }
     ensures removed { (key : Key) (log : QueueLog T W) (q next : Queue T W) (propagate : Bool)
-        (reply : Option (State T W)) → LeadsTo calls is_empty log q → IsTold key q
+        (reply : Option (State T W)) → LeadsTo queue_machine log q → IsTold key q
         → calls q (Remove key propagate reply) next → FindsTold propagate reply }
 {}
 
@@ -143,25 +143,25 @@ pub fn told_by_another<T, W>()
     ensures called { (key : Key) (number by : ℕ) (additional : Bool) (told : ℕ)
         (v w : View (Queue T W) (QueueCall T W)) (call : QueueCall T W)
         (earlier later : QueueLog T W) (before after : Queue T W)
-        → Leads calls is_empty rests_on v call before after w → OwnsListener key v.mine
+        → Leads queue_machine v call before after w → OwnsListener key v.mine
         → v.seen ≡ earlier ++ entry by (Notify (2 ^ 64 - 1) additional (Ok told)) ∷ later
         → IsAmong (Insert (Ok key)) (calls_by number earlier) → IsTold key before }
     ensures looked { (key : Key) (number by : ℕ) (additional : Bool) (told : ℕ)
         (v w : View (Queue T W) (QueueCall T W)) (earlier later : QueueLog T W)
-        (looks : Looks calls is_empty rests_on v w) → OwnsListener key w.mine
+        (looks : Looks queue_machine v w) → OwnsListener key w.mine
         → w.seen ≡ earlier ++ entry by (Notify (2 ^ 64 - 1) additional (Ok told)) ∷ later
         → IsAmong (Insert (Ok key)) (calls_by number earlier) → IsTold key looks.led }
     ensures registered { (key : Key) (number by : ℕ) (additional : Bool) (told : ℕ)
         (v w : View (Queue T W) (QueueCall T W)) (reply : RegisterResult T)
         (earlier later : QueueLog T W) (before after : Queue T W)
-        → Leads calls is_empty rests_on v (Register key reply) before after w
+        → Leads queue_machine v (Register key reply) before after w
         → OwnsListener key v.mine
         → v.seen ≡ earlier ++ entry by (Notify (2 ^ 64 - 1) additional (Ok told)) ∷ later
         → IsAmong (Insert (Ok key)) (calls_by number earlier) → (tag : T) × (reply ≡ Notified tag) }
     ensures removed { (key : Key) (number by : ℕ) (additional : Bool) (told : ℕ)
         (v w : View (Queue T W) (QueueCall T W)) (propagate : Bool) (reply : Option (State T W))
         (earlier later : QueueLog T W) (before after : Queue T W)
-        → Leads calls is_empty rests_on v (Remove key propagate reply) before after w
+        → Leads queue_machine v (Remove key propagate reply) before after w
         → OwnsListener key v.mine
         → v.seen ≡ earlier ++ entry by (Notify (2 ^ 64 - 1) additional (Ok told)) ∷ later
         → IsAmong (Insert (Ok key)) (calls_by number earlier) → FindsTold propagate reply }
@@ -172,26 +172,26 @@ pub fn told_by_another<T, W>()
 /// listened.
 pub fn tag_was_told<T, W>()
     ensures taken { (key : Key) (log : QueueLog T W) (q next : Queue T W) (tag : T)
-        → LeadsTo calls is_empty log q → calls q (Register key (Notified tag)) next
+        → LeadsTo queue_machine log q → calls q (Register key (Notified tag)) next
         → (notice : Notice T) × (notice.tag ≡ tag) × WasTold key notice log q }
     ensures stood { (key : Key) (by : ℕ) (earlier later : QueueLog T W) (end : Queue T W) (tag : T)
-        → LeadsTo calls is_empty (earlier ++ entry by (Register key (Notified tag)) ∷ later) end
+        → LeadsTo queue_machine (earlier ++ entry by (Register key (Notified tag)) ∷ later) end
         → (q : Queue T W) × (notice : Notice T) × (notice.tag ≡ tag)
         × WasTold key notice earlier q }
     ensures told { (key : Key) (log : QueueLog T W) (q : Queue T W) (notice : Notice T)
-        → LeadsTo calls is_empty log q → lookup (is_key key) q.told ≡ Some notice
+        → LeadsTo queue_machine log q → lookup (is_key key) q.told ≡ Some notice
         → WasTold key notice log q }
     ensures listened { (key : Key) (log : QueueLog T W) (q : Queue T W)
-        → LeadsTo calls is_empty log q → IsIn key q → Listens key log }
+        → LeadsTo queue_machine log q → IsIn key q → Listens key log }
 {}
 
 /// Who listened first has the lower serial, and is notified first: nobody waits while a later one is notified.
 pub fn first_told_first<T, W>()
     ensures serials { (a b : Key) (x y : ℕ) (earlier between later : QueueLog T W) (q : Queue T W)
-        → LeadsTo calls is_empty
+        → LeadsTo queue_machine
         (earlier ++ entry x (Insert (Ok a)) ∷ (between ++ entry y (Insert (Ok b)) ∷ later)) q
         → a.serial < b.serial }
-    ensures told { (a b : Key) (log : QueueLog T W) (q : Queue T W) → LeadsTo calls is_empty log q
+    ensures told { (a b : Key) (log : QueueLog T W) (q : Queue T W) → LeadsTo queue_machine log q
         → a.serial < b.serial → IsTold b q → IsIn a q → IsTold a q }
 {}
 
@@ -202,19 +202,19 @@ pub fn first_told_first<T, W>()
 /// notified after that (`next`): no third one came before it.
 pub fn passes_on<T, W>()
     ensures wanted { (key : Key) (log : QueueLog T W) (old new : Queue T W) (notice : Notice T)
-        (reply : Option (State T W)) → LeadsTo calls is_empty log old
+        (reply : Option (State T W)) → LeadsTo queue_machine log old
         → lookup (is_key key) old.told ≡ Some notice → calls old (Remove key true reply) new
         → how_many 1 notice.additional (told_leaves key old) ≡ 1 → (to : Key)
         × (reply ≡ Some (Passed to)) × GoesToFirst to notice old new }
     ensures unwanted { (key : Key) (log : QueueLog T W) (old new : Queue T W) (notice : Notice T)
-        (reply : Option (State T W)) → LeadsTo calls is_empty log old
+        (reply : Option (State T W)) → LeadsTo queue_machine log old
         → lookup (is_key key) old.told ≡ Some notice → calls old (Remove key true reply) new
         → how_many 1 notice.additional (told_leaves key old) ≡ 0
         → (reply ≡ Some (Lost notice.additional notice.tag)) × (new ≡ told_leaves key old) }
     ensures next { (a b : Key) (x y m n told : ℕ) (former reply : Option (State T W))
         (propagate : Bool) (v w : View (Queue T W) (QueueCall T W))
         (earlier between later : QueueLog T W) (before after : Queue T W)
-        → Leads calls is_empty rests_on v (Remove b propagate reply) before after w
+        → Leads queue_machine v (Remove b propagate reply) before after w
         → OwnsListener b v.mine
         → v.seen ≡ earlier ++ entry m (Counts told 2)
         ∷ (between ++ entry n (Remove a true former) ∷ later)
@@ -227,10 +227,10 @@ pub fn passes_on<T, W>()
 /// one had seen by then.
 pub fn told_hands_call_later<S: Steps>()
     ensures seen { (start : S.Start) (v w : View S S.Call) (call : S.Call)
-        → Extends S.goes (S.starts start) S.rests v call w
+        → Extends (machine_of S.Steps start) v call w
         → StartsWith w.seen v.seen }
     ensures later { (start : S.Start) (v w : View S S.Call) (call : S.Call)
-        → Extends S.goes (S.starts start) S.rests (newcomer v.seen) call w
+        → Extends (machine_of S.Steps start) (newcomer v.seen) call w
         → (between : List (Entry S.Call))
         × (number : ℕ) × (w.seen ≡ v.seen ++ between ++ entry number call ∷ []) }
 {}

@@ -8,8 +8,8 @@
 //!
 //! So the clause of a call says: *there is one history; it runs from the start; it begins with all that this hand had
 //! seen; it ends with this call and its reply; and the calls of this hand in it are just those that it made, each once, in
-//! order.* Two hands speak of the same history: [`Traced::tell`] makes a hand that has seen as much as another one, and
-//! [`Traced::absorb`] has one hand learn what another one saw and did.
+//! order.* Two hands speak of the same history: [`Traced::fork`] makes a hand that has seen as much as another one, and
+//! [`Traced::join`] has one hand learn what another one saw and did.
 //!
 //! A call may rest on earlier calls of the same hand, which [`Steps`] says: the hand that makes it made those before. So in a
 //! queue a listener is registered and removed by the hand that inserted it, and stays there until that hand takes it out

@@ -2,7 +2,8 @@
 ghost use Rattle.std.specs.Prelude.{◌≡◌, ◌↔◌, Option, Result, [], IfOk, IfErr, OnErr};
 ghost use Rattle.event_wait.specs.declared.request.Attempted.{Attempted};
 ghost use Rattle.event_wait.specs.Attempted.{Attempts, OnDone, OnRefused, OnUndone};
-ghost use Rattle.event_history.specs.History.{AreAmong, Extends, ExtendsThat, Looks, Makes, both_views, newcomer};
+ghost use Rattle.event_history.specs.Hands.{IsOf, SameTable, known_by};
+ghost use Rattle.event_history.specs.History.{AreAmong, Extends, ExtendsThat, Looks, Makes, both_views, machine_of, newcomer};
 
 mod by_hand;
 mod obtain;
@@ -54,8 +55,8 @@ impl<S: Steps> Lock<S> {
         S: Drop,
         requires starts { S.starts start.now state }
         ensures start { IfOk result (λ made. made.0.start ≡ start.now) }
-        ensures hand { IfOk result (λ made. (made.1.seat.table_id ≡ made.0.table)
-            × (made.1.seat.me.0 ≡ newcomer [])) }
+        ensures hand { IfOk result (λ made. IsOf made.0.table made.1
+            × (known_by made.1 ≡ newcomer [])) }
     {
         let (traced, hand) = Traced::new(alloc, state, start)?;
         let source = WakerSource::new();
@@ -65,8 +66,8 @@ impl<S: Steps> Lock<S> {
     /// A hand that made no call yet, and has seen the history so far. It is one load.
     #[inline(always)]
     pub fn hand(&self) -> Hand<S, S::Call>
-        ensures { (result.seat.table_id ≡ self.now.table)
-            × (result.seat.me.0 ≡ newcomer result.seat.me.0.seen) }
+        ensures { IsOf self.now.table result
+            × (known_by result ≡ newcomer (known_by result).seen) }
     {
         self.traced.hand()
     }
@@ -86,17 +87,17 @@ impl<S: Steps> Lock<S> {
         step: K,
         beside: &mut B,
     ) -> Result<K::Reply, K>
-        requires hand { hand.old.seat.table_id ≡ self.now.table }
+        requires hand { IsOf self.now.table hand.old }
         requires may { K.may step }
         requires rests { (reply : K.Reply)
-            → AreAmong (S.rests (K.call step reply)) hand.old.seat.me.0.mine }
-        ensures hand { hand.new.seat.table_id ≡ hand.old.seat.table_id }
+            → AreAmong (S.rests (K.call step reply)) (known_by hand.old).mine }
+        ensures hand { SameTable hand.old hand.new }
         ensures call { IfOk result (λ reply.
-            ExtendsThat S.goes (S.starts self.now.start) S.rests
+            ExtendsThat (machine_of S.Steps self.now.start)
             (λ before after. K.does step before beside.old reply after beside.new)
-            hand.old.seat.me.0 (K.call step reply) hand.new.seat.me.0) }
+            (known_by hand.old) (K.call step reply) (known_by hand.new)) }
         ensures kept { IfErr result (λ back. (back ≡ step) × (beside.new ≡ beside.old)
-            × (hand.new.seat.me.0 ≡ hand.old.seat.me.0)) }
+            × (known_by hand.new ≡ known_by hand.old)) }
     {
         let seat = &mut hand.seat;
         if !self.traced.try_take(seat) {
@@ -117,27 +118,27 @@ impl<S: Steps> Lock<S> {
     }
 
     /// A new hand, which has seen as much as this one. It is one load.
-    pub fn tell(&self, hand: &mut Hand<S, S::Call>) -> Hand<S, S::Call>
-        requires { hand.old.seat.table_id ≡ self.now.table }
-        ensures hand { (hand.new.seat.table_id ≡ hand.old.seat.table_id)
-            × (hand.new.seat.me.0 ≡ hand.old.seat.me.0) }
-        ensures told { (result.seat.table_id ≡ hand.old.seat.table_id)
-            × (result.seat.me.0 ≡ newcomer hand.old.seat.me.0.seen) }
+    pub fn fork(&self, hand: &mut Hand<S, S::Call>) -> Hand<S, S::Call>
+        requires { IsOf self.now.table hand.old }
+        ensures hand { SameTable hand.old hand.new
+            × (known_by hand.new ≡ known_by hand.old) }
+        ensures told { SameTable hand.old result
+            × (known_by result ≡ newcomer (known_by hand.old).seen) }
     {
-        self.traced.tell(hand)
+        self.traced.fork(hand)
     }
 
     /// Has a hand learn what another one saw and did, which is no more. From here on it speaks of one history that has the
     /// calls of both. It is two loads.
-    pub fn absorb(&self, hand: &mut Hand<S, S::Call>, other: Hand<S, S::Call>)
-        requires here { hand.old.seat.table_id ≡ self.now.table }
-        requires there { other.seat.table_id ≡ self.now.table }
-        requires ends { S.may_end other.seat.me.0.mine }
-        ensures hand { hand.new.seat.table_id ≡ hand.old.seat.table_id }
-        ensures looks { Looks S.goes (S.starts self.now.start) S.rests
-            (both_views hand.old.seat.me.0 other.seat.me.0) hand.new.seat.me.0 }
+    pub fn join(&self, hand: &mut Hand<S, S::Call>, other: Hand<S, S::Call>)
+        requires here { IsOf self.now.table hand.old }
+        requires there { IsOf self.now.table other }
+        requires ends { S.may_end (known_by other).mine }
+        ensures hand { SameTable hand.old hand.new }
+        ensures looks { Looks (machine_of S.Steps self.now.start)
+            (both_views (known_by hand.old) (known_by other)) (known_by hand.new) }
     {
-        self.traced.absorb(hand, other);
+        self.traced.join(hand, other);
     }
 
     /// Makes one call, as a call of this hand, which made what the call rests on, with what stands beside the state. It may wait
@@ -150,14 +151,14 @@ impl<S: Steps> Lock<S> {
         step: K,
         beside: &mut B,
     ) -> K::Reply
-        requires hand { hand.old.seat.table_id ≡ self.now.table }
+        requires hand { IsOf self.now.table hand.old }
         requires may { K.may step }
         requires rests { (reply : K.Reply)
-            → AreAmong (S.rests (K.call step reply)) hand.old.seat.me.0.mine }
-        ensures hand { hand.new.seat.table_id ≡ hand.old.seat.table_id }
-        ensures call { ExtendsThat S.goes (S.starts self.now.start) S.rests
+            → AreAmong (S.rests (K.call step reply)) (known_by hand.old).mine }
+        ensures hand { SameTable hand.old hand.new }
+        ensures call { ExtendsThat (machine_of S.Steps self.now.start)
             (λ before after. K.does step before beside.old result after beside.new)
-            hand.old.seat.me.0 (K.call step result) hand.new.seat.me.0 }
+            (known_by hand.old) (K.call step result) (known_by hand.new) }
     {
         self.traced.perform(rt, hand, step, beside)
     }
@@ -171,13 +172,13 @@ impl<S: Steps> Lock<S> {
         hand: &mut Hand<S, S::Call>,
         step: K,
     ) -> K::Reply
-        requires hand { hand.old.seat.table_id ≡ self.now.table }
+        requires hand { IsOf self.now.table hand.old }
         requires may { K.may step }
         requires rests { (reply : K.Reply)
-            → AreAmong (S.rests (K.call step reply)) hand.old.seat.me.0.mine }
-        ensures hand { hand.new.seat.table_id ≡ hand.old.seat.table_id }
-        ensures call { Extends S.goes (S.starts self.now.start) S.rests hand.old.seat.me.0
-            (K.call step result) hand.new.seat.me.0 }
+            → AreAmong (S.rests (K.call step reply)) (known_by hand.old).mine }
+        ensures hand { SameTable hand.old hand.new }
+        ensures call { Extends (machine_of S.Steps self.now.start) (known_by hand.old)
+            (K.call step result) (known_by hand.new) }
     {
         let mut waking = DeferredWake::new();
         let reply = self.traced.perform(rt, hand, step, &mut waking);
@@ -195,12 +196,12 @@ impl<S: Steps> Lock<S> {
         exchange: &X,
         on: &mut C,
     ) -> Attempted<Q::Output, Q::Refusal>
-        requires hand { hand.old.seat.table_id ≡ self.now.table }
-        requires rests { AreAmong (Q.rests request.old) hand.old.seat.me.0.mine }
-        ensures hand { hand.new.seat.table_id ≡ hand.old.seat.table_id }
-        ensures rests { AreAmong (Q.rests request.new) hand.new.seat.me.0.mine }
-        ensures call { Makes S.goes (S.starts self.now.start) S.rests hand.old.seat.me.0
-            (Q.attempting request.old result) hand.new.seat.me.0 }
+        requires hand { IsOf self.now.table hand.old }
+        requires rests { AreAmong (Q.rests request.old) (known_by hand.old).mine }
+        ensures hand { SameTable hand.old hand.new }
+        ensures rests { AreAmong (Q.rests request.new) (known_by hand.new).mine }
+        ensures call { Makes (machine_of S.Steps self.now.start) (known_by hand.old)
+            (Q.attempting request.old result) (known_by hand.new) }
         ensures succeeded { OnDone result (λ output. Q.succeeds request.old output request.new) }
         ensures waited { OnUndone result (Q.waits request.old request.new) }
         ensures kept { OnRefused result (request.new ≡ request.old) }
@@ -223,14 +224,14 @@ impl<S: Steps> Lock<S> {
         exchange: &X,
         on: &mut C,
     ) -> Attempted<Q::Output, Q::Refusal>
-        requires hand { hand.old.seat.table_id ≡ self.now.table }
-        requires rests { AreAmong (Q.rests request.old) hand.old.seat.me.0.mine }
+        requires hand { IsOf self.now.table hand.old }
+        requires rests { AreAmong (Q.rests request.old) (known_by hand.old).mine }
         requires named { (answer : Attempted Q.Output Q.Refusal) (call : S.Call)
             → N.named answer call ↔ Q.attempting request.old answer call }
-        ensures hand { hand.new.seat.table_id ≡ hand.old.seat.table_id }
-        ensures rests { AreAmong (Q.rests request.new) hand.new.seat.me.0.mine }
-        ensures call { Makes S.goes (S.starts self.now.start) S.rests hand.old.seat.me.0
-            (Q.attempting request.old result) hand.new.seat.me.0 }
+        ensures hand { SameTable hand.old hand.new }
+        ensures rests { AreAmong (Q.rests request.new) (known_by hand.new).mine }
+        ensures call { Makes (machine_of S.Steps self.now.start) (known_by hand.old)
+            (Q.attempting request.old result) (known_by hand.new) }
         ensures succeeded { OnDone result (λ output. Q.succeeds request.old output request.new) }
         ensures waited { OnUndone result (Q.waits request.old request.new) }
         ensures kept { OnRefused result (request.new ≡ request.old) }
@@ -255,12 +256,12 @@ impl<S: Steps> Lock<S> {
         hand: &mut Hand<S, S::Call>,
         request: &mut Q,
     ) -> Result<Option<Q::Output>, Q::Refusal>
-        requires hand { hand.old.seat.table_id ≡ self.now.table }
-        requires rests { AreAmong (Q.rests request.old) hand.old.seat.me.0.mine }
-        ensures hand { hand.new.seat.table_id ≡ hand.old.seat.table_id }
-        ensures rests { AreAmong (Q.rests request.new) hand.new.seat.me.0.mine }
-        ensures call { Makes S.goes (S.starts self.now.start) S.rests hand.old.seat.me.0
-            (Q.leaving request.old result) hand.new.seat.me.0 }
+        requires hand { IsOf self.now.table hand.old }
+        requires rests { AreAmong (Q.rests request.old) (known_by hand.old).mine }
+        ensures hand { SameTable hand.old hand.new }
+        ensures rests { AreAmong (Q.rests request.new) (known_by hand.new).mine }
+        ensures call { Makes (machine_of S.Steps self.now.start) (known_by hand.old)
+            (Q.leaving request.old result) (known_by hand.new) }
         ensures left { IfOk result (λ answer. Q.leaves request.old answer request.new) }
         ensures kept { OnErr result (request.new ≡ request.old) }
     {
@@ -277,14 +278,14 @@ impl<S: Steps> Lock<S> {
         hand: &mut Hand<S, S::Call>,
         request: &mut Q,
     ) -> Result<Option<Q::Output>, Q::Refusal>
-        requires hand { hand.old.seat.table_id ≡ self.now.table }
-        requires rests { AreAmong (Q.rests request.old) hand.old.seat.me.0.mine }
+        requires hand { IsOf self.now.table hand.old }
+        requires rests { AreAmong (Q.rests request.old) (known_by hand.old).mine }
         requires named { (answer : Result (Option Q.Output) Q.Refusal) (call : S.Call)
             → N.named answer call ↔ Q.leaving request.old answer call }
-        ensures hand { hand.new.seat.table_id ≡ hand.old.seat.table_id }
-        ensures rests { AreAmong (Q.rests request.new) hand.new.seat.me.0.mine }
-        ensures call { Makes S.goes (S.starts self.now.start) S.rests hand.old.seat.me.0
-            (Q.leaving request.old result) hand.new.seat.me.0 }
+        ensures hand { SameTable hand.old hand.new }
+        ensures rests { AreAmong (Q.rests request.new) (known_by hand.new).mine }
+        ensures call { Makes (machine_of S.Steps self.now.start) (known_by hand.old)
+            (Q.leaving request.old result) (known_by hand.new) }
         ensures left { IfOk result (λ answer. Q.leaves request.old answer request.new) }
         ensures kept { OnErr result (request.new ≡ request.old) }
     {

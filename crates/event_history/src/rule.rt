@@ -1,6 +1,6 @@
 //! What holds between any two steps of any threads, and what each kind of step tells.
 ghost use Rattle.std.specs.Prelude.{[]};
-ghost use Rattle.event_history.specs.History.{both_views, newcomer};
+ghost use Rattle.event_history.specs.History.{both_views, machine_from, machine_of, newcomer};
 ghost use Rattle.event_history.specs.Rule.{Kept, arrived, entered, extended, looked, marked, slept, spent_view, taken, woke};
 
 use crate::history::{Made, Steps, View};
@@ -15,7 +15,7 @@ pub struct Rule<S> {
 }
 
 impl<S: Steps> TableRule<S, View<S, S::Call>, S::Start> for Rule<S> {
-    ghost holds = { λ start. Kept (S.starts start) S.goes S.rests };
+    ghost holds = { λ start. Kept (machine_of S.Steps start) };
 
     ghost first = { λ _. newcomer [] };
 }
@@ -78,7 +78,7 @@ pub(crate) struct GiveBack<S, B, K> {
 }
 
 impl<S: Steps, B: Begins<S>, K: Made<S::Call>> Play<S, View<S, S::Call>> for GiveBack<S, B, K> {
-    ghost then = { extended B.begins S.goes S.rests K.made };
+    ghost then = { extended (machine_from S.Steps B.begins) K.made };
 }
 
 // A hand looks at the history.
@@ -87,7 +87,7 @@ pub(crate) struct Look<S, B> {
 }
 
 impl<S: Steps, B: Begins<S>> Play<S, View<S, S::Call>> for Look<S, B> {
-    ghost then = { looked B.begins S.goes S.rests };
+    ghost then = { looked (machine_from S.Steps B.begins) };
 }
 
 // A new hand has seen what another one has seen.

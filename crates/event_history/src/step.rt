@@ -1,6 +1,7 @@
 //! A call on a traced state.
 ghost use Rattle.std.specs.Prelude.{◌≡◌, ◌∷◌, [], false};
-ghost use Rattle.event_history.specs.History.{AreAmong, ExtendsThat};
+ghost use Rattle.event_history.specs.Hands.{IsOf, SameTable, known_by};
+ghost use Rattle.event_history.specs.History.{AreAmong, ExtendsThat, machine_of};
 
 use crate::hand::Hand;
 use crate::history::{Steps, View};
@@ -111,14 +112,14 @@ impl<S: Steps> Traced<S> {
         step: K,
         beside: &mut B,
     ) -> K::Reply
-        requires hand { hand.old.seat.table_id ≡ self.now.table.shared.table_id }
+        requires hand { IsOf self.now.table.shared.table_id hand.old }
         requires may { K.may step }
         requires rests { (reply : K.Reply)
-            → AreAmong (S.rests (K.call step reply)) hand.old.seat.me.0.mine }
-        ensures hand { hand.new.seat.table_id ≡ hand.old.seat.table_id }
-        ensures call { ExtendsThat S.goes (S.starts self.now.table.shared.key) S.rests
+            → AreAmong (S.rests (K.call step reply)) (known_by hand.old).mine }
+        ensures hand { SameTable hand.old hand.new }
+        ensures call { ExtendsThat (machine_of S.Steps self.now.table.shared.key)
             (λ before after. K.does step before beside.old result after beside.new)
-            hand.old.seat.me.0 (K.call step result) hand.new.seat.me.0 }
+            (known_by hand.old) (K.call step result) (known_by hand.new) }
     {
         let seat = &mut hand.seat;
         take_out!(self, rt, seat);
@@ -145,7 +146,7 @@ impl<S: Steps> Traced<S> {
         requires rests { AreAmong (S.rests (K.call step.value reply.now)) seat.old.me.0.mine }
         ensures seat { (seat.new.table_id ≡ seat.old.table_id) × (seat.new.id ≡ seat.old.id)
             × (seat.new.me.1 ≡ []) }
-        ensures call { ExtendsThat S.goes (S.starts self.now.table.shared.key) S.rests
+        ensures call { ExtendsThat (machine_of S.Steps self.now.table.shared.key)
             (λ q r. K.does step.value q before.value reply.now r after.now) seat.old.me.0
             (K.call step.value reply.now) seat.new.me.0 }
     {

@@ -1,6 +1,7 @@
 //! A state under a lock of one word.
 ghost use Rattle.std.specs.Prelude.{◌≡◌, ◌∷◌, [], false, true, IfOk, MatchBool};
-ghost use Rattle.event_history.specs.History.{AreAmong, Looks, both_views, newcomer};
+ghost use Rattle.event_history.specs.Hands.{IsOf, SameTable, known_by};
+ghost use Rattle.event_history.specs.History.{AreAmong, Looks, both_views, machine_from, machine_of, newcomer};
 ghost use Rattle.event_history.specs.Rule.{Arrived, Holds, PutsBack, Returns, owing};
 
 use crate::hand::Hand;
@@ -42,8 +43,8 @@ impl<S: Steps> Traced<S> {
         S: Drop,
         requires starts { S.starts start.now state }
         ensures start { IfOk result (λ t. t.0.table.shared.key ≡ start.now) }
-        ensures hand { IfOk result (λ t. (t.1.seat.table_id ≡ t.0.table.shared.table_id)
-            × (t.1.seat.me.0 ≡ newcomer [])) }
+        ensures hand { IfOk result (λ t. IsOf t.0.table.shared.table_id t.1
+            × (known_by t.1 ≡ newcomer [])) }
     {
         let mut slots = Vec::with_capacity(alloc, 1)?;
         if let Err(_) = slots.push(state) {
@@ -58,8 +59,8 @@ impl<S: Steps> Traced<S> {
     /// A hand that made no call yet, and has seen the history so far. It is one load.
     #[inline(always)]
     pub fn hand(&self) -> Hand<S, S::Call>
-        ensures { (result.seat.table_id ≡ self.now.table.shared.table_id)
-            × (result.seat.me.0 ≡ newcomer result.seat.me.0.seen) }
+        ensures { IsOf self.now.table.shared.table_id result
+            × (known_by result ≡ newcomer (known_by result).seen) }
     {
         Hand::of(self.table.shared.load_new_seat::<Enter>(0).1)
     }
@@ -137,7 +138,7 @@ impl<S: Steps> Traced<S> {
         ensures seat { (seat.new.table_id ≡ seat.old.table_id) × (seat.new.id ≡ seat.old.id)
             × (seat.new.me.1 ≡ []) }
         ensures extends { (c : S.Call) × K.made c
-            × Returns (S.starts self.now.table.shared.key) S.goes S.rests seat.old.me c
+            × Returns (machine_of S.Steps self.now.table.shared.key) seat.old.me c
             seat.new.me.0 }
     {
         if self.put_back::<Brand, K>(seat) == AWAITED {
@@ -154,7 +155,7 @@ impl<S: Steps> Traced<S> {
             × (seat.old.me.1 ≡ (0, r) ∷ []) × S.goes q c r × (seat.old.me.0.spent ≡ false)
             × AreAmong (S.rests c) seat.old.me.0.mine }
         ensures seat { (seat.new.table_id ≡ seat.old.table_id) × (seat.new.id ≡ seat.old.id) }
-        ensures extended { PutsBack B.begins S.goes S.rests K.made seat.old.me result seat.new.me }
+        ensures extended { PutsBack (machine_from S.Steps B.begins) K.made seat.old.me result seat.new.me }
     {
         self.table.shared.swap::<GiveBack<S, B, K>>(seat, 0, FREE)
     }
@@ -173,25 +174,25 @@ impl<S: Steps> Traced<S> {
     }
 
     /// A new hand, which has seen as much as this one. It is one load.
-    pub fn tell(&self, hand: &mut Hand<S, S::Call>) -> Hand<S, S::Call>
-        requires { hand.old.seat.table_id ≡ self.now.table.shared.table_id }
-        ensures hand { (hand.new.seat.table_id ≡ hand.old.seat.table_id)
-            × (hand.new.seat.me.0 ≡ hand.old.seat.me.0) }
-        ensures told { (result.seat.table_id ≡ hand.old.seat.table_id)
-            × (result.seat.me.0 ≡ newcomer hand.old.seat.me.0.seen) }
+    pub fn fork(&self, hand: &mut Hand<S, S::Call>) -> Hand<S, S::Call>
+        requires { IsOf self.now.table.shared.table_id hand.old }
+        ensures hand { SameTable hand.old hand.new
+            × (known_by hand.new ≡ known_by hand.old) }
+        ensures told { SameTable hand.old result
+            × (known_by result ≡ newcomer (known_by hand.old).seen) }
     {
         Hand::of(self.table.shared.split_seat::<Tell>(&mut hand.seat))
     }
 
     /// Has a hand learn what another one saw and did, which is no more. From here on it speaks of one history that has the
     /// calls of both. It is two loads.
-    pub fn absorb(&self, hand: &mut Hand<S, S::Call>, other: Hand<S, S::Call>)
-        requires here { hand.old.seat.table_id ≡ self.now.table.shared.table_id }
-        requires there { other.seat.table_id ≡ self.now.table.shared.table_id }
-        requires ends { S.may_end other.seat.me.0.mine }
-        ensures hand { hand.new.seat.table_id ≡ hand.old.seat.table_id }
-        ensures looks { Looks S.goes (S.starts self.now.table.shared.key) S.rests
-            (both_views hand.old.seat.me.0 other.seat.me.0) hand.new.seat.me.0 }
+    pub fn join(&self, hand: &mut Hand<S, S::Call>, other: Hand<S, S::Call>)
+        requires here { IsOf self.now.table.shared.table_id hand.old }
+        requires there { IsOf self.now.table.shared.table_id other }
+        requires ends { S.may_end (known_by other).mine }
+        ensures hand { SameTable hand.old hand.new }
+        ensures looks { Looks (machine_of S.Steps self.now.table.shared.key)
+            (both_views (known_by hand.old) (known_by other)) (known_by hand.new) }
     {
         let seat = &mut hand.seat;
         let other = other.into_seat();
@@ -207,7 +208,7 @@ impl<S: Steps> Traced<S> {
             × (seat.old.me.0.spent ≡ false) }
         ensures seat { (seat.new.table_id ≡ seat.old.table_id) × (seat.new.id ≡ seat.old.id)
             × (seat.new.me.1 ≡ seat.old.me.1) }
-        ensures looks { Looks S.goes B.begins S.rests seat.old.me.0 seat.new.me.0 }
+        ensures looks { Looks (machine_from S.Steps B.begins) seat.old.me.0 seat.new.me.0 }
     {
         self.table.shared.load::<Look<S, B>>(seat, 0);
     }

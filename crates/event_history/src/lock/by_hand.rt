@@ -1,6 +1,7 @@
 //! A request with the hand that makes it, as the waits of `event_wait` know it.
 ghost use Rattle.std.specs.Prelude.{◌≡◌};
-ghost use Rattle.event_history.specs.History.{AreAmong};
+ghost use Rattle.event_history.specs.Hands.{IsOf, known_by};
+ghost use Rattle.event_history.specs.History.{AreAmong, machine_of};
 ghost use Rattle.event_history.specs.Waiting.{by_hand, lent, lent_tries, tried_by_hand};
 
 use super::Lock;
@@ -26,10 +27,10 @@ impl<'h, 'q, S: Steps, Q: Request<S>> Waitable<ByHand<'h, 'q, S, Q>> for Lock<S>
 
     ghost rules = { λ lock.
         lent (λ by. (by.hand.ghost_name, by.request.ghost_name))
-        (λ by. (by.request.now, by.hand.now.seat.me.0))
-        (λ by. (by.hand.now.seat.table_id ≡ lock.table)
-        × AreAmong (Q.rests by.request.now) by.hand.now.seat.me.0.mine)
-        (by_hand S.goes (S.starts lock.start) S.rests Q.attempting Q.leaving Q.waits Q.succeeds
+        (λ by. (by.request.now, known_by by.hand.now))
+        (λ by. IsOf lock.table by.hand.now
+        × AreAmong (Q.rests by.request.now) (known_by by.hand.now).mine)
+        (by_hand (machine_of S.Steps lock.start) Q.attempting Q.leaving Q.waits Q.succeeds
         Q.leaves) };
 
     ghost source = { λ lock. lock.source };
@@ -65,9 +66,8 @@ impl<'h, 'q, S: Steps, Q: Attempt<S>> Obtainable<ByHand<'h, 'q, S, Q>> for Lock<
 
     ghost trying = { λ lock.
         lent_tries (λ by. (by.hand.ghost_name, by.request.ghost_name))
-        (λ by. (by.request.now, by.hand.now.seat.me.0))
-        (tried_by_hand S.goes (S.starts lock.start) S.rests Q.attempting Q.leaving Q.succeeds
-        Q.trying Q.has_place Q.giving_up) };
+        (λ by. (by.request.now, known_by by.hand.now))
+        (tried_by_hand (machine_of S.Steps lock.start) Q.succeeds Q.trying Q.has_place Q.giving_up) };
 
     #[inline(always)]
     fn is_waiting(&self, by: &ByHand<'h, 'q, S, Q>) -> bool {

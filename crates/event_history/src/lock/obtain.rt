@@ -1,6 +1,7 @@
 //! Attempts that come before a wait.
 ghost use Rattle.std.specs.Prelude.{◌≡◌, ◌↔◌, Option, None, IfSome};
-ghost use Rattle.event_history.specs.History.{AreAmong, Makes};
+ghost use Rattle.event_history.specs.Hands.{IsOf, SameTable, known_by};
+ghost use Rattle.event_history.specs.History.{AreAmong, Makes, machine_of};
 ghost use Rattle.event_history.specs.Waiting.{GivesUp};
 
 use super::Lock;
@@ -21,12 +22,12 @@ impl<S: Steps> Lock<S> {
         hand: &mut Hand<S, S::Call>,
         request: &mut Q,
     ) -> Option<Q::Output>
-        requires hand { hand.old.seat.table_id ≡ self.now.table }
-        requires rests { AreAmong (Q.rests request.old) hand.old.seat.me.0.mine }
-        ensures hand { hand.new.seat.table_id ≡ hand.old.seat.table_id }
-        ensures rests { AreAmong (Q.rests request.new) hand.new.seat.me.0.mine }
-        ensures call { Makes S.goes (S.starts self.now.start) S.rests hand.old.seat.me.0
-            (Q.trying request.old result) hand.new.seat.me.0 }
+        requires hand { IsOf self.now.table hand.old }
+        requires rests { AreAmong (Q.rests request.old) (known_by hand.old).mine }
+        ensures hand { SameTable hand.old hand.new }
+        ensures rests { AreAmong (Q.rests request.new) (known_by hand.new).mine }
+        ensures call { Makes (machine_of S.Steps self.now.start) (known_by hand.old)
+            (Q.trying request.old result) (known_by hand.new) }
         ensures succeeded { IfSome result (λ output. Q.succeeds request.old output request.new) }
         ensures kept { result ≡ None → request.new ≡ request.old }
     {
@@ -40,14 +41,14 @@ impl<S: Steps> Lock<S> {
         hand: &mut Hand<S, S::Call>,
         request: &mut Q,
     ) -> Option<Q::Output>
-        requires hand { hand.old.seat.table_id ≡ self.now.table }
-        requires rests { AreAmong (Q.rests request.old) hand.old.seat.me.0.mine }
+        requires hand { IsOf self.now.table hand.old }
+        requires rests { AreAmong (Q.rests request.old) (known_by hand.old).mine }
         requires named { (answer : Option Q.Output) (call : S.Call) → N.named answer call
             ↔ Q.trying request.old answer call }
-        ensures hand { hand.new.seat.table_id ≡ hand.old.seat.table_id }
-        ensures rests { AreAmong (Q.rests request.new) hand.new.seat.me.0.mine }
-        ensures call { Makes S.goes (S.starts self.now.start) S.rests hand.old.seat.me.0
-            (Q.trying request.old result) hand.new.seat.me.0 }
+        ensures hand { SameTable hand.old hand.new }
+        ensures rests { AreAmong (Q.rests request.new) (known_by hand.new).mine }
+        ensures call { Makes (machine_of S.Steps self.now.start) (known_by hand.old)
+            (Q.trying request.old result) (known_by hand.new) }
         ensures succeeded { IfSome result (λ output. Q.succeeds request.old output request.new) }
         ensures kept { result ≡ None → request.new ≡ request.old }
     {
@@ -70,12 +71,12 @@ impl<S: Steps> Lock<S> {
         hand: &mut Hand<S, S::Call>,
         request: &mut Q,
     )
-        requires hand { hand.old.seat.table_id ≡ self.now.table }
-        requires rests { AreAmong (Q.rests request.old) hand.old.seat.me.0.mine }
-        ensures hand { hand.new.seat.table_id ≡ hand.old.seat.table_id }
-        ensures rests { AreAmong (Q.rests request.new) hand.new.seat.me.0.mine }
-        ensures gave_up { GivesUp S.goes (S.starts self.now.start) S.rests Q.has_place Q.giving_up
-            (request.old, hand.old.seat.me.0) (request.new, hand.new.seat.me.0) }
+        requires hand { IsOf self.now.table hand.old }
+        requires rests { AreAmong (Q.rests request.old) (known_by hand.old).mine }
+        ensures hand { SameTable hand.old hand.new }
+        ensures rests { AreAmong (Q.rests request.new) (known_by hand.new).mine }
+        ensures gave_up { GivesUp (machine_of S.Steps self.now.start) Q.has_place Q.giving_up
+            (request.old, known_by hand.old) (request.new, known_by hand.new) }
     {
         if request.is_waiting() {
             self.give_up_named::<Brand, _, _>(rt, hand, request);
@@ -89,14 +90,14 @@ impl<S: Steps> Lock<S> {
         hand: &mut Hand<S, S::Call>,
         request: &mut Q,
     )
-        requires hand { hand.old.seat.table_id ≡ self.now.table }
-        requires rests { AreAmong (Q.rests request.old) hand.old.seat.me.0.mine }
+        requires hand { IsOf self.now.table hand.old }
+        requires rests { AreAmong (Q.rests request.old) (known_by hand.old).mine }
         requires named { (answer : Unit {0}) (call : S.Call) → N.named answer call
             ↔ Q.giving_up request.old call }
-        ensures hand { hand.new.seat.table_id ≡ hand.old.seat.table_id }
-        ensures rests { AreAmong (Q.rests request.new) hand.new.seat.me.0.mine }
-        ensures call { Makes S.goes (S.starts self.now.start) S.rests hand.old.seat.me.0
-            (Q.giving_up request.old) hand.new.seat.me.0 }
+        ensures hand { SameTable hand.old hand.new }
+        ensures rests { AreAmong (Q.rests request.new) (known_by hand.new).mine }
+        ensures call { Makes (machine_of S.Steps self.now.start) (known_by hand.old)
+            (Q.giving_up request.old) (known_by hand.new) }
         ensures kept { request.new ≡ request.old }
     {
         let mut waking = DeferredWake::new();

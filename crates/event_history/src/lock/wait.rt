@@ -2,7 +2,8 @@
 ghost use Rattle.std.specs.Prelude.{◌≡◌, ◌≢◌, IfOk, IsSome, OnErr};
 ghost use Rattle.futures.specs.Poll.{IfReady, OnPending};
 ghost use Rattle.futures.specs.Task.{Covers, Keeps};
-ghost use Rattle.event_history.specs.History.{AreAmong, Makes};
+ghost use Rattle.event_history.specs.Hands.{IsOf, SameTable, known_by};
+ghost use Rattle.event_history.specs.History.{AreAmong, Makes, machine_of};
 ghost use Rattle.event_history.specs.Waiting.{EndsObtaining, EndsWait, Polls};
 ghost use Rattle.event_wait.specs.declared.lock.limit.Limit.TheVariants.{Never};
 
@@ -28,14 +29,14 @@ impl<S: Steps> Lock<S> {
         request: &mut Q,
         limit: Limit,
     ) -> Result<Option<Q::Output>, Refused<Q::Refusal>>
-        requires hand { hand.old.seat.table_id ≡ self.now.table }
-        requires rests { AreAmong (Q.rests request.old) hand.old.seat.me.0.mine }
-        ensures hand { hand.new.seat.table_id ≡ hand.old.seat.table_id }
-        ensures rests { AreAmong (Q.rests request.new) hand.new.seat.me.0.mine }
+        requires hand { IsOf self.now.table hand.old }
+        requires rests { AreAmong (Q.rests request.old) (known_by hand.old).mine }
+        ensures hand { SameTable hand.old hand.new }
+        ensures rests { AreAmong (Q.rests request.new) (known_by hand.new).mine }
         ensures never { limit ≡ Never → IfOk result IsSome }
-        ensures waits { EndsWait S.goes (S.starts self.now.start) S.rests Q.attempting Q.leaving
-            Q.waits Q.succeeds Q.leaves (limit ≢ Never) (request.old, hand.old.seat.me.0) result
-            (request.new, hand.new.seat.me.0) }
+        ensures waits { EndsWait (machine_of S.Steps self.now.start) Q.attempting Q.leaving
+            Q.waits Q.succeeds Q.leaves (limit ≢ Never) (request.old, known_by hand.old) result
+            (request.new, known_by hand.new) }
     {
         let mut by = ByHand { hand, request };
         let answer = event_wait::wait(self, rt, alloc, &mut by, limit);
@@ -56,14 +57,14 @@ impl<S: Steps> Lock<S> {
         request: &mut Q,
         limit: Limit,
     ) -> Result<Option<Q::Output>, Refused<Q::Refusal>>
-        requires hand { hand.old.seat.table_id ≡ self.now.table }
-        requires rests { AreAmong (Q.rests request.old) hand.old.seat.me.0.mine }
-        ensures hand { hand.new.seat.table_id ≡ hand.old.seat.table_id }
-        ensures rests { AreAmong (Q.rests request.new) hand.new.seat.me.0.mine }
+        requires hand { IsOf self.now.table hand.old }
+        requires rests { AreAmong (Q.rests request.old) (known_by hand.old).mine }
+        ensures hand { SameTable hand.old hand.new }
+        ensures rests { AreAmong (Q.rests request.new) (known_by hand.new).mine }
         ensures never { limit ≡ Never → IfOk result IsSome }
-        ensures obtains { EndsObtaining S.goes (S.starts self.now.start) S.rests Q.attempting Q.leaving Q.waits
+        ensures obtains { EndsObtaining (machine_of S.Steps self.now.start) Q.attempting Q.leaving Q.waits
             Q.succeeds Q.leaves (limit ≢ Never) Q.trying Q.has_place Q.giving_up
-            (request.old, hand.old.seat.me.0) result (request.new, hand.new.seat.me.0) }
+            (request.old, known_by hand.old) result (request.new, known_by hand.new) }
     {
         let mut by = ByHand { hand, request };
         let answer = event_wait::obtain(self, rt, alloc, &mut by, limit);
@@ -83,12 +84,12 @@ impl<S: Steps> Lock<S> {
         request: &mut Q,
         cx: &mut Context<'_>,
     ) -> Poll<Result<Q::Output, Q::Refusal>>
-        requires hand { hand.old.seat.table_id ≡ self.now.table }
-        requires rests { AreAmong (Q.rests request.old) hand.old.seat.me.0.mine }
-        ensures hand { hand.new.seat.table_id ≡ hand.old.seat.table_id }
-        ensures rests { AreAmong (Q.rests request.new) hand.new.seat.me.0.mine }
-        ensures call { Makes S.goes (S.starts self.now.start) S.rests hand.old.seat.me.0
-            (Polls Q.attempting request.old result) hand.new.seat.me.0 }
+        requires hand { IsOf self.now.table hand.old }
+        requires rests { AreAmong (Q.rests request.old) (known_by hand.old).mine }
+        ensures hand { SameTable hand.old hand.new }
+        ensures rests { AreAmong (Q.rests request.new) (known_by hand.new).mine }
+        ensures call { Makes (machine_of S.Steps self.now.start) (known_by hand.old)
+            (Polls Q.attempting request.old result) (known_by hand.new) }
         ensures succeeded { IfReady result
             (λ answer. IfOk answer (λ output. Q.succeeds request.old output request.new)) }
         ensures refused { IfReady result (λ answer. OnErr answer (request.new ≡ request.old)) }

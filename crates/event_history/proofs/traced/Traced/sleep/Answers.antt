@@ -3,4 +3,4 @@ use Rattle.event_history.proofs.Keeps.{turns}
 use Rattle.event_history.proofs.traced.Traced.sleep.Goals as goal
 
 pub load-requires : goal.load-requires
-load-requires g c = (search rules, search rules, turns _ _ _ true _ _ _ (search rules))
+load-requires g c = (search rules, search rules, turns _ true _ _ _ (search rules))
