@@ -6,11 +6,11 @@ use Rattle.atomic_table.specs.Table.{rest}
 use Rattle.event_queue.specs.declared.key.Key.{Key}
 use Rattle.event_queue.specs.Key.{is_key}
 use Rattle.event_queue.specs.declared.notice.Notice.{Notice}
-use Rattle.event_word.specs.declared.line.competing.Competing.{Competing}
+use Rattle.event_word.specs.declared.competing.Competing.{Competing}
 use Rattle.event_word.specs.Competing.{rules_of}
 use Rattle.event_word.specs.Free.{free_of, IsOpen, ServesTheStarving, ServesWith}
 use Rattle.event_word.proofs.FreeLemmas.{serves-less, serves-taken, serves-taken_told}
-use Rattle.event_word.specs.Turns.{State, is_among}
+use Rattle.event_wait.specs.FairQueue.{State, is_among}
 use Rattle.event_word.specs.Word.{Eases, EasesFrom, HasState, Sat, count, number_of, numbered}
 use Rattle.event_word.specs.declared.word.rule.Shelf.{Shelf}
 use Rattle.event_word.specs.declared.word.rule.Shelf.TheVariants as shelf

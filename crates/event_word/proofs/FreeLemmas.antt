@@ -9,9 +9,9 @@ use Rattle.event_queue.specs.Key.{is_key, without}
 use Rattle.event_queue.proofs.OrderLemmas.{length-remove_entry}
 use Rattle.event_queue.specs.Queue.{Queue}
 use Rattle.event_wait.specs.Line.{HasLeft, TellsUpTo, told_anew}
-use Rattle.event_word.specs.Turns.{State, Comes, Joins, WaitsOn, is_among}
+use Rattle.event_wait.specs.FairQueue.{State, Comes, Joins, WaitsOn, is_among}
 use Rattle.event_word.specs.Free.{free_of, IsOpen, IsShut, one_starving_is_told, ServesWith, ServesTheStarving, NobodyWaits, ShutsForTheStarving, Stands}
-use Rattle.event_word.specs.declared.line.Queued.{Queued}
+use Rattle.event_wait.specs.declared.fair_queue.Queued.{Queued}
 
 le_or_more : (m n : ℕ) → (m ≤ n) ⊎ (n < m)
 le_or_more zero n = inl (omega arith)

@@ -2,7 +2,7 @@
 use Rattle.std.proofs.Common.{◌≡◌, ℕ, ◌+◌, ◌*◌, ◌/◌, ◌%◌, ◌^◌, ◌<◌, ◌≤◌, arith}
 use Rattle.event_word.specs.Competing.{rules_of}
 use Rattle.event_word.specs.Free.{free_of, ServesTheStarving, Stands}
-use Rattle.event_word.specs.Turns.{State}
+use Rattle.event_wait.specs.FairQueue.{State}
 use Rattle.event_word.specs.Word.{Changes, GivesBack, Lends, Stays, number_of}
 use Rattle.event_word.proofs.FreeLemmas.{serves-given, serves-taken, stands-given, stands-taken}
 

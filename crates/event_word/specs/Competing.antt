@@ -2,7 +2,7 @@
 use Rattle.std.specs.Prelude.{ℕ}
 use Rattle.event_word.specs.Free.{free_of, NobodyWaits, ServesTheStarving, ShutsForTheStarving, Stands}
 use Rattle.event_word.specs.Rules.{Rules}
-use Rattle.event_word.specs.declared.line.competing.Competing.{Competing}
+use Rattle.event_word.specs.declared.competing.Competing.{Competing}
 
 -- of how many are free the first holds at any time; the second says at which the value is out
 abbrev pub rules_of : {C : Type 0} → (ℕ → Type 0) → (ℕ → Type 0) → Rules (Competing C)

@@ -5,9 +5,9 @@ use Rattle.event_queue.specs.declared.key.Key.{Key}
 use Rattle.event_queue.specs.Key.{is_key}
 use Rattle.event_wait.specs.Attempted.{Stores}
 use Rattle.event_wait.specs.Line.{IsNotIn}
-use Rattle.event_word.specs.Turns.{State, Joins}
-use Rattle.event_word.specs.declared.line.contender.Coming.{Coming}
-use Rattle.event_word.specs.declared.line.contender.Coming.TheVariants.{New, Notified, Waits}
+use Rattle.event_wait.specs.FairQueue.{State, Joins}
+use Rattle.event_word.specs.declared.contender.Coming.{Coming}
+use Rattle.event_word.specs.declared.contender.Coming.TheVariants.{New, Notified, Waits}
 
 -- how many came that were notified
 abbrev pub count_of : Coming → ℕ

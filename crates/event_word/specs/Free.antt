@@ -2,7 +2,7 @@
 use Rattle.std.specs.Prelude.{◌≡◌, ◌⊎◌, ℕ, ◌+◌, ◌%◌, ◌^◌, ◌<◌, ◌≤◌, Bool, true, false, length}
 use Rattle.std.specs.List.{list_any}
 use Rattle.std.specs.Map.{keys_of}
-use Rattle.event_word.specs.Turns.{State, is_among}
+use Rattle.event_wait.specs.FairQueue.{State, is_among}
 
 -- how many are free by this number
 abbrev pub free_of : ℕ → ℕ

@@ -1,4 +1,3 @@
-pub mod Turns
 pub mod Free
 pub mod Rules
 pub mod Competing

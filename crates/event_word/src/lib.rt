@@ -6,22 +6,23 @@
 //! by a compare-exchange that fails where the word has changed: then it notifies again. What is out can't be dropped.
 //!
 //! What a lock says of its number and its state is its [`Kept::rules`]. [`Competing`] is the state of a semaphore and a mutex,
-//! whose queue is a [`Line`]; [`Queues`] is that of a read-write lock, to which one comes by a [`Right`]. Nobody needs this crate
+//! whose queue is a fair one; [`Queues`] is that of a read-write lock, to which one comes by a [`Right`]. Nobody needs this crate
 //! to use a lock: [`event_locks`](../../event_locks/README.md) has them.
 //!
-//! Read `word.rt` and `word/rule.rt` first, then `word/take.rt`; for a semaphore and a mutex `line.rt`, `line/competing.rt` and
+//! Read `word.rt` and `word/rule.rt` first, then `word/take.rt`; for a semaphore and a mutex `competing.rt` and
 //! `word/competing.rt`; for a read-write lock `shares/queues.rt`, `shares/right.rt`, `shares/steps.rt` and
 //! `shares/requests.rt`.
 #![tactic(auto)]
 
-mod line;
+mod competing;
+mod contender;
+mod counts;
 mod shares;
 mod word;
 
-pub use line::competing::{Competing, Counted, OneValue, Permits, the_starving_find_one};
-pub use line::contender::{Arrival, Coming, Contender};
-pub use line::counts::Counts;
-pub use line::{Line, Queued, turns_are_kept_along};
+pub use competing::{Competing, Counted, OneValue, Permits, the_starving_find_one};
+pub use contender::{Arrival, Coming, Contender};
+pub use counts::Counts;
 pub use shares::counts::RwLockCounts;
 pub use shares::number::{is_written, readers};
 pub use shares::queues::Queues;

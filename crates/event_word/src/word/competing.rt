@@ -8,9 +8,9 @@ ghost use Rattle.event_wait.specs.Attempted.{Stores};
 
 use super::Word;
 use super::held::Held;
-use crate::line::competing::{Competing, Counted, SHUT, free};
-use crate::line::contender::Arrival;
-use crate::line::counts::Counts;
+use crate::competing::{Competing, Counted, SHUT, free};
+use crate::contender::Arrival;
+use crate::counts::Counts;
 use crate::word::held::state;
 use event_queue::{Key, TaskExchange};
 use event_wait::{LockError, Task};

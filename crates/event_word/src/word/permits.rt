@@ -8,7 +8,7 @@ use super::held::Held;
 use super::permit::Permit;
 use super::serving::may_take;
 use super::{CROWDED, ONE, Step, Word};
-use crate::line::competing::{Competing, Permits, SHUT, free};
+use crate::competing::{Competing, Permits, SHUT, free};
 use std::sync::Wait;
 
 // As many permits may be free.

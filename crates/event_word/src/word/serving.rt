@@ -5,7 +5,7 @@ ghost use Rattle.event_word.specs.Word.{HasState, count, number_of};
 
 use super::held::Held;
 use super::{ONE, Word};
-use crate::line::competing::{Competing, Counted, SHUT, free};
+use crate::competing::{Competing, Counted, SHUT, free};
 
 /// Whether one may take what is free: one that was notified also where newcomers may not.
 #[inline(always)]

@@ -8,7 +8,7 @@ ghost use Rattle.event_word.specs.Word.{HasState, HasValue, HasValueToo, count, 
 use super::held::Held;
 use super::serving::may_take;
 use super::{CROWDED, ONE, Seat, Shelf, Word};
-use crate::line::competing::{Competing, OneValue, SHUT};
+use crate::competing::{Competing, OneValue, SHUT};
 use std::sync::Wait;
 
 impl<V> Word<Competing<OneValue>, V> {

@@ -1,94 +1,29 @@
--- `of` makes the empty struct, with the table's id that the seat behind the `&` has. Assumes `Logic`.
-use Rattle.std.proofs.Common.{List, [], ◌∷◌, ◌++◌, refl}
-use seplogic.Ra.Ura.{Ura}
-use mir.Syntax.{Fn, a_type}
-use mir.Val.{Val, vptr, vstruct, vnil}
-use mir.MapTy.{inst_fn}
-use base.Logic.{SProp, ent}
-use prog.Memory.{Memory}
-use prog.Routine.{Routine}
-use prog.Wp.{Calls, Loops, WpFn, Tables}
-use contract.Monad.{Fun}
-use contract.Running.{tables, tables_of}
-use sound.WpLaws.{WpFn-mono}
-use types.Logic.{Logic}
-use types.Kit.{‵, raw, ◌⊛◌, prop, ◌$◌, ◌∵◌, !, qed, move, keep, drop, split, fsplit, fjoin, fpack, feq_l, feq_i, regoal, suffices, done}
-use types.Part.{agg}
-use types.Run.{enter, returns, no_more}
-use types.ByLocal.{alloc_all, pass_all, free_all, look_at, sets}
-use denote.Exit.{yes}
-use denote.RattleType.{RattleType, Valss, owns}
-use denote.Signature.{types_at, plain}
-use denote.Builtin.{RefOf}
-use denote.Param.{param, layouts}
-use denote.Steps.{nothing}
+-- `of` makes the empty struct, with the table of the seat behind the `&`.
+use Rattle.atomic_table.proofs.Names.{◌≡◌, [], ◌∷◌, List, refl, a_type, named, Val, vptr, vstruct, vnil, inst_fn, SProp, emp, ‵, raw, ◌⊛◌, ◌$◌, ◌∵◌, !, qed, by, keep, split, fjoin, fpack, use0, feq_i, no_more, returns, enter, alloc_all, pass_all, free_all, look_at, sets, agg, tables, yes, RattleType, owns, Valss, types_at, plain, nothing, param, layouts, alive, Stays, stay_dropped, walk_of, Goes-dropped, fact, fact_i, RefOf, shr_vals, shr_Tells}
 use denote.Struct.Struct.{within}
-use denote.Triple.Clauses.{Clauses, Ended, closing}
-use denote.Triple.Entry.{alive}
-use denote.Triple.Spec.{Meets, triple_of}
-use denote.Triple.Table.{entered}
-use denote.Triple.Walked.{says, Stays, stay_dropped, walk_of, Goes-dropped, ends_at, walk_Meets}
+use Rattle.atomic_table.proofs.Walks.{proved, leaves}
 use Rattle.atomic_table.specs.contracts.shared.Seat as seat
 use Rattle.event_word.specs.contracts.word.origin.Origin as Origin
-use Rattle.event_word.specs.contracts.word.origin.Origin.of as F
+use Rattle.event_word.specs.contracts.word.origin.Origin.of.{ended, clauses}
 use Rattle.event_word.specs.contracts.word.origin.Origin.of.Key.{name as #self}
-use Rattle.event_word.proofs.word.origin.Origin.of.Statement as stated
+use Rattle.event_word.proofs.word.origin.Origin.of.Statement.{statement}
 use Rattle.event_word.proofs.word.origin.Origin.of.Code as code
 
 abbrev empty : Val
 empty = vstruct vnil
 
-module _ (Y Z : RattleType) where
-  abbrev R : RattleType
-  R = seat.the_row (param 0 Y) (param 1 Z)
-
-  abbrev function : Fn
-  function = inst_fn (layouts (a_type ∷ a_type ∷ []) (Y, (Z, tt))) code.function
-
-  abbrev ended : Ended
-  ended = F.ended Y Z
-
-  abbrev stayed : Stays ended.signature.params ended.kept
-  stayed = (stay_dropped (RefOf (0 ∷ []) tt (plain (λ _. R)) (λ _. tt)) yes, tt)
-
-  module _ {M : Type 1} {𝓤 : Ura M} (𝓛 : Logic 𝓤) (at_mem : Memory → SProp 𝓤) (run : Routine → Fun 𝓤) where
-    open 𝓛 use {H}
-
-    abbrev held : Clauses 𝓤 ended
-    held = F.clauses Y Z 𝓛 at_mem run
-
-    module _ (C : Calls 𝓤 H) (Λ : Loops 𝓤 H) (z : (walk_of 𝓛 ended stayed held).Ghost) where
-      abbrev Post : Val → SProp 𝓤
-      Post = (walk_of 𝓛 ended stayed held).post z
-
-      abbrev toks : SProp 𝓤
-      toks = alive 𝓛 ended.signature z.0.0 z.0.1
-
-      walks : ent 𝓤 ((walk_of 𝓛 ended stayed held).pre z) (WpFn 𝓤 H C Λ function ((walk_of 𝓛 ended stayed held).args z) Post)
-      walks =
-          let a = z.0.3 in
-          let vss = z.0.4 in
-          let u : Val = vptr a.0.ref_ptr.0 a.0.ref_ptr.1 in
-          let made : (Origin.the_row).Denot = record { table_id = a.0.now.table_id } in
-          qed 𝓛 ((raw toks ⊛ ‵ (owns (types_at ended.signature.params z.0.0) a vss)) ∷ raw ((held z.0.0 a).requires z.1) ∷ []) ∵
-          keep ! (0 ∷ []) $ split ! $ move ! (1 ∷ []) $ fsplit ! $ fsplit ! $ feq_l ! (λ is. drop ! $ drop ! $
-          regoal ! (λ (us : List Val). prop (WpFn 𝓤 H C Λ function (us ++ []) Post)) is refl $
-          enter ! C Λ function (u ∷ []) Post $ alloc_all ! (λ l. pass_all ! refl ((tt, tt), tt) $
-          sets ! (agg ! (no_more !)) refl (tt, tt) $
-          nothing ! $ nothing ! $ feq_i ! (List Val) (empty ∷ []) (empty ∷ []) refl $ fjoin ! $
-          fpack ! (Valss []) (within (record { name = []; args = []; types = []; fields = [] }) tt (empty ∷ [])) tt $ fjoin ! $
-          returns ! (look_at ! 0 refl) $ free_all ! refl $
-          suffices ! _ (ends_at 𝓛 ended stayed held z empty made (tt, tt) (tt, tt)) $ says ! refl $
-          nothing ! $ nothing ! $ fjoin ! $ move ! (2 ∷ 0 ∷ 1 ∷ []) $ done !))
-
-    meets : (𝓣 : Tables 𝓤 H) → Meets 𝓛 ended.signature (WpFn 𝓤 H 𝓣.C 𝓣.Λ function) (closing 𝓛 ended held)
-    meets 𝓣 =
-        walk_Meets 𝓛 ended stayed (Goes-dropped 𝓛 3 (RefOf (0 ∷ []) tt (plain (λ _. R)) (λ _. tt)) yes (λ κs x f. refl), tt) held
-        (WpFn 𝓤 H 𝓣.C 𝓣.Λ function) (WpFn-mono 𝓤 H 𝓛.laws 𝓣 function) (walks 𝓣.C 𝓣.Λ)
-
-pub of_spec : {M : Type 1} → stated.statement M
-unfolding tables_of
+pub of_spec : {M : Type 1} → statement M
 of_spec 𝓤 𝓛 𝓜 𝓡 wired Y Z _ _ =
-    let 𝓣 : Tables 𝓤 𝓛.H = tables_of 𝓤 𝓛.H 𝓜 (tables 𝓤 𝓛.H 𝓜 𝓡 𝓡.env) in
-    entered 𝓤 𝓛.H (triple_of 𝓛 (ended Y Z).signature (closing 𝓛 (ended Y Z) (held Y Z 𝓛 𝓜.mem 𝓡.returns))) 𝓣.C 𝓣.Λ (#self (layouts (a_type ∷ a_type ∷ []) (Y, (Z, tt)))) (function Y Z)
-    (code.unfolded 𝓤 𝓛.H 𝓜 𝓡 wired (Y, (Z, tt))) (meets Y Z 𝓛 𝓜.mem 𝓡.returns 𝓣)
+    let H = 𝓛.H in let 𝓣 = tables 𝓤 H 𝓜 𝓡 𝓡.env in let R : RattleType = seat.the_row (param 0 Y) (param 1 Z) in let En = ended Y Z in let c = clauses Y Z 𝓛 𝓜.mem 𝓡.returns in
+    let inst = layouts (a_type ∷ a_type ∷ []) (Y, (Z, tt)) in let fn = inst_fn inst code.function in
+    let arg = RefOf (0 ∷ []) tt (plain (λ _. R)) (λ _. tt) in let hs : Stays En.signature.params En.kept = (stay_dropped arg yes, tt) in
+    proved 𝓛 En hs c 𝓜 𝓡 (Goes-dropped 𝓛 3 arg yes (λ κs x f. refl), tt) (#self inst) fn (code.unfolded 𝓤 H 𝓜 𝓡 wired (Y, (Z, tt)))
+    (λ κs. (shr_vals, tt)) (λ κs. (shr_Tells (named 0) κs.0 R, tt)) (λ κs qs bounds a gh are.
+    let p : Val = vptr a.0.ref_ptr.0 a.0.ref_ptr.1 in let of = a.0.now in let r : (Origin.the_row).Denot = record { table_id = of.table_id } in let Told : Type 0 = of.table_id ≡ of.table_id in
+    let y : (walk_of 𝓛 En hs c).Ghost = ((κs, qs, bounds, a, (p ∷ [], tt)), gh) in let Post : Val → SProp 𝓤 = (walk_of 𝓛 En hs c).post y in
+    qed 𝓛 ((raw (alive 𝓛 En.signature κs qs) ⊛ ‵ (owns (types_at En.signature.params κs) a y.0.4)) ∷ raw ((c κs a).requires gh) ∷ []) ∵ split ! $ keep ! (0 ∷ []) $
+    enter ! 𝓣.C 𝓣.Λ fn (p ∷ []) Post $ alloc_all ! (λ l. pass_all ! refl ((tt, tt), tt) $ sets ! (agg ! (no_more !)) refl (tt, tt) $
+    nothing ! $ nothing ! $ feq_i ! (List Val) (empty ∷ []) (empty ∷ []) refl $ fjoin ! $
+    fpack ! (Valss []) (within (record { name = []; args = []; types = []; fields = [] }) tt (empty ∷ [])) tt $ fjoin ! $
+    use0 𝓛 (raw (fact 𝓤 Told)) (fact_i 𝓤 Told (emp 𝓤) refl) $ nothing ! $ nothing ! $ fjoin ! $
+    returns ! (look_at ! 0 refl) $ free_all ! refl $ keep ! (3 ∷ 0 ∷ 2 ∷ 1 ∷ []) $ by ! (leaves 𝓛 En hs c y empty r (tt, tt) (tt, tt))))

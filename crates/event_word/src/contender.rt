@@ -1,7 +1,7 @@
 //! One that competes.
 ghost use Rattle.std.specs.Prelude.{◌≡◌, ℕ, if◌then◌else◌};
 ghost use Rattle.event_word.specs.Contender.{count_of};
-ghost use Rattle.event_word.specs.declared.line.contender.Coming.{Coming};
+ghost use Rattle.event_word.specs.declared.contender.Coming.{Coming};
 
 use event_queue::Key;
 use std::marker::Model;

@@ -1,7 +1,7 @@
 use Rattle.std.proofs.Common.{sym, ◌∙◌}
 use Rattle.event_word.proofs.FreeLemmas.{serves-left, serves-left_told}
-use Rattle.event_word.proofs.TurnLemmas.{among-left}
-use Rattle.event_word.proofs.line.competing.Competing.leave.Goals as goal
+use Rattle.event_wait.proofs.TurnLemmas.{among-left}
+use Rattle.event_word.proofs.competing.Competing.leave.Goals as goal
 
 pub returns-then-leave-clause-left : goal.returns-then-leave-clause-left
 returns-then-leave-clause-left g c = rw (sym c.take.ensures.value ∙ c.in-Some.is) (among-left c.in-Some.key _ _ c.leave.ensures.left.order)

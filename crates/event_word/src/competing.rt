@@ -4,13 +4,12 @@ ghost use Rattle.event_wait.specs.Attempted.{Stores};
 ghost use Rattle.event_word.specs.Contender.{Comes, Loses, NobodyIsBy, coming_of, count_of, losses_after};
 ghost use Rattle.event_word.specs.Free.{IsOpen, NobodyWaits, ServesTheStarving, ServesWith, Stands, free_of, one_starving_is_told};
 ghost use Rattle.event_word.specs.Competing.{rules_of};
-ghost use Rattle.event_word.specs.Turns.{State};
+ghost use Rattle.event_wait.specs.FairQueue.{State};
 
-use super::Line;
-use super::contender::{Coming, PATIENCE};
+use crate::contender::{Coming, PATIENCE};
 use crate::word::Kept;
 use event_queue::{Key, RegisterResult, TaskExchange, WakeSink};
-use event_wait::{LockError, Task};
+use event_wait::{FairQueue, LockError, Task};
 use std::alloc::Global;
 use std::marker::PhantomData;
 
@@ -54,7 +53,7 @@ impl Counted for OneValue {
 /// The queue of those that compete for what `C` says.
 #[derive(Drop)]
 pub struct Competing<C> {
-    pub line: Line<Task>,
+    pub line: FairQueue<Task>,
     of: PhantomData<C>,
 }
 
@@ -65,7 +64,7 @@ impl<C> Competing<C> {
         ensures quiet { NobodyWaits result.line }
     {
         Competing {
-            line: Line::new(alloc),
+            line: FairQueue::new(alloc),
             of: PhantomData,
         }
     }

@@ -1,5 +1,5 @@
 use Rattle.event_word.proofs.FreeLemmas.{stands-settled}
-use Rattle.event_word.proofs.line.competing.CompetingKept.settle.Goals as goal
+use Rattle.event_word.proofs.competing.CompetingKept.settle.Goals as goal
 
 pub returns-clause-stands : goal.returns-clause-stands
 returns-clause-stands g c =

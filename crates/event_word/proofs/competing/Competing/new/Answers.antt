@@ -1,5 +1,5 @@
 use Rattle.event_word.proofs.FreeLemmas.{stands-new}
-use Rattle.event_word.proofs.line.competing.Competing.new.Goals as goal
+use Rattle.event_word.proofs.competing.Competing.new.Goals as goal
 
 pub returns-clause-stands : goal.returns-clause-stands
 returns-clause-stands g c number may =

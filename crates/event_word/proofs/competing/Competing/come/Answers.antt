@@ -1,8 +1,8 @@
 use Rattle.std.proofs.Common.{refl, Some}
 use Rattle.event_queue.proofs.LawLemmas.{untold-waiting}
 use Rattle.event_word.proofs.FreeLemmas.{serves-came}
-use Rattle.event_word.proofs.TurnLemmas.{among-absent, among-left}
-use Rattle.event_word.proofs.line.competing.Competing.come.Goals as goal
+use Rattle.event_wait.proofs.TurnLemmas.{among-absent, among-left}
+use Rattle.event_word.proofs.competing.Competing.come.Goals as goal
 
 pub returns-in-Notified-clause-comes : goal.returns-in-Notified-clause-comes
 returns-in-Notified-clause-comes g c =
