@@ -11,7 +11,7 @@ use Rattle.event_history.specs.declared.queue_call.QueueCall.{QueueCall}
 use Rattle.event_history.specs.declared.queue_call.QueueCall.TheVariants as call
 use Rattle.event_history.specs.History.{Leads}
 use Rattle.event_history.specs.Laws.{FindsTold, OwnsListener}
-use Rattle.event_history.specs.Queue.{calls, is_empty, rests_on, NoneLeft, OnlyLeft}
+use Rattle.event_history.specs.Queue.{NoneLeft, OnlyLeft, queue_machine}
 use Rattle.event_history.proofs.LawsLeft.{only_kept, left_registered}
 use Rattle.event_history.proofs.LawsOwn.{own_registered, own_stored}
 use Rattle.event_listener.specs.Listening.{Known, LeavesNone, Member, Standing, known_of}
@@ -36,7 +36,7 @@ module _ {T : Type 0} where
       ((λ _. subst (OnlyLeft member.key) (sym is) (inl (sym same), tt)), λ finished. absurd (true≢false (sym finished ∙ unfinished)))
 
   -- after a poll it owns its listener if that is in the queue still
-  pub after_poll : {key : Key} {found : RegisterResult T} {v w : Known T} {old new : Queue T Task} → Leads calls is_empty rests_on v (call.Register key found) old new w
+  pub after_poll : {key : Key} {found : RegisterResult T} {v w : Known T} {old new : Queue T Task} → Leads queue_machine v (call.Register key found) old new w
       → OwnsListener key v.mine → (member after : Member) → member.key ≡ key
       → (found ≡ register.Registered → after ≡ member) → (found ≢ register.Registered → after.is_finished ≡ true)
       → after.is_finished ≡ false → OwnsListener after.key w.mine
@@ -49,7 +49,7 @@ module _ {T : Type 0} where
   leaves_taken member knows taken same leaves = subst (λ (v : Known T). LeavesNone member v.mine) (ap known_of same) leaves
 
   -- and leaves none but that
-  pub leaves_poll : {key : Key} {found : RegisterResult T} {v w : Known T} {old new : Queue T Task} → Leads calls is_empty rests_on v (call.Register key found) old new w
+  pub leaves_poll : {key : Key} {found : RegisterResult T} {v w : Known T} {old new : Queue T Task} → Leads queue_machine v (call.Register key found) old new w
       → OwnsListener key v.mine → OnlyLeft key v.mine → (member after : Member) → member.key ≡ key → member.is_finished ≡ false
       → (found ≡ register.Registered → after ≡ member) → (found ≢ register.Registered → after.is_finished ≡ true)
       → LeavesNone after w.mine
@@ -68,7 +68,7 @@ module _ {T : Type 0} where
       absurd (own_registered key v w register.NeverInserted old new leads owns refl)
 
   -- what a poll leaves of a listener that is in the queue
-  pub polled_as : {E : Type 0} {key : Key} {found : RegisterResult T} {v w : Known T} {old new : Queue T Task} → Leads calls is_empty rests_on v (call.Register key found) old new w
+  pub polled_as : {E : Type 0} {key : Key} {found : RegisterResult T} {v w : Known T} {old new : Queue T Task} → Leads queue_machine v (call.Register key found) old new w
       → OwnsListener key v.mine → (gone : E) (before after : Standing) → before.is_finished ≡ false → after.event_number ≡ before.event_number
       → (found ≡ register.Registered → after ≡ before) → (found ≢ register.Registered → after.is_finished ≡ true)
       → IsPolled before (poll_of found gone) after

@@ -15,7 +15,7 @@ use Rattle.event_history.specs.declared.queue_call.QueueCall.{QueueCall}
 use Rattle.event_history.specs.declared.queue_call.QueueCall.TheVariants as call
 use Rattle.event_history.specs.History.{Makes}
 use Rattle.event_history.specs.Laws.{OwnsListener}
-use Rattle.event_history.specs.Queue.{calls, is_empty, rests_on, NoneLeft, OnlyLeft}
+use Rattle.event_history.specs.Queue.{NoneLeft, OnlyLeft, queue_machine}
 use Rattle.event_history.specs.Waiting as waiting
 use Rattle.event_history.proofs.LawsLeft.{only_kept, left_registered, left_removed}
 use Rattle.event_history.proofs.LawsOwn.{own_registered, own_removed, own_stored}
@@ -33,7 +33,7 @@ Same before after = after ≡ before
 
 module _ {T : Type 0} where
   abbrev Makes' : Known T → (QueueCall T Task → Type 0) → Known T → Type 0
-  Makes' = Makes calls is_empty rests_on
+  Makes' = Makes queue_machine
 
   call_is : (v w : Known T) (c d : QueueCall T Task) → c ≡ d → Calls v c w → Calls v d w
   call_is v w c d same called = subst (λ (x : QueueCall T Task). Calls v x w) same called
@@ -46,7 +46,7 @@ module _ (T E R : Type 0) where
   leaving place = Leaving place.key
 
   abbrev PlaceRound : Goes T → Goes T → Type 0
-  PlaceRound = waiting.Round calls is_empty rests_on attempting leaving Same
+  PlaceRound = waiting.Round queue_machine attempting leaving Same
 
   -- an attempt that got nothing is a round
   one_round : (key : Key) (before after : Goes T) → before.0.key ≡ key → (answer : Attempted (Result T E) R) → waiting.IsUndone answer → Makes' before.1 (attempting before.0 answer) after.1 → Round key before.1 after.1
@@ -67,10 +67,10 @@ module _ (T E R : Type 0) where
 
   -- what the lock says of its request
   abbrev asks : Rules (Goes T) (Result T E) R
-  asks = waiting.by_hand calls is_empty rests_on attempting leaving Same (λ before output after. after ≡ before) (λ before left after. after ≡ before)
+  asks = waiting.by_hand queue_machine attempting leaving Same (λ before output after. after ≡ before) (λ before left after. after ≡ before)
 
   abbrev Ends : Type 0 → Goes T → Result (Option (Result T E)) (Refused R) → Goes T → Type 0
-  Ends may_end = waiting.EndsWait calls is_empty rests_on attempting leaving Same (λ before output after. after ≡ before) (λ before left after. after ≡ before) may_end
+  Ends may_end = waiting.EndsWait queue_machine attempting leaving Same (λ before output after. after ≡ before) (λ before left after. after ≡ before) may_end
 
   -- it is never refused
   never : (before : Goes T) (error : R) (after : Goes T) → Fails asks before (Request error) after → ⊥

@@ -6,6 +6,7 @@ use Rattle.event_queue.specs.Queue.{Queue}
 use Rattle.event_wait.specs.declared.lock.task.Task.{Task}
 use Rattle.event_history.specs.declared.history.View.{View}
 use Rattle.event_history.specs.declared.queue_call.QueueCall.{QueueCall}
+use Rattle.event_history.specs.Lock.{LockId}
 use Rattle.event_history.specs.History.{newcomer}
 use Rattle.event_history.specs.Queue.{NoneLeft, OnlyLeft}
 
@@ -16,6 +17,11 @@ pub record Standing : Type 0 where
   pub key : Key
   pub is_finished : Bool
   pub source : ℕ
+
+-- what the listeners of an event share: the lock of its queue, and its number
+pub record SharedQueue : Type 0 where
+  pub lock : LockId (Unit {0})
+  pub event_number : ℕ
 
 -- what a hand knows of the history of an event's queue
 abbrev pub Known : Type 0 → Type 0

@@ -15,7 +15,7 @@ use Rattle.event_wait.specs.declared.request.Attempted.TheVariants as attempted
 use Rattle.event_history.specs.declared.queue_call.QueueCall.{QueueCall}
 use Rattle.event_history.specs.declared.queue_call.QueueCall.TheVariants.{Register, Remove}
 use Rattle.event_history.specs.History.{Extends, Looks, both_views}
-use Rattle.event_history.specs.Queue.{calls, is_empty, rests_on}
+use Rattle.event_history.specs.Queue.{queue_machine}
 use Rattle.event_listener.specs.Listening.{Known, Listening, Standing}
 use Rattle.event_listener.specs.Polling.{found_by}
 use Rattle.event_listener.specs.declared.listener.wait_error.WaitError.{WaitError}
@@ -89,7 +89,7 @@ module _ {T W : Type 0} where
 module _ {T : Type 0} where
   -- the history after the call begins with all that the hand knew, and ends with the call, the hand's next
   abbrev pub Calls : Known T → QueueCall T Task → Known T → Type 0
-  Calls = Extends calls is_empty rests_on
+  Calls = Extends queue_machine
 
   -- a poll is one registration, answered by what that finds
   abbrev pub PollsBy : {E : Type 0} → Listening T → Result (Poll T) E → Listening T → Type 0
@@ -108,7 +108,7 @@ module _ {T : Type 0} where
   -- the same, and another hand took in the listener's
   abbrev pub RemovesHeard : Bool → Listening T → Bool → Known T → Known T → Type 0
   RemovesHeard propagate before told knows heard =
-      (former : Option (State T Task)) × (after : Known T) × (told ≡ was_notified former) × Calls before.knows (Remove before.standing.key propagate former) after × Looks calls is_empty rests_on (both_views knows after) heard
+      (former : Option (State T Task)) × (after : Known T) × (told ≡ was_notified former) × Calls before.knows (Remove before.standing.key propagate former) after × Looks queue_machine (both_views knows after) heard
 
   module _ (key : Key) where
     -- a registration stored a task

@@ -1,28 +1,26 @@
 //! Events.
-ghost use Rattle.std.specs.Prelude.{◌≡◌, ◌≤◌, false, IfOk};
+ghost use Rattle.std.specs.Prelude.{◌≡◌, ◌≤◌, false, IfOk, IfSome};
+ghost use Rattle.std.specs.Arc.{arc_value};
 ghost use Rattle.event_queue.specs.Notify.{NeverRefuses};
 ghost use Rattle.event_listener.specs.Event.{ListensFirst, TellsSome};
 
 mod debug;
 mod hand;
 mod identity;
+mod queue;
 
 use crate::listener::EventListener;
 use event_history::steps::{Counts, Insert, Notify};
-use event_history::{Hand, Lock, QueueCall, perform_first};
+use event_history::{Hand, QueueCall, perform_first};
 use event_queue::{IntoNotification, List, ListenError, NotifyError};
 use event_wait::{DeferredWake, Task};
 pub use hand::EventHand;
 pub use identity::{EventId, EventIds, IdsUsedUp, given_numbers_are_distinct};
+pub use queue::Shared;
 use std::alloc::{AllocError, Global};
 use std::marker::Model;
 use std::sync::{Arc, OnceLock, Wait};
 use std::time::Clock;
-
-/// The queue of one event, under a lock that no other event has, with one history of all calls on it.
-///
-/// A contract sees the source at which a task registers that polls a listener, and the table that the queue is in.
-pub type Shared<T> = Lock<List<T, Task>>;
 
 /// A right to call the queue of one event.
 pub(crate) type QueueHand<T> = Hand<List<T, Task>, QueueCall<T, Task>>;
@@ -75,9 +73,7 @@ impl<T> Event<T> {
         T: Drop,
         ensures { IfOk result (λ event. event ≡ id) }
     {
-        let (queue, first) = Shared::new(alloc, List::starting_at(alloc, first_serial), &())?;
-        first.end();
-        let shared = OnceLock::from(Arc::new(alloc, queue)?);
+        let shared = OnceLock::from(Shared::new(alloc, id.number(), first_serial)?);
         Ok(Event { id, shared })
     }
 
@@ -98,7 +94,7 @@ impl<T> Event<T> {
         ensures unfinished { IfOk result (λ listener. listener.standing.is_finished ≡ false) }
         ensures listens { IfOk result ListensFirst }
     {
-        let shared = match self.shared.get() {
+        let shared = match self.made() {
             Some(shared) => Arc::try_clone(shared),
             None => self.first_share(rt, alloc),
         };
@@ -108,7 +104,7 @@ impl<T> Event<T> {
         let Ok(runtime) = rt.clone() else {
             return Err(ListenError::Memory);
         };
-        let (hand, key) = perform_first!(shared, rt, Insert, &mut ());
+        let (hand, key) = perform_first!(shared.lock(), rt, Insert, &mut ());
         let key = match key {
             Ok(key) => key,
             Err(error) => {
@@ -116,8 +112,20 @@ impl<T> Event<T> {
                 return Err(error);
             }
         };
-        let number = self.id.number();
-        Ok(EventListener::new(shared, key, hand, number, runtime, alloc))
+        Ok(EventListener::new(shared, key, hand, runtime, alloc))
+    }
+
+    // The queue, if there is one. No contract says what is in a `OnceLock`, so that the queue is this event's, as it always
+    // is, is known by its number.
+    #[inline(always)]
+    fn made(&self) -> Option<&Arc<Shared<T>>>
+        ensures { IfSome result (λ shared. (arc_value shared.now).event_number ≡ self.now) }
+    {
+        let shared = self.shared.get()?;
+        if shared.number() != self.id.number() {
+            return None;
+        }
+        Some(shared)
     }
 
     // Makes the queue, and a share of it. It is a function of its own, so that a share of a queue that is there is a few
@@ -127,6 +135,7 @@ impl<T> Event<T> {
     fn first_share<R: Wait>(&self, rt: &R, alloc: Global) -> Result<Arc<Shared<T>>, AllocError>
     where
         T: Drop,
+        ensures { IfOk result (λ shared. (arc_value shared).event_number ≡ self.now) }
     {
         Arc::try_clone(self.make_queue(rt, alloc)?)
     }
@@ -139,8 +148,9 @@ impl<T> Event<T> {
     ) -> Result<&Arc<Shared<T>>, AllocError>
     where
         T: Drop,
+        ensures { IfOk result (λ shared. (arc_value shared.now).event_number ≡ self.now) }
     {
-        match self.shared.get() {
+        match self.made() {
             Some(shared) => Ok(shared),
             None => self.make_queue(rt, alloc),
         }
@@ -152,15 +162,16 @@ impl<T> Event<T> {
     fn make_queue<R: Wait>(&self, rt: &R, alloc: Global) -> Result<&Arc<Shared<T>>, AllocError>
     where
         T: Drop,
+        ensures { IfOk result (λ shared. (arc_value shared.now).event_number ≡ self.now) }
     {
-        let (queue, first) = Shared::new(alloc, List::new(alloc), &())?;
-        first.end();
-        let made = Arc::new(alloc, queue)?;
-        let token = match self.shared.try_insert(rt, made) {
-            Ok(token) => token,
-            Err((token, _second)) => token,
-        };
-        Ok(self.shared.value(&token))
+        let made = Shared::new(alloc, self.id.number(), 0)?;
+        match self.shared.try_set(made) {
+            Ok(token) => Ok(self.shared.value(&token)),
+            Err(_second) => {
+                self.shared.wait(rt);
+                self.made().ok_or(AllocError)
+            }
+        }
     }
 
     /// The number of the event's identity.
@@ -200,7 +211,7 @@ impl<T> Event<T> {
         let mut waking = DeferredWake::new();
         let step = Notify { notification };
         let (hand, (_, told)) = perform_first!(
-            shared,
+            shared.lock(),
             rt,
             step,
             &mut waking,
@@ -223,7 +234,7 @@ impl<T> Event<T> {
         let Some(shared) = self.shared.get() else {
             return false;
         };
-        let (hand, (told, _)) = perform_first!(shared, rt, Counts, &mut ());
+        let (hand, (told, _)) = perform_first!(shared.lock(), rt, Counts, &mut ());
         hand.end();
         told > 0
     }
@@ -236,7 +247,7 @@ impl<T> Event<T> {
         let Some(shared) = self.shared.get() else {
             return 0;
         };
-        let (hand, (_, total)) = perform_first!(shared, rt, Counts, &mut ());
+        let (hand, (_, total)) = perform_first!(shared.lock(), rt, Counts, &mut ());
         hand.end();
         total
     }

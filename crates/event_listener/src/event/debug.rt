@@ -13,8 +13,9 @@ impl<T> fmt::Debug for Event<T> {
                 .field(&format_args!("<uninitialized>"))
                 .finish();
         };
-        let mut hand = shared.hand();
-        let counted = shared.try_perform(&mut hand, Counts, &mut ());
+        let lock = shared.lock();
+        let mut hand = lock.hand();
+        let counted = lock.try_perform(&mut hand, Counts, &mut ());
         hand.end();
         let Ok((told, total)) = counted else {
             return f

@@ -1,8 +1,9 @@
 //! A caller of an event whose calls are known to stand in one history.
 ghost use Rattle.std.specs.Prelude.{◌≡◌, ◌≢◌, true, false, IfOk};
 ghost use Rattle.event_history.specs.declared.queue_call.QueueCall.TheVariants as call;
+ghost use Rattle.event_history.specs.Hands.{IsOf, known_by};
 ghost use Rattle.event_history.specs.History.{Looks, both_views, newcomer};
-ghost use Rattle.event_history.specs.Queue.{NoneLeft, calls, is_empty, rests_on};
+ghost use Rattle.event_history.specs.Queue.{NoneLeft, queue_machine};
 ghost use Rattle.event_listener.specs.Event.{Listens, TellsSome};
 ghost use Rattle.event_listener.specs.Listening.{Known};
 ghost use Rattle.event_listener.specs.Waiting.{Calls, RemovesHeard, WaitsBy, answered};
@@ -24,14 +25,13 @@ use std::time::Clock;
 /// There is one history of all calls on the queue: by events, listeners and hands of all threads. A hand knows a beginning
 /// of it. Each call's clause says that the history begins with all that the hand knew, runs step by step as the two lists
 /// of a queue do, ends with this call and its reply, and has of this hand just the calls that it made, each once and in
-/// order. Hands pass on what they know: [`tell`](EventHand::tell), [`hear`](EventHand::hear) and
-/// [`absorb`](EventHand::absorb). Compiled code has no trace of the history.
+/// order. Hands pass on what they know: [`fork`](EventHand::fork), [`observe`](EventHand::observe) and
+/// [`join`](EventHand::join). Compiled code has no trace of the history.
 ///
 /// A contract sees the number of its event, the table of the queue, and what it knows.
 pub struct EventHand<T = ()> {
     shared: Arc<Shared<T>>,
     hand: QueueHand<T>,
-    event_number: u64,
 }
 
 impl<T> Model for EventHand<T> {
@@ -43,18 +43,18 @@ impl<T> Model for EventHand<T> {
     ghost Value = { Caller T };
 
     ghost view = { λ caller. record {
-      event_number = caller.event_number;
-      table = (arc_value caller.shared).table;
+      event_number = (arc_value caller.shared).event_number;
+      table = (arc_value caller.shared).lock.table;
       knows = caller.hand.seat.me.0;
     } };
 
-    ghost invariant = { λ caller. (caller.hand.seat.table_id ≡ (arc_value caller.shared).table)
+    ghost invariant = { λ caller. (caller.hand.seat.table_id ≡ (arc_value caller.shared).lock.table)
         × NoneLeft caller.hand.seat.me.0.mine };
 }
 
 impl<T> Event<T> {
     /// A hand of this event, which made no call yet, and knows a beginning of the history. How much that is, no clause says,
-    /// nor that the hands of two such calls have one queue: they cannot meet, so [`tell`](EventHand::tell) the others from one.
+    /// nor that the hands of two such calls have one queue: they cannot meet, so [`fork`](EventHand::fork) the others from one.
     ///
     /// The call allocates the queue, if there is none yet, and returns an error if that fails or a share of it does. It may
     /// wait for a thread that is making the queue.
@@ -65,12 +65,8 @@ impl<T> Event<T> {
         ensures knows { IfOk result (λ caller. caller.knows ≡ newcomer caller.knows.seen) }
     {
         let shared = Arc::try_clone(self.queue(rt, alloc)?)?;
-        let hand = shared.hand();
-        Ok(EventHand {
-            shared,
-            hand,
-            event_number: self.number(),
-        })
+        let hand = shared.lock().hand();
+        Ok(EventHand { shared, hand })
     }
 }
 
@@ -99,7 +95,7 @@ impl<T> EventHand<T> {
         };
         let mut waking = DeferredWake::new();
         let (_, told) = perform!(
-            self.shared,
+            self.shared.lock(),
             rt,
             self.hand,
             step,
@@ -122,7 +118,7 @@ impl<T> EventHand<T> {
         ensures same { (self.new.event_number ≡ self.old.event_number)
             × (self.new.table ≡ self.old.table) }
     {
-        perform!(self.shared, rt, self.hand, Counts, &mut ())
+        perform!(self.shared.lock(), rt, self.hand, Counts, &mut ())
     }
 
     /// [`Event::listen`]. The listener's own hand knows all that this one knows.
@@ -144,15 +140,15 @@ impl<T> EventHand<T> {
         let Ok(runtime) = rt.clone() else {
             return Err(ListenError::Memory);
         };
-        let mut hand = self.shared.tell(&mut self.hand);
-        let key = match perform!(self.shared, rt, hand, Insert, &mut ()) {
+        let mut hand = self.shared.lock().fork(&mut self.hand);
+        let key = match perform!(self.shared.lock(), rt, hand, Insert, &mut ()) {
             Ok(key) => key,
             Err(error) => {
                 hand.end();
                 return Err(error);
             }
         };
-        Ok(EventListener::new(shared, key, hand, self.event_number, runtime, alloc))
+        Ok(EventListener::new(shared, key, hand, runtime, alloc))
     }
 
     /// [`Listener::wait_until`](crate::Listener::wait_until), after which this hand knows what the listener's hand saw and
@@ -169,14 +165,16 @@ impl<T> EventHand<T> {
         ensures waits { listener.standing.is_finished ≡ false → (after : Known T)
             × WaitsBy listener.standing.key (limit ≢ Never) listener.knows (answered result) after
             × IfOk result (λ tag.
-            Looks calls is_empty rests_on (both_views self.old.knows after) self.new.knows) }
+            Looks queue_machine (both_views self.old.knows after) self.new.knows) }
         ensures same { (self.new.event_number ≡ self.old.event_number)
             × (self.new.table ≡ self.old.table) }
     {
         let mut listener = listener;
         match listener.wait_in_queue(limit) {
             Ok(tag) => {
-                self.shared.absorb(&mut self.hand, listener.into_hand());
+                self.shared
+                    .lock()
+                    .join(&mut self.hand, listener.into_hand());
                 Ok(tag)
             }
             Err(reason) => Err(listener.refused(reason)),
@@ -199,7 +197,7 @@ impl<T> EventHand<T> {
             × (self.new.table ≡ self.old.table) }
     {
         let (told, other) = listener.leave(false);
-        self.shared.absorb(&mut self.hand, other);
+        self.shared.lock().join(&mut self.hand, other);
         told
     }
 
@@ -220,68 +218,60 @@ impl<T> EventHand<T> {
             × (self.new.table ≡ self.old.table) }
     {
         let (told, other) = listener.leave(true);
-        self.shared.absorb(&mut self.hand, other);
+        self.shared.lock().join(&mut self.hand, other);
         told
     }
 
     /// A new hand, which knows all that this one knows. It is one load and a share of the queue.
     ///
     /// Returns an error if the share fails.
-    pub fn tell(&mut self) -> Result<Self, AllocError>
+    pub fn fork(&mut self) -> Result<Self, AllocError>
         ensures told { IfOk result (λ told. (told.knows ≡ newcomer self.old.knows.seen)
             × (told.table ≡ self.old.table) × (told.event_number ≡ self.old.event_number)) }
         ensures same { self.new ≡ self.old }
     {
         let shared = Arc::try_clone(&self.shared)?;
-        let hand = self.shared.tell(&mut self.hand);
-        Ok(EventHand {
-            shared,
-            hand,
-            event_number: self.event_number,
-        })
+        let hand = self.shared.lock().fork(&mut self.hand);
+        Ok(EventHand { shared, hand })
     }
 
     /// Knows from here on what a listener's hand knows. Which of these calls are the listener's own, no clause says.
-    pub fn hear<H: Hold<T>, R: Wait + Clock + Clone>(
+    pub fn observe<H: Hold<T>, R: Wait + Clock + Clone>(
         &mut self,
         listener: &mut QueueListener<T, H, R>,
     )
         requires table { listener.old.table ≡ self.old.table }
-        ensures looks { Looks calls is_empty rests_on
+        ensures looks { Looks queue_machine
             (both_views self.old.knows (newcomer listener.old.knows.seen)) self.new.knows }
         ensures same { (self.new.event_number ≡ self.old.event_number)
             × (self.new.table ≡ self.old.table) }
         ensures listener { listener.new ≡ listener.old }
     {
-        let told = listener.tell();
-        self.shared.absorb(&mut self.hand, told);
+        let told = listener.fork();
+        self.shared.lock().join(&mut self.hand, told);
     }
 
     /// Knows from here on what the other hand saw and did: there is one history that has the calls of both.
-    pub fn absorb(&mut self, other: Self)
+    pub fn join(&mut self, other: Self)
     where
         T: Drop,
         requires table { other.table ≡ self.old.table }
-        ensures looks { Looks calls is_empty rests_on
+        ensures looks { Looks queue_machine
             (both_views self.old.knows other.knows) self.new.knows }
         ensures same { (self.new.event_number ≡ self.old.event_number)
             × (self.new.table ≡ self.old.table) }
     {
-        self.shared.absorb(&mut self.hand, other.into_hand());
+        self.shared.lock().join(&mut self.hand, other.into_hand());
     }
 
     // The hand alone.
     pub(crate) fn into_hand(self) -> QueueHand<T>
     where
         T: Drop,
-        ensures hand { (result.seat.table_id ≡ self.table) × (result.seat.me.0 ≡ self.knows) }
-        ensures ends { NoneLeft result.seat.me.0.mine }
+        ensures hand { IsOf self.table result × (known_by result ≡ self.knows) }
+        ensures ends { NoneLeft (known_by result).mine }
     {
-        let EventHand {
-            shared: _,
-            hand,
-            event_number: _,
-        } = self;
+        let EventHand { shared: _, hand } = self;
         hand
     }
 }

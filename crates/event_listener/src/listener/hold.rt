@@ -1,44 +1,65 @@
 //! How a listener holds the queue of its event.
-ghost use Rattle.std.specs.Prelude.{◌≡◌};
+ghost use Rattle.std.specs.Prelude.{◌≡◌, ℕ};
 ghost use Rattle.std.specs.Arc.{arc_value};
 ghost use Rattle.event_history.specs.Lock.{LockId};
 
 use crate::event::Shared;
+use event_history::Lock;
+use event_queue::List;
+use event_wait::Task;
 use std::sync::Arc;
 
 /// How a listener holds the queue of its event: by a share of it, or by a borrow.
 ///
 /// A contract sees the lock of the queue as the source at which a task registers that polls a listener there, and the table
-/// that the queue is in.
+/// that the queue is in; and the number of the event.
 pub trait Hold<T> {
     ghost lock: { Self → LockId (Unit {0}) };
+
+    ghost event_number: { Self → ℕ };
 
     /// What a listener that holds its queue so is called.
     const LISTENER: &'static str;
 
     /// The queue.
-    fn queue(&self) -> &Shared<T>
+    fn queue(&self) -> &Lock<List<T, Task>>
         ensures { result.now ≡ lock self.now };
+
+    /// The number of the event.
+    fn event_number(&self) -> u64
+        ensures { result ≡ event_number self.now };
 }
 
 impl<T> Hold<T> for Arc<Shared<T>> {
-    ghost lock = { λ shared. arc_value shared };
+    ghost lock = { λ shared. (arc_value shared).lock };
+
+    ghost event_number = { λ shared. (arc_value shared).event_number };
 
     const LISTENER: &'static str = "EventListener";
 
     #[inline(always)]
-    fn queue(&self) -> &Shared<T> {
-        self
+    fn queue(&self) -> &Lock<List<T, Task>> {
+        self.lock()
+    }
+
+    fn event_number(&self) -> u64 {
+        self.number()
     }
 }
 
 impl<T> Hold<T> for &Shared<T> {
-    ghost lock = { λ shared. shared.now };
+    ghost lock = { λ shared. shared.now.lock };
+
+    ghost event_number = { λ shared. shared.now.event_number };
 
     const LISTENER: &'static str = "StackListener";
 
     #[inline(always)]
-    fn queue(&self) -> &Shared<T> {
-        self
+    fn queue(&self) -> &Lock<List<T, Task>> {
+        self.lock()
+    }
+
+    fn event_number(&self) -> u64 {
+        self.number()
     }
 }

@@ -7,8 +7,9 @@ ghost use Rattle.event_listener.specs.Polling.{IsPolled};
 ghost use Rattle.event_queue.specs.declared.reply.RegisterResult.TheVariants as register;
 ghost use Rattle.event_listener.specs.Waiting.{Finds, HandsBack, IfBack, PollsBy, RemovesAs, RemovesBy, WaitsBy, answered, reason_of, was_notified};
 ghost use Rattle.event_wait.specs.declared.lock.limit.Limit.TheVariants.{Never};
+ghost use Rattle.event_history.specs.Hands.{IsOf, known_by};
 ghost use Rattle.event_history.specs.History.{Looks, both_views, newcomer};
-ghost use Rattle.event_history.specs.Queue.{NoneLeft, calls, is_empty, rests_on};
+ghost use Rattle.event_history.specs.Queue.{NoneLeft, queue_machine};
 ghost use Rattle.event_history.specs.declared.queue_call.QueueCall.TheVariants as call;
 ghost use Rattle.event_listener.specs.declared.listener.wait_error.WaitReason.TheVariants as because;
 
@@ -52,7 +53,6 @@ pub struct QueueListener<T, H: Hold<T>, R: Wait + Clock + Clone> {
     held: H,
     membership: Membership,
     hand: IdleHand<List<T, Task>, QueueCall<T, Task>>,
-    event_number: u64,
     runtime: R,
     alloc: Global,
     // It goes to other threads, and is shared by them, as the queue is.
@@ -68,7 +68,7 @@ impl<T, H: Hold<T>, R: Wait + Clock + Clone> Model for QueueListener<T, H, R> {
 
     ghost view = { λ listener. record {
       standing = record {
-        event_number = listener.event_number;
+        event_number = H.event_number listener.held;
         key = listener.membership.key;
         is_finished = listener.membership.is_finished;
         source = (H.lock listener.held).source;
@@ -86,30 +86,22 @@ impl<T, H: Hold<T>, R: Wait + Clock + Clone> Model for QueueListener<T, H, R> {
 }
 
 impl<T, H: Hold<T>, R: Wait + Clock + Clone> QueueListener<T, H, R> {
-    /// The listener that this hand has just inserted by this key into the queue of the event with this number.
+    /// The listener that this hand has just inserted by this key into the queue.
     #[inline(always)]
-    pub(crate) fn new(
-        held: H,
-        key: Key,
-        hand: QueueHand<T>,
-        event_number: u64,
-        runtime: R,
-        alloc: Global,
-    ) -> Self
+    pub(crate) fn new(held: H, key: Key, hand: QueueHand<T>, runtime: R, alloc: Global) -> Self
         requires given { key.serial + 1 < 2 ^ 64 }
-        requires hand { hand.seat.table_id ≡ (H.lock held).table }
-        requires joined { hand.seat.me.0.mine ≡ call.Insert (Ok key) ∷ [] }
-        ensures event { result.standing.event_number ≡ event_number }
+        requires hand { IsOf (H.lock held).table hand }
+        requires joined { (known_by hand).mine ≡ call.Insert (Ok key) ∷ [] }
+        ensures event { result.standing.event_number ≡ H.event_number held }
         ensures key { result.standing.key ≡ key }
         ensures unfinished { result.standing.is_finished ≡ false }
         ensures table { result.table ≡ (H.lock held).table }
-        ensures knows { result.knows ≡ hand.seat.me.0 }
+        ensures knows { result.knows ≡ known_by hand }
     {
         QueueListener {
             held,
             membership: Membership::new(key),
             hand: hand.rest(),
-            event_number,
             runtime,
             alloc,
             tag: PhantomData,
@@ -119,16 +111,16 @@ impl<T, H: Hold<T>, R: Wait + Clock + Clone> QueueListener<T, H, R> {
     /// Has the listener's hand know from here on what this hand saw and did: there is one history that has the calls of both.
     ///
     /// The call neither allocates nor waits.
-    pub fn absorb(&mut self, other: EventHand<T>)
+    pub fn join(&mut self, other: EventHand<T>)
     where
         T: Drop,
         requires table { other.table ≡ self.old.table }
-        ensures looks { Looks calls is_empty rests_on
+        ensures looks { Looks queue_machine
             (both_views self.old.knows other.knows) self.new.knows }
         ensures same { (self.new.standing ≡ self.old.standing) × (self.new.table ≡ self.old.table) }
     {
         let mut hand = self.hand.take();
-        self.held.queue().absorb(&mut hand, other.into_hand());
+        self.held.queue().join(&mut hand, other.into_hand());
         self.hand.put(hand);
     }
 
@@ -181,13 +173,13 @@ impl<T, H: Hold<T>, R: Wait + Clock + Clone> QueueListener<T, H, R> {
     }
 
     // A hand that knows what the listener's hand knows.
-    pub(crate) fn tell(&mut self) -> QueueHand<T>
-        ensures told { (result.seat.table_id ≡ self.old.table)
-            × (result.seat.me.0 ≡ newcomer self.old.knows.seen) }
+    pub(crate) fn fork(&mut self) -> QueueHand<T>
+        ensures told { IsOf self.old.table result
+            × (known_by result ≡ newcomer self.old.knows.seen) }
         ensures same { self.new ≡ self.old }
     {
         let mut hand = self.hand.take();
-        let told = self.held.queue().tell(&mut hand);
+        let told = self.held.queue().fork(&mut hand);
         self.hand.put(hand);
         told
     }
@@ -197,14 +189,13 @@ impl<T, H: Hold<T>, R: Wait + Clock + Clone> QueueListener<T, H, R> {
     where
         H: Drop,
         requires left { self.standing.is_finished ≡ true }
-        ensures hand { (result.seat.table_id ≡ self.table) × (result.seat.me.0 ≡ self.knows) }
-        ensures ends { NoneLeft result.seat.me.0.mine }
+        ensures hand { IsOf self.table result × (known_by result ≡ self.knows) }
+        ensures ends { NoneLeft (known_by result).mine }
     {
         let QueueListener {
             held: _,
             membership: _,
             hand,
-            event_number: _,
             runtime: _,
             alloc: _,
             tag: _,
@@ -235,15 +226,14 @@ impl<T, H: Hold<T>, R: Wait + Clock + Clone> QueueListener<T, H, R> {
         H: Drop,
         ensures finished { self.standing.is_finished ≡ true → result.0 ≡ false }
         ensures removed { self.standing.is_finished ≡ false
-            → RemovesAs propagate self result.0 result.1.seat.me.0 }
-        ensures table { result.1.seat.table_id ≡ self.table }
-        ensures ends { NoneLeft result.1.seat.me.0.mine }
+            → RemovesAs propagate self result.0 (known_by result.1) }
+        ensures table { IsOf self.table result.1 }
+        ensures ends { NoneLeft (known_by result.1).mine }
     {
         let QueueListener {
             held,
             membership,
             hand,
-            event_number: _,
             runtime,
             alloc: _,
             tag: _,
@@ -416,11 +406,11 @@ impl<T: Drop, H: Hold<T> + Drop, R: Wait + Clock + Clone> Listener<T> for QueueL
     }
 
     fn listens_to(&self, event: &Event<T>) -> bool {
-        self.event_number == event.number()
+        self.held.event_number() == event.number()
     }
 
     fn same_event(&self, other: &Self) -> bool {
-        self.event_number == other.event_number
+        self.held.event_number() == other.held.event_number()
     }
 }
 

@@ -23,7 +23,6 @@ use std::time::Clock;
 #[derive(Drop)]
 pub struct StackSlot<'ev, T> {
     shared: &'ev Shared<T>,
-    event_number: u64,
     // What the calls of the listener allocate from.
     alloc: Global,
 }
@@ -33,7 +32,7 @@ impl<'ev, T> Model for StackSlot<'ev, T> {
 
     ghost Value = { ℕ };
 
-    ghost view = { λ slot. slot.event_number };
+    ghost view = { λ slot. slot.shared.now.event_number };
 }
 
 impl<'ev, T> StackSlot<'ev, T> {
@@ -53,7 +52,6 @@ impl<'ev, T> StackSlot<'ev, T> {
         };
         Ok(StackSlot {
             shared: &**shared,
-            event_number: event.number(),
             alloc,
         })
     }
@@ -77,7 +75,7 @@ impl<'ev, T> StackSlot<'ev, T> {
         let Ok(runtime) = rt.clone() else {
             return Err(ListenError::Memory);
         };
-        let (hand, key) = perform_first!(self.shared, rt, Insert, &mut ());
+        let (hand, key) = perform_first!(self.shared.lock(), rt, Insert, &mut ());
         let key = match key {
             Ok(key) => key,
             Err(error) => {
@@ -85,14 +83,7 @@ impl<'ev, T> StackSlot<'ev, T> {
                 return Err(error);
             }
         };
-        Ok(StackListener::new(
-            self.shared,
-            key,
-            hand,
-            self.event_number,
-            runtime,
-            self.alloc,
-        ))
+        Ok(StackListener::new(self.shared, key, hand, runtime, self.alloc))
     }
 }
 

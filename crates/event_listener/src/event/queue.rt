@@ -1,0 +1,67 @@
+//! What the listeners of an event share.
+ghost use Rattle.std.specs.Prelude.{◌≡◌, IfOk};
+ghost use Rattle.std.specs.Arc.{arc_value};
+
+use event_history::Lock;
+use event_queue::List;
+use event_wait::Task;
+use std::alloc::{AllocError, Global};
+use std::marker::Model;
+use std::sync::Arc;
+
+/// The queue of one event, under a lock that no other event has, with one history of all calls on it, and the number of the
+/// event, which is kept here once and not by each listener.
+///
+/// A contract sees the number, the source at which a task registers that polls a listener, and the table that the queue is in.
+#[derive(Drop)]
+pub struct Shared<T> {
+    lock: Lock<List<T, Task>>,
+    event_number: u64,
+}
+
+impl<T> Model for Shared<T> {
+    ghost use Rattle.event_listener.specs.Listening.{SharedQueue};
+
+    ghost Value = { SharedQueue };
+
+    ghost view = { λ shared. record {
+      lock = shared.lock;
+      event_number = shared.event_number;
+    } };
+}
+
+impl<T> Shared<T> {
+    /// The queue of the event with this number, with no listeners. The first of them gets this serial number.
+    ///
+    /// The call allocates, and returns an error if that fails.
+    pub(super) fn new(
+        alloc: Global,
+        event_number: u64,
+        first_serial: u64,
+    ) -> Result<Arc<Self>, AllocError>
+    where
+        T: Drop,
+        ensures { IfOk result (λ shared. (arc_value shared).event_number ≡ event_number) }
+    {
+        let queue = List::starting_at(alloc, first_serial);
+        let (lock, first) = Lock::new(alloc, queue, &())?;
+        first.end();
+        Ok(Arc::new(alloc, Shared { lock, event_number })?)
+    }
+
+    /// The queue under its lock.
+    #[inline(always)]
+    pub(crate) fn lock(&self) -> &Lock<List<T, Task>>
+        ensures { result.now ≡ self.now.lock }
+    {
+        &self.lock
+    }
+
+    /// The number of the event.
+    #[inline(always)]
+    pub(crate) fn number(&self) -> u64
+        ensures { result ≡ self.now.event_number }
+    {
+        self.event_number
+    }
+}
