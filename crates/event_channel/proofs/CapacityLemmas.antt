@@ -1,5 +1,5 @@
 -- A channel keeps its capacity, has no more messages than that, and is closed only by a call.
-use Rattle.std.proofs.Common.{◌≡◌, ◌⊎◌, ℕ, ◌+◌, ◌<◌, ◌≤◌, Bool, List, [], ◌∷◌, ◌++◌, length, refl, sym, ap, subst, ◌∙◌, ⊎_elim, inl, inr, arith, length-append, Option, Some, None, Ok, Err, true, false}
+use Rattle.std.proofs.Common.{◌≡◌, ◌⊎◌, ℕ, ◌+◌, ◌<◌, ◌≤◌, Bool, [], ◌∷◌, ◌++◌, length, refl, sym, ap, subst, ◌∙◌, ⊎_elim, inl, inr, arith, length-append, Option, Some, None, Ok, Err, true, false}
 use Rattle.std.proofs.lemmas.Bool.{false≢true}
 use Rattle.event_history.specs.History.{Extends, LeadsTo, Runs, entry}
 use Rattle.event_history.specs.declared.history.View.{View}
@@ -8,7 +8,7 @@ use Rattle.event_wait.specs.declared.request.Attempted.TheVariants.{Done, Waits,
 use Rattle.event_channel.specs.declared.call.ChannelCall.{ChannelCall}
 use Rattle.event_channel.specs.declared.call.ChannelCall.TheVariants as call
 use Rattle.event_channel.specs.declared.error.SendReason.TheVariants.{Closed, Full}
-use Rattle.event_channel.specs.Calls.{LeavesReceivers, calls, is_new, rests_on_none}
+use Rattle.event_channel.specs.Calls.{LeavesReceivers, calls, channel_machine}
 use Rattle.event_channel.specs.Messages.{State, limit_of}
 use Rattle.event_channel.specs.Sent.{ChannelLog, sent_by, out_by, all_of}
 use Rattle.event_channel.proofs.HistoryLemmas.{in_order_from_start, leads_as_seen, moves}
@@ -110,7 +110,7 @@ module _ {T W : Type 0} where
       let later = kept_between es run.0 r run.2 (fits q run.0 e.call run.1 le) in (later.0 ∙ (keeps q run.0 e.call run.1).0, later.1)
 
   -- the capacity is the one that was asked for, and there are no more messages
-  pub kept : (capacity : Option ℕ) (log : ChannelLog T) (q : State T W) → LeadsTo calls (is_new capacity) log q → (q.capacity ≡ limit_of capacity) × (length q.messages ≤ limit_of capacity)
+  pub kept : (capacity : Option ℕ) (log : ChannelLog T) (q : State T W) → LeadsTo (channel_machine capacity) log q → (q.capacity ≡ limit_of capacity) × (length q.messages ≤ limit_of capacity)
   kept capacity log q leads =
       let room : 0 ≤ limit_of capacity = omega arith in
       let first : length leads.0.messages ≤ leads.0.capacity = subst (λ (s : State T W). length s.messages ≤ s.capacity) (sym leads.1) room in
@@ -127,13 +127,13 @@ module _ {T W : Type 0} where
       (λ (same : run.0.is_closed ≡ q.is_closed). let found = closed_between es run.0 r run.2 (same ∙ was) is in (e ∷ found.0, found.1, found.2, ap (λ (l : ChannelLog T). e ∷ l) found.3))
       (keeps q run.0 e.call run.1).1
 
-  pub closed_by_a_call : (capacity : Option ℕ) (log : ChannelLog T) (q : State T W) → LeadsTo calls (is_new capacity) log q → q.is_closed ≡ true
+  pub closed_by_a_call : (capacity : Option ℕ) (log : ChannelLog T) (q : State T W) → LeadsTo (channel_machine capacity) log q → q.is_closed ≡ true
       → (earlier : ChannelLog T) × (later : ChannelLog T) × (by : ℕ) × (log ≡ earlier ++ entry by (call.Close true) ∷ later)
   closed_by_a_call capacity log q leads is = closed_between log leads.0 q leads.2 (ap (λ (s : State T W). s.is_closed) leads.1) is
 
   -- where a send finds the channel full, it has as many messages as may be
-  pub full : (capacity : Option ℕ) (v w : View (State T W) (ChannelCall T)) (message : T) → Extends calls (is_new capacity) rests_on_none v (call.Send message (Err Full)) w
-      → (q : State T W) × LeadsTo calls (is_new capacity) w.seen q × (length q.messages ≡ limit_of capacity) × (all_of sent_by w.seen ≡ all_of out_by w.seen ++ q.messages)
+  pub full : (capacity : Option ℕ) (v w : View (State T W) (ChannelCall T)) (message : T) → Extends (channel_machine capacity) v (call.Send message (Err Full)) w
+      → (q : State T W) × LeadsTo (channel_machine capacity) w.seen q × (length q.messages ≡ limit_of capacity) × (all_of sent_by w.seen ≡ all_of out_by w.seen ++ q.messages)
   full capacity v w message (before, after, led) =
       let leads = leads_as_seen capacity v w (call.Send message (Err Full)) before after led in
       let is = kept capacity w.seen after leads in
@@ -142,14 +142,14 @@ module _ {T W : Type 0} where
       (after, leads, as_many (length after.messages) (limit_of capacity) is.1 least, in_order_from_start capacity w.seen after leads)
 
   -- where a send finds it closed, a call has closed it
-  pub closed_was_closed : (capacity : Option ℕ) (v w : View (State T W) (ChannelCall T)) (message : T) → Extends calls (is_new capacity) rests_on_none v (call.Send message (Err Closed)) w
+  pub closed_was_closed : (capacity : Option ℕ) (v w : View (State T W) (ChannelCall T)) (message : T) → Extends (channel_machine capacity) v (call.Send message (Err Closed)) w
       → (earlier : ChannelLog T) × (later : ChannelLog T) × (by : ℕ) × (w.seen ≡ earlier ++ entry by (call.Close true) ∷ later)
   closed_was_closed capacity v w message (before, after, led) =
       let leads = leads_as_seen capacity v w (call.Send message (Err Closed)) before after led in
       closed_by_a_call capacity w.seen after leads (ap (λ (s : State T W). s.is_closed) led.step.1 ∙ led.step.0)
 
   -- so many more were sent than went out
-  pub full_was_sent : (capacity : Option ℕ) (v w : View (State T W) (ChannelCall T)) (message : T) → Extends calls (is_new capacity) rests_on_none v (call.Send message (Err Full)) w
+  pub full_was_sent : (capacity : Option ℕ) (v w : View (State T W) (ChannelCall T)) (message : T) → Extends (channel_machine capacity) v (call.Send message (Err Full)) w
       → length (all_of sent_by w.seen) ≡ length (all_of out_by w.seen) + limit_of capacity
   full_was_sent capacity v w message called =
       let (q, leads, many, order) = full capacity v w message called in

@@ -9,8 +9,11 @@ use Rattle.event_queue.specs.declared.key.Key.{Key}
 use Rattle.event_wait.specs.declared.request.Attempted.TheVariants.{Done, Waits, Absent, Refused}
 use Rattle.event_channel.specs.declared.call.ChannelCall.{ChannelCall}
 use Rattle.event_channel.specs.declared.call.ChannelCall.TheVariants as call
-use Rattle.event_channel.specs.Calls.{LeavesReceivers, calls, is_new, rests_on_none}
+use Rattle.event_channel.specs.Calls.{LeavesReceivers, calls, channel_machine}
 use Rattle.event_channel.specs.Messages.{State}
+use Rattle.event_channel.specs.declared.error.TryRecvError.{TryRecvError}
+use Rattle.event_channel.specs.declared.error.TryRecvError.TheVariants.{Empty, Closed}
+use Rattle.event_channel.specs.Steps.{IsEmptyFor}
 use Rattle.event_channel.specs.Sent.{ChannelLog, sent_by, received_by, forced_out_by, out_by, all_of}
 
 module _ {T W : Type 0} where
@@ -76,7 +79,7 @@ module _ {T W : Type 0} where
       ∙ ap (λ xs. out_by e.call ++ xs) (in_order_between es run.0 r run.2)
       ∙ sym (append_assoc (out_by e.call) (all_of out_by es) r.messages)
 
-  pub in_order_from_start : (capacity : Option ℕ) (log : ChannelLog T) (q : State T W) → LeadsTo calls (is_new capacity) log q → all_of sent_by log ≡ all_of out_by log ++ q.messages
+  pub in_order_from_start : (capacity : Option ℕ) (log : ChannelLog T) (q : State T W) → LeadsTo (channel_machine capacity) log q → all_of sent_by log ≡ all_of out_by log ++ q.messages
   in_order_from_start capacity log q leads =
       ap (λ (s : State T W). s.messages ++ all_of sent_by log) (sym leads.1) ∙ in_order_between log leads.0 q leads.2
 
@@ -86,15 +89,15 @@ module _ {T W : Type 0} where
   run_more (x ∷ xs) e q m r (n, first, rest) step = (n, first, run_more xs e n m r rest step)
 
   -- what a hand has seen after a call leads to the state after it
-  pub leads_as_seen : (capacity : Option ℕ) (v w : View (State T W) (ChannelCall T)) (c : ChannelCall T) (before after : State T W) → Leads calls (is_new capacity) rests_on_none v c before after w → LeadsTo calls (is_new capacity) w.seen after
+  pub leads_as_seen : (capacity : Option ℕ) (v w : View (State T W) (ChannelCall T)) (c : ChannelCall T) (before after : State T W) → Leads (channel_machine capacity) v c before after w → LeadsTo (channel_machine capacity) w.seen after
   leads_as_seen capacity v w c before after led =
       let (s, starts, runs) = led.runs in
       let more = run_more (v.seen ++ led.between) (entry led.number c) s before after runs led.step in
-      subst (λ (log : ChannelLog T). LeadsTo calls (is_new capacity) log after) (sym led.seen) (s, starts, more)
+      subst (λ (log : ChannelLog T). LeadsTo (channel_machine capacity) log after) (sym led.seen) (s, starts, more)
 
   -- so it is of what a hand has seen after a call
-  pub in_order_as_seen : (capacity : Option ℕ) (v w : View (State T W) (ChannelCall T)) (c : ChannelCall T) → Extends calls (is_new capacity) rests_on_none v c w
-      → (q : State T W) × LeadsTo calls (is_new capacity) w.seen q × (all_of sent_by w.seen ≡ all_of out_by w.seen ++ q.messages)
+  pub in_order_as_seen : (capacity : Option ℕ) (v w : View (State T W) (ChannelCall T)) (c : ChannelCall T) → Extends (channel_machine capacity) v c w
+      → (q : State T W) × LeadsTo (channel_machine capacity) w.seen q × (all_of sent_by w.seen ≡ all_of out_by w.seen ++ q.messages)
   in_order_as_seen capacity v w c (before, after, led) =
       let leads = leads_as_seen capacity v w c before after led in
       (after, leads, in_order_from_start capacity w.seen after leads)
@@ -124,7 +127,7 @@ received_out (e ∷ es) message h = ⊎_elim
     (among_either message (received_by e.call) (all_of received_by es) h)
 
 -- so it was sent
-pub received_was_sent : {T W : Type 0} (capacity : Option ℕ) (log : ChannelLog T) (q : State T W) → LeadsTo calls (is_new capacity) log q → (message : T) → IsAmong message (all_of received_by log) → IsAmong message (all_of sent_by log)
+pub received_was_sent : {T W : Type 0} (capacity : Option ℕ) (log : ChannelLog T) (q : State T W) → LeadsTo (channel_machine capacity) log q → (message : T) → IsAmong message (all_of received_by log) → IsAmong message (all_of sent_by log)
 received_was_sent capacity log q leads message h =
     subst (λ xs. IsAmong message xs) (sym (in_order_from_start capacity log q leads)) (among_front message (all_of out_by log) q.messages (received_out log message h))
 
@@ -133,8 +136,19 @@ received_last : {T : Type 0} (log : ChannelLog T) (e : Entry (ChannelCall T)) (m
 received_last [] e message h = among_front message (received_by e.call) [] h
 received_last (x ∷ xs) e message h = among_back message (received_by x.call) (all_of received_by (xs ++ e ∷ [])) (received_last xs e message h)
 
-pub seen_to_be_sent : {T W : Type 0} (capacity : Option ℕ) (v w : View (State T W) (ChannelCall T)) (c : ChannelCall T) → Extends calls (is_new capacity) rests_on_none v c w → (message : T) → IsAmong message (received_by c) → IsAmong message (all_of sent_by w.seen)
+pub seen_to_be_sent : {T W : Type 0} (capacity : Option ℕ) (v w : View (State T W) (ChannelCall T)) (c : ChannelCall T) → Extends (channel_machine capacity) v c w → (message : T) → IsAmong message (received_by c) → IsAmong message (all_of sent_by w.seen)
 seen_to_be_sent capacity v w c called message h =
     let led = called.2 in
     let seen = in_order_as_seen capacity v w c called in
     received_was_sent capacity w.seen seen.0 seen.1 message (subst (λ log. IsAmong message (all_of received_by log)) (sym led.seen) (received_last (v.seen ++ led.between) (entry led.number c) message h))
+
+no_messages : {T W : Type 0} (q : State T W) (error : TryRecvError) → IsEmptyFor q error → q.messages ≡ []
+no_messages q Empty h = h.0
+no_messages q Closed h = h.0
+
+-- where the last call found no message, all that was sent went out
+pub none_waits : {T W : Type 0} (capacity : Option ℕ) (v w : View (State T W) (ChannelCall T)) (error : TryRecvError) → Extends (channel_machine capacity) v (call.Receive (Err error)) w → all_of sent_by w.seen ≡ all_of out_by w.seen
+none_waits capacity v w error (before, after, led) =
+    in_order_from_start capacity w.seen after (leads_as_seen capacity v w (call.Receive (Err error)) before after led)
+    ∙ ap (λ ms. all_of out_by w.seen ++ ms) (alike before after led.step.1 ∙ no_messages before error led.step.0)
+    ∙ append-nil (all_of out_by w.seen)

@@ -2,6 +2,7 @@
 use Rattle.std.specs.Prelude.{◌≡◌, ◌↔◌, ℕ, Bool, true, false, IsTrue, List, [], ◌∷◌, length, Option, Some, None, Result, Ok, Err}
 use Rattle.event_queue.specs.declared.key.Key.{Key}
 use Rattle.event_wait.specs.Line.{LeavesThenTells}
+use Rattle.event_history.specs.History.{Machine}
 use Rattle.event_channel.specs.declared.call.ChannelCall.{ChannelCall}
 use Rattle.event_channel.specs.declared.call.ChannelCall.TheVariants as call
 use Rattle.event_channel.specs.declared.error.SendError.{SendError}
@@ -106,3 +107,7 @@ module _ {T W : Type 0} where
   calls before (call.IsClosed answer) after = (answer ≡ before.is_closed) × (after ≡ before)
   calls before (call.IsFull answer) after = (IsTrue answer ↔ IsFull before) × (after ≡ before)
   calls before (call.Len count) after = (count ≡ length before.messages) × (after ≡ before)
+
+  -- what calls may do to a channel of this capacity
+  abbrev pub channel_machine : Option ℕ → Machine (State T W) (ChannelCall T)
+  channel_machine capacity = record { starts = is_new capacity; goes = calls; rests = rests_on_none }

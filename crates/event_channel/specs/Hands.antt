@@ -5,7 +5,7 @@ use Rattle.event_queue.specs.declared.reply.ListenError.{ListenError}
 use Rattle.event_wait.specs.declared.request.Attempted.TheVariants as attempted
 use Rattle.event_wait.specs.Rounds.{SomeRounds}
 use Rattle.event_history.specs.declared.history.View.{View}
-use Rattle.event_history.specs.History.{Makes}
+use Rattle.event_history.specs.History.{Machine, Makes}
 use Rattle.event_history.specs.Waiting.{IsUndone}
 use Rattle.event_channel.specs.declared.call.ChannelCall.{ChannelCall}
 use Rattle.event_channel.specs.declared.call.ChannelCall.TheVariants as call
@@ -15,7 +15,7 @@ use Rattle.event_channel.specs.declared.error.SendError.{SendError}
 use Rattle.event_channel.specs.declared.error.SendReason.{SendReason}
 use Rattle.event_channel.specs.declared.error.SendReason.TheVariants.{Closed, Full, TimedOut, Memory, WaitFailed}
 use Rattle.event_channel.specs.declared.error.TryRecvError.TheVariants.{Empty}
-use Rattle.event_channel.specs.Calls.{calls, is_new, received_at_once, rests_on_none}
+use Rattle.event_channel.specs.Calls.{received_at_once, channel_machine}
 use Rattle.event_channel.specs.Messages.{State}
 use Rattle.event_channel.specs.Waits.{Received, Sent}
 
@@ -50,14 +50,14 @@ module _ {T : Type 0} where
       ((key : Option Key) × (error : ListenError) × (c ≡ call.ReceiveOrWait false key (attempted.Refused error))) ⊎ ((key : Option Key) × (c ≡ call.LeaveReceivers false key))
 
 -- of what a hand knows, before and after
-module _ {S C : Type 0} (goes : S → C → S → Type 0) (starts : S → Type 0) (rests : C → List C) where
+module _ {S C : Type 0} (machine : Machine S C) where
   -- it made some calls, one after another, and this is said of each
   abbrev pub MakesSome : View S C → (C → Type 0) → View S C → Type 0
-  MakesSome v is w = SomeRounds (λ (v w : View S C). Makes goes starts rests v is w) v w
+  MakesSome v is w = SomeRounds (λ (v w : View S C). Makes machine v is w) v w
 
   -- it made some calls of which the one is said, and then one of which the other is
   abbrev pub MakesAtLast : View S C → (C → Type 0) → (C → Type 0) → View S C → Type 0
-  MakesAtLast v vain last w = (u : View S C) × MakesSome v vain u × Makes goes starts rests u last w
+  MakesAtLast v vain last w = (u : View S C) × MakesSome v vain u × Makes machine u last w
 
   -- how a wait ends that has no limit: attempts in vain, and then one that got this; or it could not wait
   abbrev pub WaitsFor : {G E : Type 0} → (C → Type 0) → (G → C → Type 0) → (C → Type 0) → View S C → Result (Option G) E → View S C → Type 0
@@ -68,29 +68,29 @@ module _ {S C : Type 0} (goes : S → C → S → Type 0) (starts : S → Type 0
 -- of a channel of this capacity
 module _ {T W : Type 0} (capacity : Option ℕ) where
   abbrev pub SendsWaiting : {E : Type 0} → T → View (State T W) (ChannelCall T) → Result (Option (Result (Unit {0}) SendReason)) E → View (State T W) (ChannelCall T) → Type 0
-  SendsWaiting message = WaitsFor calls (is_new capacity) rests_on_none (IsVainSend message) (IsSend message) (IsSendGivenUp message)
+  SendsWaiting message = WaitsFor (channel_machine capacity) (IsVainSend message) (IsSend message) (IsSendGivenUp message)
 
   abbrev pub ReceivesWaiting : {E : Type 0} → View (State T W) (ChannelCall T) → Result (Option (Option T)) E → View (State T W) (ChannelCall T) → Type 0
-  ReceivesWaiting = WaitsFor calls (is_new capacity) rests_on_none IsVainReceive IsReceive IsReceiveGivenUp
+  ReceivesWaiting = WaitsFor (channel_machine capacity) IsVainReceive IsReceive IsReceiveGivenUp
 
   -- a message was not sent for this reason
   abbrev pub EndsUnsent : T → View (State T W) (ChannelCall T) → SendReason → View (State T W) (ChannelCall T) → Type 0
-  EndsUnsent message v Closed w = MakesAtLast calls (is_new capacity) rests_on_none v (IsVainSend message) (IsSend message (Err Closed)) w
+  EndsUnsent message v Closed w = MakesAtLast (channel_machine capacity) v (IsVainSend message) (IsSend message (Err Closed)) w
   EndsUnsent message v Full w = ⊥
   EndsUnsent message v TimedOut w = ⊥
-  EndsUnsent message v Memory w = MakesAtLast calls (is_new capacity) rests_on_none v (IsVainSend message) (IsSend message (Err Memory)) w
-  EndsUnsent message v (WaitFailed error) w = MakesSome calls (is_new capacity) rests_on_none v (λ c. IsVainSend message c ⊎ IsSendGivenUp message c) w
+  EndsUnsent message v Memory w = MakesAtLast (channel_machine capacity) v (IsVainSend message) (IsSend message (Err Memory)) w
+  EndsUnsent message v (WaitFailed error) w = MakesSome (channel_machine capacity) v (λ c. IsVainSend message c ⊎ IsSendGivenUp message c) w
 
   -- The hand attempted to send this message until an attempt had this reply, which is its last call; or it could not wait.
   abbrev pub SendsBlocking : T → View (State T W) (ChannelCall T) → Result (Unit {0}) (SendError T) → View (State T W) (ChannelCall T) → Type 0
-  SendsBlocking message v (Ok sent) w = MakesAtLast calls (is_new capacity) rests_on_none v (IsVainSend message) (IsSend message (Ok sent)) w
+  SendsBlocking message v (Ok sent) w = MakesAtLast (channel_machine capacity) v (IsVainSend message) (IsSend message (Ok sent)) w
   SendsBlocking message v (Err error) w = EndsUnsent message v error.reason w
 
   -- The same of one that receives.
   abbrev pub ReceivesBlocking : View (State T W) (ChannelCall T) → Result T RecvError → View (State T W) (ChannelCall T) → Type 0
-  ReceivesBlocking v (Ok message) w = MakesAtLast calls (is_new capacity) rests_on_none v IsVainReceive (IsReceive (Some message)) w
-  ReceivesBlocking v (Err received.Closed) w = MakesAtLast calls (is_new capacity) rests_on_none v IsVainReceive (IsReceive None) w
-  ReceivesBlocking v (Err (received.WaitFailed error)) w = MakesSome calls (is_new capacity) rests_on_none v (λ c. IsVainReceive c ⊎ IsReceiveGivenUp c) w
+  ReceivesBlocking v (Ok message) w = MakesAtLast (channel_machine capacity) v IsVainReceive (IsReceive (Some message)) w
+  ReceivesBlocking v (Err received.Closed) w = MakesAtLast (channel_machine capacity) v IsVainReceive (IsReceive None) w
+  ReceivesBlocking v (Err (received.WaitFailed error)) w = MakesSome (channel_machine capacity) v (λ c. IsVainReceive c ⊎ IsReceiveGivenUp c) w
 
 -- what a wait without a limit received
 abbrev pub Says : {T E : Type 0} → Result (Option (Option T)) E → Result T RecvError → Type 0

@@ -1,10 +1,11 @@
 //! What both sides share.
 ghost use Rattle.std.specs.Prelude.{◌≡◌, Some, IfErr, IfOk, IsSome};
-ghost use Rattle.event_channel.specs.Calls.{answer_of, calls, is_new, rests_on_none};
+ghost use Rattle.event_channel.specs.Calls.{answer_of, channel_machine};
 ghost use Rattle.event_channel.specs.Errors.{IsUnsent, IsUnsentAtOnce};
 ghost use Rattle.event_channel.specs.Hands.{SendsWaiting};
 ghost use Rattle.event_channel.specs.Waits.{Empties, Gets};
 ghost use Rattle.event_channel.specs.declared.call.ChannelCall.TheVariants as call;
+ghost use Rattle.event_history.specs.Hands.{IsOf, SameTable, known_by};
 ghost use Rattle.event_history.specs.History.{Extends};
 
 use crate::call::ChannelHand;
@@ -112,10 +113,10 @@ impl<T: Drop> Channel<T> {
         hand: &mut ChannelHand<T>,
         message: T,
     ) -> Result<(), SendError<T>>
-        requires { hand.old.seat.table_id ≡ self.now.lock.table }
-        ensures hand { hand.new.seat.table_id ≡ hand.old.seat.table_id }
-        ensures call { Extends calls (is_new self.now.lock.start) rests_on_none hand.old.seat.me.0
-            (call.Send message (answer_of result)) hand.new.seat.me.0 }
+        requires { IsOf self.now.lock.table hand.old }
+        ensures hand { SameTable hand.old hand.new }
+        ensures call { Extends (channel_machine self.now.lock.start) (known_by hand.old)
+            (call.Send message (answer_of result)) (known_by hand.new) }
         ensures returned { IfErr result (λ error. error.message ≡ message) }
         ensures reason { IfErr result (λ error. IsUnsentAtOnce error.reason) }
     {
@@ -132,10 +133,10 @@ impl<T: Drop> Channel<T> {
         hand: &mut ChannelHand<T>,
         message: T,
     ) -> Result<Option<T>, SendError<T>>
-        requires { hand.old.seat.table_id ≡ self.now.lock.table }
-        ensures hand { hand.new.seat.table_id ≡ hand.old.seat.table_id }
-        ensures call { Extends calls (is_new self.now.lock.start) rests_on_none hand.old.seat.me.0
-            (call.ForceSend message (answer_of result)) hand.new.seat.me.0 }
+        requires { IsOf self.now.lock.table hand.old }
+        ensures hand { SameTable hand.old hand.new }
+        ensures call { Extends (channel_machine self.now.lock.start) (known_by hand.old)
+            (call.ForceSend message (answer_of result)) (known_by hand.new) }
         ensures returned { IfErr result (λ error. error.message ≡ message) }
         ensures reason { IfErr result (λ error. IsUnsent error.reason) }
     {
@@ -155,11 +156,11 @@ impl<T: Drop> Channel<T> {
         sending: &mut Sending<T>,
         limit: Limit,
     ) -> Result<Option<Result<(), SendReason>>, Refused<ListenError>>
-        requires { hand.old.seat.table_id ≡ self.now.lock.table }
-        ensures hand { hand.new.seat.table_id ≡ hand.old.seat.table_id }
+        requires { IsOf self.now.lock.table hand.old }
+        ensures hand { SameTable hand.old hand.new }
         ensures calls { (message : T) → sending.old.asked ≡ Some message → limit ≡ Limit.Never
-            → SendsWaiting self.now.lock.start message hand.old.seat.me.0 result
-            hand.new.seat.me.0 }
+            → SendsWaiting self.now.lock.start message (known_by hand.old) result
+            (known_by hand.new) }
         ensures never { limit ≡ Limit.Never → IfOk result IsSome }
         ensures gets { Gets Empties sending.old.asked result sending.new.asked }
     {
@@ -168,10 +169,10 @@ impl<T: Drop> Channel<T> {
 
     /// Closes the channel and wakes all that wait, or returns `false` if it is closed already.
     pub(crate) fn close<R: Wait>(&self, rt: &R, hand: &mut ChannelHand<T>) -> bool
-        requires { hand.old.seat.table_id ≡ self.now.lock.table }
-        ensures hand { hand.new.seat.table_id ≡ hand.old.seat.table_id }
-        ensures call { Extends calls (is_new self.now.lock.start) rests_on_none hand.old.seat.me.0
-            (call.Close result) hand.new.seat.me.0 }
+        requires { IsOf self.now.lock.table hand.old }
+        ensures hand { SameTable hand.old hand.new }
+        ensures call { Extends (channel_machine self.now.lock.start) (known_by hand.old)
+            (call.Close result) (known_by hand.new) }
     {
         self.lock.call(rt, hand, Close)
     }

@@ -1,38 +1,77 @@
 //! What follows of one history of a channel.
-ghost use Rattle.std.specs.Prelude.{◌≡◌, ◌≤◌, ◌+◌, ◌++◌, ℕ, Option, Err, [], ◌∷◌, length, true};
-ghost use Rattle.event_channel.specs.Calls.{calls, is_new, rests_on_none};
+ghost use Rattle.std.specs.Prelude.{◌≡◌, ◌≤◌, ◌+◌, ◌++◌, ℕ, Option, Result, Err, IfErr, IfOk, [], ◌∷◌, length, true};
+ghost use Rattle.event_channel.specs.Calls.{answer_of, calls, channel_machine};
 ghost use Rattle.event_channel.specs.Messages.{State, limit_of};
 ghost use Rattle.event_channel.specs.Sent.{ChannelLog, all_of, forced_out_by, out_by, received_by, sent_by};
 ghost use Rattle.event_channel.specs.declared.call.ChannelCall.{ChannelCall};
 ghost use Rattle.event_channel.specs.declared.call.ChannelCall.TheVariants as call;
+ghost use Rattle.event_channel.specs.declared.error.SendError.{SendError};
 ghost use Rattle.event_channel.specs.declared.error.SendReason.TheVariants.{Closed, Full};
-ghost use Rattle.event_history.specs.History.{Extends, IsAmong, LeadsTo, Runs, entry};
+ghost use Rattle.event_channel.specs.declared.error.TryRecvError.{TryRecvError};
+ghost use Rattle.event_history.specs.History.{Extends, IsAmong, LeadsTo, Looks, Runs, both_views, entry};
 ghost use Rattle.event_history.specs.declared.history.View.{View};
 
 /// In any history of a channel messages go out in the order in which they were sent: those that its calls received and those
 /// that went out for a forced send, in the order of the calls, are just the first that were sent, each once, and the rest
 /// wait. From any state on, those that waited there come first. Where no forced send found the channel full, all that went
 /// out were received. So it is of the history that a hand has seen after a call. And what was received was sent: of the history
-/// that a hand has seen after a call that received a message, some call sent it.
+/// that a hand has seen after a call that received a message, some call sent it. Where a receive of a hand finds no message,
+/// all that was sent has gone out.
 pub fn sent_is_received_in_order<T, W>()
     ensures in_order { (capacity : Option ℕ) (log : ChannelLog T) (q : State T W)
-        → LeadsTo calls (is_new capacity) log q
+        → LeadsTo (channel_machine capacity) log q
         → all_of sent_by log ≡ all_of out_by log ++ q.messages }
     ensures from_any_state { (log : ChannelLog T) (q r : State T W) → Runs calls q log r
         → q.messages ++ all_of sent_by log ≡ all_of out_by log ++ r.messages }
     ensures all_received { (capacity : Option ℕ) (log : ChannelLog T) (q : State T W)
-        → LeadsTo calls (is_new capacity) log q → all_of forced_out_by log ≡ []
+        → LeadsTo (channel_machine capacity) log q → all_of forced_out_by log ≡ []
         → all_of sent_by log ≡ all_of received_by log ++ q.messages }
     ensures as_seen { (capacity : Option ℕ) (v w : View (State T W) (ChannelCall T))
-        (call : ChannelCall T) → Extends calls (is_new capacity) rests_on_none v call w
-        → (q : State T W) × LeadsTo calls (is_new capacity) w.seen q
+        (call : ChannelCall T) → Extends (channel_machine capacity) v call w
+        → (q : State T W) × LeadsTo (channel_machine capacity) w.seen q
         × (all_of sent_by w.seen ≡ all_of out_by w.seen ++ q.messages) }
     ensures received_was_sent { (capacity : Option ℕ) (log : ChannelLog T) (q : State T W)
-        → LeadsTo calls (is_new capacity) log q → (message : T)
+        → LeadsTo (channel_machine capacity) log q → (message : T)
         → IsAmong message (all_of received_by log) → IsAmong message (all_of sent_by log) }
     ensures seen_to_be_sent { (capacity : Option ℕ) (v w : View (State T W) (ChannelCall T))
-        (call : ChannelCall T) → Extends calls (is_new capacity) rests_on_none v call w
+        (call : ChannelCall T) → Extends (channel_machine capacity) v call w
         → (message : T) → IsAmong message (received_by call)
+        → IsAmong message (all_of sent_by w.seen) }
+    ensures finds_none { (capacity : Option ℕ) (v w : View (State T W) (ChannelCall T))
+        (error : TryRecvError)
+        → Extends (channel_machine capacity) v (call.Receive (Err error)) w
+        → all_of sent_by w.seen ≡ all_of out_by w.seen }
+{}
+
+/// No message is made up between two hands, and none is lost. What one receives was sent. Where one sent a message, and another
+/// takes that hand in and then finds none, the message has gone out.
+pub fn no_message_is_lost<T, W>()
+    ensures received { (capacity : Option ℕ) (v w : View (State T W) (ChannelCall T))
+        (reply : Result T TryRecvError)
+        → Extends (channel_machine capacity) v (call.Receive reply) w
+        → IfOk reply (λ message. IsAmong message (all_of sent_by w.seen)) }
+    ensures sent { (capacity : Option ℕ) (u v w x y : View (State T W) (ChannelCall T))
+        (message : T) (sent : Result (Unit {0}) (SendError T)) (reply : Result T TryRecvError)
+        → Extends (channel_machine capacity) u (call.Send message (answer_of sent)) v
+        → Looks (channel_machine capacity) (both_views w v) x
+        → Extends (channel_machine capacity) x (call.Receive reply) y
+        → IfOk sent (λ done. IfErr reply (λ error. IsAmong message (all_of out_by y.seen))) }
+{}
+
+/// A hand knows what it sent by its own call, what it knew to be sent before a call, and what another hand knew to be sent that
+/// it takes in.
+pub fn sent_is_known<T, W>()
+    ensures by_a_call { (capacity : Option ℕ) (v w : View (State T W) (ChannelCall T))
+        (call : ChannelCall T) → Extends (channel_machine capacity) v call w
+        → (message : T) → IsAmong message (sent_by call)
+        → IsAmong message (all_of sent_by w.seen) }
+    ensures before_a_call { (capacity : Option ℕ) (v w : View (State T W) (ChannelCall T))
+        (call : ChannelCall T) → Extends (channel_machine capacity) v call w
+        → (message : T) → IsAmong message (all_of sent_by v.seen)
+        → IsAmong message (all_of sent_by w.seen) }
+    ensures joined { (capacity : Option ℕ) (v other w : View (State T W) (ChannelCall T))
+        → Looks (channel_machine capacity) (both_views v other) w
+        → (message : T) → IsAmong message (all_of sent_by other.seen)
         → IsAmong message (all_of sent_by w.seen) }
 {}
 
@@ -44,20 +83,20 @@ pub fn sent_is_received_in_order<T, W>()
 /// says that nobody else has a handle.
 pub fn capacity_is_kept<T, W>()
     ensures kept { (capacity : Option ℕ) (log : ChannelLog T) (q : State T W)
-        → LeadsTo calls (is_new capacity) log q → q.capacity ≡ limit_of capacity }
+        → LeadsTo (channel_machine capacity) log q → q.capacity ≡ limit_of capacity }
     ensures at_most { (capacity : Option ℕ) (log : ChannelLog T) (q : State T W)
-        → LeadsTo calls (is_new capacity) log q → length q.messages ≤ limit_of capacity }
+        → LeadsTo (channel_machine capacity) log q → length q.messages ≤ limit_of capacity }
     ensures full { (capacity : Option ℕ) (v w : View (State T W) (ChannelCall T)) (message : T)
-        → Extends calls (is_new capacity) rests_on_none v (call.Send message (Err Full)) w
-        → (q : State T W) × LeadsTo calls (is_new capacity) w.seen q
+        → Extends (channel_machine capacity) v (call.Send message (Err Full)) w
+        → (q : State T W) × LeadsTo (channel_machine capacity) w.seen q
         × (length q.messages ≡ limit_of capacity) }
     ensures full_was_sent { (capacity : Option ℕ) (v w : View (State T W) (ChannelCall T))
         (message : T)
-        → Extends calls (is_new capacity) rests_on_none v (call.Send message (Err Full)) w
+        → Extends (channel_machine capacity) v (call.Send message (Err Full)) w
         → length (all_of sent_by w.seen) ≡ length (all_of out_by w.seen) + limit_of capacity }
     ensures closed_was_closed { (capacity : Option ℕ) (v w : View (State T W) (ChannelCall T))
         (message : T)
-        → Extends calls (is_new capacity) rests_on_none v (call.Send message (Err Closed)) w
+        → Extends (channel_machine capacity) v (call.Send message (Err Closed)) w
         → (earlier : ChannelLog T) × (later : ChannelLog T) × (by : ℕ)
         × (w.seen ≡ earlier ++ entry by (call.Close true) ∷ later) }
 {}

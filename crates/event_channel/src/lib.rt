@@ -26,7 +26,7 @@ pub use channel::ChannelError;
 pub use error::{RecvError, RecvTimeoutError, SendError, SendReason, TryRecvError};
 pub use event_wait::LockError;
 pub use iter::{Iter, TryIter};
-pub use laws::{capacity_is_kept, sent_is_received_in_order};
+pub use laws::{capacity_is_kept, no_message_is_lost, sent_is_known, sent_is_received_in_order};
 pub use messages::{Messages, received_in_order};
 pub use receiver::{Receiver, WeakReceiver};
 pub use recv::Recv;

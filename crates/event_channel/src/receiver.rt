@@ -1,10 +1,11 @@
 //! The side that receives.
 ghost use Rattle.std.specs.Prelude.{◌≡◌, ◌<◌, ◌≤◌, Ok, Some, IfOk, IfSome, IsSome, OnErr};
-ghost use Rattle.event_channel.specs.Calls.{calls, is_new, rests_on_none};
+ghost use Rattle.event_channel.specs.Calls.{channel_machine};
 ghost use Rattle.event_channel.specs.Hands.{ReceivesBlocking, ReceivesWaiting};
 ghost use Rattle.event_channel.specs.Many.{Appends, Collects};
 ghost use Rattle.event_channel.specs.Waits.{Gets};
 ghost use Rattle.event_channel.specs.declared.call.ChannelCall.TheVariants as call;
+ghost use Rattle.event_history.specs.Hands.{IsOf, SameTable, known_by};
 ghost use Rattle.event_history.specs.History.{Extends, Looks, both_views, newcomer};
 
 use crate::call::{ChannelHand, RestingHand};
@@ -79,33 +80,33 @@ impl<T: Drop, R: Wait + Clock + Clone> Receiver<T, R> {
     /// no bytes, and the call is one load. It does not wait. A hand can't be dropped: it ends by its `end`.
     #[inline(always)]
     pub fn hand(&self) -> ChannelHand<T>
-        ensures { (result.seat.table_id ≡ self.now.channel.table)
-            × (result.seat.me.0 ≡ newcomer result.seat.me.0.seen) }
+        ensures { IsOf self.now.channel.table result
+            × (known_by result ≡ newcomer (known_by result).seen) }
     {
         self.link.channel.lock.hand()
     }
 
     /// A new hand, which has seen as much of the history of this channel as that one. It is one load.
-    pub fn tell(&self, hand: &mut ChannelHand<T>) -> ChannelHand<T>
-        requires { hand.old.seat.table_id ≡ self.now.channel.table }
-        ensures hand { (hand.new.seat.table_id ≡ hand.old.seat.table_id)
-            × (hand.new.seat.me.0 ≡ hand.old.seat.me.0) }
-        ensures told { (result.seat.table_id ≡ hand.old.seat.table_id)
-            × (result.seat.me.0 ≡ newcomer hand.old.seat.me.0.seen) }
+    pub fn fork(&self, hand: &mut ChannelHand<T>) -> ChannelHand<T>
+        requires { IsOf self.now.channel.table hand.old }
+        ensures hand { SameTable hand.old hand.new
+            × (known_by hand.new ≡ known_by hand.old) }
+        ensures told { SameTable hand.old result
+            × (known_by result ≡ newcomer (known_by hand.old).seen) }
     {
-        self.link.channel.lock.tell(hand)
+        self.link.channel.lock.fork(hand)
     }
 
     /// Has a hand learn what another one saw and did, which is no more. From here on it speaks of one history that has the
     /// calls of both. It is two loads.
-    pub fn absorb(&self, hand: &mut ChannelHand<T>, other: ChannelHand<T>)
-        requires here { hand.old.seat.table_id ≡ self.now.channel.table }
-        requires there { other.seat.table_id ≡ self.now.channel.table }
-        ensures hand { hand.new.seat.table_id ≡ hand.old.seat.table_id }
-        ensures looks { Looks calls (is_new self.now.capacity) rests_on_none
-            (both_views hand.old.seat.me.0 other.seat.me.0) hand.new.seat.me.0 }
+    pub fn join(&self, hand: &mut ChannelHand<T>, other: ChannelHand<T>)
+        requires here { IsOf self.now.channel.table hand.old }
+        requires there { IsOf self.now.channel.table other }
+        ensures hand { SameTable hand.old hand.new }
+        ensures looks { Looks (channel_machine self.now.capacity)
+            (both_views (known_by hand.old) (known_by other)) (known_by hand.new) }
     {
-        self.link.channel.lock.absorb(hand, other);
+        self.link.channel.lock.join(hand, other);
     }
 
     /// Receives the first message, if one waits. The call does not allocate.
@@ -121,10 +122,10 @@ impl<T: Drop, R: Wait + Clock + Clone> Receiver<T, R> {
     /// hand had seen, and has of this hand just its own calls.
     #[inline(always)]
     pub fn try_recv_as(&self, hand: &mut ChannelHand<T>) -> Result<T, TryRecvError>
-        requires { hand.old.seat.table_id ≡ self.now.channel.table }
-        ensures hand { hand.new.seat.table_id ≡ hand.old.seat.table_id }
-        ensures call { Extends calls (is_new self.now.capacity) rests_on_none hand.old.seat.me.0
-            (call.Receive result) hand.new.seat.me.0 }
+        requires { IsOf self.now.channel.table hand.old }
+        ensures hand { SameTable hand.old hand.new }
+        ensures call { Extends (channel_machine self.now.capacity) (known_by hand.old)
+            (call.Receive result) (known_by hand.new) }
     {
         match self
             .link
@@ -162,10 +163,10 @@ impl<T: Drop, R: Wait + Clock + Clone> Receiver<T, R> {
     /// hand had seen, and has of this hand just its own calls.
     #[inline(always)]
     pub fn recv_blocking_as(&self, hand: &mut ChannelHand<T>) -> Result<T, RecvError>
-        requires { hand.old.seat.table_id ≡ self.now.channel.table }
-        ensures hand { hand.new.seat.table_id ≡ hand.old.seat.table_id }
-        ensures calls { ReceivesBlocking self.now.capacity hand.old.seat.me.0 result
-            hand.new.seat.me.0 }
+        requires { IsOf self.now.channel.table hand.old }
+        ensures hand { SameTable hand.old hand.new }
+        ensures calls { ReceivesBlocking self.now.capacity (known_by hand.old) result
+            (known_by hand.new) }
     {
         received(self.wait(hand, Limit::Never))
     }
@@ -252,11 +253,11 @@ impl<T: Drop, R: Wait + Clock + Clone> Receiver<T, R> {
         hand: &mut ChannelHand<T>,
         limit: Limit,
     ) -> Result<Option<Option<T>>, Refused<ListenError>>
-        requires { hand.old.seat.table_id ≡ self.now.channel.table }
-        ensures hand { hand.new.seat.table_id ≡ hand.old.seat.table_id }
+        requires { IsOf self.now.channel.table hand.old }
+        ensures hand { SameTable hand.old hand.new }
         ensures never { limit ≡ Limit.Never → IfOk result IsSome }
         ensures calls { limit ≡ Limit.Never
-            → ReceivesWaiting self.now.capacity hand.old.seat.me.0 result hand.new.seat.me.0 }
+            → ReceivesWaiting self.now.capacity (known_by hand.old) result (known_by hand.new) }
     {
         let mut receiving = Receiving::one();
         self.link.channel.lock.obtain(&self.link.rt, self.link.alloc, hand, &mut receiving, limit)
@@ -274,10 +275,10 @@ impl<T: Drop, R: Wait + Clock + Clone> Receiver<T, R> {
 
     /// [`close`](Receiver::close) as a call of this hand.
     pub fn close_as(&self, hand: &mut ChannelHand<T>) -> bool
-        requires { hand.old.seat.table_id ≡ self.now.channel.table }
-        ensures hand { hand.new.seat.table_id ≡ hand.old.seat.table_id }
-        ensures call { Extends calls (is_new self.now.capacity) rests_on_none hand.old.seat.me.0
-            (call.Close result) hand.new.seat.me.0 }
+        requires { IsOf self.now.channel.table hand.old }
+        ensures hand { SameTable hand.old hand.new }
+        ensures call { Extends (channel_machine self.now.capacity) (known_by hand.old)
+            (call.Close result) (known_by hand.new) }
     {
         self.link.channel.close(&self.link.rt, hand)
     }

@@ -1,11 +1,12 @@
 //! The side that sends.
 ghost use Rattle.std.specs.Prelude.{◌≡◌, ◌≢◌, ◌↔◌, Some, None, Err, IfOk, IfErr, IfSome};
-ghost use Rattle.event_channel.specs.Calls.{answer_of, calls, is_new, rests_on_none};
+ghost use Rattle.event_channel.specs.Calls.{answer_of, channel_machine};
 ghost use Rattle.event_channel.specs.Errors.{IsUnsent, IsUnsentAtOnce, IsUnsentByWaiting, IsUnsentInTime};
 ghost use Rattle.event_channel.specs.Handle.{Carries};
 ghost use Rattle.event_channel.specs.Hands.{SendsBlocking};
 ghost use Rattle.event_channel.specs.declared.call.ChannelCall.TheVariants as call;
 ghost use Rattle.event_channel.specs.declared.channel.ChannelError.TheVariants.{ZeroCapacity};
+ghost use Rattle.event_history.specs.Hands.{IsOf, SameTable, known_by};
 ghost use Rattle.event_history.specs.History.{Extends, Looks, both_views, newcomer};
 ghost use Rattle.event_wait.specs.declared.lock.limit.Limit.TheVariants.{Never};
 
@@ -111,33 +112,33 @@ impl<T: Drop, R: Wait + Clock + Clone> Sender<T, R> {
     /// no bytes, and the call is one load. It does not wait. A hand can't be dropped: it ends by its `end`.
     #[inline(always)]
     pub fn hand(&self) -> ChannelHand<T>
-        ensures { (result.seat.table_id ≡ self.now.channel.table)
-            × (result.seat.me.0 ≡ newcomer result.seat.me.0.seen) }
+        ensures { IsOf self.now.channel.table result
+            × (known_by result ≡ newcomer (known_by result).seen) }
     {
         self.link.channel.lock.hand()
     }
 
     /// A new hand, which has seen as much of the history of this channel as that one. It is one load.
-    pub fn tell(&self, hand: &mut ChannelHand<T>) -> ChannelHand<T>
-        requires { hand.old.seat.table_id ≡ self.now.channel.table }
-        ensures hand { (hand.new.seat.table_id ≡ hand.old.seat.table_id)
-            × (hand.new.seat.me.0 ≡ hand.old.seat.me.0) }
-        ensures told { (result.seat.table_id ≡ hand.old.seat.table_id)
-            × (result.seat.me.0 ≡ newcomer hand.old.seat.me.0.seen) }
+    pub fn fork(&self, hand: &mut ChannelHand<T>) -> ChannelHand<T>
+        requires { IsOf self.now.channel.table hand.old }
+        ensures hand { SameTable hand.old hand.new
+            × (known_by hand.new ≡ known_by hand.old) }
+        ensures told { SameTable hand.old result
+            × (known_by result ≡ newcomer (known_by hand.old).seen) }
     {
-        self.link.channel.lock.tell(hand)
+        self.link.channel.lock.fork(hand)
     }
 
     /// Has a hand learn what another one saw and did, which is no more. From here on it speaks of one history that has the
     /// calls of both. It is two loads.
-    pub fn absorb(&self, hand: &mut ChannelHand<T>, other: ChannelHand<T>)
-        requires here { hand.old.seat.table_id ≡ self.now.channel.table }
-        requires there { other.seat.table_id ≡ self.now.channel.table }
-        ensures hand { hand.new.seat.table_id ≡ hand.old.seat.table_id }
-        ensures looks { Looks calls (is_new self.now.capacity) rests_on_none
-            (both_views hand.old.seat.me.0 other.seat.me.0) hand.new.seat.me.0 }
+    pub fn join(&self, hand: &mut ChannelHand<T>, other: ChannelHand<T>)
+        requires here { IsOf self.now.channel.table hand.old }
+        requires there { IsOf self.now.channel.table other }
+        ensures hand { SameTable hand.old hand.new }
+        ensures looks { Looks (channel_machine self.now.capacity)
+            (both_views (known_by hand.old) (known_by other)) (known_by hand.new) }
     {
-        self.link.channel.lock.absorb(hand, other);
+        self.link.channel.lock.join(hand, other);
     }
 
     /// Sends a message if the channel is open and not full.
@@ -158,10 +159,10 @@ impl<T: Drop, R: Wait + Clock + Clone> Sender<T, R> {
     /// had seen, and has of this hand just its own calls.
     #[inline(always)]
     pub fn try_send_as(&self, hand: &mut ChannelHand<T>, message: T) -> Result<(), SendError<T>>
-        requires { hand.old.seat.table_id ≡ self.now.channel.table }
-        ensures hand { hand.new.seat.table_id ≡ hand.old.seat.table_id }
-        ensures call { Extends calls (is_new self.now.capacity) rests_on_none hand.old.seat.me.0
-            (call.Send message (answer_of result)) hand.new.seat.me.0 }
+        requires { IsOf self.now.channel.table hand.old }
+        ensures hand { SameTable hand.old hand.new }
+        ensures call { Extends (channel_machine self.now.capacity) (known_by hand.old)
+            (call.Send message (answer_of result)) (known_by hand.new) }
         ensures returned { IfErr result (λ error. error.message ≡ message) }
         ensures reason { IfErr result (λ error. IsUnsentAtOnce error.reason) }
     {
@@ -187,10 +188,10 @@ impl<T: Drop, R: Wait + Clock + Clone> Sender<T, R> {
         hand: &mut ChannelHand<T>,
         message: T,
     ) -> Result<Option<T>, SendError<T>>
-        requires { hand.old.seat.table_id ≡ self.now.channel.table }
-        ensures hand { hand.new.seat.table_id ≡ hand.old.seat.table_id }
-        ensures call { Extends calls (is_new self.now.capacity) rests_on_none hand.old.seat.me.0
-            (call.ForceSend message (answer_of result)) hand.new.seat.me.0 }
+        requires { IsOf self.now.channel.table hand.old }
+        ensures hand { SameTable hand.old hand.new }
+        ensures call { Extends (channel_machine self.now.capacity) (known_by hand.old)
+            (call.ForceSend message (answer_of result)) (known_by hand.new) }
         ensures returned { IfErr result (λ error. error.message ≡ message) }
         ensures reason { IfErr result (λ error. IsUnsent error.reason) }
     {
@@ -231,10 +232,10 @@ impl<T: Drop, R: Wait + Clock + Clone> Sender<T, R> {
         hand: &mut ChannelHand<T>,
         message: T,
     ) -> Result<(), SendError<T>>
-        requires { hand.old.seat.table_id ≡ self.now.channel.table }
-        ensures hand { hand.new.seat.table_id ≡ hand.old.seat.table_id }
-        ensures calls { SendsBlocking self.now.capacity message hand.old.seat.me.0 result
-            hand.new.seat.me.0 }
+        requires { IsOf self.now.channel.table hand.old }
+        ensures hand { SameTable hand.old hand.new }
+        ensures calls { SendsBlocking self.now.capacity message (known_by hand.old) result
+            (known_by hand.new) }
         ensures returned { IfErr result (λ error. error.message ≡ message) }
         ensures reason { IfErr result (λ error. IsUnsentByWaiting error.reason) }
     {
@@ -276,10 +277,10 @@ impl<T: Drop, R: Wait + Clock + Clone> Sender<T, R> {
         message: T,
         limit: Limit,
     ) -> Result<(), SendError<T>>
-        requires { hand.old.seat.table_id ≡ self.now.channel.table }
-        ensures hand { hand.new.seat.table_id ≡ hand.old.seat.table_id }
+        requires { IsOf self.now.channel.table hand.old }
+        ensures hand { SameTable hand.old hand.new }
         ensures calls { limit ≡ Never
-            → SendsBlocking self.now.capacity message hand.old.seat.me.0 result hand.new.seat.me.0 }
+            → SendsBlocking self.now.capacity message (known_by hand.old) result (known_by hand.new) }
         ensures returned { IfErr result (λ error. error.message ≡ message) }
         ensures reason { IfErr result (λ error. IsUnsentInTime error.reason) }
         ensures never { limit ≡ Never → IfErr result (λ error. IsUnsentByWaiting error.reason) }
@@ -309,10 +310,10 @@ impl<T: Drop, R: Wait + Clock + Clone> Sender<T, R> {
 
     /// [`close`](Sender::close) as a call of this hand.
     pub fn close_as(&self, hand: &mut ChannelHand<T>) -> bool
-        requires { hand.old.seat.table_id ≡ self.now.channel.table }
-        ensures hand { hand.new.seat.table_id ≡ hand.old.seat.table_id }
-        ensures call { Extends calls (is_new self.now.capacity) rests_on_none hand.old.seat.me.0
-            (call.Close result) hand.new.seat.me.0 }
+        requires { IsOf self.now.channel.table hand.old }
+        ensures hand { SameTable hand.old hand.new }
+        ensures call { Extends (channel_machine self.now.capacity) (known_by hand.old)
+            (call.Close result) (known_by hand.new) }
     {
         self.link.channel.close(&self.link.rt, hand)
     }

@@ -1,0 +1,62 @@
+-- What a hand knows to be sent.
+use Rattle.std.proofs.Common.{List, [], ◌∷◌, ◌++◌, ℕ, refl, sym, subst, inl, ⊎_elim, Option, Result, Ok, Err, IfErr, IfOk}
+use Rattle.event_history.specs.History.{Extends, IsAmong, Looks, StartsWith, both_views, entry, met_of}
+use Rattle.event_history.proofs.HandLemmas.{begins_last}
+use Rattle.event_history.proofs.RestsOnLemmas.{among_back, among_either, among_front}
+use Rattle.event_history.specs.declared.history.Entry.{Entry}
+use Rattle.event_history.specs.declared.history.View.{View}
+use Rattle.event_channel.specs.declared.call.ChannelCall.{ChannelCall}
+use Rattle.event_channel.specs.declared.call.ChannelCall.TheVariants as call
+use Rattle.event_channel.specs.declared.error.SendError.{SendError}
+use Rattle.event_channel.specs.declared.error.TryRecvError.{TryRecvError}
+use Rattle.event_channel.specs.Calls.{answer_of, channel_machine}
+use Rattle.event_channel.specs.Messages.{State}
+use Rattle.event_channel.specs.Sent.{ChannelLog, all_of, out_by, sent_by}
+use Rattle.event_channel.proofs.HistoryLemmas.{none_waits, seen_to_be_sent}
+
+module _ {T : Type 0} where
+  -- what was sent stays so
+  sent_earlier : (message : T) (earlier later : ChannelLog T) → IsAmong message (all_of sent_by earlier) → IsAmong message (all_of sent_by (earlier ++ later))
+  sent_earlier message [] later h = absurd h
+  sent_earlier message (e ∷ es) later h = ⊎_elim
+      (λ here. among_front message (sent_by e.call) (all_of sent_by (es ++ later)) here)
+      (λ there. among_back message (sent_by e.call) (all_of sent_by (es ++ later)) (sent_earlier message es later there))
+      (among_either message (sent_by e.call) (all_of sent_by es) h)
+
+  sent_last : (message : T) (log : ChannelLog T) (e : Entry (ChannelCall T)) → IsAmong message (sent_by e.call) → IsAmong message (all_of sent_by (log ++ e ∷ []))
+  sent_last message [] e h = among_front message (sent_by e.call) [] h
+  sent_last message (x ∷ xs) e h = among_back message (sent_by x.call) (all_of sent_by (xs ++ e ∷ [])) (sent_last message xs e h)
+
+  sent_in_longer : (message : T) (log front : ChannelLog T) → StartsWith log front → IsAmong message (all_of sent_by front) → IsAmong message (all_of sent_by log)
+  sent_in_longer message log front (later, begins) h =
+      subst (λ (es : ChannelLog T). IsAmong message (all_of sent_by es)) (sym begins) (sent_earlier message front later h)
+
+module _ {T W : Type 0} (capacity : Option ℕ) where
+  pub by_a_call : (v w : View (State T W) (ChannelCall T)) (c : ChannelCall T) → Extends (channel_machine capacity) v c w → (message : T) → IsAmong message (sent_by c) → IsAmong message (all_of sent_by w.seen)
+  by_a_call v w c (before, after, led) message h =
+      subst (λ (es : ChannelLog T). IsAmong message (all_of sent_by es)) (sym led.seen) (sent_last message (v.seen ++ led.between) (entry led.number c) h)
+
+  pub before_a_call : (v w : View (State T W) (ChannelCall T)) (c : ChannelCall T) → Extends (channel_machine capacity) v c w → (message : T) → IsAmong message (all_of sent_by v.seen) → IsAmong message (all_of sent_by w.seen)
+  before_a_call v w c (before, after, led) message h =
+      subst (λ (es : ChannelLog T). IsAmong message (all_of sent_by es)) (sym led.seen)
+      (sent_earlier message (v.seen ++ led.between) (entry led.number c ∷ []) (sent_earlier message v.seen led.between h))
+
+  pub absorbed : (v other w : View (State T W) (ChannelCall T)) → Looks (channel_machine capacity) (both_views v other) w → (message : T) → IsAmong message (all_of sent_by other.seen) → IsAmong message (all_of sent_by w.seen)
+  absorbed v other w looks message h =
+      sent_in_longer message w.seen other.seen (begins_last w.seen looks.others w.met (met_of other) v.met looks.idle.2 looks.met) h
+
+  -- what a receive gives was sent
+  pub received : (v w : View (State T W) (ChannelCall T)) (reply : Result T TryRecvError) → Extends (channel_machine capacity) v (call.Receive reply) w → IfOk reply (λ message. IsAmong message (all_of sent_by w.seen))
+  received v w (Ok message) called = seen_to_be_sent capacity v w (call.Receive (Ok message)) called message (inl refl)
+  received v w (Err error) called = tt
+
+  -- what a hand sent that another one absorbed, which then finds no message, went out
+  pub sent : (u v w x y : View (State T W) (ChannelCall T)) (message : T) (answer : Result (Unit {0}) (SendError T)) (reply : Result T TryRecvError)
+      → Extends (channel_machine capacity) u (call.Send message (answer_of answer)) v → Looks (channel_machine capacity) (both_views w v) x → Extends (channel_machine capacity) x (call.Receive reply) y
+      → IfOk answer (λ done. IfErr reply (λ error. IsAmong message (all_of out_by y.seen)))
+  sent u v w x y message (Err error) reply sends absorbs receives = tt
+  sent u v w x y message (Ok done) (Ok other) sends absorbs receives = tt
+  sent u v w x y message (Ok done) (Err error) sends absorbs receives =
+      let its = by_a_call u v (call.Send message (Ok done)) sends message (inl refl) in
+      subst (λ (ms : List T). IsAmong message ms) (none_waits capacity x y error receives)
+      (before_a_call x y (call.Receive (Err error)) receives message (absorbed w v x absorbs message its))
