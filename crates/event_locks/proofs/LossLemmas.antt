@@ -6,7 +6,7 @@ use Rattle.event_wait.specs.declared.request.Attempted.{Attempted}
 use Rattle.event_wait.specs.declared.request.Attempted.TheVariants.{Done, Waits, Absent, Refused}
 use Rattle.event_locks.specs.Losses.{LosesOnceAtMost}
 use Rattle.event_word.specs.Contender.{coming_of, losses_after}
-use Rattle.event_word.specs.declared.line.competing.Competing.{Competing}
+use Rattle.event_word.specs.declared.competing.Competing.{Competing}
 use Rattle.event_word.specs.Word.{HasState, Sat}
 
 module _ {C V G E : Type 0} (place : Option Key) (before after : ℕ) (m : Sat (Competing C) V) where

@@ -5,6 +5,7 @@
 #![tactic(auto)]
 
 mod mutex;
+mod polled;
 mod rw_lock;
 mod semaphore;
 pub mod states;

@@ -5,7 +5,7 @@ ghost use Rattle.event_wait.specs.Rounds.{gives_what, tries_for};
 ghost use Rattle.event_wait.specs.Attempted.{Attempts, OnDone, OnRefused, OnUndone, key_of};
 ghost use Rattle.event_locks.specs.Losses.{LosesOnceAtMost};
 ghost use Rattle.event_word.specs.Contender.{coming_of, losses_after};
-ghost use Rattle.event_word.specs.declared.line.contender.Coming.TheVariants.{Notified};
+ghost use Rattle.event_word.specs.declared.contender.Coming.TheVariants.{Notified};
 ghost use Rattle.event_word.specs.Free.{ServesTheStarving, Stands, free_of};
 ghost use Rattle.event_word.specs.Word.{HasPlace, HasState, HasValue, HasValueToo};
 
@@ -83,10 +83,8 @@ impl<T: Drop> Mutex<T> {
         rt: R,
     ) -> Result<Option<MutexGuardArc<T, R>>, AllocError> {
         let lock = Arc::try_clone(this)?;
-        match lock.word.try_value() {
-            Some(lent) => Ok(Some(MutexGuardArc::new(Shared { lock, rt }, lent))),
-            None => Ok(None),
-        }
+        let lent = lock.word.try_value();
+        Ok(lent.map(|lent| MutexGuardArc::new(Shared { lock, rt }, lent)))
     }
 
     /// A wait for the value.

@@ -75,10 +75,8 @@ impl<T> RwLock<T> {
         T: Drop,
     {
         let lock = Arc::try_clone(this)?;
-        match lock.word.attempt(&rt) {
-            Some(share) => Ok(Some(RwLockReadGuardArc::new(Shared { lock, rt }, share))),
-            None => Ok(None),
-        }
+        let share = lock.word.attempt(&rt);
+        Ok(share.map(|share| RwLockReadGuardArc::new(Shared { lock, rt }, share)))
     }
 
     /// As [`try_write`](RwLock::try_write), by a guard that may go to another thread. It returns an error if no share of the
@@ -92,10 +90,8 @@ impl<T> RwLock<T> {
         T: Drop,
     {
         let lock = Arc::try_clone(this)?;
-        match lock.word.attempt(&rt) {
-            Some(share) => Ok(Some(RwLockWriteGuardArc::new(Shared { lock, rt }, share))),
-            None => Ok(None),
-        }
+        let share = lock.word.attempt(&rt);
+        Ok(share.map(|share| RwLockWriteGuardArc::new(Shared { lock, rt }, share)))
     }
 
     /// A wait for the value to be read, until no writer has it or has come before.

@@ -4,7 +4,7 @@ ghost use Rattle.event_wait.specs.Rounds.{gives_what, tries_for};
 ghost use Rattle.event_wait.specs.Attempted.{Attempts, OnDone, OnRefused, OnUndone, key_of};
 ghost use Rattle.event_locks.specs.Losses.{LosesOnceAtMost};
 ghost use Rattle.event_word.specs.Contender.{coming_of, losses_after};
-ghost use Rattle.event_word.specs.declared.line.contender.Coming.TheVariants.{Notified};
+ghost use Rattle.event_word.specs.declared.contender.Coming.TheVariants.{Notified};
 ghost use Rattle.event_word.specs.Free.{ServesTheStarving, Stands, free_of};
 ghost use Rattle.event_word.specs.Word.{HasState};
 
@@ -84,10 +84,8 @@ impl Semaphore {
         rt: R,
     ) -> Result<Option<SemaphoreGuardArc<R>>, AllocError> {
         let lock = Arc::try_clone(this)?;
-        match lock.word.try_permit() {
-            Some(permit) => Ok(Some(SemaphoreGuardArc::new(Shared { lock, rt }, permit))),
-            None => Ok(None),
-        }
+        let permit = lock.word.try_permit();
+        Ok(permit.map(|permit| SemaphoreGuardArc::new(Shared { lock, rt }, permit)))
     }
 
     /// A wait for a permit.

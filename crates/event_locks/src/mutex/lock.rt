@@ -4,6 +4,7 @@ ghost use Rattle.std.specs.Arc.{arc_value};
 
 use super::Mutex;
 use super::guard::{MutexGuard, MutexGuardArc};
+use crate::polled::guarded;
 use crate::taker::Taker;
 use event_wait::{Borrowed, LockError, Obtaining, Shared};
 use futures::Future;
@@ -40,8 +41,7 @@ impl<'a, T: Drop, R: Wait + Clock> Lock<'a, T, R> {
     /// wait. An error says that it could not: then it is in no queue.
     #[inline(always)]
     pub fn wait(self) -> Result<MutexGuard<'a, T, R>, LockError> {
-        let Lock { obtaining } = self;
-        let (hold, lent) = obtaining.wait()?;
+        let (hold, lent) = self.obtaining.wait()?;
         Ok(MutexGuard::new(hold, lent))
     }
 
@@ -52,11 +52,8 @@ impl<'a, T: Drop, R: Wait + Clock> Lock<'a, T, R> {
         self,
         timeout: Duration,
     ) -> Result<Option<MutexGuard<'a, T, R>>, LockError> {
-        let Lock { obtaining } = self;
-        match obtaining.wait_timeout(timeout)? {
-            Some((hold, lent)) => Ok(Some(MutexGuard::new(hold, lent))),
-            None => Ok(None),
-        }
+        let got = self.obtaining.wait_timeout(timeout)?;
+        Ok(got.map(|(hold, lent)| MutexGuard::new(hold, lent)))
     }
 
     /// Blocks the thread until it has the value, or until this moment. `None` says that it was in vain: then the thread is in no
@@ -65,11 +62,8 @@ impl<'a, T: Drop, R: Wait + Clock> Lock<'a, T, R> {
         self,
         deadline: Instant,
     ) -> Result<Option<MutexGuard<'a, T, R>>, LockError> {
-        let Lock { obtaining } = self;
-        match obtaining.wait_deadline(deadline)? {
-            Some((hold, lent)) => Ok(Some(MutexGuard::new(hold, lent))),
-            None => Ok(None),
-        }
+        let got = self.obtaining.wait_deadline(deadline)?;
+        Ok(got.map(|(hold, lent)| MutexGuard::new(hold, lent)))
     }
 }
 
@@ -80,18 +74,14 @@ impl<T: Drop, R: Wait + Clock + Drop> LockArc<T, R> {
 
     /// As [`Lock::wait`].
     pub fn wait(self) -> Result<MutexGuardArc<T, R>, LockError> {
-        let LockArc { obtaining } = self;
-        let (hold, lent) = obtaining.wait()?;
+        let (hold, lent) = self.obtaining.wait()?;
         Ok(MutexGuardArc::new(hold, lent))
     }
 
     /// As [`Lock::wait_timeout`].
     pub fn wait_timeout(self, timeout: Duration) -> Result<Option<MutexGuardArc<T, R>>, LockError> {
-        let LockArc { obtaining } = self;
-        match obtaining.wait_timeout(timeout)? {
-            Some((hold, lent)) => Ok(Some(MutexGuardArc::new(hold, lent))),
-            None => Ok(None),
-        }
+        let got = self.obtaining.wait_timeout(timeout)?;
+        Ok(got.map(|(hold, lent)| MutexGuardArc::new(hold, lent)))
     }
 
     /// As [`Lock::wait_deadline`].
@@ -99,11 +89,8 @@ impl<T: Drop, R: Wait + Clock + Drop> LockArc<T, R> {
         self,
         deadline: Instant,
     ) -> Result<Option<MutexGuardArc<T, R>>, LockError> {
-        let LockArc { obtaining } = self;
-        match obtaining.wait_deadline(deadline)? {
-            Some((hold, lent)) => Ok(Some(MutexGuardArc::new(hold, lent))),
-            None => Ok(None),
-        }
+        let got = self.obtaining.wait_deadline(deadline)?;
+        Ok(got.map(|(hold, lent)| MutexGuardArc::new(hold, lent)))
     }
 }
 
@@ -113,11 +100,7 @@ impl<'a, T: Drop, R: Wait + Clock> Future for Lock<'a, T, R> {
     ghost needs = { λ lock s. IsSomeAnd lock.obtaining.hold (λ hold. s ≡ hold.lock.now.source) };
 
     fn poll(&mut self, cx: &mut Context<'_>) -> Poll<Result<MutexGuard<'a, T, R>, LockError>> {
-        match self.obtaining.poll(cx) {
-            Poll::Ready(Ok((hold, lent))) => Poll::Ready(Ok(MutexGuard::new(hold, lent))),
-            Poll::Ready(Err(error)) => Poll::Ready(Err(error)),
-            Poll::Pending => Poll::Pending,
-        }
+        guarded(self.obtaining.poll(cx), MutexGuard::new)
     }
 }
 
@@ -128,10 +111,6 @@ impl<T: Drop, R: Wait + Clock + Drop> Future for LockArc<T, R> {
         (λ hold. s ≡ (arc_value hold.lock).source) };
 
     fn poll(&mut self, cx: &mut Context<'_>) -> Poll<Result<MutexGuardArc<T, R>, LockError>> {
-        match self.obtaining.poll(cx) {
-            Poll::Ready(Ok((hold, lent))) => Poll::Ready(Ok(MutexGuardArc::new(hold, lent))),
-            Poll::Ready(Err(error)) => Poll::Ready(Err(error)),
-            Poll::Pending => Poll::Pending,
-        }
+        guarded(self.obtaining.poll(cx), MutexGuardArc::new)
     }
 }

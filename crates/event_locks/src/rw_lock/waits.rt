@@ -5,6 +5,7 @@ ghost use Rattle.std.specs.Arc.{arc_value};
 use super::RwLock;
 use super::guard::{RwLockReadGuard, RwLockReadGuardArc, RwLockWriteGuard, RwLockWriteGuardArc};
 use super::requests::Place;
+use crate::polled::guarded;
 use event_wait::{Borrowed, LockError, Obtaining, Shared};
 use event_word::{Reading, Writing};
 use futures::Future;
@@ -43,8 +44,7 @@ impl<'a, T, R: Wait + Clock> Read<'a, T, R> {
     /// wait. An error says that it could not: then it is in no queue.
     #[inline(always)]
     pub fn wait(self) -> Result<RwLockReadGuard<'a, T, R>, LockError> {
-        let Read { obtaining } = self;
-        let (hold, share) = obtaining.wait()?;
+        let (hold, share) = self.obtaining.wait()?;
         Ok(RwLockReadGuard::new(hold, share))
     }
 
@@ -55,11 +55,8 @@ impl<'a, T, R: Wait + Clock> Read<'a, T, R> {
         self,
         timeout: Duration,
     ) -> Result<Option<RwLockReadGuard<'a, T, R>>, LockError> {
-        let Read { obtaining } = self;
-        match obtaining.wait_timeout(timeout)? {
-            Some((hold, share)) => Ok(Some(RwLockReadGuard::new(hold, share))),
-            None => Ok(None),
-        }
+        let got = self.obtaining.wait_timeout(timeout)?;
+        Ok(got.map(|(hold, share)| RwLockReadGuard::new(hold, share)))
     }
 
     /// Blocks the thread until it may read, or until this moment. `None` says that it was in vain: then the thread is in no
@@ -68,11 +65,8 @@ impl<'a, T, R: Wait + Clock> Read<'a, T, R> {
         self,
         deadline: Instant,
     ) -> Result<Option<RwLockReadGuard<'a, T, R>>, LockError> {
-        let Read { obtaining } = self;
-        match obtaining.wait_deadline(deadline)? {
-            Some((hold, share)) => Ok(Some(RwLockReadGuard::new(hold, share))),
-            None => Ok(None),
-        }
+        let got = self.obtaining.wait_deadline(deadline)?;
+        Ok(got.map(|(hold, share)| RwLockReadGuard::new(hold, share)))
     }
 }
 
@@ -85,8 +79,7 @@ impl<T: Drop, R: Wait + Clock + Drop> ReadArc<T, R> {
 
     /// As [`Read::wait`].
     pub fn wait(self) -> Result<RwLockReadGuardArc<T, R>, LockError> {
-        let ReadArc { obtaining } = self;
-        let (hold, share) = obtaining.wait()?;
+        let (hold, share) = self.obtaining.wait()?;
         Ok(RwLockReadGuardArc::new(hold, share))
     }
 
@@ -95,11 +88,8 @@ impl<T: Drop, R: Wait + Clock + Drop> ReadArc<T, R> {
         self,
         timeout: Duration,
     ) -> Result<Option<RwLockReadGuardArc<T, R>>, LockError> {
-        let ReadArc { obtaining } = self;
-        match obtaining.wait_timeout(timeout)? {
-            Some((hold, share)) => Ok(Some(RwLockReadGuardArc::new(hold, share))),
-            None => Ok(None),
-        }
+        let got = self.obtaining.wait_timeout(timeout)?;
+        Ok(got.map(|(hold, share)| RwLockReadGuardArc::new(hold, share)))
     }
 
     /// As [`Read::wait_deadline`].
@@ -107,11 +97,8 @@ impl<T: Drop, R: Wait + Clock + Drop> ReadArc<T, R> {
         self,
         deadline: Instant,
     ) -> Result<Option<RwLockReadGuardArc<T, R>>, LockError> {
-        let ReadArc { obtaining } = self;
-        match obtaining.wait_deadline(deadline)? {
-            Some((hold, share)) => Ok(Some(RwLockReadGuardArc::new(hold, share))),
-            None => Ok(None),
-        }
+        let got = self.obtaining.wait_deadline(deadline)?;
+        Ok(got.map(|(hold, share)| RwLockReadGuardArc::new(hold, share)))
     }
 }
 
@@ -121,11 +108,7 @@ impl<'a, T, R: Wait + Clock> Future for Read<'a, T, R> {
     ghost needs = { λ it s. IsSomeAnd it.obtaining.hold (λ hold. s ≡ hold.lock.now.source) };
 
     fn poll(&mut self, cx: &mut Context<'_>) -> Poll<Result<RwLockReadGuard<'a, T, R>, LockError>> {
-        match self.obtaining.poll(cx) {
-            Poll::Ready(Ok((hold, share))) => Poll::Ready(Ok(RwLockReadGuard::new(hold, share))),
-            Poll::Ready(Err(error)) => Poll::Ready(Err(error)),
-            Poll::Pending => Poll::Pending,
-        }
+        guarded(self.obtaining.poll(cx), RwLockReadGuard::new)
     }
 }
 
@@ -135,11 +118,7 @@ impl<T: Drop, R: Wait + Clock + Drop> Future for ReadArc<T, R> {
     ghost needs = { λ it s. IsSomeAnd it.obtaining.hold (λ hold. s ≡ (arc_value hold.lock).source) };
 
     fn poll(&mut self, cx: &mut Context<'_>) -> Poll<Result<RwLockReadGuardArc<T, R>, LockError>> {
-        match self.obtaining.poll(cx) {
-            Poll::Ready(Ok((hold, share))) => Poll::Ready(Ok(RwLockReadGuardArc::new(hold, share))),
-            Poll::Ready(Err(error)) => Poll::Ready(Err(error)),
-            Poll::Pending => Poll::Pending,
-        }
+        guarded(self.obtaining.poll(cx), RwLockReadGuardArc::new)
     }
 }
 
@@ -174,8 +153,7 @@ impl<'a, T, R: Wait + Clock> Write<'a, T, R> {
     /// wait. An error says that it could not: then it is in no queue.
     #[inline(always)]
     pub fn wait(self) -> Result<RwLockWriteGuard<'a, T, R>, LockError> {
-        let Write { obtaining } = self;
-        let (hold, share) = obtaining.wait()?;
+        let (hold, share) = self.obtaining.wait()?;
         Ok(RwLockWriteGuard::new(hold, share))
     }
 
@@ -186,11 +164,8 @@ impl<'a, T, R: Wait + Clock> Write<'a, T, R> {
         self,
         timeout: Duration,
     ) -> Result<Option<RwLockWriteGuard<'a, T, R>>, LockError> {
-        let Write { obtaining } = self;
-        match obtaining.wait_timeout(timeout)? {
-            Some((hold, share)) => Ok(Some(RwLockWriteGuard::new(hold, share))),
-            None => Ok(None),
-        }
+        let got = self.obtaining.wait_timeout(timeout)?;
+        Ok(got.map(|(hold, share)| RwLockWriteGuard::new(hold, share)))
     }
 
     /// Blocks the thread until it may write, or until this moment. `None` says that it was in vain: then the thread is in no
@@ -199,11 +174,8 @@ impl<'a, T, R: Wait + Clock> Write<'a, T, R> {
         self,
         deadline: Instant,
     ) -> Result<Option<RwLockWriteGuard<'a, T, R>>, LockError> {
-        let Write { obtaining } = self;
-        match obtaining.wait_deadline(deadline)? {
-            Some((hold, share)) => Ok(Some(RwLockWriteGuard::new(hold, share))),
-            None => Ok(None),
-        }
+        let got = self.obtaining.wait_deadline(deadline)?;
+        Ok(got.map(|(hold, share)| RwLockWriteGuard::new(hold, share)))
     }
 }
 
@@ -216,8 +188,7 @@ impl<T: Drop, R: Wait + Clock + Drop> WriteArc<T, R> {
 
     /// As [`Write::wait`].
     pub fn wait(self) -> Result<RwLockWriteGuardArc<T, R>, LockError> {
-        let WriteArc { obtaining } = self;
-        let (hold, share) = obtaining.wait()?;
+        let (hold, share) = self.obtaining.wait()?;
         Ok(RwLockWriteGuardArc::new(hold, share))
     }
 
@@ -226,11 +197,8 @@ impl<T: Drop, R: Wait + Clock + Drop> WriteArc<T, R> {
         self,
         timeout: Duration,
     ) -> Result<Option<RwLockWriteGuardArc<T, R>>, LockError> {
-        let WriteArc { obtaining } = self;
-        match obtaining.wait_timeout(timeout)? {
-            Some((hold, share)) => Ok(Some(RwLockWriteGuardArc::new(hold, share))),
-            None => Ok(None),
-        }
+        let got = self.obtaining.wait_timeout(timeout)?;
+        Ok(got.map(|(hold, share)| RwLockWriteGuardArc::new(hold, share)))
     }
 
     /// As [`Write::wait_deadline`].
@@ -238,11 +206,8 @@ impl<T: Drop, R: Wait + Clock + Drop> WriteArc<T, R> {
         self,
         deadline: Instant,
     ) -> Result<Option<RwLockWriteGuardArc<T, R>>, LockError> {
-        let WriteArc { obtaining } = self;
-        match obtaining.wait_deadline(deadline)? {
-            Some((hold, share)) => Ok(Some(RwLockWriteGuardArc::new(hold, share))),
-            None => Ok(None),
-        }
+        let got = self.obtaining.wait_deadline(deadline)?;
+        Ok(got.map(|(hold, share)| RwLockWriteGuardArc::new(hold, share)))
     }
 }
 
@@ -255,11 +220,7 @@ impl<'a, T, R: Wait + Clock> Future for Write<'a, T, R> {
         &mut self,
         cx: &mut Context<'_>,
     ) -> Poll<Result<RwLockWriteGuard<'a, T, R>, LockError>> {
-        match self.obtaining.poll(cx) {
-            Poll::Ready(Ok((hold, share))) => Poll::Ready(Ok(RwLockWriteGuard::new(hold, share))),
-            Poll::Ready(Err(error)) => Poll::Ready(Err(error)),
-            Poll::Pending => Poll::Pending,
-        }
+        guarded(self.obtaining.poll(cx), RwLockWriteGuard::new)
     }
 }
 
@@ -269,12 +230,6 @@ impl<T: Drop, R: Wait + Clock + Drop> Future for WriteArc<T, R> {
     ghost needs = { λ it s. IsSomeAnd it.obtaining.hold (λ hold. s ≡ (arc_value hold.lock).source) };
 
     fn poll(&mut self, cx: &mut Context<'_>) -> Poll<Result<RwLockWriteGuardArc<T, R>, LockError>> {
-        match self.obtaining.poll(cx) {
-            Poll::Ready(Ok((hold, share))) => Poll::Ready(Ok(RwLockWriteGuardArc::new(
-                hold, share,
-            ))),
-            Poll::Ready(Err(error)) => Poll::Ready(Err(error)),
-            Poll::Pending => Poll::Pending,
-        }
+        guarded(self.obtaining.poll(cx), RwLockWriteGuardArc::new)
     }
 }

@@ -4,6 +4,7 @@ ghost use Rattle.std.specs.Arc.{arc_value};
 
 use super::Semaphore;
 use super::guard::{SemaphoreGuard, SemaphoreGuardArc};
+use crate::polled::guarded;
 use crate::taker::Taker;
 use event_wait::{Borrowed, LockError, Obtaining, Shared};
 use futures::Future;
@@ -40,8 +41,7 @@ impl<'a, R: Wait + Clock> Acquire<'a, R> {
     /// wait. An error says that it could not: then it is in no queue.
     #[inline(always)]
     pub fn wait(self) -> Result<SemaphoreGuard<'a, R>, LockError> {
-        let Acquire { obtaining } = self;
-        let (hold, permit) = obtaining.wait()?;
+        let (hold, permit) = self.obtaining.wait()?;
         Ok(SemaphoreGuard::new(hold, permit))
     }
 
@@ -52,11 +52,8 @@ impl<'a, R: Wait + Clock> Acquire<'a, R> {
         self,
         timeout: Duration,
     ) -> Result<Option<SemaphoreGuard<'a, R>>, LockError> {
-        let Acquire { obtaining } = self;
-        match obtaining.wait_timeout(timeout)? {
-            Some((hold, permit)) => Ok(Some(SemaphoreGuard::new(hold, permit))),
-            None => Ok(None),
-        }
+        let got = self.obtaining.wait_timeout(timeout)?;
+        Ok(got.map(|(hold, permit)| SemaphoreGuard::new(hold, permit)))
     }
 
     /// Blocks the thread until it has a permit, or until this moment. `None` says that it was in vain: then the thread is in no
@@ -65,11 +62,8 @@ impl<'a, R: Wait + Clock> Acquire<'a, R> {
         self,
         deadline: Instant,
     ) -> Result<Option<SemaphoreGuard<'a, R>>, LockError> {
-        let Acquire { obtaining } = self;
-        match obtaining.wait_deadline(deadline)? {
-            Some((hold, permit)) => Ok(Some(SemaphoreGuard::new(hold, permit))),
-            None => Ok(None),
-        }
+        let got = self.obtaining.wait_deadline(deadline)?;
+        Ok(got.map(|(hold, permit)| SemaphoreGuard::new(hold, permit)))
     }
 }
 
@@ -80,8 +74,7 @@ impl<R: Wait + Clock + Drop> AcquireArc<R> {
 
     /// As [`Acquire::wait`].
     pub fn wait(self) -> Result<SemaphoreGuardArc<R>, LockError> {
-        let AcquireArc { obtaining } = self;
-        let (hold, permit) = obtaining.wait()?;
+        let (hold, permit) = self.obtaining.wait()?;
         Ok(SemaphoreGuardArc::new(hold, permit))
     }
 
@@ -90,11 +83,8 @@ impl<R: Wait + Clock + Drop> AcquireArc<R> {
         self,
         timeout: Duration,
     ) -> Result<Option<SemaphoreGuardArc<R>>, LockError> {
-        let AcquireArc { obtaining } = self;
-        match obtaining.wait_timeout(timeout)? {
-            Some((hold, permit)) => Ok(Some(SemaphoreGuardArc::new(hold, permit))),
-            None => Ok(None),
-        }
+        let got = self.obtaining.wait_timeout(timeout)?;
+        Ok(got.map(|(hold, permit)| SemaphoreGuardArc::new(hold, permit)))
     }
 
     /// As [`Acquire::wait_deadline`].
@@ -102,11 +92,8 @@ impl<R: Wait + Clock + Drop> AcquireArc<R> {
         self,
         deadline: Instant,
     ) -> Result<Option<SemaphoreGuardArc<R>>, LockError> {
-        let AcquireArc { obtaining } = self;
-        match obtaining.wait_deadline(deadline)? {
-            Some((hold, permit)) => Ok(Some(SemaphoreGuardArc::new(hold, permit))),
-            None => Ok(None),
-        }
+        let got = self.obtaining.wait_deadline(deadline)?;
+        Ok(got.map(|(hold, permit)| SemaphoreGuardArc::new(hold, permit)))
     }
 }
 
@@ -117,11 +104,7 @@ impl<'a, R: Wait + Clock> Future for Acquire<'a, R> {
         (λ hold. s ≡ hold.lock.now.source) };
 
     fn poll(&mut self, cx: &mut Context<'_>) -> Poll<Result<SemaphoreGuard<'a, R>, LockError>> {
-        match self.obtaining.poll(cx) {
-            Poll::Ready(Ok((hold, permit))) => Poll::Ready(Ok(SemaphoreGuard::new(hold, permit))),
-            Poll::Ready(Err(error)) => Poll::Ready(Err(error)),
-            Poll::Pending => Poll::Pending,
-        }
+        guarded(self.obtaining.poll(cx), SemaphoreGuard::new)
     }
 }
 
@@ -132,12 +115,6 @@ impl<R: Wait + Clock + Drop> Future for AcquireArc<R> {
         (λ hold. s ≡ (arc_value hold.lock).source) };
 
     fn poll(&mut self, cx: &mut Context<'_>) -> Poll<Result<SemaphoreGuardArc<R>, LockError>> {
-        match self.obtaining.poll(cx) {
-            Poll::Ready(Ok((hold, permit))) => Poll::Ready(Ok(SemaphoreGuardArc::new(
-                hold, permit,
-            ))),
-            Poll::Ready(Err(error)) => Poll::Ready(Err(error)),
-            Poll::Pending => Poll::Pending,
-        }
+        guarded(self.obtaining.poll(cx), SemaphoreGuardArc::new)
     }
 }
