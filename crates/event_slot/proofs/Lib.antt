@@ -1,0 +1,9 @@
+pub mod Entering
+pub mod Fields
+pub mod Handing
+pub mod InMemory
+pub mod Lending
+pub mod Names
+pub mod Sent
+pub mod Steps
+pub mod Tracking

@@ -1,0 +1,55 @@
+-- What the shared slot holds, and a right to its value, name no thread.
+use Rattle.std.proofs.Common.{ℕ, zero, suc, List, Option, Some, None, ◌∷◌, ◌++◌}
+use base.Fraction.{full_share}
+use base.Fml.{Lft}
+use base.Shift.{Keyless}
+use base.Stored.{Gv}
+use denote.RattleType.{RattleType}
+use denote.RawPtr.{Ptr, block_ptr, null_ptr}
+use denote.Param.Send.{IsSend, IsSync, Common, part_keyless}
+use Rattle.core.proofs.atomic.Sent.{chain-Keyless}
+use Rattle.atomic_table.proofs.Sent.{roster_keyless}
+use Rattle.counted_slot.specs.Counting.{Id, Phase, free, away, shared, state}
+use Rattle.event_slot.specs.Holding.{any, place, writer, right_to, kept, held, claim_shares, writing_shares}
+
+module _ (R : RattleType) (s : IsSend R) (y : IsSync R) where
+  pub state_keyless : (b o : ℕ) (t : Id) (n : ℕ) (p : Phase R.Denot) → Keyless (state R any b o t n p)
+  state_keyless b o t n free = ((λ _. tt), ((λ _. tt), ((tt, tt), λ x. (part_keyless R s full_share x b (place R b o), λ _. tt))))
+  state_keyless b o t n away = ((λ _. tt), λ _. tt)
+  state_keyless b o t n (shared a m x) =
+      ((λ _. tt), ((λ e c. (tt, tt)), ((tt, tt), (((λ _. tt), y.shared x b (place R b o) (a ∷ t.0)), λ z. (part_keyless R s full_share z b (place R b o), λ _. tt)))))
+
+  writer_keyless : (b o : ℕ) (t : Id) (x : R.Denot) → Keyless (writer R b o t x)
+  writer_keyless b o t x = ((tt, tt), λ δ. (tt, λ z. (part_keyless R s full_share z b (place R b o), tt)))
+
+  right_keyless : (b o : ℕ) (t : Id) (right : ℕ) (v : Option R.Denot) → Keyless (right_to R b o t right v)
+  right_keyless b o t zero v = tt
+  right_keyless b o t (suc zero) (Some x) = λ a. ((λ e c. (tt, tt)), ((λ _. tt), y.shared x b (place R b o) (a ∷ t.0)))
+  right_keyless b o t (suc zero) None = tt
+  right_keyless b o t (suc (suc k)) (Some x) = writer_keyless b o t x
+  right_keyless b o t (suc (suc k)) None = tt
+
+  module _ {W : Type 0} (e : W → Gv) (holds : ℕ → List W → Type 0) (γ : ℕ) (β : Lft) where
+    pub kept_keyless : (b o : ℕ) (t : Id) → Keyless (kept e holds γ R b o t β)
+    kept_keyless b o t = ((λ νs. chain-Keyless νs β t.0), λ n. (tt, (state_keyless b o t n, λ us. (roster_keyless e γ 0 us, λ _. tt))))
+
+    pub claim_keyless : (p : Ptr) (right : ℕ) (v : Option R.Denot) → Keyless (held e holds γ β R p (λ b o t. right_to R b o t right v))
+    claim_keyless (block_ptr b o) right v = λ t. (kept_keyless b o t, right_keyless b o t right v)
+    claim_keyless null_ptr right v = tt
+
+    pub writing_keyless : (p : Ptr) (x : R.Denot) → Keyless (held e holds γ β R p (λ b o t. writer R b o t x))
+    writing_keyless (block_ptr b o) x = λ t. (kept_keyless b o t, writer_keyless b o t x)
+    writing_keyless null_ptr x = tt
+
+-- what a `&` to either shows, too
+module _ (β : Lft) (R : RattleType) (y : IsSync R) where
+  pub claim_common : (p : Ptr) (right : ℕ) (v : Option R.Denot) → Common (claim_shares β R p right v)
+  claim_common (block_ptr b o) zero v κ = tt
+  claim_common (block_ptr b o) (suc zero) (Some x) κ = ((λ _. tt), y.shared x b (place R b o) (κ ++ β))
+  claim_common (block_ptr b o) (suc zero) None κ = tt
+  claim_common (block_ptr b o) (suc (suc k)) v κ = tt
+  claim_common null_ptr right v κ = tt
+
+  pub writing_common : (p : Ptr) (x : R.Denot) → Common (writing_shares β R p x)
+  writing_common (block_ptr b o) x κ = y.shared x b (place R b o) (κ ++ β)
+  writing_common null_ptr x κ = tt

@@ -1,0 +1,3 @@
+pub mod Holding
+pub mod Lent
+pub mod Ruling

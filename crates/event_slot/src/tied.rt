@@ -1,0 +1,66 @@
+// A writer with what a guard has beside it.
+ghost use Rattle.std.specs.Prelude.{◌≡◌, ℕ};
+ghost use Rattle.event_slot.specs.Holding.{tied_owns, writing_shares};
+
+use crate::rule::Ruled;
+use crate::slot::Slot;
+use crate::writing::Writing;
+use std::marker::{Model, PhantomData};
+
+/// What a guard has beside its right to write, such as its mark and where it goes back.
+pub trait Ties {
+    /// That it belongs to the slot of that name.
+    ghost ties: { Self → ℕ → Type 0 };
+}
+
+/// A right to write with what belongs to it. A guard that has it lends `&mut X` with nothing to show anew, since the fact that
+/// ties the two is in here: a ghost field of the guard's own would stand in the way. It can't be dropped.
+pub struct Tied<'a, X: Ruled, L: Ties> {
+    pub(crate) slot: *const Slot<X>,
+    pub(crate) marker: PhantomData<&'a X>,
+    pub(crate) beside: L,
+    /// The name of the slot.
+    pub ghost name: { ℕ },
+    /// The value as it is.
+    pub ghost value: { X },
+}
+
+impl<'a, X: Ruled, L: Ties> Model for Tied<'a, X, L> {
+    ghost also_owns = { λ t. tied_owns X.View.row.coded.code X.holds t.name 'a X.row t.slot t.value (L.ties t.beside t.name) };
+
+    ghost also_shares = { λ t _ κ. writing_shares 'a X.row t.slot t.value κ };
+}
+
+impl<'a, X: Ruled> Writing<'a, X> {
+    /// Puts beside it what belongs to it.
+    pub fn tie<L: Ties>(self, beside: L) -> Tied<'a, X, L>
+        requires { L.ties beside self.name }
+        ensures { (result.name ≡ self.entry.name) × (result.value ≡ self.entry.value) }
+    {
+        let Writing { slot, marker } = self;
+        Tied {
+            slot,
+            marker,
+            beside,
+        }
+    }
+}
+
+impl<'a, X: Ruled, L: Ties> Tied<'a, X, L> {
+    /// Takes them apart.
+    pub fn untie(self) -> (Writing<'a, X>, L)
+        ensures { (result.0.name ≡ self.entry.name) × (result.0.value ≡ self.entry.value)
+            × L.ties result.1 result.0.name }
+    {
+        let Tied {
+            slot,
+            marker,
+            beside,
+        } = self;
+        (Writing { slot, marker }, beside)
+    }
+}
+
+unsafe impl<X: Ruled + Send + Sync, L: Ties + Send> Send for Tied<'_, X, L> {}
+
+unsafe impl<X: Ruled + Sync, L: Ties + Sync> Sync for Tied<'_, X, L> {}
