@@ -8,7 +8,7 @@ use Rattle.event_history.specs.declared.history.Entry.{Entry}
 use Rattle.event_history.specs.declared.queue_call.QueueCall.{QueueCall}
 use Rattle.event_history.specs.declared.queue_call.QueueCall.TheVariants.{Insert, Notify, Remove}
 use Rattle.event_history.specs.History.{entry, calls_by, newcomer, met_of, both_views, IsAmong, Leads, Looks}
-use Rattle.event_history.specs.Queue.{calls, is_empty, rests_on}
+use Rattle.event_history.specs.Queue.{queue_machine}
 use Rattle.event_history.specs.Laws.{QueueLog, OwnsListener, FindsTold}
 use Rattle.event_history.proofs.HandLemmas.{among_more, begins_last}
 use Rattle.event_listener.specs.Event.{Listens}
@@ -21,14 +21,14 @@ use Rattle.example_events.specs.Heard.{NotifiesAll}
 abbrev ToldByAnother : Type 0 → Type 0
 ToldByAnother T =
     (key : Key) (number by : ℕ) (additional : Bool) (told : ℕ) (v w : Known T) (propagate : Bool) (reply : Option (State T Task)) (earlier later : QueueLog T Task) (before after : Queue T Task)
-    → Leads calls is_empty rests_on v (Remove key propagate reply) before after w → OwnsListener key v.mine → v.seen ≡ earlier ++ entry by (Notify (2 ^ 64 - 1) additional (Ok told)) ∷ later
+    → Leads queue_machine v (Remove key propagate reply) before after w → OwnsListener key v.mine → v.seen ≡ earlier ++ entry by (Notify (2 ^ 64 - 1) additional (Ok told)) ∷ later
     → IsAmong (Insert (Ok key)) (calls_by number earlier) → FindsTold propagate reply
 
 module _ {T : Type 0} where
   -- the listener joined, a hand heard of it, another one that knew so notified all, and the listener took that one in
   finds_told : ToldByAnother T → (key : Key) (seen : QueueLog T Task) (hand joined heard said knows gone : Known T) (additional : Bool) (told : ℕ) (former : Option (State T Task))
-      → Calls (newcomer seen) (Insert (Ok key)) joined → Looks calls is_empty rests_on (both_views hand (newcomer joined.seen)) heard
-      → Calls (newcomer heard.seen) (Notify (2 ^ 64 - 1) additional (Ok told)) said → Looks calls is_empty rests_on (both_views joined said) knows
+      → Calls (newcomer seen) (Insert (Ok key)) joined → Looks queue_machine (both_views hand (newcomer joined.seen)) heard
+      → Calls (newcomer heard.seen) (Notify (2 ^ 64 - 1) additional (Ok told)) said → Looks queue_machine (both_views joined said) knows
       → Calls knows (Remove key false former) gone → was_notified former ≡ true
   finds_told law key seen hand joined heard said knows gone additional told former joins hears says takes leaves =
       let join = joins.2 in
@@ -48,13 +48,13 @@ module _ {T : Type 0} where
 
   -- the same, as calls of hands and of a listener say it
   pub is_heard : ToldByAnother T → (seen : QueueLog T Task) (hand heard other said : Caller T) (joined lent knows : Listening T) (answer : Bool)
-      → Listens seen joined → lent ≡ joined → Looks calls is_empty rests_on (both_views hand.knows (newcomer joined.knows.seen)) heard.knows
+      → Listens seen joined → lent ≡ joined → Looks queue_machine (both_views hand.knows (newcomer joined.knows.seen)) heard.knows
       → other.knows ≡ newcomer heard.knows.seen → NotifiesAll other said
-      → Looks calls is_empty rests_on (both_views lent.knows said.knows) knows.knows → knows.standing ≡ lent.standing
+      → Looks queue_machine (both_views lent.knows said.knows) knows.knows → knows.standing ≡ lent.standing
       → RemovesBy false knows answer → answer ≡ true
   is_heard law seen hand heard other said joined lent knows answer joins same hears told says takes stands removes =
       let says' = subst (λ (v : Known T). Calls v (Notify (2 ^ 64 - 1) true (Ok says.0)) said.knows) told says.1 in
-      let takes' = subst (λ (l : Listening T). Looks calls is_empty rests_on (both_views l.knows said.knows) knows.knows) same takes in
+      let takes' = subst (λ (l : Listening T). Looks queue_machine (both_views l.knows said.knows) knows.knows) same takes in
       let standing : knows.standing ≡ joined.standing = stands ∙ ap (λ (l : Listening T). l.standing) same in
       let leaves = subst (λ (s : Standing). Calls knows.knows (Remove s.key false removes.0) removes.1) standing removes.3 in
       removes.2 ∙ finds_told law joined.standing.key seen hand.knows joined.knows heard.knows said.knows knows.knows removes.1 true says.0 removes.0 joins hears says' takes' leaves

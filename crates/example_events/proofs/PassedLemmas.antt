@@ -11,7 +11,7 @@ use Rattle.event_history.specs.declared.history.Entry.{Entry}
 use Rattle.event_history.specs.declared.queue_call.QueueCall.{QueueCall}
 use Rattle.event_history.specs.declared.queue_call.QueueCall.TheVariants.{Insert, Remove, Counts}
 use Rattle.event_history.specs.History.{entry, calls_by, newcomer, met_of, both_views, StartsWith, IsAmong, Leads, Looks}
-use Rattle.event_history.specs.Queue.{calls, is_empty, rests_on}
+use Rattle.event_history.specs.Queue.{queue_machine}
 use Rattle.event_history.specs.Laws.{QueueLog, OwnsListener, FindsTold}
 use Rattle.event_history.proofs.HandLemmas.{among_more, begins_last}
 use Rattle.event_listener.specs.Event.{Listens}
@@ -23,7 +23,7 @@ use Rattle.event_listener.proofs.HandLemmas.{found_notified}
 abbrev pub TellsNext : Type 0 → Type 0
 TellsNext T =
     (a b : Key) (x y m n told : ℕ) (former reply : Option (State T Task)) (propagate : Bool) (v w : Known T) (earlier between later : QueueLog T Task) (before after : Queue T Task)
-    → Leads calls is_empty rests_on v (Remove b propagate reply) before after w → OwnsListener b v.mine → v.seen ≡ earlier ++ entry m (Counts told 2) ∷ (between ++ entry n (Remove a true former) ∷ later)
+    → Leads queue_machine v (Remove b propagate reply) before after w → OwnsListener b v.mine → v.seen ≡ earlier ++ entry m (Counts told 2) ∷ (between ++ entry n (Remove a true former) ∷ later)
     → IsAmong (Insert (Ok a)) (calls_by x earlier) → IsAmong (Insert (Ok b)) (calls_by y earlier) → FindsTold true former → FindsTold propagate reply
 
 module _ {C : Type 0} where
@@ -43,7 +43,7 @@ module _ {T : Type 0} where
   calls_on v w c made = let l = made.2 in (l.between ++ entry l.number c ∷ [], l.seen ∙ append_assoc v.seen l.between (entry l.number c ∷ []))
 
   -- a hand that takes in what another one has seen has seen as much
-  took_in : (v o w : Known T) → Looks calls is_empty rests_on (both_views v o) w → StartsWith w.seen o.seen
+  took_in : (v o w : Known T) → Looks queue_machine (both_views v o) w → StartsWith w.seen o.seen
   took_in v o w looks = begins_last w.seen looks.others w.met (met_of o) v.met looks.idle.2 looks.met
 
   in_own : (key : Key) (seen : QueueLog T Task) (v : Known T) (joins : Calls (newcomer seen) (Insert (Ok key)) v) → IsAmong (Insert (Ok key)) (calls_by (joins.2).number v.seen)
@@ -85,12 +85,12 @@ module _ {T : Type 0} where
 
   -- the same, as calls of a hand and of the two listeners say it
   pub is_passed : TellsNext T → (seen : QueueLog T Task) (told total : ℕ) (asked heard again both counted notified told_first still gone told_second : Caller T) (joined lent first second kept last : Listening T) (dropped heard_last : Bool) (asks ends : Known T)
-      → Listens seen joined → lent ≡ joined → Looks calls is_empty rests_on (both_views asked.knows (newcomer joined.knows.seen)) heard.knows
-      → Listens heard.knows.seen second → kept ≡ second → Looks calls is_empty rests_on (both_views again.knows (newcomer second.knows.seen)) both.knows
+      → Listens seen joined → lent ≡ joined → Looks queue_machine (both_views asked.knows (newcomer joined.knows.seen)) heard.knows
+      → Listens heard.knows.seen second → kept ≡ second → Looks queue_machine (both_views again.knows (newcomer second.knows.seen)) both.knows
       → Calls both.knows (Counts told total) counted.knows → total ≡ 2 → StartsWith notified.knows.seen counted.knows.seen
-      → told_first.knows ≡ newcomer notified.knows.seen → Looks calls is_empty rests_on (both_views lent.knows told_first.knows) first.knows → first.standing ≡ lent.standing
+      → told_first.knows ≡ newcomer notified.knows.seen → Looks queue_machine (both_views lent.knows told_first.knows) first.knows → first.standing ≡ lent.standing
       → RemovesHeard true first dropped still.knows gone.knows → dropped ≡ true
-      → told_second.knows ≡ newcomer gone.knows.seen → Looks calls is_empty rests_on (both_views kept.knows told_second.knows) last.knows → last.standing ≡ kept.standing
+      → told_second.knows ≡ newcomer gone.knows.seen → Looks queue_machine (both_views kept.knows told_second.knows) last.knows → last.standing ≡ kept.standing
       → RemovesHeard false last heard_last asks ends → heard_last ≡ true
   is_passed law seen told total asked heard again both counted notified told_first still gone told_second joined lent first second kept last dropped heard_last asks ends joins same hears follows same' knows counts two notifies tells takes stands drops was tells' takes' stands' leaves =
       let a : Key = joined.standing.key in

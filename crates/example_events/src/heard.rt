@@ -31,8 +31,8 @@ where
 {
     let mut hand = event.hand(rt, alloc)?;
     let mut listener = hand.listen(rt, alloc)?;
-    hand.hear(&mut listener);
-    let other = hand.tell()?;
+    hand.observe(&mut listener);
+    let other = hand.fork()?;
     // Whether the other one has notified yet is not known here.
     let (_, other) = thread::join(
         rt,
@@ -41,7 +41,7 @@ where
             ensures { NotifiesAll other result }
         { notify_all(rt, other) },
     );
-    listener.absorb(other);
+    listener.join(other);
     told_by_another::<(), Task>();
     Ok(listener.discard())
 }

@@ -25,19 +25,19 @@ where
 {
     let mut hand = event.hand(rt, alloc)?;
     let mut first = hand.listen(rt, alloc)?;
-    hand.hear(&mut first);
+    hand.observe(&mut first);
     let mut second = hand.listen(rt, alloc)?;
-    hand.hear(&mut second);
+    hand.observe(&mut second);
     let (_, listeners) = hand.counts(rt);
     if listeners != 2 {
         return Ok(None);
     }
     let _ = hand.notify(rt, 1);
-    first.absorb(hand.tell()?);
+    first.join(hand.fork()?);
     if !hand.drop_listener(first) {
         return Ok(None);
     }
-    second.absorb(hand.tell()?);
+    second.join(hand.fork()?);
     passes_on::<(), Task>();
     Ok(Some(hand.discard(second)))
 }
