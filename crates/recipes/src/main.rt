@@ -8,6 +8,8 @@ mod balance;
 mod cache;
 mod cell;
 mod first_wait;
+mod hands;
+mod jobs;
 mod limiter;
 mod pool;
 mod queue;
@@ -20,6 +22,8 @@ use cell::{make_name, port};
 use event_channel::unbounded;
 use event_locks::{Barrier, Mutex, OnceCell, RwLock, Semaphore};
 use first_wait::first_wait;
+use hands::send_then_receive;
+use jobs::square_each;
 use limiter::{Load, run_all};
 use pool::Pool;
 use queue::{close_gracefully, sum_of_squares};
@@ -164,6 +168,30 @@ where
     Ok(())
 }
 
+// Jobs of which two at most run at once.
+fn run_jobs<R>(rt: &R) -> anyhow::Result<()>
+where
+    R: Threads + Wait + Clock + AllocGlobal + Print + Sync,
+{
+    let permits = Semaphore::new(rt.alloc(), 2)?;
+    let squares = square_each(rt, rt.alloc(), &permits, &[1, 2, 3])?;
+    println!(rt; "jobs: {squares:?}, {} free", permits.available())?;
+    Ok(())
+}
+
+// A number that another thread sends, by a hand that knows of it.
+fn run_hands<R>(rt: &R) -> anyhow::Result<()>
+where
+    R: Threads + Wait + Clock + Clone + AllocGlobal + Print + Sync,
+{
+    let (sender, receiver) = unbounded(rt, rt.alloc())?;
+    let mut hand = sender.hand();
+    let exchanged = send_then_receive(rt, &sender, &receiver, &mut hand, 7);
+    hand.end();
+    println!(rt; "hands: {:?} {:?}", exchanged.sent, exchanged.received)?;
+    Ok(())
+}
+
 fn run<R>(rt: R) -> anyhow::Result<()>
 where
     R: Threads + Wait + Clock + RandomSource + AllocGlobal + Print + Copy + Send + Sync + 'static,
@@ -176,6 +204,8 @@ where
     run_balance(rt)?;
     run_selects(&rt)?;
     run_joins(rt)?;
+    run_jobs(&rt)?;
+    run_hands(&rt)?;
     println!(rt; "event: the tag is {}", first_wait(rt, rt.alloc())?)?;
     Ok(())
 }
