@@ -1,10 +1,12 @@
 -- What a step may change, what it gains, and what it asks of the rule.
-use Rattle.std.specs.Prelude.{◌≡◌, ℕ, ◌+◌, ◌%◌, ◌<◌, ◌≤◌, List, [], ◌∷◌, ◌++◌, slice_set}
+use Rattle.std.specs.Prelude.{◌≡◌, ℕ, ◌+◌, ◌-◌, ◌%◌, ◌^◌, ◌<◌, ◌≤◌, List, [], ◌∷◌, ◌++◌, slice_set}
 use mathlib.Core.Option.{some}
 use lib.ListN.{get_elem?}
 use Rattle.counted_slot.specs.Counting.{readers, IsShared}
 
--- What a turn may do. A word goes to the state 3, to a writer, from where nobody reads. It stays shared with as many readers or with one more. Within a state the high half may change.
+-- What a turn may do. A word comes to the state 3, a writer's, only from where nobody reads. A turn takes it neither from there nor
+-- to the state 0 from another. In the states 1 and 2, where readers may come, as many are counted as before, or one more. All else
+-- may change, the high half in each state.
 abbrev pub IsTurn : ℕ → ℕ → Type 0
 IsTurn old new =
     (old % 4 ≡ 3 → new % 4 ≡ 3)
@@ -47,17 +49,18 @@ abbrev pub IsAny : ℕ → Type 0
 IsAny n = Unit {0}
 
 module _ {W : Type 0} where
-  -- Whatever word there is of which φ holds, and whatever the marks know, when the word becomes f of what it was the mark id, which knew v, can know something so that the rule holds, and `then` of the word found and of that
+  -- Whatever word there is of which φ holds, and whatever the marks know: when the word becomes f of what it was, the mark id, which
+  -- knew v, can know something by which the rule holds, and `then` holds of the word found and of that
   abbrev pub KeepsWhere : (ℕ → Type 0) → (ℕ → List W → Type 0) → ℕ → W → (ℕ → ℕ) → (ℕ → W → Type 0) → Type 0
-  KeepsWhere φ holds id v f then = (n : ℕ) (views : List W) → φ n → holds n views → get_elem? views id ≡ some v → n < 18446744073709551616 → (w : W) × holds (f n) (slice_set views id w) × then n w
+  KeepsWhere φ holds id v f then = (n : ℕ) (views : List W) → φ n → holds n views → get_elem? views id ≡ some v → n < 2 ^ 64 → (w : W) × holds (f n) (slice_set views id w) × then n w
 
   abbrev pub Keeps : (ℕ → List W → Type 0) → ℕ → W → (ℕ → ℕ) → (ℕ → W → Type 0) → Type 0
   Keeps = KeepsWhere IsAny
 
   -- the same for a mark that this very step makes
   abbrev pub Comes : (ℕ → List W → Type 0) → (ℕ → ℕ) → (ℕ → W → Type 0) → Type 0
-  Comes holds f then = (n : ℕ) (views : List W) → holds n views → n < 18446744073709551616 → (w : W) × holds (f n) (views ++ w ∷ []) × then n w
+  Comes holds f then = (n : ℕ) (views : List W) → holds n views → n < 2 ^ 64 → (w : W) × holds (f n) (views ++ w ∷ []) × then n w
 
   -- while somebody writes, one more reader can be counted
   abbrev pub HasRoom : (ℕ → List W → Type 0) → Type 0
-  HasRoom holds = (n : ℕ) (views : List W) → IsWritten n → holds n views → readers n < 1073741823
+  HasRoom holds = (n : ℕ) (views : List W) → IsWritten n → holds n views → readers n < 2 ^ 30 - 1

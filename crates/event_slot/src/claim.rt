@@ -1,5 +1,5 @@
-// What a turn gained, and how a reader ends.
-ghost use Rattle.std.specs.Prelude.{◌≡◌, ◌≢◌, ℕ, ◌+◌, ◌%◌, ◌^◌, ◌==◌, Option, Some};
+//! What a turn gained, and how a reader ends.
+ghost use Rattle.std.specs.Prelude.{◌≡◌, ◌≢◌, ℕ, ◌+◌, ◌-◌, ◌%◌, ◌^◌, ◌==◌, Option, Some};
 ghost use prog.Atomic.{either};
 ghost use Rattle.std.specs.Coded.{coded_option};
 ghost use Rattle.event_slot.specs.Ruling.{IsReadersTurn, Becomes, IsRead, KeepsWhere};
@@ -56,7 +56,7 @@ impl<'a, X: Ruled> Claim<'a, X> {
         requires right { self.right ≡ 1 }
         requires keeps { (mark.old.slot ≡ self.name)
             × KeepsWhere IsRead X.holds mark.old.id mark.old.view
-            (λ n. (n + 18446744073709551612) % 2 ^ 64) (M.then 0 4 mark.old.view) }
+            (λ n. (n + (2 ^ 64 - 4)) % 2 ^ 64) (M.then 0 4 mark.old.view) }
         ensures { (mark.new.slot ≡ mark.old.slot) × (mark.new.id ≡ mark.old.id)
             × M.then 0 4 mark.old.view result mark.new.view }
     {

@@ -1,4 +1,4 @@
-// A rule over a word and what its marks know.
+//! A rule over a word and what its marks know.
 ghost use Rattle.std.specs.Prelude.{◌≡◌, ℕ, List};
 ghost use Rattle.atomic_table.specs.Marked.{mark_owns};
 

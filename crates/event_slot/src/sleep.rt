@@ -1,4 +1,4 @@
-// Sleeping beside a slot, and waking those who do. Neither changes the slot, so neither takes a mark.
+//! Sleeping beside a slot, and waking those who do. Neither changes the slot, so neither takes a mark.
 use crate::rule::Ruled;
 use crate::slot::Slot;
 use std::marker::Brand;

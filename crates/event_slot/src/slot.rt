@@ -1,4 +1,4 @@
-// The slot, and the steps that its owner or anybody with a `&` to it may make.
+//! The slot, and the steps that its owner or anybody with a `&` to it may make.
 ghost use Rattle.std.specs.Prelude.{◌≡◌, ◌≢◌, ℕ, ◌==◌, [], ◌∷◌};
 ghost use prog.Atomic.{either};
 ghost use Rattle.std.specs.Coded.{coded_ℕ};

@@ -1,4 +1,4 @@
-// A writer with what a guard has beside it.
+//! A writer with what a guard has beside it.
 ghost use Rattle.std.specs.Prelude.{◌≡◌, ℕ};
 ghost use Rattle.event_slot.specs.Holding.{tied_owns, writing_shares};
 

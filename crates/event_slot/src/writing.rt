@@ -1,5 +1,5 @@
-// The right to write, and how it ends.
-ghost use Rattle.std.specs.Prelude.{◌≡◌, ℕ, ◌+◌, ◌%◌, ◌^◌, ◌<◌};
+//! The right to write, and how it ends.
+ghost use Rattle.std.specs.Prelude.{◌≡◌, ℕ, ◌+◌, ◌-◌, ◌%◌, ◌^◌, ◌<◌};
 ghost use Rattle.counted_slot.specs.Counting.{readers};
 ghost use Rattle.event_slot.specs.Ruling.{IsWritten, KeepsWhere, HasRoom};
 ghost use Rattle.event_slot.specs.Holding.{writing_owns, writing_shares};
@@ -35,7 +35,7 @@ impl<'a, X: Ruled> Writing<'a, X> {
     pub fn leave<M: Tells<X::View>>(self, mark: &mut Mark<X::View>) -> u64
         requires { (mark.old.slot ≡ self.name)
             × KeepsWhere IsWritten X.holds mark.old.id mark.old.view
-            (λ n. (n + 18446744073709551614) % 2 ^ 64) (M.then 0 2 mark.old.view) }
+            (λ n. (n + (2 ^ 64 - 2)) % 2 ^ 64) (M.then 0 2 mark.old.view) }
         ensures { (mark.new.slot ≡ mark.old.slot) × (mark.new.id ≡ mark.old.id)
             × M.then 0 2 mark.old.view result mark.new.view }
     {

@@ -1,5 +1,5 @@
 -- The steps keep the rule.
-use Rattle.std.proofs.Common.{◌≡◌, ℕ, ◌+◌, ◌/◌, ◌%◌, ◌^◌, false, true, List, [], ◌∷◌, ◌++◌, set, sym, refl, ap, ◌∙◌, ⊎_elim, arith, eqb}
+use Rattle.std.proofs.Common.{◌≡◌, ℕ, ◌+◌, ◌-◌, ◌/◌, ◌%◌, ◌^◌, false, true, List, [], ◌∷◌, ◌++◌, set, sym, refl, ap, ◌∙◌, ⊎_elim, arith, eqb}
 use prog.Atomic.{either}
 use mathlib.Core.Option.{some}
 use lib.ListN.{get_elem?}
@@ -29,10 +29,10 @@ writes = comes 1 3 refl
 pub looks : (id : ℕ) (v : View) → Keeps Right id v (λ n. n) (Look 0 0 v)
 looks id v n views _ right at small = (v, stays id v n n views refl right at, (refl, right id v at))
 
-pub leaves : (id : ℕ) (v : View) → KeepsWhere IsRead Right id v (λ n. (n + 18446744073709551612) % 2 ^ 64) (Stay 0 4 v)
+pub leaves : (id : ℕ) (v : View) → KeepsWhere IsRead Right id v (λ n. (n + (2 ^ 64 - 4)) % 2 ^ 64) (Stay 0 4 v)
 leaves id v n views so right at small = let a = so.1 in (v, stays id v n ((n + 18446744073709551612) % 18446744073709551616) views (omega arith) right at, refl)
 
-pub gives_back : (id : ℕ) (v : View) → KeepsWhere IsWritten Right id v (λ n. (n + 18446744073709551614) % 2 ^ 64) (Stay 0 2 v)
+pub gives_back : (id : ℕ) (v : View) → KeepsWhere IsWritten Right id v (λ n. (n + (2 ^ 64 - 2)) % 2 ^ 64) (Stay 0 2 v)
 gives_back id v n views so right at small = (v, stays id v n ((n + 18446744073709551614) % 18446744073709551616) views (omega arith) right at, refl)
 
 pub closes : (id : ℕ) (v : View) → KeepsWhere IsWritten Right id v (λ _. 4294967297) (λ _. Close 0 4294967297 v 4294967297)

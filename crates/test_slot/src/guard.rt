@@ -1,4 +1,4 @@
-// Who has the value.
+//! Who has the value.
 ghost use Rattle.std.specs.Prelude.{◌≡◌, true};
 
 use crate::lock::Lock;

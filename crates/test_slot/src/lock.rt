@@ -1,4 +1,4 @@
-// How one comes to the value.
+//! How one comes to the value.
 ghost use Rattle.std.specs.Prelude.{◌≡◌, true, IfSome};
 
 use crate::guard::{Changing, Reading};

@@ -1,4 +1,4 @@
-// The rule: whoever knows that the lock is closed is right.
+//! The rule: whoever knows that the lock is closed is right.
 ghost use Rattle.std.specs.Prelude.{false};
 ghost use Rattle.test_slot.specs.Closed.{Right, Stay, Look, Close};
 
