@@ -5,11 +5,11 @@ use types.Mut.{open_ref, close_ref}
 use denote.Ref.{MutBor, MutRef}
 use denote.Struct.OwningLaws.{part_out, part_in}
 use Rattle.atomic_table.specs.Marked.{mark_owns}
-use Rattle.counted_slot.specs.Counting.{Id}
-use Rattle.event_slot.specs.Holding.{Inv, kept}
+use Rattle.event_slot.specs.Holding.{Names, Inv, kept, lies}
 use Rattle.event_slot.specs.contracts.rule.Mark as mark
 use Rattle.event_slot.proofs.Fields.{Token}
-use Rattle.event_slot.proofs.Steps.{moved}
+use Rattle.event_slot.proofs.Steps.{moved, traded}
+use Rattle.event_slot.proofs.Names.{Option}
 
 module _ {M : Type 1} {𝓤 : Ura M} (𝓛 : Logic 𝓤) where
   open 𝓛 use {H, A}
@@ -32,12 +32,12 @@ module _ {M : Type 1} {𝓤 : Ura M} (𝓛 : Logic 𝓤) where
   infix 26 ◌⊢◌
   infixr 35 ◌∗◌
   infixr 30 ◌-∗◌
-  module _ {W : Type 0} (cw : Coded W) (holds : ℕ → List W → Type 0) (γ : ℕ) (R : RattleType) (b o : ℕ) (t : Id) (β : Lft) where
+  module _ {W : Type 0} (cw : Coded W) (γ : ℕ) (R Q : RattleType) (c : ℕ → ℕ) (holds : ℕ → Option Q.Denot → List W → Type 0) (b o : ℕ) (t : Names) (β : Lft) where
     abbrev Kept : Fml
-    Kept = kept cw.code holds γ R b o t β
+    Kept = kept cw.code γ R Q c holds b o t β
 
     abbrev pub J : Fml
-    J = fbor t.0 (Inv cw.code holds γ R b o t)
+    J = fbor t.0 (Inv cw.code γ R Q c holds b o t)
 
     pub kept_twice : ⟦ Kept ⟧ ⊢ ⟦ Kept ⟧ ∗ ⟦ Kept ⟧
     kept_twice = qed 𝓛 (‵ Kept ∷ []) ∵ fsplit ! $ use1 𝓛 (‵ (before β t.0) ⊛ ‵ (before β t.0)) (before_dup 𝓛 β t.0) $ split ! $ move ! (2 ∷ []) $ use1 𝓛 (‵ (finv J) ⊛ ‵ (finv J)) (𝓛.invs.inv_dup J) $ split ! $
@@ -81,3 +81,9 @@ module _ {M : Type 1} {𝓤 : Ura M} (𝓛 : Logic 𝓤) where
     pub homes : (P : V.Denot → Type 0) → ⟦ moved 𝓛 V.coded γ P x.now.id ⟧ ∗ all 𝓤 Back ⊢ H.⇛ (ex 𝓤 (λ (w : V.Denot). guard 𝓤 (P w) (⟦ Marked w ⟧ ∗ A.lft κ q)))
     homes P = let Home : V.Denot → Pr = λ w. guard 𝓤 (P w) (⟦ Marked w ⟧ ∗ A.lft κ q) in qed 𝓛 (‵ (moved 𝓛 V.coded γ P x.now.id) ∷ raw (all 𝓤 Back) ∷ []) ∵ updating ! $ fpick ! (λ w. fsplit ! $ fpick ! (λ h. drop ! $ move ! (1 ∷ []) $ use1 𝓛 (raw (Back w)) (all_e 𝓤 Back w) $ move ! (1 ∷ 0 ∷ []) $
         use2 𝓛 (later (‵ (Marked w) ⊛ ‵ (flft κ q))) (apply∗ 𝓤 ⟦ Owned γ w ⟧ (H.⇛ (⟦ Marked w ⟧ ∗ A.lft κ q))) $ await ! tt $ now ! $ show ! Home w $ check ! h $ done !))
+
+    -- a mark that has moved goes home, beside what is out with it
+    pub brings : (R Q : RattleType) (b o : ℕ) (t : Names) (P : V.Denot → Option Q.Denot → Type 0) → ⟦ traded 𝓛 V.coded γ R Q b o t P x.now.id ⟧ ∗ all 𝓤 Back
+        ⊢ H.⇛ (ex 𝓤 (λ (z : V.Denot × Option Q.Denot). guard 𝓤 (P z.0 z.1) (⟦ Marked z.0 ⟧ ∗ A.lft κ q ∗ ⟦ lies R Q b o t z.1 ⟧)))
+    brings R Q b o t P = let Home : V.Denot × Option Q.Denot → Pr = λ z. guard 𝓤 (P z.0 z.1) (⟦ Marked z.0 ⟧ ∗ A.lft κ q ∗ ⟦ lies R Q b o t z.1 ⟧) in qed 𝓛 (‵ (traded 𝓛 V.coded γ R Q b o t P x.now.id) ∷ raw (all 𝓤 Back) ∷ []) ∵ updating ! $ fpick ! (λ z. fsplit3 ! $ fpick ! (λ h. drop ! $ move ! (2 ∷ []) $ use1 𝓛 (raw (Back z.0)) (all_e 𝓤 Back z.0) $ move ! (1 ∷ 0 ∷ []) $
+        use2 𝓛 (later (‵ (Marked z.0) ⊛ ‵ (flft κ q))) (apply∗ 𝓤 ⟦ Owned γ z.0 ⟧ (H.⇛ (⟦ Marked z.0 ⟧ ∗ A.lft κ q))) $ await ! tt $ split ! $ now ! $ show ! Home z $ check ! h $ move ! (0 ∷ 1 ∷ 2 ∷ []) $ done !))

@@ -8,8 +8,7 @@ use denote.Struct.Laws.{RawPtr-copy, field_copy}
 use denote.Struct.Struct.{Shape, Struct, within}
 use denote.Struct.Owning.{shape}
 use Rattle.core.specs.contracts.marker.PhantomData as marker
-use Rattle.counted_slot.specs.Counting.{Id, reader, reads}
-use Rattle.event_slot.specs.Holding.{any, writer, writes, held, claim_shares, writing_shares}
+use Rattle.event_slot.specs.Holding.{Names, writer, writes, held, claim_shares, writing_shares}
 use Rattle.event_slot.specs.contracts.rule.Mark as mark
 
 -- a claim and a writer are a pointer and nothing else
@@ -92,11 +91,12 @@ module _ (V : RattleType) where
   token_made 𝓛 = makes_shadow 𝓛 (Token.own_val (tt, tt) (token ∷ [])) (λ vss. (tt, ((λ uss. (tt, tt)), tt))) ((vstruct vnil ∷ [], tt), (refl, ((tt, (refl, tt)), tt)))
 
 -- whoever holds a slot, or sees its value, has its address
-module _ {M : Type 1} {𝓤 : Ura M} (𝓛 : Logic 𝓤) {W : Type 0} (cw : Coded W) (holds : ℕ → List W → Type 0) (γ : ℕ) (β : Lft) (R : RattleType) where
-  pub held_placed : (p : Ptr) (P : ℕ → ℕ → Id → Fml) → ent 𝓤 (sem 𝓛 (held cw.code holds γ β R p P)) (shown 𝓤 (InBlock p))
+module _ {M : Type 1} {𝓤 : Ura M} (𝓛 : Logic 𝓤) {W : Type 0} (cw : Coded W) (γ : ℕ) (R Q : RattleType) (c : ℕ → ℕ) (holds : ℕ → Option Q.Denot → List W → Type 0) (β : Lft) where
+  pub held_placed : (p : Ptr) (P : ℕ → ℕ → Names → Fml) → ent 𝓤 (sem 𝓛 (held cw.code γ R Q c holds β p P)) (shown 𝓤 (InBlock p))
   held_placed (block_ptr b o) P = fact_i 𝓤 (Unit {0}) _ tt
   held_placed null_ptr P = never_e 𝓤 _
 
+module _ {M : Type 1} {𝓤 : Ura M} (𝓛 : Logic 𝓤) (β : Lft) (R : RattleType) where
   pub reader_sees : (p : Ptr) (v : Option R.Denot) (κ : Lft) → ent 𝓤 (sem 𝓛 (claim_shares β R p 1 v κ)) (shown 𝓤 (InBlock p × ((x : R.Denot) × (v ≡ Some x))))
   reader_sees (block_ptr b o) (Some x) κ = fact_i 𝓤 (Unit {0} × ((y : R.Denot) × (Some x ≡ Some y))) _ (tt, (x, refl))
   reader_sees (block_ptr b o) None κ = never_e 𝓤 _
@@ -106,10 +106,6 @@ module _ {M : Type 1} {𝓤 : Ura M} (𝓛 : Logic 𝓤) {W : Type 0} (cw : Code
   writer_sees (block_ptr b o) x κ = fact_i 𝓤 (Unit {0}) _ tt
   writer_sees null_ptr x κ = never_e 𝓤 _
 
-  pub reads_some : (b o : ℕ) (t : Id) (v : Option R.Denot) → ent 𝓤 (sem 𝓛 (reads R any b o t v)) (ex 𝓤 (λ (x : R.Denot). guard 𝓤 (Some x ≡ v) (sem 𝓛 (reader R any b o t x))))
-  reads_some b o t (Some x) = via 𝓤 _ (guard_i 𝓤 (Some x ≡ Some x) (sem 𝓛 (reader R any b o t x)) refl) (ex_i 𝓤 (λ (z : R.Denot). guard 𝓤 (Some z ≡ Some x) (sem 𝓛 (reader R any b o t z))) x)
-  reads_some b o t None = never_e 𝓤 _
-
-  pub writes_some : (b o : ℕ) (t : Id) (v : Option R.Denot) → ent 𝓤 (sem 𝓛 (writes R b o t v)) (ex 𝓤 (λ (x : R.Denot). guard 𝓤 (Some x ≡ v) (sem 𝓛 (writer R b o t x))))
+  pub writes_some : (b o : ℕ) (t : Names) (v : Option R.Denot) → ent 𝓤 (sem 𝓛 (writes R b o t v)) (ex 𝓤 (λ (x : R.Denot). guard 𝓤 (Some x ≡ v) (sem 𝓛 (writer R b o t x))))
   writes_some b o t (Some x) = via 𝓤 _ (guard_i 𝓤 (Some x ≡ Some x) (sem 𝓛 (writer R b o t x)) refl) (ex_i 𝓤 (λ (z : R.Denot). guard 𝓤 (Some z ≡ Some x) (sem 𝓛 (writer R b o t z))) x)
   writes_some b o t None = never_e 𝓤 _

@@ -5,16 +5,16 @@ use denote.Moves.{moves, moves_before}
 use denote.Shares.{settles}
 use denote.Struct.Lending.{Lends-nothing}
 use Rattle.core.proofs.cell.Borrows.{unnest_before}
-use Rattle.counted_slot.specs.Counting.{tag, parts, Id, seen, reader}
+use Rattle.counted_slot.specs.Counting.{tag, parts, seen, reader}
 use Rattle.counted_slot.proofs.Parts.{parts_in}
 use Rattle.counted_slot.proofs.Rounds.{seen_laws}
-use Rattle.event_slot.specs.Holding.{any, place, writer, Inv, kept, claim_owns, claim_shares, writing_owns, writing_shares}
+use Rattle.event_slot.specs.Holding.{any, Names, count, place, lies, writer, Inv, kept, claim_owns, claim_shares, writing_owns, writing_shares}
 
 pub writing_laws : (β : Lft) (R : RattleType) → RowLaws R → (p : Ptr) (x : R.Denot) → ShrLaws (writing_shares β R p x)
 writing_laws β R L (block_ptr b o) x = within_shr_laws β (shared_of R x b (place R b o)) (L x b (place R b o))
 writing_laws β R L null_ptr x = said_shr_laws ffalse tt
 
-module _ {M : Type 1} {𝓤 : Ura M} (𝓛 : Logic 𝓤) {W : Type 0} (cw : Coded W) (holds : ℕ → List W → Type 0) (γ : ℕ) (β : Lft) (R : RattleType) where
+module _ {M : Type 1} {𝓤 : Ura M} (𝓛 : Logic 𝓤) {W : Type 0} (cw : Coded W) (γ : ℕ) (R Q : RattleType) (c : ℕ → ℕ) (holds : ℕ → Option Q.Denot → List W → Type 0) (β : Lft) where
   open 𝓛 use {H, A}
 
   abbrev Pr : Type 2
@@ -36,30 +36,30 @@ module _ {M : Type 1} {𝓤 : Ura M} (𝓛 : Logic 𝓤) {W : Type 0} (cw : Code
   infixr 35 ◌∗◌
   infixr 30 ◌-∗◌
   module _ (b o : ℕ) (x : R.Denot) (ν : Lft) (inc : Incl ν β) where
-    abbrev Kept : Id → Fml
-    Kept t = finv (fbor t.0 (Inv cw.code holds γ R b o t))
+    abbrev Kept : Names → Fml
+    Kept t = finv (fbor t.0 (Inv cw.code γ R Q c holds b o t))
 
     -- a reader's part is lent for ν, so what is shared as long as the part lasts is shared for ν
-    module _ (L : RowLaws R) where
+    module _ (L : RowLaws R) (h : Option Q.Denot) where
       abbrev Claim : Fml
-      Claim = claim_owns cw.code holds γ β R (block_ptr b o) 1 (Some x)
+      Claim = claim_owns cw.code γ R Q c holds β (block_ptr b o) 1 (Some x) h
 
       abbrev V : Lft → Fml
       V = seen R any b o x
 
-      part_again : (t : Id) (a : ℕ) (e : Share) → Counts 63 e 1 → ⟦ before β t.0 ⟧ ∗ ⟦ Kept t ⟧ ∗ ⟦ tag t.1 e a ⟧ ∗ ⟦ V (a ∷ t.0) ⟧ ⊢ ⟦ fwand (fsep (fdead ν) (fseps (flft (a ∷ []) e ∷ []))) (fupd Claim) ⟧
+      part_again : (t : Names) (a : ℕ) (e : Share) → Counts 63 e 1 → ⟦ before β t.0 ⟧ ∗ ⟦ Kept t ⟧ ∗ ⟦ tag t.1 e a ⟧ ∗ ⟦ V (a ∷ t.0) ⟧ ∗ ⟦ lies R Q b o t h ⟧ ⊢ ⟦ fwand (fsep (fdead ν) (fseps (flft (a ∷ []) e ∷ []))) (fupd Claim) ⟧
       unfolding fseps
-      part_again t a e c = qed 𝓛 (‵ (before β t.0) ∷ ‵ (Kept t) ∷ ‵ (tag t.1 e a) ∷ ‵ (V (a ∷ t.0)) ∷ []) ∵ assume ! (‵ (fsep (fdead ν) (fsep (flft (a ∷ []) e) ftrue))) $ suffices ! ⟦ Claim ⟧ (upd_i 𝓤 ⟦ Claim ⟧) $
-          fsplit3 ! $ move ! (1 ∷ 5 ∷ []) $ fjoin ! $ use1 𝓛 (‵ (parts t.1 a 1)) (parts_in 𝓛 t.1 a 1 e c) $ move ! (0 ∷ 5 ∷ []) $ fjoin ! $ fpack ! ℕ (λ u. fsep (parts t.1 u 1) (V (u ∷ t.0))) a $
-          move ! (3 ∷ 4 ∷ []) $ fjoin ! $ fjoin ! $ fpack ! Id (λ s. fsep (kept cw.code holds γ R b o s β) (reader R any b o s x)) t $ keep ! (0 ∷ []) $ done !
+      part_again t a e k = qed 𝓛 (‵ (before β t.0) ∷ ‵ (Kept t) ∷ ‵ (tag t.1 e a) ∷ ‵ (V (a ∷ t.0)) ∷ ‵ (lies R Q b o t h) ∷ []) ∵ assume ! (‵ (fsep (fdead ν) (fsep (flft (a ∷ []) e) ftrue))) $ suffices ! ⟦ Claim ⟧ (upd_i 𝓤 ⟦ Claim ⟧) $
+          fsplit3 ! $ move ! (1 ∷ 5 ∷ []) $ fjoin ! $ use1 𝓛 (‵ (parts t.1 a 1)) (parts_in 𝓛 t.1 a 1 e k) $ move ! (0 ∷ 5 ∷ []) $ fjoin ! $ fpack ! ℕ (λ u. fsep (parts t.1 u 1) (V (u ∷ t.0))) a $
+          move ! (0 ∷ 5 ∷ []) $ fjoin ! $ move ! (3 ∷ 4 ∷ []) $ fjoin ! $ move ! (0 ∷ 1 ∷ []) $ fjoin ! $ fpack ! Names (λ s. fsep (kept cw.code γ R Q c holds b o s β) (fsep (reader R any b o (count s) x) (lies R Q b o s h))) t $ keep ! (0 ∷ []) $ done !
 
       sees : (q : Share) → A.bor ν Claim ∗ A.lft ν q ⊢ H.⇛ (⟦ V ν ⟧ ∗ A.lft ν q)
       unfolding fseps
-      sees q = qed 𝓛 (‵ (fbor ν Claim) ∷ ‵ (flft ν q) ∷ []) ∵ updating ! $ bor_open ! tt $ move ! (1 ∷ []) $ fpick ! (λ t. fsplit ! $ fsplit ! $ move ! (2 ∷ []) $ fpick ! (λ u. fsplit ! $ fpick ! (λ e. fpick ! (λ c. fsplit ! $
+      sees q = qed 𝓛 (‵ (fbor ν Claim) ∷ ‵ (flft ν q) ∷ []) ∵ updating ! $ bor_open ! tt $ move ! (1 ∷ []) $ fpick ! (λ t. fsplit ! $ fsplit ! $ move ! (2 ∷ []) $ fsplit ! $ fpick ! (λ u. fsplit ! $ fpick ! (λ e. fpick ! (λ k. fsplit ! $
           let a : Lft = u ∷ [] in let μ : Lft = a ++ ν in let K = seen_laws R any L b o x in
-          -- [the part; its name; what is seen; before; kept; the open borrow]
-          move ! (2 ∷ []) $ use1 𝓛 (‵ (V (a ++ t.0)) ⊛ ‵ (V (a ++ t.0))) (contraction 𝓛 V K (a ++ t.0)) $ split ! $ move ! (4 ∷ []) $ use1 𝓛 (‵ (before β t.0) ⊛ ‵ (before β t.0)) (before_dup 𝓛 β t.0) $ split ! $
-          move ! (0 ∷ 6 ∷ 5 ∷ 2 ∷ []) $ group ! 4 $ use1 𝓛 (‵ (fwand (fsep (fdead ν) (fseps (flft a e ∷ []))) (fupd Claim))) (part_again t u e c) $ nothing ! $ move ! (4 ∷ 0 ∷ []) $ fjoin ! $ move ! (4 ∷ 0 ∷ 1 ∷ []) $
+          -- [the part; its name; what is seen; the state; before; kept; the open borrow]
+          move ! (0 ∷ 1 ∷ 2 ∷ 4 ∷ 5 ∷ 6 ∷ []) $ move ! (2 ∷ []) $ use1 𝓛 (‵ (V (a ++ t.0)) ⊛ ‵ (V (a ++ t.0))) (contraction 𝓛 V K (a ++ t.0)) $ split ! $ move ! (4 ∷ []) $ use1 𝓛 (‵ (before β t.0) ⊛ ‵ (before β t.0)) (before_dup 𝓛 β t.0) $ split ! $
+          move ! (0 ∷ 6 ∷ 5 ∷ 2 ∷ 8 ∷ []) $ group ! 5 $ use1 𝓛 (‵ (fwand (fsep (fdead ν) (fseps (flft a e ∷ []))) (fupd Claim))) (part_again t u e k) $ nothing ! $ move ! (4 ∷ 0 ∷ []) $ fjoin ! $ move ! (4 ∷ 0 ∷ 1 ∷ []) $
           obor_alter ! tt (flft a e ∷ []) $ use1 𝓛 (‵ (fbor ν (flft a e)) ⊛ ‵ ftrue) (id⊢ 𝓤 _) $ split ! $ bor_fracture ! tt (λ r. flft a r) e $
           -- [the part, shared for ν; nothing; the token; before; what is seen]
           move ! (4 ∷ []) $ use1 𝓛 (‵ (V (μ ++ t.0))) (shortens 𝓛 V K (a ++ t.0) (μ ++ t.0) (⊑_meet (μ ++ t.0) a t.0 (Incl-trans (meet_⊑_left μ t.0) (meet_⊑_left a ν)) (meet_⊑_right μ t.0))) $
@@ -68,12 +68,12 @@ module _ {M : Type 1} {𝓤 : Ura M} (𝓛 : Logic 𝓤) {W : Type 0} (cw : Code
 
     -- a writer's borrow is lent for ν
     abbrev Writer : Fml
-    Writer = writing_owns cw.code holds γ β R (block_ptr b o) x
+    Writer = writing_owns cw.code γ R Q c holds β (block_ptr b o) x
 
     abbrev At : Fml
     At = part_at R full_share x b (place R b o)
 
-    module _ (t : Id) (δ : GName) where
+    module _ (t : Names) (δ : GName) where
       abbrev In : Fml
       In = Body (mem R) b (place R b o) δ
 
@@ -84,7 +84,7 @@ module _ {M : Type 1} {𝓤 : Ura M} (𝓛 : Logic 𝓤) {W : Type 0} (cw : Code
       unfolding fseps
       writer_again = qed 𝓛 (‵ (before β t.0) ∷ ‵ (Kept t) ∷ ‵ (out t.2) ∷ []) ∵ assume ! (‵ (fsep (fdead ν) (fsep Says (fsep (fbor t.0 In) ftrue)))) $ suffices ! ⟦ Writer ⟧ (upd_i 𝓤 ⟦ Writer ⟧) $ fsplit ! $ drop ! $ fsplit3 ! $ fjoin ! $
           fpack ! GName (λ η. fsep (fobs η (R.coded.code x)) (fbor t.0 (Body (mem R) b (place R b o) η))) δ $ move ! (4 ∷ 0 ∷ []) $ fjoin ! $ move ! (2 ∷ 3 ∷ []) $ fjoin ! $ fjoin ! $
-          fpack ! Id (λ s. fsep (kept cw.code holds γ R b o s β) (writer R b o s x)) t $ keep ! (0 ∷ []) $ done !
+          fpack ! Names (λ s. fsep (kept cw.code γ R Q c holds b o s β) (writer R b o s x)) t $ keep ! (0 ∷ []) $ done !
 
     shows_value : (q : Share) → A.bor ν Writer ∗ A.lft ν q ⊢ H.⇛ (⟦ fbor ν At ⟧ ∗ A.lft ν q)
     unfolding fseps
@@ -100,22 +100,22 @@ module _ {M : Type 1} {𝓤 : Ura M} (𝓛 : Logic 𝓤) {W : Type 0} (cw : Code
         use3 𝓛 (later (‵ Says' ⊛ ‵ (fbor ν At) ⊛ ‵ (flft ν (Share.right q)))) (settles 𝓛 (mem R) ν ((ν, Share.right q) ∷ []) (Incl-refl ν) δ x b (place R b o)) $ await ! tt $ split3 ! $
         move ! (3 ∷ 0 ∷ []) $ obor_close ! tt $ drop ! $ move ! (0 ∷ 2 ∷ []) $ use2 𝓛 (‵ (flft ν q)) (𝓛.lfts.lft_join ν q) $ now ! $ keep ! (1 ∷ 0 ∷ []) $ done !))
 
-  no_reader : (b o : ℕ) (l : Lft) → Lends 𝓛 (claim_owns cw.code holds γ β R (block_ptr b o) 1 None) (λ _. ffalse) l
-  no_reader b o l κ ts inc sp = let P : Fml = claim_owns cw.code holds γ β R (block_ptr b o) 1 None in qed 𝓛 (‵ (fbor κ P) ∷ raw (lfts 𝓛 ts) ∷ []) ∵ updating ! $
-      use2 𝓛 (later (‵ P ⊛ raw (⟦ P ⟧ -∗ H.⇛ (A.bor κ P ∗ lfts 𝓛 ts)))) (𝓛.more.bor_acc_by κ ts P sp) $ await ! tt $ split ! $ fpick ! (λ t. fsplit ! $ keep ! (1 ∷ []) $ by ! (never_e 𝓤 _))
+  no_reader : (b o : ℕ) (h : Option Q.Denot) (l : Lft) → Lends 𝓛 (claim_owns cw.code γ R Q c holds β (block_ptr b o) 1 None h) (λ _. ffalse) l
+  no_reader b o h l κ ts inc sp = let P : Fml = claim_owns cw.code γ R Q c holds β (block_ptr b o) 1 None h in qed 𝓛 (‵ (fbor κ P) ∷ raw (lfts 𝓛 ts) ∷ []) ∵ updating ! $
+      use2 𝓛 (later (‵ P ⊛ raw (⟦ P ⟧ -∗ H.⇛ (A.bor κ P ∗ lfts 𝓛 ts)))) (𝓛.more.bor_acc_by κ ts P sp) $ await ! tt $ split ! $ fpick ! (λ t. fsplit ! $ move ! (1 ∷ []) $ fsplit ! $ keep ! (0 ∷ []) $ by ! (never_e 𝓤 _))
 
-  pub Lends-claim : RowLaws R → (l : Lft) → Incl l β → (p : Ptr) (right : ℕ) (v : Option R.Denot) → Lends 𝓛 (claim_owns cw.code holds γ β R p right v) (claim_shares β R p right v) l
-  Lends-claim L l le null_ptr right v = Lends-false 𝓛 (claim_shares β R null_ptr right v) l
-  Lends-claim L l le (block_ptr b o) zero v = Lends-nothing 𝓛 (claim_owns cw.code holds γ β R (block_ptr b o) 0 v) l
-  Lends-claim L l le (block_ptr b o) (suc (suc k)) v = Lends-nothing 𝓛 (claim_owns cw.code holds γ β R (block_ptr b o) (suc (suc k)) v) l
-  Lends-claim L l le (block_ptr b o) (suc zero) None = no_reader b o l
-  Lends-claim L l le (block_ptr b o) (suc zero) (Some x) = λ κ ts inc sp. let ν : Lft = κ ++ β in let P : Fml = claim_owns cw.code holds γ β R (block_ptr b o) 1 (Some x) in
+  pub Lends-claim : RowLaws R → (l : Lft) → Incl l β → (p : Ptr) (right : ℕ) (v : Option R.Denot) (h : Option Q.Denot) → Lends 𝓛 (claim_owns cw.code γ R Q c holds β p right v h) (claim_shares β R p right v) l
+  Lends-claim L l le null_ptr right v h = Lends-false 𝓛 (claim_shares β R null_ptr right v) l
+  Lends-claim L l le (block_ptr b o) zero v h = Lends-nothing 𝓛 (claim_owns cw.code γ R Q c holds β (block_ptr b o) 0 v h) l
+  Lends-claim L l le (block_ptr b o) (suc (suc k)) v h = Lends-nothing 𝓛 (claim_owns cw.code γ R Q c holds β (block_ptr b o) (suc (suc k)) v h) l
+  Lends-claim L l le (block_ptr b o) (suc zero) None h = no_reader b o h l
+  Lends-claim L l le (block_ptr b o) (suc zero) (Some x) h = λ κ ts inc sp. let ν : Lft = κ ++ β in let P : Fml = claim_owns cw.code γ R Q c holds β (block_ptr b o) 1 (Some x) h in
       qed 𝓛 (‵ (fbor κ P) ∷ raw (lfts 𝓛 ts) ∷ []) ∵ use1 𝓛 (‵ (fbor ν P)) (𝓛.bors.bor_shorten κ ν P (meet_⊑_left κ β)) $
-      by ! (by_one 𝓛 ν ts (⊑_meet (span ts) κ β sp (Incl-trans inc le)) (A.bor ν P) ⟦ seen R any b o x ν ⟧ (sees b o x ν (meet_⊑_right κ β) L))
+      by ! (by_one 𝓛 ν ts (⊑_meet (span ts) κ β sp (Incl-trans inc le)) (A.bor ν P) ⟦ seen R any b o x ν ⟧ (sees b o x ν (meet_⊑_right κ β) L h))
 
-  pub Lends-writing : (l : Lft) → Incl l β → Shares 𝓛 R l → (p : Ptr) (x : R.Denot) → Lends 𝓛 (writing_owns cw.code holds γ β R p x) (writing_shares β R p x) l
+  pub Lends-writing : (l : Lft) → Incl l β → Shares 𝓛 R l → (p : Ptr) (x : R.Denot) → Lends 𝓛 (writing_owns cw.code γ R Q c holds β p x) (writing_shares β R p x) l
   Lends-writing l le s null_ptr x = Lends-false 𝓛 (writing_shares β R null_ptr x) l
-  Lends-writing l le s (block_ptr b o) x = λ κ ts inc sp. let ν : Lft = κ ++ β in let P : Fml = writing_owns cw.code holds γ β R (block_ptr b o) x in let At : Fml = part_at R full_share x b (place R b o) in let sm : Incl (span ts) ν = ⊑_meet (span ts) κ β sp (Incl-trans inc le) in
+  Lends-writing l le s (block_ptr b o) x = λ κ ts inc sp. let ν : Lft = κ ++ β in let P : Fml = writing_owns cw.code γ R Q c holds β (block_ptr b o) x in let At : Fml = part_at R full_share x b (place R b o) in let sm : Incl (span ts) ν = ⊑_meet (span ts) κ β sp (Incl-trans inc le) in
       qed 𝓛 (‵ (fbor κ P) ∷ raw (lfts 𝓛 ts) ∷ []) ∵ updating ! $ use1 𝓛 (‵ (fbor ν P)) (𝓛.bors.bor_shorten κ ν P (meet_⊑_left κ β)) $
       use2 𝓛 (later (‵ (fbor ν At) ⊛ raw (lfts 𝓛 ts))) (by_one 𝓛 ν ts sm (A.bor ν P) ⟦ fbor ν At ⟧ (shows_value b o x ν (meet_⊑_right κ β))) $ await ! tt $
       use1 𝓛 (later (‵ (shared_of R x b (place R b o) ν) ⊛ raw (lfts 𝓛 ts))) (s x ν ts b (place R b o) inc sm) $ await ! tt $ now ! $ done !

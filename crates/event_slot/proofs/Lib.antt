@@ -7,3 +7,5 @@ pub mod Names
 pub mod Sent
 pub mod Steps
 pub mod Tracking
+pub mod Turning
+pub mod Rights

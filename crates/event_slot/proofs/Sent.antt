@@ -10,7 +10,7 @@ use denote.Param.Send.{IsSend, IsSync, Common, part_keyless}
 use Rattle.core.proofs.atomic.Sent.{chain-Keyless}
 use Rattle.atomic_table.proofs.Sent.{roster_keyless}
 use Rattle.counted_slot.specs.Counting.{Id, Phase, free, away, shared, state}
-use Rattle.event_slot.specs.Holding.{any, place, writer, right_to, kept, held, claim_shares, writing_shares}
+use Rattle.event_slot.specs.Holding.{any, Names, count, place, behind, lies, writer, right_to, kept, claim_owns, writing_owns, claim_shares, writing_shares}
 
 module _ (R : RattleType) (s : IsSend R) (y : IsSync R) where
   pub state_keyless : (b o : ℕ) (t : Id) (n : ℕ) (p : Phase R.Denot) → Keyless (state R any b o t n p)
@@ -19,27 +19,32 @@ module _ (R : RattleType) (s : IsSend R) (y : IsSync R) where
   state_keyless b o t n (shared a m x) =
       ((λ _. tt), ((λ e c. (tt, tt)), ((tt, tt), (((λ _. tt), y.shared x b (place R b o) (a ∷ t.0)), λ z. (part_keyless R s full_share z b (place R b o), λ _. tt)))))
 
-  writer_keyless : (b o : ℕ) (t : Id) (x : R.Denot) → Keyless (writer R b o t x)
+  writer_keyless : (b o : ℕ) (t : Names) (x : R.Denot) → Keyless (writer R b o t x)
   writer_keyless b o t x = ((tt, tt), λ δ. (tt, λ z. (part_keyless R s full_share z b (place R b o), tt)))
 
-  right_keyless : (b o : ℕ) (t : Id) (right : ℕ) (v : Option R.Denot) → Keyless (right_to R b o t right v)
+  right_keyless : (b o : ℕ) (t : Names) (right : ℕ) (v : Option R.Denot) → Keyless (right_to R b o t right v)
   right_keyless b o t zero v = tt
   right_keyless b o t (suc zero) (Some x) = λ a. ((λ e c. (tt, tt)), ((λ _. tt), y.shared x b (place R b o) (a ∷ t.0)))
   right_keyless b o t (suc zero) None = tt
   right_keyless b o t (suc (suc k)) (Some x) = writer_keyless b o t x
   right_keyless b o t (suc (suc k)) None = tt
 
-  module _ {W : Type 0} (e : W → Gv) (holds : ℕ → List W → Type 0) (γ : ℕ) (β : Lft) where
-    pub kept_keyless : (b o : ℕ) (t : Id) → Keyless (kept e holds γ R b o t β)
-    kept_keyless b o t = ((λ νs. chain-Keyless νs β t.0), λ n. (tt, (state_keyless b o t n, λ us. (roster_keyless e γ 0 us, λ _. tt))))
+  module _ (Q : RattleType) (sq : IsSend Q) where
+    lies_keyless : (b o : ℕ) (t : Names) (h : Option Q.Denot) → Keyless (lies R Q b o t h)
+    lies_keyless b o t (Some x) = (tt, λ z. (part_keyless Q sq full_share z b (behind R Q b o), tt))
+    lies_keyless b o t None = tt
 
-    pub claim_keyless : (p : Ptr) (right : ℕ) (v : Option R.Denot) → Keyless (held e holds γ β R p (λ b o t. right_to R b o t right v))
-    claim_keyless (block_ptr b o) right v = λ t. (kept_keyless b o t, right_keyless b o t right v)
-    claim_keyless null_ptr right v = tt
+    module _ {W : Type 0} (e : W → Gv) (γ : ℕ) (c : ℕ → ℕ) (holds : ℕ → Option Q.Denot → List W → Type 0) (β : Lft) where
+      pub kept_keyless : (b o : ℕ) (t : Names) → Keyless (kept e γ R Q c holds b o t β)
+      kept_keyless b o t = ((λ νs. chain-Keyless νs β t.0), λ n. (tt, (state_keyless b o (count t) (c n), λ p. (lies_keyless b o t p.0, (roster_keyless e γ 0 p.1, λ _. tt)))))
 
-    pub writing_keyless : (p : Ptr) (x : R.Denot) → Keyless (held e holds γ β R p (λ b o t. writer R b o t x))
-    writing_keyless (block_ptr b o) x = λ t. (kept_keyless b o t, writer_keyless b o t x)
-    writing_keyless null_ptr x = tt
+      pub claim_keyless : (p : Ptr) (right : ℕ) (v : Option R.Denot) (h : Option Q.Denot) → Keyless (claim_owns e γ R Q c holds β p right v h)
+      claim_keyless (block_ptr b o) right v h = λ t. (kept_keyless b o t, (right_keyless b o t right v, lies_keyless b o t h))
+      claim_keyless null_ptr right v h = tt
+
+      pub writing_keyless : (p : Ptr) (x : R.Denot) → Keyless (writing_owns e γ R Q c holds β p x)
+      writing_keyless (block_ptr b o) x = λ t. (kept_keyless b o t, writer_keyless b o t x)
+      writing_keyless null_ptr x = tt
 
 -- what a `&` to either shows, too
 module _ (β : Lft) (R : RattleType) (y : IsSync R) where

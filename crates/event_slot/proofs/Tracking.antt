@@ -1,8 +1,8 @@
 -- The value's borrow under a name that says what the value is, as a writer has it. Assumes `Logic`.
 use Rattle.event_slot.proofs.Names.{◌≡◌, ℕ, arith, sym, refl, [], ◌∷◌, Option, Some, None, Ura, full_share, Gv, SProp, ent, sep, ex, guard, guard_i, via, upd, upd_i, emp, id⊢, ex_i, Lft, GName, Share, Fml, ftrue, fsep, fseps, fex, fwand, fupd, fdead, fauth, fobs, fbor, flft, Logic, sem, ‵, raw, ◌⊛◌, some, later, ◌$◌, ◌∵◌, !, qed, by, move, keep, drop, split, fsplit, fsplit3, fjoin, fpick, fpack, pick, assume, suffices, settle, use0, use1, use2, await, rewrite, updating, now, done, bor_open, obor_alter, name_new, Body, RattleType, part_at, mem, nothing, out}
-use Rattle.counted_slot.specs.Counting.{Id, cell}
+use Rattle.counted_slot.specs.Counting.{cell}
 use Rattle.counted_slot.proofs.Steps.{Spoil, none, lent, home, last, rank, shown_value, spoil, settles}
-use Rattle.event_slot.specs.Holding.{any, place, tracked, right_to}
+use Rattle.event_slot.specs.Holding.{any, Names, count, place, tracked, right_to}
 
 module _ {M : Type 1} {𝓤 : Ura M} (𝓛 : Logic 𝓤) (R : RattleType) (b o : ℕ) where
   open 𝓛 use {H, A}
@@ -60,7 +60,7 @@ module _ {M : Type 1} {𝓤 : Ura M} (𝓛 : Logic 𝓤) (R : RattleType) (b o :
       use2 𝓛 (‵ (fwand (fsep (fdead α) (fseps (C ∷ []))) (fupd (In δ)))) (renamed α δ (R.coded.code x) (R.coded.code y)) $ move ! (2 ∷ 1 ∷ 0 ∷ []) $ obor_alter ! tt (C ∷ []) $
       use1 𝓛 (‵ (fbor α C) ⊛ ‵ ftrue) (id⊢ 𝓤 _) $ split ! $ now ! $ keep ! (0 ∷ 2 ∷ []) $ done !))
 
-  module _ (t : Id) (q : Share) where
+  module _ (t : Names) (q : Share) where
     -- the right that a step gained, of the value that it said
     abbrev Right : Spoil R.Denot → Option R.Denot → Pr
     Right s v = guard 𝓤 (rank s ≡ 1 → v ≡ shown_value s) ⟦ right_to R b o t (rank s) v ⟧
@@ -75,9 +75,9 @@ module _ {M : Type 1} {𝓤 : Ura M} (𝓛 : Logic 𝓤) (R : RattleType) (b o :
         now ! $ use1 𝓛 (raw (ex 𝓤 (Right s))) (right s (Some x) (λ one. absurd (omega (arith, one, two)))) $ done !)
 
     -- what a step gained is a right
-    pub gets : (s : Spoil R.Denot) → ⟦ spoil 𝓛 R any b o t s ⟧ ∗ A.lft t.0 q ⊢ H.⇛ (ex 𝓤 (Right s) ∗ A.lft t.0 q)
+    pub gets : (s : Spoil R.Denot) → ⟦ spoil 𝓛 R any b o (count t) s ⟧ ∗ A.lft t.0 q ⊢ H.⇛ (ex 𝓤 (Right s) ∗ A.lft t.0 q)
     gets none = qed 𝓛 (‵ ftrue ∷ ‵ (flft t.0 q) ∷ []) ∵ updating ! $ use1 𝓛 (raw (ex 𝓤 (Right none))) (right none None (λ one. absurd (omega (arith, one)))) $ now ! $ done !
-    gets (lent x) = qed 𝓛 (‵ (spoil 𝓛 R any b o t (lent x)) ∷ ‵ (flft t.0 q) ∷ []) ∵ updating ! $ use1 𝓛 (raw (ex 𝓤 (Right (lent x)))) (right (lent x) (Some x) (λ _. refl)) $ now ! $ done !
+    gets (lent x) = qed 𝓛 (‵ (spoil 𝓛 R any b o (count t) (lent x)) ∷ ‵ (flft t.0 q) ∷ []) ∵ updating ! $ use1 𝓛 (raw (ex 𝓤 (Right (lent x)))) (right (lent x) (Some x) (λ _. refl)) $ now ! $ done !
     gets home = writer_at home refl
-    gets (last a) = qed 𝓛 (‵ (spoil 𝓛 R any b o t (last a)) ∷ ‵ (flft t.0 q) ∷ []) ∵ updating ! $ use1 𝓛 (later (‵ (fsep (out t.2) (fbor t.0 C)))) (settles 𝓛 R any b o t (last a)) $ await ! tt $
+    gets (last a) = qed 𝓛 (‵ (spoil 𝓛 R any b o (count t) (last a)) ∷ ‵ (flft t.0 q) ∷ []) ∵ updating ! $ use1 𝓛 (later (‵ (fsep (out t.2) (fbor t.0 C)))) (settles 𝓛 R any b o (count t) (last a)) $ await ! tt $
         use2 𝓛 (later (raw (ex 𝓤 (Right (last a))) ⊛ ‵ (flft t.0 q))) (writer_at (last a) refl) $ await ! tt $ now ! $ done !

@@ -1,10 +1,11 @@
--- What a slot shares, and what a claim and a writer hold: the value and its word as a counted slot has them, and the views of the marks, of which the rule holds.
-use Rattle.std.specs.Prelude.{ℕ, zero, suc, ◌+◌, List, Option, Some, None}
-use base.Stored.{Gv}
+-- What a slot shares, and what a claim and a writer hold: the value and its word as a counted slot has them, the state that lies beside the value, and the views of the marks, of which the rule holds.
+use Rattle.std.specs.Prelude.{◌≡◌, ℕ, zero, suc, ◌+◌, List, Option, Some, None}
+use base.Stored.{Gv, Coded, coded×, coded_ℕ, coded_via}
 use base.Fml.{Lft, GName, Fml, ftrue, ffalse, fsep, fex, fobs, fbor}
+use prog.Memory.{up, align}
 use types.Na.{out}
 use types.SemTy.{Body}
-use denote.Memory.{mem, shared_of}
+use denote.Memory.{mem, shared_of, lone}
 use denote.RattleType.{RattleType}
 use denote.RawPtr.{Ptr, block_ptr, null_ptr}
 use denote.Sharing.{said, beside, some, ends, always, within}
@@ -13,9 +14,24 @@ use Rattle.atomic_table.specs.Seated.{roster}
 use Rattle.counted_slot.specs.Counting.{fact, Id, State, reads, offset}
 use Rattle.counted_slot.specs.Counting as counting
 
+-- what a clause sees of a slot: its name, and its key, which no step changes
+pub record Named (K : Type 0) : Type 0 where
+  pub name : ℕ
+  pub key : K
+
+abbrev pub named_coded : {K : Type 0} → Coded K → Coded (Named K)
+named_coded c = coded_via (coded× coded_ℕ c) (λ d. (d.name, d.key)) (λ d e same i. record { name = (same i).0; key = (same i).1 })
+
 -- nothing is asked of the value itself
 abbrev pub any : {X : Type 0} → X → Type 0
 any x = Unit {0}
+
+-- the lifetime for which the slot is shared, the names of its count, and the name that says what the state is
+abbrev pub Names : Type 0
+Names = Lft × GName × GName × GName
+
+abbrev pub count : Names → Id
+count t = (t.0, t.1, t.2)
 
 module _ (R : RattleType) (b o : ℕ) where
   -- where the value lies, in the block b
@@ -26,7 +42,7 @@ module _ (R : RattleType) (b o : ℕ) where
   abbrev pub tracked : Lft → R.Denot → Fml
   tracked α x = fex GName (λ δ. fsep (fobs δ (R.coded.code x)) (fbor α (Body (mem R) b place δ)))
 
-  module _ (t : Id) where
+  module _ (t : Names) where
     abbrev pub writer : R.Denot → Fml
     writer x = fsep (out t.2) (tracked t.0 x)
 
@@ -36,50 +52,74 @@ module _ (R : RattleType) (b o : ℕ) where
 
     abbrev pub right_to : ℕ → Option R.Denot → Fml
     right_to zero v = ftrue
-    right_to (suc zero) v = reads R any b o t v
+    right_to (suc zero) v = reads R any b o (count t) v
     right_to (suc (suc k)) v = writes v
 
   abbrev pub seen : R.Denot → Lft → Fml
   seen x = shared_of R x b place
 
-module _ {W : Type 0} (e : W → Gv) (holds : ℕ → List W → Type 0) (γ : ℕ) where
-  abbrev pub views : ℕ → Fml
-  views n = fex (List W) (λ vs. fsep (roster e γ 0 vs) (fact (holds n vs)))
+-- the state lies behind the value
+module _ (R Q : RattleType) (b o : ℕ) where
+  abbrev pub behind : ℕ
+  behind = o + up (align (lone Q.mir)) (offset R + (mem R).size)
 
-  abbrev pub slot_owns : (R : RattleType) → (ℕ → R.Denot → Fml) → Fml
-  slot_owns R fields = fex (ℕ × R.Denot) (λ s. fsep (fields s.0 s.1) (views s.0))
+  -- the state where it lies, and the name that says what it is
+  abbrev pub stored : GName → Fml
+  stored δ = Body (mem Q) b behind δ
 
-  module _ (R : RattleType) (b o : ℕ) (t : Id) where
-    abbrev pub both : ℕ → Fml
-    both n = fsep (State R any b o t n) (views n)
+  -- what whoever has the state has: it may change it where it lies
+  abbrev pub lies : Names → Option Q.Denot → Fml
+  lies t (Some s) = fsep (fobs t.3 (Q.coded.code s)) (fbor t.0 (stored t.3))
+  lies t None = ftrue
 
-    abbrev pub Inv : Fml
-    Inv = fex ℕ (λ n. fsep (word b (o + 0) n) (both n))
+-- of a slot that nobody shares: the state is what was at home, if it was
+abbrev pub Agrees : {S : Type 0} → Option S → S → Type 0
+Agrees (Some at_home) s = at_home ≡ s
+Agrees None s = Unit {0}
 
-    abbrev pub kept : Lft → Fml
-    kept = beside (ends t.0) (always (fbor t.0 Inv))
+module _ {W : Type 0} (e : W → Gv) (γ : ℕ) where
+  module _ {S : Type 0} (holds : ℕ → Option S → List W → Type 0) where
+    abbrev pub knowing : (Option S → Fml) → ℕ → Fml
+    knowing home n = fex (Option S × List W) (λ p. fsep (home p.0) (fsep (roster e γ 0 p.1) (fact (holds n p.0 p.1))))
 
-  -- P holds of the slot at p, which lives for β
-  abbrev pub held : Lft → (R : RattleType) → Ptr → (ℕ → ℕ → Id → Fml) → Fml
-  held β R (block_ptr b o) P = fex Id (λ t. fsep (kept R b o t β) (P b o t))
-  held β R null_ptr P = ffalse
+    abbrev pub slot_owns : {X : Type 0} → (ℕ → X → S → Fml) → Fml
+    slot_owns {X} fields = fex (ℕ × X × S) (λ z. fsep (fields z.0 z.1 z.2) (knowing (λ home. fact (Agrees home z.2)) z.0))
 
-  abbrev pub slot_shares : RattleType → Ptr → Lft → Fml
-  slot_shares R (block_ptr b o) = some Id (kept R b o)
-  slot_shares R null_ptr = said ffalse
+  module _ (R Q : RattleType) (counts : ℕ → ℕ) (holds : ℕ → Option Q.Denot → List W → Type 0) where
+    module _ (b o : ℕ) (t : Names) where
+      abbrev pub views : ℕ → Fml
+      views n = knowing holds (lies R Q b o t) n
 
-  abbrev pub claim_owns : Lft → (R : RattleType) → Ptr → ℕ → Option R.Denot → Fml
-  claim_owns β R p right v = held β R p (λ b o t. right_to R b o t right v)
+      abbrev pub both : ℕ → Fml
+      both n = fsep (State R any b o (count t) (counts n)) (views n)
 
-  abbrev pub writing_owns : Lft → (R : RattleType) → Ptr → R.Denot → Fml
-  writing_owns β R p x = held β R p (λ b o t. writer R b o t x)
+      abbrev pub Inv : Fml
+      Inv = fex ℕ (λ n. fsep (word b (o + 0) n) (both n))
 
-  abbrev pub tied_owns : Lft → (R : RattleType) → Ptr → R.Denot → Type 0 → Fml
-  tied_owns β R p x φ = fsep (writing_owns β R p x) (fact φ)
+      abbrev pub kept : Lft → Fml
+      kept = beside (ends t.0) (always (fbor t.0 Inv))
+
+    -- P holds of the slot at p, which lives for β
+    abbrev pub held : Lft → Ptr → (ℕ → ℕ → Names → Fml) → Fml
+    held β (block_ptr b o) P = fex Names (λ t. fsep (kept b o t β) (P b o t))
+    held β null_ptr P = ffalse
+
+    abbrev pub slot_shares : Ptr → Lft → Fml
+    slot_shares (block_ptr b o) = some Names (kept b o)
+    slot_shares null_ptr = said ffalse
+
+    abbrev pub claim_owns : Lft → Ptr → ℕ → Option R.Denot → Option Q.Denot → Fml
+    claim_owns β p right v s = held β p (λ b o t. fsep (right_to R b o t right v) (lies R Q b o t s))
+
+    abbrev pub writing_owns : Lft → Ptr → R.Denot → Fml
+    writing_owns β p x = held β p (λ b o t. writer R b o t x)
+
+    abbrev pub tied_owns : Lft → Ptr → R.Denot → Type 0 → Fml
+    tied_owns β p x φ = fsep (writing_owns β p x) (fact φ)
 
 -- what a `&` to a reader's claim, and to a writer, shows
 abbrev pub claim_shares : Lft → (R : RattleType) → Ptr → ℕ → Option R.Denot → Lft → Fml
-claim_shares β R p right v = counting.claim_shares β R any p right v
+claim_shares β R p right v κ = counting.claim_shares β R any p right v κ
 
 abbrev pub writing_shares : Lft → (R : RattleType) → Ptr → R.Denot → Lft → Fml
 writing_shares β R (block_ptr b o) x = within β (seen R b o x)

@@ -1,9 +1,14 @@
--- A writer, alone or with what is beside it, after a write through what it lent.
+-- A writer, alone or with what is beside it, and a claim with the state, after a write through what it lent.
+use Rattle.std.specs.Prelude.{Some}
+use Rattle.event_slot.specs.declared.claim.Claim.{Claim}
 use Rattle.event_slot.specs.declared.tied.Tied.{Tied}
 use Rattle.event_slot.specs.declared.writing.Writing.{Writing}
 
-abbrev pub writing_with : {X W : Type 0} → Writing X W → X → Writing X W
-writing_with it x = record { slot = it.slot; marker = it.marker; name = it.name; value = x }
+abbrev pub writing_with : {X S W K : Type 0} → Writing X S W K → X → Writing X S W K
+writing_with it x = record { slot = it.slot; marker = it.marker; name = it.name; key = it.key; value = x }
 
-abbrev pub tied_with : {X L W : Type 0} → Tied X L W → X → Tied X L W
-tied_with it x = record { slot = it.slot; marker = it.marker; beside = it.beside; name = it.name; value = x }
+abbrev pub tied_with : {X L S W K : Type 0} → Tied X S L W K → X → Tied X S L W K
+tied_with it x = record { slot = it.slot; marker = it.marker; beside = it.beside; name = it.name; key = it.key; value = x }
+
+abbrev pub claim_with : {X S W K : Type 0} → Claim X S W K → S → Claim X S W K
+claim_with it s = record { slot = it.slot; marker = it.marker; name = it.name; key = it.key; right = it.right; value = it.value; state = Some s }

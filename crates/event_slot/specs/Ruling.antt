@@ -1,12 +1,15 @@
 -- What a step may change, what it gains, and what it asks of the rule.
-use Rattle.std.specs.Prelude.{◌≡◌, ℕ, ◌+◌, ◌-◌, ◌%◌, ◌^◌, ◌<◌, ◌≤◌, List, [], ◌∷◌, ◌++◌, slice_set}
+use Rattle.std.specs.Prelude.{◌≡◌, ◌≢◌, ℕ, zero, suc, ◌+◌, ◌%◌, ◌^◌, ◌<◌, ◌≤◌, Bool, if◌then◌else◌, Option, None, List, [], ◌∷◌, ◌++◌, slice_set}
 use mathlib.Core.Option.{some}
 use lib.ListN.{get_elem?}
-use Rattle.counted_slot.specs.Counting.{readers, IsShared}
+use Rattle.counted_slot.specs.Counting.{readers}
 
--- What a turn may do. A word comes to the state 3, a writer's, only from where nobody reads. A turn takes it neither from there nor
--- to the state 0 from another. In the states 1 and 2, where readers may come, as many are counted as before, or one more. All else
--- may change, the high half in each state.
+-- What the words of these are is what `counts` makes of a slot's word: its low two bits say who may come, and the next 30 count the
+-- readers.
+
+-- What one may do who has no right. A word comes to the state 3, a writer's, only from where nobody reads. A turn takes it neither
+-- from there nor to the state 0 from another. In the states 1 and 2, where readers may come, as many are counted as before, or one
+-- more.
 abbrev pub IsTurn : ℕ → ℕ → Type 0
 IsTurn old new =
     (old % 4 ≡ 3 → new % 4 ≡ 3)
@@ -23,7 +26,7 @@ Gains old new right =
     × (new % 4 ≡ 0 → right ≡ 0)
     × (old % 4 ≡ 3 → right ≡ 0)
 
--- What a reader may do by a compare-exchange: it goes, stays a reader or becomes the writer, if it is the only reader.
+-- What a reader may do: it goes, stays a reader or becomes the writer, if it is the only reader.
 abbrev pub IsReadersTurn : ℕ → ℕ → Type 0
 IsReadersTurn old new =
     (0 < new % 4)
@@ -31,36 +34,64 @@ IsReadersTurn old new =
     × (new % 4 < 3 → (readers new ≤ readers old) × (readers old ≤ readers new + 1))
 
 -- and its right then
-abbrev pub Becomes : ℕ → ℕ → ℕ → Type 0
-Becomes old new right =
+abbrev pub ReaderBecomes : ℕ → ℕ → ℕ → Type 0
+ReaderBecomes old new right =
     (new % 4 ≡ 3 → right ≡ 2)
     × (new % 4 < 3 → readers new < readers old → right ≡ 0)
     × (new % 4 < 3 → readers old ≤ readers new → right ≡ 1)
 
--- somebody reads: where a reader goes, this is known of the word
-abbrev pub IsRead : ℕ → Type 0
-IsRead n = IsShared n × (0 < readers n)
+-- What the writer may do: it goes, or goes on as the only reader.
+abbrev pub IsWritersTurn : ℕ → Type 0
+IsWritersTurn new = (new % 4 < 3) × (0 < new % 4 → readers new ≤ 1)
 
--- somebody writes
-abbrev pub IsWritten : ℕ → Type 0
-IsWritten n = n % 4 ≡ 3
+-- and its right then
+abbrev pub WriterBecomes : ℕ → ℕ → Type 0
+WriterBecomes new right =
+    (new % 4 ≡ 0 → right ≡ 0)
+    × (0 < new % 4 → right ≡ readers new)
 
-abbrev pub IsAny : ℕ → Type 0
-IsAny n = Unit {0}
+-- what one may do who has this right, and its right then
+abbrev pub MayTurn : ℕ → ℕ → ℕ → Type 0
+MayTurn zero old new = IsTurn old new
+MayTurn (suc zero) old new = IsReadersTurn old new
+MayTurn (suc (suc k)) old new = IsWritersTurn new
 
-module _ {W : Type 0} where
-  -- Whatever word there is of which φ holds, and whatever the marks know: when the word becomes f of what it was, the mark id, which
-  -- knew v, can know something by which the rule holds, and `then` holds of the word found and of that
-  abbrev pub KeepsWhere : (ℕ → Type 0) → (ℕ → List W → Type 0) → ℕ → W → (ℕ → ℕ) → (ℕ → W → Type 0) → Type 0
-  KeepsWhere φ holds id v f then = (n : ℕ) (views : List W) → φ n → holds n views → get_elem? views id ≡ some v → n < 2 ^ 64 → (w : W) × holds (f n) (slice_set views id w) × then n w
+abbrev pub Becomes : ℕ → ℕ → ℕ → ℕ → Type 0
+Becomes zero old new right = Gains old new right
+Becomes (suc zero) old new right = ReaderBecomes old new right
+Becomes (suc (suc k)) old new right = WriterBecomes new right
 
-  abbrev pub Keeps : (ℕ → List W → Type 0) → ℕ → W → (ℕ → ℕ) → (ℕ → W → Type 0) → Type 0
-  Keeps = KeepsWhere IsAny
+module _ {S W : Type 0} where
+  -- Whatever word and state there are, and whatever the marks know: the mark id, which knew v, can know something by which the rule
+  -- holds, and `tells` holds of the word found and of that
+  abbrev pub Keeps : (ℕ → Option S → List W → Type 0) → ℕ → W → (ℕ → W → Type 0) → Type 0
+  Keeps holds id v tells = (n : ℕ) (home : Option S) (views : List W) → holds n home views → get_elem? views id ≡ some v → n < 2 ^ 64
+      → (w : W) × holds n home (slice_set views id w) × tells n w
 
   -- the same for a mark that this very step makes
-  abbrev pub Comes : (ℕ → List W → Type 0) → (ℕ → ℕ) → (ℕ → W → Type 0) → Type 0
-  Comes holds f then = (n : ℕ) (views : List W) → holds n views → n < 2 ^ 64 → (w : W) × holds (f n) (views ++ w ∷ []) × then n w
+  abbrev pub Enters : (ℕ → Option S → List W → Type 0) → (ℕ → W → Type 0) → Type 0
+  Enters holds tells = (n : ℕ) (home : Option S) (views : List W) → holds n home views → n < 2 ^ 64
+      → (w : W) × holds n home (views ++ w ∷ []) × tells n w
 
-  -- while somebody writes, one more reader can be counted
-  abbrev pub HasRoom : (ℕ → List W → Type 0) → Type 0
-  HasRoom holds = (n : ℕ) (views : List W) → IsWritten n → holds n views → readers n < 2 ^ 30 - 1
+  -- Whatever word and state there are: the mark id, which knew v, can know `left`, and a new mark `right`
+  abbrev pub Splits : (ℕ → Option S → List W → Type 0) → ℕ → W → W → W → Type 0
+  Splits holds id v left right = (n : ℕ) (home : Option S) (views : List W) → holds n home views → get_elem? views id ≡ some v → n < 2 ^ 64
+      → holds n home (slice_set views id left ++ right ∷ [])
+
+  -- Whatever word and state there are: the mark id, which knew v, can know `both`, and another mark, which knew w, `spent`
+  abbrev pub Joins : (ℕ → Option S → List W → Type 0) → ℕ → W → ℕ → W → W → W → Type 0
+  Joins holds id v other w both spent = (n : ℕ) (home : Option S) (views : List W) → holds n home views → get_elem? views id ≡ some v
+      → other ≢ id → get_elem? (slice_set views id both) other ≡ some w → n < 2 ^ 64
+      → holds n home (slice_set (slice_set views id both) other spent)
+
+  -- The same as `Keeps` where the word becomes f of what it was, and what is at home may change places with what this one has out.
+  abbrev pub Trades : (ℕ → Option S → List W → Type 0) → ℕ → W → Option S → (ℕ → ℕ) → (ℕ → W → Option S → Type 0) → Type 0
+  Trades holds id v out f tells = (n : ℕ) (home : Option S) (views : List W) → holds n home views → get_elem? views id ≡ some v → n < 2 ^ 64
+      → (w : W) × (change : Bool) × holds (f n) (if change then out else home) (slice_set views id w)
+      × tells n w (if change then home else out)
+
+  -- the same for a mark that this very step makes, and that has nothing out
+  abbrev pub Comes : (ℕ → Option S → List W → Type 0) → (ℕ → ℕ) → (ℕ → W → Option S → Type 0) → Type 0
+  Comes holds f tells = (n : ℕ) (home : Option S) (views : List W) → holds n home views → n < 2 ^ 64
+      → (w : W) × (change : Bool) × holds (f n) (if change then None else home) (views ++ w ∷ [])
+      × tells n w (if change then home else None)

@@ -1,18 +1,21 @@
-//! A value in place beside one atomic word, which many may read or one may write, under a rule of the caller's.
+//! A value in place beside one atomic word, which many may read or one may write, and a state behind both that its taker owns, under
+//! a rule of the caller's.
 //!
-//! A [`Slot`] is a value and a word. The low two bits of the word are a state, the next 30 count the readers, and the high half
-//! is the caller's. A compare-exchange, [`Slot::turn`], says who may read or write: what it gained is a [`Claim`]. A reader lends
-//! `&T` and goes by one subtraction. A writer is a [`Writing`], which lends `&mut T`, so that the value stays where it is, and goes
-//! by one store. Nothing is allocated, and making a slot can't fail.
+//! A [`Slot`] is a word, a value and a state. Of a word the caller says how it counts who has the value, [`Ruled::counts`]: all else
+//! of it is his. One compare-exchange, [`Claim::exchange`], says who may read or write, who takes the state out and who puts it back.
+//! What one has of a slot is a [`Claim`]. A reader lends `&T`; a writer is a [`Writing`], which lends `&mut T`; and whoever has the
+//! state out lends `&mut S`. Value and state stay where they are. Nothing is allocated, and making a slot can't fail.
 //!
-//! Between any two steps of any threads the caller's rule holds, [`Ruled::holds`]: a fact about the word and about what each
-//! [`Mark`] knows. A mark is a token without bytes. Each step is made with one, asks that it keeps the rule, and may change what
-//! that mark knows, as [`Tells`] says.
+//! Between any two steps of any threads the caller's rule holds, [`Ruled::holds`]: a fact about the word, about the state while it is
+//! at home, and about what each [`Mark`] knows. It may read the slot's key, which is given when the slot is made, and which no step
+//! changes. A mark is a token without bytes. Each step is made with one, asks that it keeps the rule, and may change what that mark
+//! knows, as [`Trades`] and [`Tells`] say. Marks are made by steps, too, and cut in two or joined, as [`Splits`] and [`Joins`] say.
 //!
 //! A guard over a writer has a mark besides, which has to be of the same slot. It is a [`Tied`], so that it can lend `&mut T`.
 //!
 //! Read `rule.rt` first, then `slot.rt`, `claim.rt`, `writing.rt` and `tied.rt`; of the definitions `specs/Ruling.antt`, then
-//! `specs/Holding.antt`. `proofs/Steps.antt` has the steps on the word, which the walks of the functions cite.
+//! `specs/Holding.antt`. `proofs/Rights.antt` and `proofs/Steps.antt` have the two sides of a step on the word, that of the count and
+//! that of the marks, which the walks of the functions cite.
 #![tactic(auto)]
 
 mod claim;
@@ -24,12 +27,12 @@ mod tied;
 mod writing;
 
 pub use claim::Claim;
-pub use rule::{Mark, Ruled, Tells};
+pub use rule::{Joins, Mark, Ruled, Splits, Tells, Trades};
 pub use slot::Slot;
 pub use tied::{Tied, Ties};
 pub use writing::Writing;
 
-/// The state of a word where a writer may come, and no reader.
+/// The state of a counted word where a writer may come, and no reader.
 pub const FREE: u64 = 0;
 
 /// The state where readers may come, and a writer once there is none.

@@ -1,26 +1,56 @@
-//! A rule over a word and what its marks know.
-ghost use Rattle.std.specs.Prelude.{◌≡◌, ℕ, List};
+//! A rule over a word, the state behind it, and what its marks know.
+ghost use Rattle.std.specs.Prelude.{◌≡◌, ℕ, List, Option};
 ghost use Rattle.atomic_table.specs.Marked.{mark_owns};
 
 use std::marker::{Model, PhantomData};
 
-/// A value that lies in a [`Slot`](crate::Slot), and the rule of that slot.
-pub trait Ruled {
+/// A value that lies in a [`Slot`](crate::Slot) with a state `S` behind it, and the rule of that slot.
+pub trait Ruled<S> {
     /// What a mark knows.
     type View;
 
-    /// What holds between any two steps, of the word and of the views of all marks, in the order in which they were made.
-    ghost holds: { ℕ → List Self.View → Type 0 };
+    /// What is fixed when a slot is made, and no step changes.
+    type Key;
 
-    // The view of the mark that the slot is made with.
-    ghost first: { Self.View };
+    /// How a word counts who has the value: the low two bits are a state, and the next 30 count the readers.
+    ghost counts: { ℕ → ℕ };
+
+    /// What holds of a slot with this key between any two steps, of the word, of the state while it is at home, and of the views of
+    /// all marks, in the order in which they were made.
+    ghost holds: { Self.Key → ℕ → Option S → List Self.View → Type 0 };
+
+    // The view of the mark that a slot with this key is made with.
+    ghost first: { Self.Key → Self.View };
 }
 
-/// What a step tells its caller.
+/// What a load tells its caller.
 pub trait Tells<W> {
-    // Of the word expected (0 where there is none), the word or the number to write, the view before, the word found and the view
-    // after.
-    ghost then: { ℕ → ℕ → W → ℕ → W → Type 0 };
+    // Of the view before, the word found and the view after.
+    ghost then: { W → ℕ → W → Type 0 };
+}
+
+/// What a compare-exchange tells its caller.
+pub trait Trades<W, S> {
+    // Of the word expected, the word to write, the view and what one has out before, the word found, and both afterwards.
+    ghost then: { ℕ → ℕ → W → Option S → ℕ → W → Option S → Type 0 };
+}
+
+/// How what a mark knows is cut in two.
+pub trait Splits<W> {
+    // What the mark knows then, of what it knew.
+    ghost left: { W → W };
+
+    // What the new mark knows.
+    ghost right: { W → W };
+}
+
+/// How what two marks know is made one.
+pub trait Joins<W> {
+    // What the mark knows then, of what it knew and of what the other knew.
+    ghost both: { W → W → W };
+
+    // What the other is left with.
+    ghost spent: { W };
 }
 
 /// The token that a step is made with. It knows a view, and has no bytes.

@@ -9,7 +9,7 @@ use std::time::Duration;
 // The most seconds that the kernel takes for a sleep.
 const FOR_EVER: u64 = i64::MAX as u64;
 
-impl<X: Ruled> Slot<X> {
+impl<X: Ruled<S>, S> Slot<X, S> {
     fn address(&self) -> *const u64 {
         &raw const self.word
     }

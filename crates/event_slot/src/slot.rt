@@ -1,86 +1,78 @@
-//! The slot, and the steps that its owner or anybody with a `&` to it may make.
-ghost use Rattle.std.specs.Prelude.{◌≡◌, ◌≢◌, ℕ, ◌==◌, [], ◌∷◌};
+//! The slot, and what its owner or anybody with a `&` to it may do.
+ghost use Rattle.std.specs.Prelude.{◌≡◌, ◌≢◌, ℕ, ◌==◌, [], ◌∷◌, None, Some};
 ghost use prog.Atomic.{either};
-ghost use Rattle.std.specs.Coded.{coded_ℕ};
-ghost use Rattle.event_slot.specs.Ruling.{IsTurn, Gains, Keeps, Comes};
-ghost use Rattle.event_slot.specs.Holding.{slot_owns, slot_shares};
+ghost use Rattle.event_slot.specs.Ruling.{IsTurn, Gains, Keeps, Comes, Enters, Splits as MaySplit, Joins as MayJoin};
+ghost use Rattle.event_slot.specs.Holding.{Named, named_coded, slot_owns, slot_shares};
 
 use crate::claim::Claim;
-use crate::rule::{Mark, Ruled, Tells};
+use crate::rule::{Joins, Mark, Ruled, Splits, Tells, Trades};
 use atomic_table::exchange;
 use std::marker::{Brand, Move, Owns, PhantomData};
 use std::sync::atomic::Ordering::SeqCst;
 use std::sync::atomic::raw;
 
-/// A value in place beside one atomic word. A clause sees its name, a number.
-pub struct Slot<X: Ruled> {
+/// A value in place beside one atomic word, and a state behind both. A clause sees its name, a number, and its key.
+pub struct Slot<X: Ruled<S>, S> {
     pub(crate) word: u64,
     pub(crate) value: X,
+    pub(crate) state: S,
 }
 
-impl<X: Ruled> Owns for Slot<X> {
-    ghost Value = { ℕ };
+impl<X: Ruled<S>, S> Owns for Slot<X, S> {
+    ghost Value = { Named X.Key };
 
-    ghost coded = { coded_ℕ };
+    ghost coded = { named_coded X.Key.code };
 
-    ghost shr_at = { λ γ p κ. slot_shares X.View.row.coded.code X.holds γ X.row p κ };
+    ghost shr_at = { λ d p κ. slot_shares X.View.row.coded.code d.name X.row S.row X.counts (X.holds d.key) p κ };
 }
 
-impl<X: Ruled> Move for Slot<X> {
-    ghost own_val = { λ γ vs. slot_owns X.View.row.coded.code X.holds γ X.row (λ n x. Fields.own_val (record { word = n; value = x }) vs) };
+impl<X: Ruled<S>, S> Move for Slot<X, S> {
+    ghost own_val = { λ d vs. slot_owns X.View.row.coded.code d.name (X.holds d.key) (λ n x s. Fields.own_val (record { word = n; value = x; state = s }) vs) };
 }
 
-impl<X: Ruled> Slot<X> {
-    /// A slot with this value and this word, and its first mark. It allocates nothing.
-    pub fn new(value: X, word: u64) -> (Slot<X>, Mark<X::View>)
-        requires { X.holds word (X.first ∷ []) }
-        ensures { (result.1.slot ≡ result.0) × (result.1.id ≡ 0) × (result.1.view ≡ X.first) }
+impl<X: Ruled<S>, S> Slot<X, S> {
+    /// A slot with this value, this state, this word and this key, and its first mark. It allocates nothing.
+    pub fn new(value: X, state: S, word: u64, key: &X::Key) -> (Slot<X, S>, Mark<X::View>)
+        requires { X.holds key.now word (Some state) (X.first key.now ∷ []) }
+        ensures { (result.0.key ≡ key.now) × (result.1.slot ≡ result.0.name) × (result.1.id ≡ 0)
+            × (result.1.view ≡ X.first key.now) }
     {
         (
-            Slot { word, value },
+            Slot { word, value, state },
             Mark {
                 marker: PhantomData,
             },
         )
     }
 
-    /// Changes the word from `old` to `new` by one compare-exchange, and returns it as it was, with what that gained.
-    ///
-    /// `IsTurn` lists the changes that it may make. The rule has to hold afterwards, whether or not the word was `old`.
-    pub fn turn<M: Tells<X::View>>(
-        &self,
-        mark: &mut Mark<X::View>,
-        old: u64,
-        new: u64,
-    ) -> (u64, Claim<'_, X>)
-        requires turn { IsTurn old new }
-        requires keeps { (mark.old.slot ≡ self.now)
-            × Keeps X.holds mark.old.id mark.old.view (λ n. either (n == old) new n)
-            (M.then old new mark.old.view) }
-        ensures gains { (result.0 ≡ old → Gains old new result.1.right)
-            × (result.0 ≢ old → result.1.right ≡ 0) × (result.1.name ≡ self.now) }
-        ensures tells { (mark.new.slot ≡ mark.old.slot) × (mark.new.id ≡ mark.old.id)
-            × M.then old new mark.old.view result.0 mark.new.view }
+    /// A claim to nothing, with which a step may begin.
+    pub fn claim(&self) -> Claim<'_, X, S>
+        ensures { (result.name ≡ self.now.name) × (result.key ≡ self.now.key) × (result.right ≡ 0)
+            × (result.state ≡ None) }
     {
-        let found = unsafe { exchange::<Brand>(&raw const self.word, old, new) };
-        let claim = Claim {
+        Claim {
             slot: self,
             marker: PhantomData,
-        };
-        (found, claim)
+        }
     }
 
-    /// The same for one that has no mark yet: this step makes it.
-    pub fn arrive<M: Tells<X::View>>(
+    /// Changes the word from `old` to `new` by one compare-exchange, which makes a mark. Returns the word as it was, with what that
+    /// gained.
+    ///
+    /// `IsTurn` lists the changes that it may make. The rule has to hold afterwards, whether or not the word was `old`.
+    pub fn arrive<M: Trades<X::View, S>>(
         &self,
         old: u64,
         new: u64,
-    ) -> (u64, Claim<'_, X>, Mark<X::View>)
-        requires turn { IsTurn old new }
-        requires keeps { Comes X.holds (λ n. either (n == old) new n) (M.then old new X.first) }
-        ensures gains { (result.0 ≡ old → Gains old new result.1.right)
-            × (result.0 ≢ old → result.1.right ≡ 0) × (result.1.name ≡ self.now) }
-        ensures tells { (result.2.slot ≡ self.now) × M.then old new X.first result.0 result.2.view }
+    ) -> (u64, Claim<'_, X, S>, Mark<X::View>)
+        requires turn { IsTurn (X.counts old) (X.counts new) }
+        requires keeps { Comes (X.holds self.now.key) (λ n. either (n == old) new n)
+            (M.then old new (X.first self.now.key) None) }
+        ensures gains { (result.0 ≡ old → Gains (X.counts old) (X.counts new) result.1.right)
+            × (result.0 ≢ old → result.1.right ≡ 0) × (result.1.name ≡ self.now.name)
+            × (result.1.key ≡ self.now.key) }
+        ensures tells { (result.2.slot ≡ self.now.name)
+            × M.then old new (X.first self.now.key) None result.0 result.2.view result.1.state }
     {
         let found = unsafe { exchange::<Brand>(&raw const self.word, old, new) };
         let claim = Claim {
@@ -95,12 +87,60 @@ impl<X: Ruled> Slot<X> {
 
     /// The word, by one load, with what that tells.
     pub fn load<M: Tells<X::View>>(&self, mark: &mut Mark<X::View>) -> u64
-        requires { (mark.old.slot ≡ self.now)
-            × Keeps X.holds mark.old.id mark.old.view (λ n. n) (M.then 0 0 mark.old.view) }
+        requires { (mark.old.slot ≡ self.now.name)
+            × Keeps (X.holds self.now.key) mark.old.id mark.old.view (M.then mark.old.view) }
         ensures { (mark.new.slot ≡ mark.old.slot) × (mark.new.id ≡ mark.old.id)
-            × M.then 0 0 mark.old.view result mark.new.view }
+            × M.then mark.old.view result mark.new.view }
     {
         unsafe { raw::load::<Brand>(&raw const self.word, SeqCst) }
+    }
+
+    /// The word, by one load that makes a mark, with what that tells.
+    pub fn enter<M: Tells<X::View>>(&self) -> (u64, Mark<X::View>)
+        requires { Enters (X.holds self.now.key) (M.then (X.first self.now.key)) }
+        ensures { (result.1.slot ≡ self.now.name)
+            × M.then (X.first self.now.key) result.0 result.1.view }
+    {
+        let found = unsafe { raw::load::<Brand>(&raw const self.word, SeqCst) };
+        let mark = Mark {
+            marker: PhantomData,
+        };
+        (found, mark)
+    }
+
+    /// Cuts in two what a mark knows, by one load, which makes the mark that knows the second part.
+    pub fn split<M: Splits<X::View>>(&self, mark: &mut Mark<X::View>) -> Mark<X::View>
+        requires { (mark.old.slot ≡ self.now.name)
+            × MaySplit (X.holds self.now.key) mark.old.id mark.old.view (M.left mark.old.view) (M.right mark.old.view) }
+        ensures { (mark.new.slot ≡ mark.old.slot) × (mark.new.id ≡ mark.old.id)
+            × (mark.new.view ≡ M.left mark.old.view) × (result.slot ≡ mark.old.slot)
+            × (result.view ≡ M.right mark.old.view) }
+    {
+        unsafe { raw::load::<Brand>(&raw const self.word, SeqCst) };
+        Mark {
+            marker: PhantomData,
+        }
+    }
+
+    fn merge<M: Joins<X::View>>(&self, mark: &mut Mark<X::View>, other: &mut Mark<X::View>)
+        requires { (mark.old.slot ≡ self.now.name) × (other.old.slot ≡ self.now.name)
+            × MayJoin (X.holds self.now.key) mark.old.id mark.old.view other.old.id other.old.view
+            (M.both mark.old.view other.old.view) M.spent }
+        ensures { (mark.new.slot ≡ mark.old.slot) × (mark.new.id ≡ mark.old.id)
+            × (mark.new.view ≡ M.both mark.old.view other.old.view) }
+    {
+        unsafe { raw::load::<Brand>(&raw const self.word, SeqCst) };
+    }
+
+    /// Makes one what two marks know, by one load. The other mark ends, and its view stays among the views as `M.spent`.
+    pub fn join<M: Joins<X::View>>(&self, mark: &mut Mark<X::View>, mut other: Mark<X::View>)
+        requires { (mark.old.slot ≡ self.now.name) × (other.slot ≡ self.now.name)
+            × MayJoin (X.holds self.now.key) mark.old.id mark.old.view other.id other.view
+            (M.both mark.old.view other.view) M.spent }
+        ensures { (mark.new.slot ≡ mark.old.slot) × (mark.new.id ≡ mark.old.id)
+            × (mark.new.view ≡ M.both mark.old.view other.view) }
+    {
+        self.merge::<M>(mark, &mut other);
     }
 
     /// The word, by one load that needs no mark and tells nothing.
@@ -108,19 +148,23 @@ impl<X: Ruled> Slot<X> {
         unsafe { raw::load::<Brand>(&raw const self.word, SeqCst) }
     }
 
-    /// The value, once nobody shares the slot any more.
-    pub fn into_inner(self) -> X {
-        let Self { word: _, value } = self;
-        value
+    /// The value and the state, once nobody shares the slot any more.
+    pub fn into_inner(self) -> (X, S) {
+        let Self {
+            word: _,
+            value,
+            state,
+        } = self;
+        (value, state)
     }
 }
 
-impl<X: Ruled + Drop> Drop for Slot<X> {
+impl<X: Ruled<S> + Drop, S: Drop> Drop for Slot<X, S> {
     fn drop(self) {
         drop(self.into_inner());
     }
 }
 
-unsafe impl<X: Ruled + Send> Send for Slot<X> {}
+unsafe impl<X: Ruled<S> + Send, S: Send> Send for Slot<X, S> {}
 
-unsafe impl<X: Ruled + Send + Sync> Sync for Slot<X> {}
+unsafe impl<X: Ruled<S> + Send + Sync, S: Send> Sync for Slot<X, S> {}

@@ -15,27 +15,29 @@ pub trait Ties {
 
 /// A right to write with what belongs to it. A guard that has it lends `&mut X` with nothing to show anew, since the fact that
 /// ties the two is in here: a ghost field of the guard's own would stand in the way. It can't be dropped.
-pub struct Tied<'a, X: Ruled, L: Ties> {
-    pub(crate) slot: *const Slot<X>,
+pub struct Tied<'a, X: Ruled<S>, S, L: Ties> {
+    pub(crate) slot: *const Slot<X, S>,
     pub(crate) marker: PhantomData<&'a X>,
     pub(crate) beside: L,
     /// The name of the slot.
     pub ghost name: { ℕ },
+    /// Its key.
+    pub ghost key: { X.Key } by { X.Key.code },
     /// The value as it is.
     pub ghost value: { X },
 }
 
-impl<'a, X: Ruled, L: Ties> Model for Tied<'a, X, L> {
-    ghost also_owns = { λ t. tied_owns X.View.row.coded.code X.holds t.name 'a X.row t.slot t.value (L.ties t.beside t.name) };
+impl<'a, X: Ruled<S>, S, L: Ties> Model for Tied<'a, X, S, L> {
+    ghost also_owns = { λ t. tied_owns X.View.row.coded.code t.name X.row S.row X.counts (X.holds t.key) 'a t.slot t.value (L.ties t.beside t.name) };
 
     ghost also_shares = { λ t _ κ. writing_shares 'a X.row t.slot t.value κ };
 }
 
-impl<'a, X: Ruled> Writing<'a, X> {
+impl<'a, X: Ruled<S>, S> Writing<'a, X, S> {
     /// Puts beside it what belongs to it.
-    pub fn tie<L: Ties>(self, beside: L) -> Tied<'a, X, L>
+    pub fn tie<L: Ties>(self, beside: L) -> Tied<'a, X, S, L>
         requires { L.ties beside self.name }
-        ensures { (result.name ≡ self.entry.name) × (result.value ≡ self.entry.value) }
+        ensures { (result.name ≡ self.entry.name) × (result.key ≡ self.entry.key) × (result.value ≡ self.entry.value) }
     {
         let Writing { slot, marker } = self;
         Tied {
@@ -46,10 +48,11 @@ impl<'a, X: Ruled> Writing<'a, X> {
     }
 }
 
-impl<'a, X: Ruled, L: Ties> Tied<'a, X, L> {
+impl<'a, X: Ruled<S>, S, L: Ties> Tied<'a, X, S, L> {
     /// Takes them apart.
-    pub fn untie(self) -> (Writing<'a, X>, L)
-        ensures { (result.0.name ≡ self.entry.name) × (result.0.value ≡ self.entry.value)
+    pub fn untie(self) -> (Writing<'a, X, S>, L)
+        ensures { (result.0.name ≡ self.entry.name) × (result.0.key ≡ self.entry.key)
+            × (result.0.value ≡ self.entry.value)
             × L.ties result.1 result.0.name }
     {
         let Tied {
@@ -61,6 +64,6 @@ impl<'a, X: Ruled, L: Ties> Tied<'a, X, L> {
     }
 }
 
-unsafe impl<X: Ruled + Send + Sync, L: Ties + Send> Send for Tied<'_, X, L> {}
+unsafe impl<X: Ruled<S> + Send + Sync, S: Send, L: Ties + Send> Send for Tied<'_, X, S, L> {}
 
-unsafe impl<X: Ruled + Sync, L: Ties + Sync> Sync for Tied<'_, X, L> {}
+unsafe impl<X: Ruled<S> + Sync, S, L: Ties + Sync> Sync for Tied<'_, X, S, L> {}

@@ -1,11 +1,12 @@
 //! A lock over `event_slot` under a rule of its own, and its tests: what the clauses of the base are good for, from here.
 //!
-//! [`Lock`] has a value that many read or one writes, until somebody closes it. Its rule: whoever knows that it is closed is
-//! right. Who comes has a mark, which the compare-exchange makes by which it came.
+//! [`Lock`] has a value that many read or one writes, until somebody closes it, and a tally behind it, which is out with one that
+//! counts. Its rule: whoever knows that the lock is closed is right, and the word shows what the tally is while it is at home. Who
+//! comes has a mark, which the compare-exchange makes by which it came.
 //!
 //! | Module | What it tests |
 //! |---|---|
-//! | `tests` | readers together, a writer alone, who closes it; four threads that write in turn, and sleep till they may; parking; the owner's `&mut` |
+//! | `tests` | readers together, a writer alone, who closes it; four threads that write in turn, and sleep till they may; parking; the owner's `&mut`; the tally out with one at a time, and what four threads count |
 #![tactic(auto)]
 
 mod guard;
@@ -14,6 +15,6 @@ mod rule;
 #[cfg(test)]
 mod tests;
 
-pub use guard::{Changing, Kept, Reading};
+pub use guard::{Changing, Counting, Kept, Reading};
 pub use lock::Lock;
-pub use rule::{Closes, Held, Looks, Stays, View};
+pub use rule::{Adds, Closes, Copies, Held, Looks, Puts, Stays, Takes, Tally, View};

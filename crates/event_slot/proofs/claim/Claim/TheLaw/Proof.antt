@@ -17,9 +17,9 @@ use Rattle.event_slot.specs.contracts.claim.Claim as C
 use Rattle.event_slot.proofs.claim.Claim.TheLaw.Statement.{statement}
 use Rattle.event_slot.proofs.Lending.{Lends-claim}
 
-pub shares : (a : NamedLft) (T V : RattleType) (g : Ghosts T.Denot V.Denot) (L : Laws T) (K : Laws V) → statement a T V g L K
-shares a T V g L K = let s = (ShrRef a.mir a.lft T).lives in
-    of_Lends (C.struct a T V g) (C.the_codes T.Denot V.Denot T.coded V.coded (P.the_row (ShrRef a.mir a.lft T)).coded) (C.the_heap a.lft T V g) (C.the_lent a.lft T V g) (λ d p. claim_laws a.lft T any L.shr_laws d.slot d.right d.value)
+pub shares : (a : NamedLft) (T Q V Y : RattleType) (g : Ghosts T.Denot Q.Denot V.Denot Y.Denot) (L : Laws T) (J : Laws Q) (K : Laws V) (N : Laws Y) → statement a T Q V Y g L J K N
+shares a T Q V Y g L J K N = let s = (ShrRef a.mir a.lft T).lives in
+    of_Lends (C.struct a T Q V Y g) (C.the_codes T.Denot Q.Denot V.Denot Y.Denot T.coded Q.coded V.coded Y.coded (P.the_row (ShrRef a.mir a.lft T)).coded) (C.the_heap a.lft T Q V Y g) (C.the_lent a.lft T Q V Y g) (λ d p. claim_laws a.lft T any L.shr_laws d.slot d.right d.value)
     (copy_shared RawPtr-field RawPtr-copy, (copy_shared (P.the_field (ShrRef a.mir a.lft T)) (field_copy (P.the_type (ShrRef a.mir a.lft T)) tt), tt)) (λ M 𝓤 𝓛 d p.
-    Lends-claim 𝓛 V.coded g.holds d.name a.lft T L.shr_laws (C.the_row a T V g).lives (Incl-trans (meet_⊑_right (T.lives ++ (V.lives ++ [])) (((s ++ []) ++ []) ++ [])) (Incl-trans (meet_⊑_left ((s ++ []) ++ []) []) (Incl-trans (meet_⊑_left (s ++ []) [])
-    (Incl-trans (meet_⊑_left s []) (meet_⊑_left a.lft T.lives))))) d.slot d.right d.value)
+    Lends-claim 𝓛 V.coded d.name T Q g.counts (g.holds d.key) a.lft L.shr_laws (C.the_row a T Q V Y g).lives (Incl-trans (meet_⊑_right (T.lives ++ (Q.lives ++ (V.lives ++ (Y.lives ++ [])))) (((s ++ []) ++ []) ++ [])) (Incl-trans (meet_⊑_left ((s ++ []) ++ []) []) (Incl-trans (meet_⊑_left (s ++ []) [])
+    (Incl-trans (meet_⊑_left s []) (meet_⊑_left a.lft T.lives))))) d.slot d.right d.value d.state)

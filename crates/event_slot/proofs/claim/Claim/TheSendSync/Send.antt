@@ -5,5 +5,5 @@ use Rattle.event_slot.specs.declared.rule.Ruled.{Ghosts}
 use Rattle.event_slot.specs.contracts.claim.Claim.{the_row}
 use Rattle.event_slot.proofs.Sent.{claim_keyless}
 
-pub send : (a : NamedLft) (T V : RattleType) (g : Ghosts T.Denot V.Denot) → IsSend T → IsSync T → IsSend (the_row a T V g)
-send a T V g s y = record { owned = λ d vs. ((λ vss. (tt, (tt, ((λ uss. (tt, tt)), tt)))), claim_keyless T s y V.coded.code g.holds d.name a.lft d.slot d.right d.value); leaving = λ k d w. tt }
+pub send : (a : NamedLft) (T Q V Y : RattleType) (g : Ghosts T.Denot Q.Denot V.Denot Y.Denot) → IsSend T → IsSend Q → IsSync T → IsSend (the_row a T Q V Y g)
+send a T Q V Y g s sq y = record { owned = λ d vs. ((λ vss. (tt, (tt, ((λ uss. (tt, tt)), tt)))), claim_keyless T s y Q sq V.coded.code d.name g.counts (g.holds d.key) a.lft d.slot d.right d.value d.state); leaving = λ k d w. tt }

@@ -1,5 +1,6 @@
--- `into_inner` takes the value, whatever the word is.
-use Rattle.event_slot.proofs.Names.{◌≡◌, ◌&&◌, T, true, List, [], ◌∷◌, ◌++◌, sym, refl, ◌∙◌, subst, w64, a_type, dcons, dnil, Val, vint, vstruct, vcons, vnil, of_list, has_ty, inst_fn, SProp, ent, id⊢, ftrue, fsep, tables, WpFn, ‵, raw, ◌⊛◌, ◌$◌, ◌∵◌, !, qed, by, move, keep, drop, split, fsplit, fsplit3, fjoin, fpick, rewrite, feq_l, flt_l, suffices, stop, fld, of_opd, returns, enter, alloc_all, pass_all, free_all, look_at, get, get_in, sets, sub, whole, no, RattleType, plain, nothing, peeks, Is, shows, param, layout, bounded, alive, Stays, stay_dropped, walk_of, Goes-dropped, El, lawful, Good, one, proved_at, leaves}
+-- `into_inner` takes the value and the state, whatever the word is.
+use Rattle.event_slot.proofs.Names.{◌≡◌, ◌&&◌, T, true, List, [], ◌∷◌, ◌++◌, sym, refl, ◌∙◌, subst, w64, a_type, dcons, dnil, Val, vint, vstruct, vcons, vnil, of_list, has_ty, inst_fn, SProp, ent, id⊢, ftrue, fsep, feq, tables, WpFn, ‵, raw, ◌⊛◌, ◌$◌, ◌∵◌, !, qed, by, move, keep, drop, split, fsplit, fsplit3, fjoin, fpick, fpack, rewrite, feq_i, feq_l, flt_l, suffices, stop, fld, of_opd, returns, enter, alloc_all, pass_all, free_all, look_at, get, get_in, agg, and_then, no_more, sets, sub, whole, no, RattleType, Valss, owns, plain, nothing, peeks, Is, shows, param, layout, bounded, alive, Stays, stay_dropped, walk_of, Goes-dropped, El, lawful, Good, one, proved_at, leaves}
+use mir.Facts.{yes_and}
 use Rattle.std.proofs.ResultValues.{and_tt}
 use Rattle.event_slot.specs.contracts.slot.Slot as slot
 use Rattle.event_slot.specs.contracts.slot.Slot.into_inner.{ended, clauses}
@@ -8,15 +9,21 @@ use Rattle.event_slot.proofs.slot.Slot.into_inner.Statement.{statement}
 use Rattle.event_slot.proofs.slot.Slot.into_inner.Code as code
 
 pub into_inner_spec : {M : Type 1} → statement M
-into_inner_spec 𝓤 𝓛 𝓜 𝓡 wired X Y L _ g d _ =
-    let H = 𝓛.H in let 𝓣 = tables 𝓤 H 𝓜 𝓡 𝓡.env in let R : RattleType = param 0 X in let V : RattleType = param 1 Y in let En = ended X Y g d in let c = clauses X Y g d 𝓛 𝓜.mem 𝓡.returns in let E : El = record { row = X; laws = L } in
-    let inst = bounded (a_type ∷ a_type ∷ []) (X, (Y, tt)) (dcons d dnil) in let fn = inst_fn inst code.function in let self = plain (λ _. slot.the_row R V g) in let hs : Stays En.signature.params En.kept = (stay_dropped self no, tt) in let fine : (v : Val) → Good E v → T (has_ty (layout X) v && true) = λ v k. and_tt (has_ty (layout X) v) k.0 in
-    proved_at 𝓛 En hs c 𝓜 𝓡 (Goes-dropped 𝓛 2 self no (λ κs x f. refl), tt) (#self inst) fn (code.unfolded 𝓤 H 𝓜 𝓡 wired (X, (Y, tt)) d) (λ z are.
+into_inner_spec 𝓤 𝓛 𝓜 𝓡 wired X S Y Ky L K _ _ g d _ =
+    let H = 𝓛.H in let 𝓣 = tables 𝓤 H 𝓜 𝓡 𝓡.env in let R : RattleType = param 0 X in let Q : RattleType = param 1 S in let V : RattleType = param 2 Y in let Kr : RattleType = param 3 Ky in let En = ended X S Y Ky g d in let c = clauses X S Y Ky g d 𝓛 𝓜.mem 𝓡.returns in let E : El = record { row = X; laws = L } in let B : El = record { row = S; laws = K } in
+    let inst = bounded (a_type ∷ a_type ∷ a_type ∷ a_type ∷ []) (X, (S, (Y, (Ky, tt)))) (dcons d dnil) in let fn = inst_fn inst code.function in let self = plain (λ _. slot.the_row R Q V Kr g) in let hs : Stays En.signature.params En.kept = (stay_dropped self no, tt) in
+    proved_at 𝓛 En hs c 𝓜 𝓡 (Goes-dropped 𝓛 4 self no (λ κs x f. refl), tt) (#self inst) fn (code.unfolded 𝓤 H 𝓜 𝓡 wired (X, (S, (Y, (Ky, tt)))) d) (λ z are.
     let Post : Val → SProp 𝓤 = (walk_of 𝓛 En hs c).post z in let Run : List Val → SProp 𝓤 = λ ws. WpFn 𝓤 H 𝓣.C 𝓣.Λ fn ws Post in
-    qed 𝓛 ((raw (alive 𝓛 En.signature z.0.0 z.0.1) ⊛ ‵ (fsep ((slot.the_row R V g).own_val z.0.3.0 z.0.4.0) ftrue)) ∷ raw ((c z.0.0 z.0.3).requires z.1) ∷ []) ∵ keep ! (0 ∷ []) $ split ! $ move ! (1 ∷ []) $ fsplit ! $ fsplit ! $ drop ! $
-    fpick ! (λ s. fsplit ! $ fpick ! (λ vss. fsplit ! $ feq_l ! (λ ev. fsplit3 ! $ fsplit ! $ feq_l ! (λ en. flt_l ! (λ fits. peeks ! R (Is R) (shows 𝓛 R) s.1 vss.1.0 (λ is_so.
-    let got = one E vss.1.0 ((lawful E 𝓛).typed s.1 vss.1.0 is_so) in let vy : Val = got.0 in let fy : Good E vy = got.2 in let v : Val = vstruct (vcons (vint w64 s.0) (vcons vy vnil)) in let is_v : z.0.4.0 ≡ v ∷ [] = ev ∙ (λ i. vstruct (of_list (en i ++ (got.1 i ++ []))) ∷ []) in
-    rewrite ! 0 (λ (ws : List Val). ‵ (R.own_val s.1 ws)) got.1 refl $ keep ! (0 ∷ 4 ∷ []) $ suffices ! (Run (v ∷ [])) (subst (λ (ws : List Val). ent 𝓤 (Run (v ∷ [])) (Run ws)) (sym (λ i. is_v i ++ [])) (id⊢ 𝓤 (Run (v ∷ [])))) $
-    enter ! 𝓣.C 𝓣.Λ fn (v ∷ []) Post $ alloc_all ! (λ l. pass_all ! refl ((fine vy fy, (record { fits = fits }, (fy.1, tt))), tt) $
-    sets ! (of_opd ! (get_in ! (fld ! refl (stop !)) (sub ! 1 refl (whole !)))) refl fy $ sets ! (of_opd ! (get ! refl)) refl fy $ nothing ! $ nothing ! $ nothing ! $ fjoin ! $
-    returns ! (look_at ! 0 refl) $ free_all ! refl $ keep ! (3 ∷ 0 ∷ 2 ∷ 1 ∷ []) $ by ! (leaves 𝓛 En hs c z vy s.1 (tt, tt) (tt, tt))))))))))
+    qed 𝓛 ((raw (alive 𝓛 En.signature z.0.0 z.0.1) ⊛ ‵ (fsep ((slot.the_row R Q V Kr g).own_val z.0.3.0 z.0.4.0) ftrue)) ∷ raw ((c z.0.0 z.0.3).requires z.1) ∷ []) ∵ keep ! (0 ∷ []) $ split ! $ move ! (1 ∷ []) $ fsplit ! $ fsplit ! $ drop ! $
+    fpick ! (λ s. fsplit ! $ fpick ! (λ vss. fsplit ! $ feq_l ! (λ ev. fsplit3 ! $ fsplit ! $ feq_l ! (λ en. flt_l ! (λ fits. peeks ! R (Is R) (shows 𝓛 R) s.1 vss.1.0 (λ is_x. move ! (1 ∷ []) $ fsplit ! $ peeks ! Q (Is Q) (shows 𝓛 Q) s.2 vss.1.1.0 (λ is_y.
+    let got = one E vss.1.0 ((lawful E 𝓛).typed s.1 vss.1.0 is_x) in let vx : Val = got.0 in let fx : Good E vx = got.2 in let had = one B vss.1.1.0 ((lawful B 𝓛).typed s.2 vss.1.1.0 is_y) in let vy : Val = had.0 in let fy : Good B vy = had.2 in
+    let v : Val = vstruct (vcons (vint w64 s.0) (vcons vx (vcons vy vnil))) in let is_v : z.0.4.0 ≡ v ∷ [] = ev ∙ (λ i. vstruct (of_list (en i ++ (got.1 i ++ (had.1 i ++ [])))) ∷ []) in let r : Val = vstruct (vcons vx (vcons vy vnil)) in
+    let two : T (has_ty (layout X) vx && (has_ty (layout S) vy && true)) = yes_and (has_ty (layout X) vx) (has_ty (layout S) vy && true) fx.0 (and_tt (has_ty (layout S) vy) fy.0) in
+    -- [the state; nothing; the value; what is known; nothing; the tokens]
+    rewrite ! 0 (λ (ws : List Val). ‵ (Q.own_val s.2 ws)) had.1 refl $ rewrite ! 2 (λ (ws : List Val). ‵ (R.own_val s.1 ws)) got.1 refl $ keep ! (0 ∷ 1 ∷ 2 ∷ 5 ∷ []) $ fjoin ! $ move ! (1 ∷ 0 ∷ []) $ fjoin ! $
+    feq_i ! (List Val) (r ∷ []) (r ∷ []) refl $ fjoin ! $ fpack ! (Valss (R ∷ Q ∷ [])) (λ uss. fsep (feq (List Val) (r ∷ []) (vstruct (of_list (uss.0 ++ (uss.1.0 ++ []))) ∷ [])) (owns (R ∷ Q ∷ []) (s.1, (s.2, tt)) uss)) (vx ∷ [], (vy ∷ [], tt)) $
+    suffices ! (Run (v ∷ [])) (subst (λ (ws : List Val). ent 𝓤 (Run (v ∷ [])) (Run ws)) (sym (λ i. is_v i ++ [])) (id⊢ 𝓤 (Run (v ∷ [])))) $
+    enter ! 𝓣.C 𝓣.Λ fn (v ∷ []) Post $ alloc_all ! (λ l. pass_all ! refl ((two, (record { fits = fits }, (fx.1, (fy.1, tt)))), tt) $
+    sets ! (of_opd ! (get_in ! (fld ! refl (stop !)) (sub ! 1 refl (whole !)))) refl fx $ sets ! (of_opd ! (get_in ! (fld ! refl (stop !)) (sub ! 2 refl (whole !)))) refl fy $ sets ! (of_opd ! (get ! refl)) refl fx $ sets ! (of_opd ! (get ! refl)) refl fy $
+    sets ! (agg ! (and_then ! (get ! refl) (and_then ! (get ! refl) (no_more !)))) refl (two, (fx.1, (fy.1, tt))) $ nothing ! $ nothing ! $ nothing ! $ fjoin ! $
+    returns ! (look_at ! 0 refl) $ free_all ! refl $ keep ! (3 ∷ 0 ∷ 2 ∷ 1 ∷ []) $ by ! (leaves 𝓛 En hs c z r (s.1, s.2) (tt, tt) (tt, tt)))))))))))

@@ -13,8 +13,8 @@ quiet : {D X : Type 0} (to : D → Ptr × (Unit {0} × (X × Unit {0}))) (e : Ex
 quiet to unchanged q d w = tt
 quiet to (leaves L l S s r₀) q d w = (tt, (tt, (q (to d).1.1.0 w.1.1.0, tt)))
 
-pub send : (a : NamedLft) (T B V : RattleType) (g : Ghosts T.Denot V.Denot) (h : Tying B.Denot) → IsSend T → IsSend B → IsSync T → IsSend (the_row a T B V g h)
-send a T B V g h s z y = record {
-  owned = λ d vs. ((λ vss. (tt, (tt, ((λ uss. (tt, tt)), (z.owned d.beside vss.1.1.0, tt))))), (writing_keyless T s y V.coded.code g.holds d.name a.lft d.slot d.value, λ _. tt));
+pub send : (a : NamedLft) (T Q B V Y : RattleType) (g : Ghosts T.Denot Q.Denot V.Denot Y.Denot) (h : Tying B.Denot) → IsSend T → IsSend Q → IsSend B → IsSync T → IsSend (the_row a T Q B V Y g h)
+send a T Q B V Y g h s sq z y = record {
+  owned = λ d vs. ((λ vss. (tt, (tt, ((λ uss. (tt, tt)), (z.owned d.beside vss.1.1.0, tt))))), (writing_keyless T s y Q sq V.coded.code d.name g.counts (g.holds d.key) a.lft d.slot d.value, λ _. tt));
   leaving = λ k. quiet (λ d. (d.slot, (tt, (d.beside, tt)))) (B.exit k) (z.leaving k);
 }

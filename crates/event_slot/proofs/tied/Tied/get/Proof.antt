@@ -17,19 +17,19 @@ use Rattle.event_slot.proofs.tied.Tied.get.Statement.{statement}
 use Rattle.event_slot.proofs.tied.Tied.get.Code as code
 
 pub get_spec : {M : Type 1} → statement M
-get_spec 𝓤 𝓛 𝓜 𝓡 wired X B' Y L _ _ g d h d' _ _ =
-    let H = 𝓛.H in let 𝓣 = tables 𝓤 H 𝓜 𝓡 𝓡.env in let R : RattleType = param 0 X in let B : RattleType = param 1 B' in let V : RattleType = param 2 Y in let En = ended X B' Y g d h d' in let c = clauses X B' Y g d h d' 𝓛 𝓜.mem 𝓡.returns in let LR = param_laws 0 X L in let cw : Coded Y.Denot = V.coded in
-    let inst = bounded (a_type ∷ a_type ∷ a_type ∷ []) (X, (B', (Y, tt))) (dcons d (dcons d' dnil)) in let fn = inst_fn inst code.function in
-    let self = RefOf (0 ∷ []) tt (plain (λ κs. tied.the_row (named_lft 5 1 tt κs) R B V g h)) (λ _. tt) in let hs : Stays En.signature.params En.kept = (stay_dropped self yes, tt) in
-    proved 𝓛 En hs c 𝓜 𝓡 (Goes-dropped 𝓛 5 self yes (λ κs x f. refl), tt) (#self inst) fn (code.unfolded 𝓤 H 𝓜 𝓡 wired (X, (B', (Y, tt))) d d')
-    (λ κs. (shr_vals, tt)) (λ κs. (shr_Tells (named 0) κs.0 (tied.the_row (named_lft 5 1 tt κs) R B V g h), tt)) (λ κs qs bounds a gh are.
-    let ℓ = named_lft 5 1 tt κs in let Tr : RattleType = tied.the_row ℓ R B V g h in let form = shape (tied.the_type ℓ R B V g h) in let D : RattleType = Carrying form ℓ R B in let b : ℕ = a.0.ref_ptr.0 in let o : ℕ = a.0.ref_ptr.1 in let κ : Lft = κs.0 in let β : Lft = κs.1.0 in
+get_spec 𝓤 𝓛 𝓜 𝓡 wired X S B' Y Ky L _ _ _ _ g d h d' _ _ =
+    let H = 𝓛.H in let 𝓣 = tables 𝓤 H 𝓜 𝓡 𝓡.env in let R : RattleType = param 0 X in let Q : RattleType = param 1 S in let B : RattleType = param 2 B' in let V : RattleType = param 3 Y in let Kr : RattleType = param 4 Ky in let En = ended X S B' Y Ky g d h d' in let c = clauses X S B' Y Ky g d h d' 𝓛 𝓜.mem 𝓡.returns in let LR = param_laws 0 X L in let cw : Coded Y.Denot = V.coded in
+    let inst = bounded (a_type ∷ a_type ∷ a_type ∷ a_type ∷ a_type ∷ []) (X, (S, (B', (Y, (Ky, tt))))) (dcons d (dcons d' dnil)) in let fn = inst_fn inst code.function in
+    let self = RefOf (0 ∷ []) tt (plain (λ κs. tied.the_row (named_lft 7 1 tt κs) R Q B V Kr g h)) (λ _. tt) in let hs : Stays En.signature.params En.kept = (stay_dropped self yes, tt) in
+    proved 𝓛 En hs c 𝓜 𝓡 (Goes-dropped 𝓛 7 self yes (λ κs x f. refl), tt) (#self inst) fn (code.unfolded 𝓤 H 𝓜 𝓡 wired (X, (S, (B', (Y, (Ky, tt))))) d d')
+    (λ κs. (shr_vals, tt)) (λ κs. (shr_Tells (named 0) κs.0 (tied.the_row (named_lft 7 1 tt κs) R Q B V Kr g h), tt)) (λ κs qs bounds a gh are.
+    let ℓ = named_lft 7 1 tt κs in let Tr : RattleType = tied.the_row ℓ R Q B V Kr g h in let form = shape (tied.the_type ℓ R Q B V Kr g h) in let D : RattleType = Carrying form ℓ R B in let b : ℕ = a.0.ref_ptr.0 in let o : ℕ = a.0.ref_ptr.1 in let κ : Lft = κs.0 in let β : Lft = κs.1.0 in
     let ht : Tr.Denot = a.0.now in let p : Ptr = ht.slot in let x : X.Denot = ht.value in let pb : ℕ = block_of p in let po : ℕ = count_of p in let e : ℕ = place R pb po in
-    let y : (walk_of 𝓛 En hs c).Ghost = ((κs, qs, bounds, a, (vptr b o ∷ [], tt)), gh) in let Post : Val → SProp 𝓤 = (walk_of 𝓛 En hs c).post y in let others : Fml = fsep (flft β qs.1.0) (fsep (flft κs.1.1.0 qs.1.1.0) (fsep (flft κs.1.1.1.0 qs.1.1.1.0) (fsep (flft κs.1.1.1.1.0 qs.1.1.1.1.0) ftrue))) in
+    let y : (walk_of 𝓛 En hs c).Ghost = ((κs, qs, bounds, a, (vptr b o ∷ [], tt)), gh) in let Post : Val → SProp 𝓤 = (walk_of 𝓛 En hs c).post y in let others : Fml = fsep (flft β qs.1.0) (fsep (flft κs.1.1.0 qs.1.1.0) (fsep (flft κs.1.1.1.0 qs.1.1.1.0) (fsep (flft κs.1.1.1.1.0 qs.1.1.1.1.0) (fsep (flft κs.1.1.1.1.1.0 qs.1.1.1.1.1.0) (fsep (flft κs.1.1.1.1.1.1.0 qs.1.1.1.1.1.1.0) ftrue))))) in
     qed 𝓛 (((‵ (flft κ qs.0) ⊛ ‵ others) ⊛ ‵ (owns (types_at En.signature.params κs) a y.0.4)) ∷ raw ((c κs a).requires gh) ∷ []) ∵ split ! $ split ! $ move ! (2 ∷ []) $ fsplit ! $ fsplit ! $ keep ! (1 ∷ 3 ∷ 4 ∷ []) $
     enter ! 𝓣.C 𝓣.Λ fn (vptr b o ∷ []) Post $ alloc_all ! (λ l. pass_all ! refl ((tt, tt), tt) $ let Ev = env fn.locals l in
-    use1 𝓛 (‵ (hidden_shr D κ (p, (tt, (ht.beside, tt))) b o) ⊛ ‵ (fhide (writing_shares β R p x κ))) (lent_out 𝓛 (tied.struct ℓ R B V g h) (tied.the_codes X.Denot B'.Denot Y.Denot R.coded B.coded V.coded (marker.the_row (ShrRef ℓ.mir ℓ.lft R)).coded) (tied.the_heap β R B V g h) (tied.the_lent β R B V g h) κ ht b o) $
-    split ! $ move ! (1 ∷ []) $ unhide ! $ use1 𝓛 (given (InBlock p) (‵ (writing_shares β R p x κ))) (fact_use 𝓤 _ (writer_sees 𝓛 cw g.holds ht.name β R p x κ) (guard_i 𝓤 (InBlock p) (sem 𝓛 (writing_shares β R p x κ)))) $ learn ! (λ inb. let at : p ≡ block_ptr pb po = at_block p inb in
+    use1 𝓛 (‵ (hidden_shr D κ (p, (tt, (ht.beside, tt))) b o) ⊛ ‵ (fhide (writing_shares β R p x κ))) (lent_out 𝓛 (tied.struct ℓ R Q B V Kr g h) (tied.the_codes X.Denot S.Denot B'.Denot Y.Denot Ky.Denot R.coded Q.coded B.coded V.coded Kr.coded (marker.the_row (ShrRef ℓ.mir ℓ.lft R)).coded) (tied.the_heap β R Q B V Kr g h) (tied.the_lent β R Q B V Kr g h) κ ht b o) $
+    split ! $ move ! (1 ∷ []) $ unhide ! $ use1 𝓛 (given (InBlock p) (‵ (writing_shares β R p x κ))) (fact_use 𝓤 _ (writer_sees 𝓛 β R p x κ) (guard_i 𝓤 (InBlock p) (sem 𝓛 (writing_shares β R p x κ)))) $ learn ! (λ inb. let at : p ≡ block_ptr pb po = at_block p inb in
     rewrite ! 0 (λ (z : Ptr). ‵ (writing_shares β R z x κ)) at refl $ use1 𝓛 (‵ (hidden_shr R κ x pb e)) (shortens 𝓛 (shared_of R x pb e) (LR.shr_laws x pb e) (κ ++ β) κ (⊑_meet κ κ β (Incl-refl κ) bounds.0)) $
     -- [the value, lent; the bytes; the token; the other tokens]. Of the bytes the pointer is read
     move ! (1 ∷ []) $ unhide ! $ fsplit ! $ move ! (1 ∷ []) $ drop ! $ fsplit ! $ move ! (1 ∷ []) $ drop ! $ hide ! $ move ! (0 ∷ 2 ∷ []) $

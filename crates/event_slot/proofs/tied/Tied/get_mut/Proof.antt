@@ -10,7 +10,7 @@ use Rattle.event_slot.specs.Holding.{place, writer, writing_owns}
 use Rattle.event_slot.specs.Lent.{tied_with}
 use Rattle.event_slot.specs.contracts.tied.Tied as tied
 use Rattle.event_slot.proofs.Fields.{around, Carrying, carrying_told, held_placed}
-use Rattle.event_slot.proofs.Handing.{hands}
+use Rattle.event_slot.proofs.Handing.{Out, writer_takes, writer_gives, hands}
 use Rattle.event_slot.specs.contracts.tied.Tied.get_mut.{ended, clauses}
 use Rattle.event_slot.specs.contracts.tied.Tied.get_mut.Key.{name as #self}
 use Rattle.event_slot.proofs.tied.Tied.get_mut.Statement.{statement}
@@ -20,12 +20,12 @@ use Rattle.event_slot.specs.declared.rule.Ruled.{Ghosts}
 use Rattle.event_slot.specs.declared.tied.Ties.{Ghosts as Tying}
 
 -- the writer apart from its bytes and what ties them
-module _ {M : Type 1} {𝓤 : Ura M} (𝓛 : Logic 𝓤) (ℓ : NamedLft) (R B V : RattleType) (g : Ghosts R.Denot V.Denot) (h : Tying B.Denot) (b o : ℕ) (hw : (tied.the_row ℓ R B V g h).Denot) where
+module _ {M : Type 1} {𝓤 : Ura M} (𝓛 : Logic 𝓤) (ℓ : NamedLft) (R Q B V Kr : RattleType) (g : Ghosts R.Denot Q.Denot V.Denot Kr.Denot) (h : Tying B.Denot) (b o : ℕ) (hw : (tied.the_row ℓ R Q B V Kr g h).Denot) where
   abbrev Tr : RattleType
-  Tr = tied.the_row ℓ R B V g h
+  Tr = tied.the_row ℓ R Q B V Kr g h
 
   abbrev D : RattleType
-  D = Carrying (shape (tied.the_type ℓ R B V g h)) ℓ R B
+  D = Carrying (shape (tied.the_type ℓ R Q B V Kr g h)) ℓ R B
 
   abbrev Raw : Fml
   Raw = part_at D full_share (hw.slot, (tt, (hw.beside, tt))) b o
@@ -37,38 +37,38 @@ module _ {M : Type 1} {𝓤 : Ura M} (𝓛 : Logic 𝓤) (ℓ : NamedLft) (R B V
   Bytes = fsep Raw Ties
 
   abbrev Held : R.Denot → Fml
-  Held = writing_owns V.coded.code g.holds hw.name ℓ.lft R hw.slot
+  Held = writing_owns V.coded.code hw.name R Q g.counts (g.holds hw.key) ℓ.lft hw.slot
 
   apart : ent 𝓤 (sem 𝓛 (part_at Tr full_share hw b o)) (sep 𝓤 (sem 𝓛 Bytes) (sem 𝓛 (Held hw.value)))
-  apart = qed 𝓛 (‵ (part_at Tr full_share hw b o) ∷ []) ∵ use1 𝓛 (‵ Raw ⊛ ‵ (fsep (Held hw.value) Ties)) (part_out 𝓛 (tied.the_type ℓ R B V g h) full_share hw b o) $ split ! $ move ! (1 ∷ []) $ fsplit ! $ move ! (2 ∷ 1 ∷ []) $ fjoin ! $ done !
+  apart = qed 𝓛 (‵ (part_at Tr full_share hw b o) ∷ []) ∵ use1 𝓛 (‵ Raw ⊛ ‵ (fsep (Held hw.value) Ties)) (part_out 𝓛 (tied.the_type ℓ R Q B V Kr g h) full_share hw b o) $ split ! $ move ! (1 ∷ []) $ fsplit ! $ move ! (2 ∷ 1 ∷ []) $ fjoin ! $ done !
 
   again : (w : R.Denot) → ent 𝓤 (sep 𝓤 (sem 𝓛 Bytes) (sem 𝓛 (Held w))) (sem 𝓛 (part_at Tr full_share (tied_with hw w) b o))
-  again w = qed 𝓛 (‵ Bytes ∷ ‵ (Held w) ∷ []) ∵ fsplit ! $ move ! (2 ∷ 1 ∷ []) $ fjoin ! $ move ! (1 ∷ []) $ by ! (part_in 𝓛 (tied.the_type ℓ R B V g h) full_share (tied_with hw w) b o)
+  again w = qed 𝓛 (‵ Bytes ∷ ‵ (Held w) ∷ []) ∵ fsplit ! $ move ! (2 ∷ 1 ∷ []) $ fjoin ! $ move ! (1 ∷ []) $ by ! (part_in 𝓛 (tied.the_type ℓ R Q B V Kr g h) full_share (tied_with hw w) b o)
 
 pub get_mut_spec : {M : Type 1} → statement M
 unfolding part_of
-get_mut_spec 𝓤 𝓛 𝓜 𝓡 wired X B' Y L _ _ g d h d' _ _ =
-    let H = 𝓛.H in let 𝓣 = tables 𝓤 H 𝓜 𝓡 𝓡.env in let R : RattleType = param 0 X in let B : RattleType = param 1 B' in let V : RattleType = param 2 Y in let En = ended X B' Y g d h d' in let c = clauses X B' Y g d h d' 𝓛 𝓜.mem 𝓡.returns in let cw : Coded Y.Denot = V.coded in
-    let inst = bounded (a_type ∷ a_type ∷ a_type ∷ []) (X, (B', (Y, tt))) (dcons d (dcons d' dnil)) in let fn = inst_fn inst code.function in
-    let row = plain (λ κs. tied.the_row (named_lft 5 1 tt κs) R B V g h) in let hs : Stays En.signature.params En.kept = (stay_dropped (RefMutOf (0 ∷ []) tt row (λ _. tt)) no, tt) in
-    proved 𝓛 En hs c 𝓜 𝓡 (Goes-spent_ref 𝓛 5 (0 ∷ []) tt row, tt) (#self inst) fn (code.unfolded 𝓤 H 𝓜 𝓡 wired (X, (B', (Y, tt))) d d')
-    (λ κs. (mut_vals, tt)) (λ κs. (mut_Tells (named 0) κs.0 (tied.the_row (named_lft 5 1 tt κs) R B V g h), tt)) (λ κs qs bounds a gh are.
-    let ℓ = named_lft 5 1 tt κs in let Wr : RattleType = tied.the_row ℓ R B V g h in let form = shape (tied.the_type ℓ R B V g h) in let x = a.0 in let b : ℕ = x.ref_ptr.0 in let o : ℕ = x.ref_ptr.1 in let κ : Lft = κs.0 in let q : Share = qs.0 in let β : Lft = κs.1.0 in
-    let hw : Wr.Denot = x.now in let p : Ptr = hw.slot in let pb : ℕ = block_of p in let po : ℕ = count_of p in let e : ℕ = place R pb po in let D' : RattleType = D 𝓛 ℓ R B V g h b o hw in let d' : D'.Denot = (p, (tt, (hw.beside, tt))) in let Raw' : Fml = Raw 𝓛 ℓ R B V g h b o hw in let Ties' : Fml = Ties 𝓛 ℓ R B V g h b o hw in let Held' : Fml = Held 𝓛 ℓ R B V g h b o hw hw.value in
-    let y : (walk_of 𝓛 En hs c).Ghost = ((κs, qs, bounds, a, (vptr b o ∷ [], tt)), gh) in let Post : Val → SProp 𝓤 = (walk_of 𝓛 En hs c).post y in let others : Fml = fsep (flft β qs.1.0) (fsep (flft κs.1.1.0 qs.1.1.0) (fsep (flft κs.1.1.1.0 qs.1.1.1.0) (fsep (flft κs.1.1.1.1.0 qs.1.1.1.1.0) ftrue))) in
+get_mut_spec 𝓤 𝓛 𝓜 𝓡 wired X S B' Y Ky L _ _ _ _ g d h d' _ _ =
+    let H = 𝓛.H in let 𝓣 = tables 𝓤 H 𝓜 𝓡 𝓡.env in let R : RattleType = param 0 X in let Q : RattleType = param 1 S in let B : RattleType = param 2 B' in let V : RattleType = param 3 Y in let Kr : RattleType = param 4 Ky in let En = ended X S B' Y Ky g d h d' in let c = clauses X S B' Y Ky g d h d' 𝓛 𝓜.mem 𝓡.returns in let cw : Coded Y.Denot = V.coded in
+    let inst = bounded (a_type ∷ a_type ∷ a_type ∷ a_type ∷ a_type ∷ []) (X, (S, (B', (Y, (Ky, tt))))) (dcons d (dcons d' dnil)) in let fn = inst_fn inst code.function in
+    let row = plain (λ κs. tied.the_row (named_lft 7 1 tt κs) R Q B V Kr g h) in let hs : Stays En.signature.params En.kept = (stay_dropped (RefMutOf (0 ∷ []) tt row (λ _. tt)) no, tt) in
+    proved 𝓛 En hs c 𝓜 𝓡 (Goes-spent_ref 𝓛 7 (0 ∷ []) tt row, tt) (#self inst) fn (code.unfolded 𝓤 H 𝓜 𝓡 wired (X, (S, (B', (Y, (Ky, tt))))) d d')
+    (λ κs. (mut_vals, tt)) (λ κs. (mut_Tells (named 0) κs.0 (tied.the_row (named_lft 7 1 tt κs) R Q B V Kr g h), tt)) (λ κs qs bounds a gh are.
+    let ℓ = named_lft 7 1 tt κs in let Wr : RattleType = tied.the_row ℓ R Q B V Kr g h in let form = shape (tied.the_type ℓ R Q B V Kr g h) in let x = a.0 in let b : ℕ = x.ref_ptr.0 in let o : ℕ = x.ref_ptr.1 in let κ : Lft = κs.0 in let q : Share = qs.0 in let β : Lft = κs.1.0 in
+    let hw : Wr.Denot = x.now in let p : Ptr = hw.slot in let pb : ℕ = block_of p in let po : ℕ = count_of p in let e : ℕ = place R pb po in let D' : RattleType = D 𝓛 ℓ R Q B V Kr g h b o hw in let d' : D'.Denot = (p, (tt, (hw.beside, tt))) in let Raw' : Fml = Raw 𝓛 ℓ R Q B V Kr g h b o hw in let Ties' : Fml = Ties 𝓛 ℓ R Q B V Kr g h b o hw in let Held' : Fml = Held 𝓛 ℓ R Q B V Kr g h b o hw hw.value in
+    let y : (walk_of 𝓛 En hs c).Ghost = ((κs, qs, bounds, a, (vptr b o ∷ [], tt)), gh) in let Post : Val → SProp 𝓤 = (walk_of 𝓛 En hs c).post y in let others : Fml = fsep (flft β qs.1.0) (fsep (flft κs.1.1.0 qs.1.1.0) (fsep (flft κs.1.1.1.0 qs.1.1.1.0) (fsep (flft κs.1.1.1.1.0 qs.1.1.1.1.0) (fsep (flft κs.1.1.1.1.1.0 qs.1.1.1.1.1.0) (fsep (flft κs.1.1.1.1.1.1.0 qs.1.1.1.1.1.1.0) ftrue))))) in
     qed 𝓛 (((‵ (flft κ q) ⊛ ‵ others) ⊛ ‵ (owns (types_at En.signature.params κs) a y.0.4)) ∷ raw ((c κs a).requires gh) ∷ []) ∵
     split ! $ split ! $ move ! (2 ∷ []) $ fsplit ! $ fsplit3 ! $ keep ! (1 ∷ 2 ∷ 4 ∷ 5 ∷ []) $
     enter ! 𝓣.C 𝓣.Λ fn (vptr b o ∷ []) Post $ alloc_all ! (λ l. pass_all ! refl ((tt, tt), tt) $ let Ev = env fn.locals l in
-    open_ref ! tt (mem Wr) $ use1 𝓛 (‵ (Bytes 𝓛 ℓ R B V g h b o hw) ⊛ ‵ Held') (apart 𝓛 ℓ R B V g h b o hw) $ split ! $ move ! (1 ∷ []) $
-    use1 𝓛 (given (InBlock p) (‵ Held')) (fact_use 𝓤 _ (held_placed 𝓛 cw g.holds hw.name β R p (λ i j t. writer R i j t hw.value)) (guard_i 𝓤 (InBlock p) (sem 𝓛 Held'))) $ learn ! (λ inb. let at : p ≡ block_ptr pb po = at_block p inb in
+    open_ref ! tt (mem Wr) $ use1 𝓛 (‵ (Bytes 𝓛 ℓ R Q B V Kr g h b o hw) ⊛ ‵ Held') (apart 𝓛 ℓ R Q B V Kr g h b o hw) $ split ! $ move ! (1 ∷ []) $
+    use1 𝓛 (given (InBlock p) (‵ Held')) (fact_use 𝓤 _ (held_placed 𝓛 cw hw.name R Q g.counts (g.holds hw.key) β p (λ i j t. writer R i j t hw.value)) (guard_i 𝓤 (InBlock p) (sem 𝓛 Held'))) $ learn ! (λ inb. let at : p ≡ block_ptr pb po = at_block p inb in
     move ! (1 ∷ []) $ fsplit ! $ fpick ! (λ vs. fsplit ! $ move ! (1 ∷ []) $ peeks ! D' (Is D') (shows 𝓛 D') d' vs (λ is_so. let ws = carrying_told form ℓ R B p hw.beside vs is_so in let ev : vs ≡ around (block_ptr pb po) ws.0 ∷ [] = ws.2 ∙ ap (λ (r : Ptr). around r ws.0 ∷ []) at in
     -- [what the bytes own; the bytes; what ties them; the writer; the open borrow; both halves of its name; the other tokens]
     rewrite ! 1 (λ (ws : List Val). ‵ (cell_at full_share D'.mir ws b o)) ev refl $ first ! $ blocks ! $
     sets ! (addr ! (through ! refl (fld ! refl (hop ! (look_in ! 1 (sub ! 0 refl (whole !))) (fld ! refl (stop !)))))) refl (tt, tt) $ sets_last ! (addr ! (through ! refl (stop !))) refl (tt, tt) $
     exec ! 𝓣.C 𝓣.Λ Ev (tail fn.body) (at_ret Ev Post) $ sets ! (of_opd ! (get ! refl)) refl (tt, tt) $
     rewrite ! 1 (λ (ws : List Val). ‵ (cell_at full_share D'.mir ws b o)) (sym ev) refl $ move ! (1 ∷ 0 ∷ []) $ fjoin ! $ fpack ! (List Val) (λ us. fsep (cell_at full_share D'.mir us b o) (D'.own_val d' us)) vs $ fjoin ! $
-    use2 𝓛 (‵ (part_at Wr full_share hw b o)) (again 𝓛 ℓ R B V g h b o hw hw.value) $ close_ref ! tt (mem Wr) hw $
+    use2 𝓛 (‵ (part_at Wr full_share hw b o)) (again 𝓛 ℓ R Q B V Kr g h b o hw hw.value) $ close_ref ! tt (mem Wr) hw $
     use3 𝓛 (later (some (λ (δ : GName). ‵ ((MutRef (named 0) κ R).own_val (record { ref_ptr = (pb, e); ghost_name = δ; now = hw.value }) (vptr pb e ∷ [])) ⊛ ‵ (flft κ q) ⊛ ‵ (follows Wr R x.ghost_name δ (tied_with hw)))))
-    (hands 𝓛 cw g.holds hw.name β R p hw.value Wr (tied_with hw) (λ u w. ap (λ (z : Wr.Denot). z.value)) (named 0) κ bounds.0 q x pb po at (Bytes 𝓛 ℓ R B V g h b o hw) (apart 𝓛 ℓ R B V g h b o hw) (again 𝓛 ℓ R B V g h b o hw)) $ await ! tt $ pick ! (λ δ. split3 ! $ move ! (1 ∷ 3 ∷ []) $ join ! $
+    (hands 𝓛 cw hw.name R Q g.counts (g.holds hw.key) β R pb po e (λ i j t w. writer R i j t w) (Out 𝓛 cw hw.name R Q g.counts (g.holds hw.key) β pb po) (writer_takes 𝓛 cw hw.name R Q g.counts (g.holds hw.key) β pb po) (writer_gives 𝓛 cw hw.name R Q g.counts (g.holds hw.key) β pb po) p at hw.value Wr (tied_with hw) (λ u w. ap (λ (z : Wr.Denot). z.value)) (named 0) κ bounds.0 q x (Bytes 𝓛 ℓ R Q B V Kr g h b o hw) (apart 𝓛 ℓ R Q B V Kr g h b o hw) (again 𝓛 ℓ R Q B V Kr g h b o hw)) $ await ! tt $ pick ! (λ δ. split3 ! $ move ! (1 ∷ 3 ∷ []) $ join ! $
     let Told : Type 0 = hw.value ≡ hw.value in use0 𝓛 (raw (shown 𝓤 Told)) (fact_i 𝓤 Told (emp 𝓤) refl) $ move ! (3 ∷ 0 ∷ []) $ join ! $ nothing ! $ nothing ! $ fjoin ! $
     returns ! (look_at ! 0 refl) $ free_all ! refl $ keep ! (2 ∷ 0 ∷ 3 ∷ 1 ∷ []) $ by ! (leaves 𝓛 En hs c y (vptr pb e) (record { ref_ptr = (pb, e); ghost_name = δ; now = hw.value }) (tt, tt) (tt, tt))))))))

@@ -16,9 +16,9 @@ use Rattle.event_slot.specs.contracts.writing.Writing as C
 use Rattle.event_slot.proofs.writing.Writing.TheLaw.Statement.{statement}
 use Rattle.event_slot.proofs.Lending.{writing_laws, Lends-writing}
 
-pub shares : (a : NamedLft) (T V : RattleType) (g : Ghosts T.Denot V.Denot) (L : Laws T) (K : Laws V) → statement a T V g L K
-shares a T V g L K = let s = (ShrRef a.mir a.lft T).lives in let l = (C.the_row a T V g).lives in
-    of_Lends (C.struct a T V g) (C.the_codes T.Denot V.Denot T.coded V.coded (P.the_row (ShrRef a.mir a.lft T)).coded) (C.the_heap a.lft T V g) (C.the_lent a.lft T V g) (λ d p. writing_laws a.lft T L.shr_laws d.slot d.value)
+pub shares : (a : NamedLft) (T Q V Y : RattleType) (g : Ghosts T.Denot Q.Denot V.Denot Y.Denot) (L : Laws T) (J : Laws Q) (K : Laws V) (N : Laws Y) → statement a T Q V Y g L J K N
+shares a T Q V Y g L J K N = let s = (ShrRef a.mir a.lft T).lives in let l = (C.the_row a T Q V Y g).lives in
+    of_Lends (C.struct a T Q V Y g) (C.the_codes T.Denot Q.Denot V.Denot Y.Denot T.coded Q.coded V.coded Y.coded (P.the_row (ShrRef a.mir a.lft T)).coded) (C.the_heap a.lft T Q V Y g) (C.the_lent a.lft T Q V Y g) (λ d p. writing_laws a.lft T L.shr_laws d.slot d.value)
     (copy_shared RawPtr-field RawPtr-copy, (copy_shared (P.the_field (ShrRef a.mir a.lft T)) (field_copy (P.the_type (ShrRef a.mir a.lft T)) tt), tt)) (λ M 𝓤 𝓛 d p.
-    Lends-writing 𝓛 V.coded g.holds d.name a.lft T l (Incl-trans (meet_⊑_right (T.lives ++ (V.lives ++ [])) (((s ++ []) ++ []) ++ [])) (Incl-trans (meet_⊑_left ((s ++ []) ++ []) []) (Incl-trans (meet_⊑_left (s ++ []) [])
-    (Incl-trans (meet_⊑_left s []) (meet_⊑_left a.lft T.lives))))) (Shares-less 𝓛 T T.lives l (Incl-trans (meet_⊑_left (T.lives ++ (V.lives ++ [])) _) (meet_⊑_left T.lives (V.lives ++ []))) (L.shares 𝓛)) d.slot d.value)
+    Lends-writing 𝓛 V.coded d.name T Q g.counts (g.holds d.key) a.lft l (Incl-trans (meet_⊑_right (T.lives ++ (Q.lives ++ (V.lives ++ (Y.lives ++ [])))) (((s ++ []) ++ []) ++ [])) (Incl-trans (meet_⊑_left ((s ++ []) ++ []) []) (Incl-trans (meet_⊑_left (s ++ []) [])
+    (Incl-trans (meet_⊑_left s []) (meet_⊑_left a.lft T.lives))))) (Shares-less 𝓛 T T.lives l (Incl-trans (meet_⊑_left (T.lives ++ (Q.lives ++ (V.lives ++ (Y.lives ++ [])))) _) (meet_⊑_left T.lives (Q.lives ++ (V.lives ++ (Y.lives ++ []))))) (L.shares 𝓛)) d.slot d.value)

@@ -11,19 +11,19 @@ use Rattle.event_slot.proofs.writing.Writing.get.Statement.{statement}
 use Rattle.event_slot.proofs.writing.Writing.get.Code as code
 
 pub get_spec : {M : Type 1} → statement M
-get_spec 𝓤 𝓛 𝓜 𝓡 wired X Y L _ g d _ =
-    let H = 𝓛.H in let 𝓣 = tables 𝓤 H 𝓜 𝓡 𝓡.env in let R : RattleType = param 0 X in let V : RattleType = param 1 Y in let En = ended X Y g d in let c = clauses X Y g d 𝓛 𝓜.mem 𝓡.returns in let LR = param_laws 0 X L in let cw : Coded Y.Denot = V.coded in
-    let inst = bounded (a_type ∷ a_type ∷ []) (X, (Y, tt)) (dcons d dnil) in let fn = inst_fn inst code.function in
-    let self = RefOf (0 ∷ []) tt (plain (λ κs. writing.the_row (named_lft 4 1 tt κs) R V g)) (λ _. tt) in let hs : Stays En.signature.params En.kept = (stay_dropped self yes, tt) in
-    proved 𝓛 En hs c 𝓜 𝓡 (Goes-dropped 𝓛 4 self yes (λ κs x f. refl), tt) (#self inst) fn (code.unfolded 𝓤 H 𝓜 𝓡 wired (X, (Y, tt)) d)
-    (λ κs. (shr_vals, tt)) (λ κs. (shr_Tells (named 0) κs.0 (writing.the_row (named_lft 4 1 tt κs) R V g), tt)) (λ κs qs bounds a gh are.
-    let ℓ = named_lft 4 1 tt κs in let Wr : RattleType = writing.the_row ℓ R V g in let form = shape (writing.the_type ℓ R V g) in let D : RattleType = Pointing form ℓ R in let b : ℕ = a.0.ref_ptr.0 in let o : ℕ = a.0.ref_ptr.1 in let κ : Lft = κs.0 in let β : Lft = κs.1.0 in
+get_spec 𝓤 𝓛 𝓜 𝓡 wired X S Y Ky L _ _ _ g d _ =
+    let H = 𝓛.H in let 𝓣 = tables 𝓤 H 𝓜 𝓡 𝓡.env in let R : RattleType = param 0 X in let Q : RattleType = param 1 S in let V : RattleType = param 2 Y in let Kr : RattleType = param 3 Ky in let En = ended X S Y Ky g d in let c = clauses X S Y Ky g d 𝓛 𝓜.mem 𝓡.returns in let LR = param_laws 0 X L in let cw : Coded Y.Denot = V.coded in
+    let inst = bounded (a_type ∷ a_type ∷ a_type ∷ a_type ∷ []) (X, (S, (Y, (Ky, tt)))) (dcons d dnil) in let fn = inst_fn inst code.function in
+    let self = RefOf (0 ∷ []) tt (plain (λ κs. writing.the_row (named_lft 6 1 tt κs) R Q V Kr g)) (λ _. tt) in let hs : Stays En.signature.params En.kept = (stay_dropped self yes, tt) in
+    proved 𝓛 En hs c 𝓜 𝓡 (Goes-dropped 𝓛 6 self yes (λ κs x f. refl), tt) (#self inst) fn (code.unfolded 𝓤 H 𝓜 𝓡 wired (X, (S, (Y, (Ky, tt)))) d)
+    (λ κs. (shr_vals, tt)) (λ κs. (shr_Tells (named 0) κs.0 (writing.the_row (named_lft 6 1 tt κs) R Q V Kr g), tt)) (λ κs qs bounds a gh are.
+    let ℓ = named_lft 6 1 tt κs in let Wr : RattleType = writing.the_row ℓ R Q V Kr g in let form = shape (writing.the_type ℓ R Q V Kr g) in let D : RattleType = Pointing form ℓ R in let b : ℕ = a.0.ref_ptr.0 in let o : ℕ = a.0.ref_ptr.1 in let κ : Lft = κs.0 in let β : Lft = κs.1.0 in
     let hw : Wr.Denot = a.0.now in let p : Ptr = hw.slot in let x : X.Denot = hw.value in let pb : ℕ = block_of p in let po : ℕ = count_of p in let e : ℕ = place R pb po in
-    let y : (walk_of 𝓛 En hs c).Ghost = ((κs, qs, bounds, a, (vptr b o ∷ [], tt)), gh) in let Post : Val → SProp 𝓤 = (walk_of 𝓛 En hs c).post y in let others : Fml = fsep (flft β qs.1.0) (fsep (flft κs.1.1.0 qs.1.1.0) (fsep (flft κs.1.1.1.0 qs.1.1.1.0) ftrue)) in
+    let y : (walk_of 𝓛 En hs c).Ghost = ((κs, qs, bounds, a, (vptr b o ∷ [], tt)), gh) in let Post : Val → SProp 𝓤 = (walk_of 𝓛 En hs c).post y in let others : Fml = fsep (flft β qs.1.0) (fsep (flft κs.1.1.0 qs.1.1.0) (fsep (flft κs.1.1.1.0 qs.1.1.1.0) (fsep (flft κs.1.1.1.1.0 qs.1.1.1.1.0) (fsep (flft κs.1.1.1.1.1.0 qs.1.1.1.1.1.0) ftrue)))) in
     qed 𝓛 (((‵ (flft κ qs.0) ⊛ ‵ others) ⊛ ‵ (owns (types_at En.signature.params κs) a y.0.4)) ∷ raw ((c κs a).requires gh) ∷ []) ∵ split ! $ split ! $ move ! (2 ∷ []) $ fsplit ! $ fsplit ! $ keep ! (1 ∷ 3 ∷ 4 ∷ []) $
     enter ! 𝓣.C 𝓣.Λ fn (vptr b o ∷ []) Post $ alloc_all ! (λ l. pass_all ! refl ((tt, tt), tt) $ let Ev = env fn.locals l in
-    use1 𝓛 (‵ (hidden_shr D κ (p, (tt, tt)) b o) ⊛ ‵ (fhide (writing_shares β R p x κ))) (lent_out 𝓛 (writing.struct ℓ R V g) (writing.the_codes X.Denot Y.Denot R.coded V.coded (marker.the_row (ShrRef ℓ.mir ℓ.lft R)).coded) (writing.the_heap β R V g) (writing.the_lent β R V g) κ hw b o) $
-    split ! $ move ! (1 ∷ []) $ unhide ! $ use1 𝓛 (given (InBlock p) (‵ (writing_shares β R p x κ))) (fact_use 𝓤 _ (writer_sees 𝓛 cw g.holds hw.name β R p x κ) (guard_i 𝓤 (InBlock p) (sem 𝓛 (writing_shares β R p x κ)))) $ learn ! (λ inb. let at : p ≡ block_ptr pb po = at_block p inb in
+    use1 𝓛 (‵ (hidden_shr D κ (p, (tt, tt)) b o) ⊛ ‵ (fhide (writing_shares β R p x κ))) (lent_out 𝓛 (writing.struct ℓ R Q V Kr g) (writing.the_codes X.Denot S.Denot Y.Denot Ky.Denot R.coded Q.coded V.coded Kr.coded (marker.the_row (ShrRef ℓ.mir ℓ.lft R)).coded) (writing.the_heap β R Q V Kr g) (writing.the_lent β R Q V Kr g) κ hw b o) $
+    split ! $ move ! (1 ∷ []) $ unhide ! $ use1 𝓛 (given (InBlock p) (‵ (writing_shares β R p x κ))) (fact_use 𝓤 _ (writer_sees 𝓛 β R p x κ) (guard_i 𝓤 (InBlock p) (sem 𝓛 (writing_shares β R p x κ)))) $ learn ! (λ inb. let at : p ≡ block_ptr pb po = at_block p inb in
     rewrite ! 0 (λ (z : Ptr). ‵ (writing_shares β R z x κ)) at refl $ use1 𝓛 (‵ (hidden_shr R κ x pb e)) (shortens 𝓛 (shared_of R x pb e) (LR.shr_laws x pb e) (κ ++ β) κ (⊑_meet κ κ β (Incl-refl κ) bounds.0)) $ move ! (1 ∷ 2 ∷ []) $
     looks ! tt D (pointing_opens form ℓ R 𝓛) (p, (tt, tt)) b o (λ q vs. move ! (1 ∷ []) $ peeks ! D (Is D) (shows 𝓛 D) (p, (tt, tt)) vs (λ is_so. let ev : vs ≡ pointing (block_ptr pb po) ∷ [] = pointing_told form ℓ R p vs is_so ∙ ap (λ (r : Ptr). pointing r ∷ []) at in
     rewrite ! 1 (λ (ws : List Val). ‵ (cell_at q D.mir ws b o)) ev refl $ first ! $ blocks ! $

@@ -1,0 +1,53 @@
+-- `merge` is one load, by which one mark takes in what another knows.
+use Rattle.event_slot.proofs.Names.{◌≡◌, ℕ, ◌+◌, List, [], ◌∷◌, refl, lit<, a_type, named, dcons, dnil, Val, vptr, inst_fn, Coded, SProp, wand, emp, all, via, all_e, apply∗, Lft, Share, Fml, ftrue, fsep, flft, shown, fact_i, tables, sep, vunit, ‵, raw, ◌⊛◌, some, given, later, mean, at_ret, ◌$◌, ◌∵◌, !, qed, by, move, keep, drop, split, split3, join, fsplit, fsplit3, fjoin, fpick, pick, sem, learn, use0, use1, use2, use3, await, feq_i, stop, fld, addr, lit, of_opd, no_more, and_then, first, blocks, exec, Calls-last, returns, enter, alloc_all, pass_all, free_all, look_at, get, through, sets, lands_last, env, agg, yes, RattleType, owns, types_at, plain, block_ptr, nothing, unhide, param, bounded, RefOf, shr_vals, shr_Tells, mut_vals, mut_Tells, Stays, stay_dropped, stay_ref, walk_of, Goes-dropped, Goes-ref, tail, proved, leaves}
+use Rattle.atomic_table.proofs.Calls.{fm, seq_cst, found, finds, loads}
+use Rattle.atomic_table.specs.Marked.{mark_owns}
+use Rattle.event_slot.specs.Ruling.{Joins}
+use Rattle.event_slot.specs.contracts.slot.Slot as slot
+use Rattle.event_slot.specs.contracts.rule.Mark as mark
+use types.Run.{unit_lit}
+use Rattle.event_slot.proofs.Entering.{J, reaches, Back, Marked, knowing, takes_mark}
+use Rattle.event_slot.proofs.Steps.{merged, unites, looks_on}
+use Rattle.event_slot.specs.contracts.slot.Slot.merge.{ended, clauses}
+use Rattle.event_slot.specs.contracts.slot.Slot.merge.Key.{name as #self}
+use Rattle.event_slot.proofs.slot.Slot.merge.Statement.{statement}
+use Rattle.event_slot.proofs.slot.Slot.merge.Code as code
+
+pub merge_spec : {M : Type 1} → statement M
+merge_spec 𝓤 𝓛 𝓜 𝓡 wired X S Y Ky Z _ _ _ _ _ g d h d' _ _ =
+    let H = 𝓛.H in let A = 𝓛.A in let 𝓣 = tables 𝓤 H 𝓜 𝓡 𝓡.env in let R : RattleType = param 0 X in let Q : RattleType = param 1 S in let V : RattleType = param 2 Y in let Kr : RattleType = param 3 Ky in let En = ended X S Y Ky Z g d h d' in let c = clauses X S Y Ky Z g d h d' 𝓛 𝓜.mem 𝓡.returns in
+    let inst = bounded (a_type ∷ a_type ∷ a_type ∷ a_type ∷ a_type ∷ []) (X, (S, (Y, (Ky, (Z, tt))))) (dcons d (dcons d' dnil)) in let fn = inst_fn inst code.function in let cw : Coded Y.Denot = V.coded in
+    let Row : RattleType = slot.the_row R Q V Kr g in let Mr : RattleType = mark.the_row V in let self = RefOf (0 ∷ []) tt (plain (λ _. Row)) (λ _. tt) in let marked = plain (λ _. Mr) in
+    let hs : Stays En.signature.params En.kept = (stay_dropped self yes, (stay_ref (1 ∷ []) tt marked, (stay_ref (2 ∷ []) tt marked, tt))) in
+    proved 𝓛 En hs c 𝓜 𝓡 (Goes-dropped 𝓛 8 self yes (λ κs x f. refl), (Goes-ref 𝓛 8 1 tt marked, (Goes-ref 𝓛 8 2 tt marked, tt))) (#self inst) fn (code.unfolded 𝓤 H 𝓜 𝓡 wired (X, (S, (Y, (Ky, (Z, tt))))) d d')
+    (λ κs. (shr_vals, (mut_vals, (mut_vals, tt)))) (λ κs. (shr_Tells (named 0) κs.0 Row, (mut_Tells (named 1) κs.1.0 Mr, (mut_Tells (named 2) κs.1.1.0 Mr, tt)))) (λ κs qs bounds a gh are.
+    let b : ℕ = a.0.ref_ptr.0 in let o : ℕ = a.0.ref_ptr.1 in let κ : Lft = κs.0 in let q : Share = qs.0 in let γ : ℕ = a.0.now.name in let key : Ky.Denot = a.0.now.key in let x = a.1.0 in let m : Mr.Denot = x.now in let u₂ = a.1.1.0 in let k : Mr.Denot = u₂.now in let all_ : Y.Denot = h.both m.view k.view in let κ₂ : Lft = κs.1.1.0 in let q₂ : Share = qs.1.1.0 in
+    let y : (walk_of 𝓛 En hs c).Ghost = ((κs, qs, bounds, a, (vptr b o ∷ [], (mut_vals x, (mut_vals u₂, tt)))), gh) in let Post : Val → SProp 𝓤 = (walk_of 𝓛 En hs c).post y in
+    let others : Fml = fsep (flft κs.1.1.1.0 qs.1.1.1.0) (fsep (flft κs.1.1.1.1.0 qs.1.1.1.1.0) (fsep (flft κs.1.1.1.1.1.0 qs.1.1.1.1.1.0) (fsep (flft κs.1.1.1.1.1.1.0 qs.1.1.1.1.1.1.0) (fsep (flft κs.1.1.1.1.1.1.1.0 qs.1.1.1.1.1.1.1.0) ftrue)))) in
+    qed 𝓛 (((‵ (flft κ q) ⊛ ‵ (flft κs.1.0 qs.1.0) ⊛ ‵ (flft κ₂ q₂) ⊛ ‵ others) ⊛ ‵ (owns (types_at En.signature.params κs) a y.0.4)) ∷ raw (shown 𝓤 _) ∷ raw (shown 𝓤 _) ∷ raw (shown 𝓤 _) ∷ raw (shown 𝓤 _) ∷ raw (shown 𝓤 _) ∷ given ((m.slot ≡ γ) × (k.slot ≡ γ) × Joins (g.holds key) m.id m.view k.id k.view all_ h.spent) (‵ ftrue) ∷ []) ∵
+    keep ! (6 ∷ 0 ∷ []) $ learn ! (λ asked. drop ! $ split ! $ split3 ! $ move ! (2 ∷ []) $ split ! $ move ! (4 ∷ []) $ fsplit3 ! $ fsplit ! $ move ! (3 ∷ []) $ fsplit ! $ keep ! (3 ∷ 7 ∷ 4 ∷ 8 ∷ 0 ∷ 5 ∷ 6 ∷ []) $
+    -- [the slot; its token; the mark; its token; the other mark; its token; the other tokens]
+    enter ! 𝓣.C 𝓣.Λ fn (vptr b o ∷ vptr x.ref_ptr.0 x.ref_ptr.1 ∷ vptr u₂.ref_ptr.0 u₂.ref_ptr.1 ∷ []) Post $ alloc_all ! (λ l. pass_all ! refl ((tt, tt), ((tt, tt), ((tt, tt), tt))) $ let Ev = env fn.locals l in
+    unhide ! $ fpick ! (λ t. move ! (0 ∷ 1 ∷ []) $ use2 𝓛 (later (some (λ (s : Share). raw (A.inv (J 𝓛 cw γ R Q g.counts (g.holds key) b o t κ)) ⊛ ‵ (flft t.0 s) ⊛ raw (wand 𝓤 (A.lft t.0 s) (H.⇛ (A.lft κ q)))))) (reaches 𝓛 cw γ R Q g.counts (g.holds key) b o t κ 𝓜 𝓡 q) $ await ! tt $ pick ! (λ s. split3 ! $
+    let Own : Fml = mark_owns cw.code γ m.id m.view in let Marks = Marked 𝓛 V (named 1) κs.1.0 qs.1.0 x γ asked.0 in let Home = Back 𝓛 V (named 1) κs.1.0 qs.1.0 x γ asked.0 in
+    move ! (3 ∷ 4 ∷ []) $ use2 𝓛 (later (‵ Own ⊛ raw (all 𝓤 Home))) (takes_mark 𝓛 V (named 1) κs.1.0 qs.1.0 x γ asked.0) $ await ! tt $ split ! $
+    let Own₂ : Fml = mark_owns cw.code γ k.id k.view in let Marks₂ = Marked 𝓛 V (named 2) κ₂ q₂ u₂ γ asked.1 in let Home₂ = Back 𝓛 V (named 2) κ₂ q₂ u₂ γ asked.1 in
+    move ! (5 ∷ 6 ∷ []) $ use2 𝓛 (later (‵ Own₂ ⊛ raw (all 𝓤 Home₂))) (takes_mark 𝓛 V (named 2) κ₂ q₂ u₂ γ asked.1) $ await ! tt $ split ! $ move ! (2 ∷ 0 ∷ []) $ fjoin ! $
+    -- [both marks; the second's way home; the first's; the invariant; the slot's token; its way back; the other tokens]
+    let right : ℕ → Fml = λ _. merged 𝓛 cw γ R Q (g.holds key) b o t m.id all_ k.id h.spent in let out : ℕ → Fml = λ n. fsep (flft t.0 s) (fsep ftrue (right n)) in
+    first ! $ blocks ! $ sets ! (addr ! (through ! refl (fld ! refl (stop !)))) refl (tt, tt) $ nothing ! $ join ! $ move ! (3 ∷ 4 ∷ 0 ∷ []) $
+    use3 𝓛 (raw (𝓣.C _ (vptr b (o + 0) ∷ seq_cst ∷ []) (λ u. mean 𝓛 (found out u))))
+    (via 𝓤 _ (looks_on 𝓛 cw γ R Q (g.holds key) b o t g.counts s (fsep Own Own₂) right (unites 𝓛 cw γ R Q (g.holds key) b o t g.counts s m.id m.view k.id k.view all_ h.spent asked.2)) (loads 𝓛 𝓜 𝓡 (code.calls-core::raw_atomic::load 𝓡.env wired) (block_ptr b (o + 0)) out)) $
+    sets ! (agg ! (and_then ! (lit ! tt) (no_more !))) refl (tt, (record { fits = lit< tt }, tt)) $ Calls-last ! (fm 𝓛 𝓜 𝓡) (found out) (and_then ! (get ! refl) (and_then ! (get ! refl) (no_more !))) (λ u. finds ! out (λ n fits.
+    lands_last ! refl (tt, record { fits = fits }) $ exec ! 𝓣.C 𝓣.Λ Ev (tail fn.body) (at_ret Ev Post) $ sets ! (of_opd ! (unit_lit !)) refl (tt, tt) $
+    -- [the slot's token; nothing; both marks; the second's way home; the first's; the way back; the other tokens]
+    fsplit3 ! $ move ! (2 ∷ []) $ fsplit ! $ move ! (5 ∷ []) $ use1 𝓛 (raw (Home all_)) (all_e 𝓤 Home all_) $ move ! (1 ∷ 0 ∷ []) $
+    use2 𝓛 (later (‵ (Marks all_) ⊛ ‵ (flft κs.1.0 qs.1.0))) (apply∗ 𝓤 (sem 𝓛 (mark_owns cw.code γ m.id all_)) (H.⇛ (sep 𝓤 (sem 𝓛 (Marks all_)) (A.lft κs.1.0 qs.1.0)))) $ await ! tt $ split ! $
+    -- [the mark; its token; the spent mark; the slot's token; nothing; its way home; the way back; the other tokens]
+    move ! (5 ∷ []) $ use1 𝓛 (raw (Home₂ h.spent)) (all_e 𝓤 Home₂ h.spent) $ move ! (3 ∷ 0 ∷ []) $
+    use2 𝓛 (later (‵ (Marks₂ h.spent) ⊛ ‵ (flft κ₂ q₂))) (apply∗ 𝓤 (sem 𝓛 (mark_owns cw.code γ k.id h.spent)) (H.⇛ (sep 𝓤 (sem 𝓛 (Marks₂ h.spent)) (A.lft κ₂ q₂)))) $ await ! tt $ split ! $
+    -- [the spent mark; its token; the mark; its token; the slot's token; nothing; the way back; the other tokens]
+    move ! (4 ∷ 6 ∷ []) $ use2 𝓛 (later (‵ (flft κ q))) (apply∗ 𝓤 (A.lft t.0 s) (H.⇛ (A.lft κ q))) $ await ! tt $ feq_i ! (List Val) (vunit ∷ []) (vunit ∷ []) refl $
+    nothing ! $ move ! (3 ∷ 0 ∷ []) $ fjoin ! $ move ! (4 ∷ 0 ∷ []) $ fjoin ! $ nothing ! $ fjoin ! $ move ! (3 ∷ 6 ∷ []) $ join ! $ move ! (4 ∷ 0 ∷ []) $ join ! $ move ! (3 ∷ 0 ∷ []) $ join ! $
+    let Told : Type 0 = (m.slot ≡ m.slot) × (m.id ≡ m.id) × (all_ ≡ all_) in use0 𝓛 (raw (shown 𝓤 Told)) (fact_i 𝓤 Told (emp 𝓤) (refl, refl, refl)) $
+    returns ! (look_at ! 0 refl) $ free_all ! refl $ keep ! (1 ∷ 2 ∷ 3 ∷ 0 ∷ []) $ by ! (leaves 𝓛 En hs c y vunit tt (tt, (knowing 𝓛 V (named 1) κs.1.0 qs.1.0 x γ asked.0 all_, (knowing 𝓛 V (named 2) κ₂ q₂ u₂ γ asked.1 h.spent, tt))) (tt, (tt, (tt, tt)))))))))))
