@@ -9,7 +9,7 @@ use Rattle.event_queue.specs.declared.notice.Notice.{Notice}
 use Rattle.event_word.specs.declared.competing.Competing.{Competing}
 use Rattle.event_word.specs.Competing.{rules_of}
 use Rattle.event_word.specs.Free.{free_of, IsOpen, ServesTheStarving, ServesWith}
-use Rattle.event_word.proofs.FreeLemmas.{serves-less, serves-taken, serves-taken_told}
+use Rattle.event_word.proofs.FreeLemmas.{serves-fewer, serves-less, serves-taken_told}
 use Rattle.event_wait.specs.FairQueue.{State, is_among}
 use Rattle.event_word.specs.Word.{Eases, EasesFrom, HasState, Sat, count, number_of, numbered}
 use Rattle.event_word.specs.declared.word.rule.Shelf.{Shelf}
@@ -70,7 +70,7 @@ module _ {C : Type 0} (fits lends : ℕ → Type 0) where
 -- one that was notified takes one, or a newcomer where the word is open
 pub serves-taken_by : {W : Type 0} (notified : Bool) (old new : ℕ) (s : State W) → new + 1 ≡ old → 0 < free_of old → (notified ≡ false → IsOpen old) → ServesWith (count notified) old s → ServesTheStarving new s
 serves-taken_by true old new s is some may h = serves-taken_told 0 old new s is some h
-serves-taken_by false old new s is some may h = serves-taken 0 old new s is (may refl) h
+serves-taken_by false old new s is some may h = serves-fewer 0 old new s (may refl) h
 
 pub serves-unless : {W : Type 0} (notified : Bool) (n : ℕ) (s : State W) → ServesWith (count notified) n s → ServesTheStarving n s
 serves-unless true n s h = serves-less 0 n s h
@@ -80,6 +80,10 @@ module _ {S V : Type 0} where
   -- the state is out as before
   pub still_out : (m n : Sat S V) (q : S) → n.1 ≡ m.1 → m.1 ≡ (0, shelf.State q) ∷ rest m.1 → n.1 ≡ (0, shelf.State q) ∷ rest n.1
   still_out m n q is has = is ∙ (has ∙ ap (λ l. (0, shelf.State q) ∷ rest l) (sym is))
+
+  -- and the number is this
+  pub numbered-on : (P : ℕ → Type 0) (Q : ℕ → S → Type 0) (v : ℕ) (m n : Sat S V) → HasState Q m → n ≡ (numbered v m.0, m.1) → P v → HasState (λ b _. P b) n
+  numbered-on P Q v m n t is h = (v, t.1, ap (λ x. x.0.number) is, still_out m n t.1 (ap (λ x. x.1) is) t.3, h)
 
   -- and the value is out with it
   pub out_with : (m n : Sat S V) (q : S) (more : List (ℕ × Shelf S V)) → n.1 ≡ m.1 ++ more → m.1 ≡ (0, shelf.State q) ∷ rest m.1 → n.1 ≡ (0, shelf.State q) ∷ rest n.1

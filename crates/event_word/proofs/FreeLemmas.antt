@@ -10,7 +10,7 @@ use Rattle.event_queue.proofs.OrderLemmas.{length-remove_entry}
 use Rattle.event_queue.specs.Queue.{Queue}
 use Rattle.event_wait.specs.Line.{HasLeft, TellsUpTo, told_anew}
 use Rattle.event_wait.specs.FairQueue.{State, Comes, Joins, WaitsOn, is_among}
-use Rattle.event_word.specs.Free.{free_of, IsOpen, IsShut, one_starving_is_told, ServesWith, ServesTheStarving, NobodyWaits, ShutsForTheStarving, Stands}
+use Rattle.event_word.specs.Free.{free_of, IsClosed, IsOpen, IsShut, one_starving_is_told, ServesWith, ServesTheStarving, NobodyIsThere, NobodyWaits, ShutsForTheStarving, Stands}
 use Rattle.event_wait.specs.declared.fair_queue.Queued.{Queued}
 
 le_or_more : (m n : ℕ) → (m ≤ n) ⊎ (n < m)
@@ -91,6 +91,10 @@ came_shorter key entries None is h = cc
 came_shorter key entries (Some notice) is h = length-remove_entry key entries notice is
 
 module _ {W : Type 0} where
+  -- nobody starves
+  pub serves-nobody : (n : ℕ) (s : State W) → s.starving ≡ [] → ServesTheStarving n s
+  serves-nobody n s none told = absurd (omega (arith, any-some (is_among (keys_of s.queue.told)) s.starving told, ap (λ (keys : List Key). length keys) none))
+
   -- nobody is in the queue
   pub stands-new : (n : ℕ) (s : State W) → s.queue.waiting ≡ [] → s.starving ≡ [] → IsOpen n → Stands n s
   stands-new n s nobody none may = record {
@@ -99,31 +103,45 @@ module _ {W : Type 0} where
       only_then = λ shut. absurd (omega (arith, shut, may));
       shut = λ some. absurd (omega (arith, some, ap (λ (keys : List Key). length keys) none));
     };
-    serves = λ told. absurd (omega (arith, any-some (is_among (keys_of s.queue.told)) s.starving told, ap (λ (keys : List Key). length keys) none));
+    serves = serves-nobody n s none;
+    closed = λ closed. absurd (omega (arith, closed.0, may));
+  }
+
+  -- it is closed, and nobody is in the queue
+  pub stands-closed : (n : ℕ) (s : State W) → IsClosed n → NobodyIsThere s → Stands n s
+  stands-closed n s closed there = record {
+    nobody = λ _. rw there.1 refl;
+    shuts = record {
+      only_then = λ shut. absurd (omega (arith, shut, closed.1));
+      shut = λ some. absurd (omega (arith, some, ap (λ (keys : List Key). length keys) there.2));
+    };
+    serves = serves-nobody n s there.2;
+    closed = λ _. there;
   }
 
   -- the moves of a number
 
-  -- a newcomer takes one, where it may
-  pub stands-taken : (old new : ℕ) (s : State W) → new + 1 ≡ old → IsOpen old → Stands old s → Stands new s
-  stands-taken old new s is may h = record {
+  -- newcomers take some, where they may
+  pub stands-fewer : (n old new : ℕ) (s : State W) → new + n ≡ old → n ≤ free_of old → IsOpen old → Stands old s → Stands new s
+  stands-fewer n old new s is has may h = record {
     nobody = λ less. h.nobody (omega (arith, less, is, may));
     shuts = record {
       only_then = λ shut. absurd (omega (arith, shut, is, may));
       shut = λ some. absurd (omega (arith, h.shuts.shut some, may));
     };
     serves = λ told. absurd (omega (arith, (h.serves told).0, may));
+    closed = λ closed. absurd (omega (arith, closed.0, is, may));
   }
 
-  pub serves-taken : (more old new : ℕ) (s : State W) → new + 1 ≡ old → IsOpen old → ServesWith more old s → ServesWith more new s
-  serves-taken more old new s is may h told = absurd (omega (arith, (h told).0, may))
+  pub serves-fewer : (more old new : ℕ) (s : State W) → IsOpen old → ServesWith more old s → ServesWith more new s
+  serves-fewer more old new s may h told = absurd (omega (arith, (h told).0, may))
 
   -- some are given back, whoever has the queue
-  pub serves-given : (more n old new : ℕ) (s : State W) → new ≡ old + n → free_of old + n < 2 ^ 61 → ServesWith more old s → ServesWith more new s
+  pub serves-given : (more n old new : ℕ) (s : State W) → new ≡ old + n → free_of old + n < 2 ^ 60 → ServesWith more old s → ServesWith more new s
   serves-given more n old new s is room h told = (omega (arith, (h told).0, is), omega (arith, (h told).1, is, room))
 
   -- some are given back, where nobody waits
-  pub stands-given : (n old new : ℕ) (s : State W) → new ≡ old + n → free_of old + n < 2 ^ 61 → Stands old s → NobodyWaits s → Stands new s
+  pub stands-given : (n old new : ℕ) (s : State W) → new ≡ old + n → free_of old + n < 2 ^ 60 → Stands old s → NobodyWaits s → Stands new s
   stands-given n old new s is room h nobody = record {
     nobody = λ _. nobody;
     shuts = record {
@@ -131,6 +149,7 @@ module _ {W : Type 0} where
       shut = λ some. omega (arith, h.shuts.shut some, is);
     };
     serves = serves-given 0 n old new s is room h.serves;
+    closed = λ closed. h.closed (omega (arith, closed.0, is, room), omega (arith, closed.1, is));
   }
 
   -- whoever has the queue takes one for a notified one that has come
@@ -205,14 +224,15 @@ module _ {W : Type 0} where
   serves-numbered more old new s is shut h told =
       (shut (any-some (is_among (keys_of s.queue.told)) s.starving told), omega (arith, (h told).1, is))
 
-  pub stands-settled : (n : ℕ) (old new : State W) → TellsUpTo (free_of n) old.queue new.queue → new ≡ record old { queue = new.queue } → ShutsForTheStarving n old → ServesTheStarving n old → Stands n new
-  stands-settled n old new step kept shuts serves = record {
+  pub stands-settled : (n : ℕ) (old new : State W) → TellsUpTo (free_of n) old.queue new.queue → new ≡ record old { queue = new.queue } → ShutsForTheStarving n old → ServesTheStarving n old → (IsClosed n → ⊥) → Stands n new
+  stands-settled n old new step kept shuts serves stays = record {
     nobody = λ less. omega (arith, less, step.told, left);
     shuts = record {
       only_then = λ shut. rw starving (shuts.only_then shut);
       shut = λ some. shuts.shut (rw starving at some);
     };
     serves = λ told. (shuts.shut (rw starving at (any-some (is_among (keys_of new.queue.told)) new.starving told)), by_case told);
+    closed = λ closed. absurd (stays closed);
   }
     where
       starving : new.starving ≡ old.starving

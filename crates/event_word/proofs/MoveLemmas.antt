@@ -1,24 +1,28 @@
 -- The moves that a semaphore and a mutex make on their word, each by whole steps of 4 of the word.
 use Rattle.std.proofs.Common.{◌≡◌, ℕ, ◌+◌, ◌*◌, ◌/◌, ◌%◌, ◌^◌, ◌<◌, ◌≤◌, arith}
 use Rattle.event_word.specs.Competing.{rules_of}
-use Rattle.event_word.specs.Free.{free_of, ServesTheStarving, Stands}
+use Rattle.event_word.specs.Free.{free_of, unshut_of, ServesTheStarving, Stands}
 use Rattle.event_wait.specs.FairQueue.{State}
 use Rattle.event_word.specs.Word.{Changes, GivesBack, Lends, Stays, number_of}
-use Rattle.event_word.proofs.FreeLemmas.{serves-given, serves-taken, stands-given, stands-taken}
+use Rattle.event_word.proofs.FreeLemmas.{serves-fewer, serves-given, stands-fewer, stands-given}
 
 module _ {C : Type 0} (fits lends : ℕ → Type 0) where
-  -- a newcomer takes one, where the word is open
-  pub changes-taken : (old new : ℕ) → new + 4 ≡ old → old < 2 ^ 63 → fits (free_of (number_of new)) → Changes (rules_of {C = C} fits lends) old new
-  changes-taken old new is may fit = record {
+  -- newcomers take some, where the word is open
+  pub changes-fewer : (n old new : ℕ) → new + 4 * n ≡ old → old < 2 ^ 62 → fits (unshut_of (number_of new)) → Changes (rules_of {C = C} fits lends) old new
+  changes-fewer n old new is may fit = record {
     code = omega (arith, is);
     fits = fit;
-    quiet = λ _ s h _. stands-taken (old / 4) (new / 4) s.line (omega (arith, is)) (omega (arith, may)) h;
-    crowded = λ _ s h. stands-taken (old / 4) (new / 4) s.line (omega (arith, is)) (omega (arith, may)) h;
-    out = λ _ s h. serves-taken 0 (old / 4) (new / 4) s.line (omega (arith, is)) (omega (arith, may)) h;
+    quiet = λ _ s h _. stands-fewer n (old / 4) (new / 4) s.line (omega (arith, is)) (omega (arith, is, may)) (omega (arith, may)) h;
+    crowded = λ _ s h. stands-fewer n (old / 4) (new / 4) s.line (omega (arith, is)) (omega (arith, is, may)) (omega (arith, may)) h;
+    out = λ _ s h. serves-fewer 0 (old / 4) (new / 4) s.line (omega (arith, may)) h;
   }
 
+  -- one is taken, by a newcomer or for one that was notified
+  pub changes-taken : (old new : ℕ) → new + 4 ≡ old → old < 2 ^ 62 → fits (unshut_of (number_of new)) → Changes (rules_of {C = C} fits lends) old new
+  changes-taken old new is may fit = changes-fewer 1 old new (omega (arith, is)) may fit
+
   -- some are given back, where nobody waits or the state is out
-  pub changes-given : (n old new : ℕ) → new ≡ old + 4 * n → free_of (number_of old) + n < 2 ^ 61 → (old % 4 ≡ 2 → ⊥) → fits (free_of (number_of new)) → Changes (rules_of {C = C} fits lends) old new
+  pub changes-given : (n old new : ℕ) → new ≡ old + 4 * n → free_of (number_of old) + n < 2 ^ 60 → (old % 4 ≡ 2 → ⊥) → fits (unshut_of (number_of new)) → Changes (rules_of {C = C} fits lends) old new
   changes-given n old new is room home fit = record {
     code = omega (arith, is);
     fits = fit;
@@ -28,7 +32,7 @@ module _ {C : Type 0} (fits lends : ℕ → Type 0) where
   }
 
 -- some are given back and the state is taken out, in one step
-pub promised-given : {W : Type 0} (n old new : ℕ) (s : State W) → old % 4 ≡ 2 → new + 1 ≡ old + 4 * n → free_of (number_of old) + n < 2 ^ 61 → Stands (number_of old) s → ServesTheStarving (number_of new) s
+pub promised-given : {W : Type 0} (n old new : ℕ) (s : State W) → old % 4 ≡ 2 → new + 1 ≡ old + 4 * n → free_of (number_of old) + n < 2 ^ 60 → Stands (number_of old) s → ServesTheStarving (number_of new) s
 promised-given n old new s home is room h = serves-given 0 n (old / 4) (new / 4) s (omega (arith, is, home)) room h.serves
 
 module _ {C : Type 0} where

@@ -1,19 +1,27 @@
--- What is free for those that compete, and what holds of it and of their queue. The number of a lock is what is free, and 2 ^ 61 while newcomers are shut out.
-use Rattle.std.specs.Prelude.{◌≡◌, ◌⊎◌, ℕ, ◌+◌, ◌%◌, ◌^◌, ◌<◌, ◌≤◌, Bool, true, false, length}
+-- What is free for those that compete, and what holds of it and of their queue. The number of a lock is what is free, 2 ^ 60 more once it is closed, and 2 ^ 61 more while newcomers are shut out.
+use Rattle.std.specs.Prelude.{◌≡◌, ◌⊎◌, ℕ, ◌+◌, ◌%◌, ◌^◌, ◌<◌, ◌≤◌, ◌-◌, Bool, true, false, List, [], length}
 use Rattle.std.specs.List.{list_any}
 use Rattle.std.specs.Map.{keys_of}
-use Rattle.event_wait.specs.FairQueue.{State, is_among}
+use Rattle.event_wait.specs.FairQueue.{State, is_among, woken_tasks}
 
 -- how many are free by this number
 abbrev pub free_of : ℕ → ℕ
-free_of n = n % 2 ^ 61
+free_of n = n % 2 ^ 60
+
+-- the number without what shuts newcomers out
+abbrev pub unshut_of : ℕ → ℕ
+unshut_of n = n % 2 ^ 61
 
 -- newcomers may take what is free
 abbrev pub IsOpen : ℕ → Type 0
-IsOpen n = n < 2 ^ 61
+IsOpen n = n < 2 ^ 60
 
 abbrev pub IsShut : ℕ → Type 0
 IsShut n = 2 ^ 61 ≤ n
+
+-- nobody may take anything any more
+abbrev pub IsClosed : ℕ → Type 0
+IsClosed n = (2 ^ 60 ≤ n) × (n < 2 ^ 61)
 
 -- none is free, or one that was not notified may take none
 abbrev pub NoneFor : Bool → ℕ → Type 0
@@ -38,13 +46,26 @@ module _ {W : Type 0} where
   abbrev pub NobodyWaits : State W → Type 0
   NobodyWaits s = length s.queue.waiting ≡ 0
 
+  -- nobody is in the queue, notified or not
+  abbrev pub NobodyIsThere : State W → Type 0
+  NobodyIsThere s = (s.queue.told ≡ []) × (s.queue.waiting ≡ []) × (s.starving ≡ [])
+
+  -- the tasks of all that wait: no queue has more
+  abbrev pub all_tasks : State W → List W
+  all_tasks s = woken_tasks (2 ^ 64 - 1) s
+
   -- newcomers are shut out exactly while one starves
   pub record ShutsForTheStarving (n : ℕ) (s : State W) : Type 0 where
     pub only_then : IsShut n → 0 < length s.starving
     pub shut : 0 < length s.starving → IsShut n
+
+  -- the number of one that is not closed shows newcomers whether they are shut out
+  abbrev pub TellsNewcomers : ℕ → State W → Type 0
+  TellsNewcomers n s = (IsClosed n → ⊥) → ShutsForTheStarving n s
 
   -- what holds of the number and of the queue between any two steps
   pub record Stands (n : ℕ) (s : State W) : Type 0 where
     pub nobody : NobodyWaitsInVain n s
     pub shuts : ShutsForTheStarving n s
     pub serves : ServesTheStarving n s
+    pub closed : IsClosed n → NobodyIsThere s

@@ -2,6 +2,7 @@ pub mod Free
 pub mod Rules
 pub mod Competing
 pub mod Contender
+pub mod Permit
 pub mod Word
 pub mod Count
 pub mod Queues

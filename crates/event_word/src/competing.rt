@@ -1,8 +1,9 @@
 //! Those that compete for what a lock's number counts.
-ghost use Rattle.std.specs.Prelude.{◌≡◌, ℕ, ◌<◌, ◌≤◌, true, Some, None, IfOk, OnErr};
+ghost use Rattle.std.specs.Prelude.{◌≡◌, ℕ, ◌<◌, ◌≤◌, false, true, Some, None, IfOk, OnErr};
+ghost use Rattle.std.specs.List.{FoldsTo};
 ghost use Rattle.event_wait.specs.Attempted.{Stores};
 ghost use Rattle.event_word.specs.Contender.{Comes, Loses, NobodyIsBy, coming_of, count_of, losses_after};
-ghost use Rattle.event_word.specs.Free.{IsOpen, NobodyWaits, ServesTheStarving, ServesWith, Stands, free_of, one_starving_is_told};
+ghost use Rattle.event_word.specs.Free.{IsClosed, IsOpen, NobodyIsThere, NobodyWaits, ServesTheStarving, ServesWith, Stands, all_tasks, free_of, one_starving_is_told};
 ghost use Rattle.event_word.specs.Competing.{rules_of};
 ghost use Rattle.event_wait.specs.FairQueue.{State};
 
@@ -16,16 +17,27 @@ use std::marker::PhantomData;
 /// The bit of a lock's number that shuts newcomers out.
 pub const SHUT: u64 = 0x2000_0000_0000_0000;
 
+/// The bit of a lock's number that says that it is closed. A number below it is open to newcomers.
+pub const CLOSED: u64 = 0x1000_0000_0000_0000;
+
 /// How many of what they compete for are free.
 pub fn free(number: u64) -> u64
     ensures { result ≡ free_of number }
 {
-    number % SHUT
+    number % CLOSED
+}
+
+/// Whether it is closed.
+pub fn is_closed(number: u64) -> bool
+    ensures closed { result ≡ true → IsClosed number }
+    ensures open { result ≡ false → IsClosed number → ⊥ }
+{
+    CLOSED <= number && number < SHUT
 }
 
 /// What they compete for: how many of it there may be, and whether it is a value that is out.
 pub trait Counted {
-    // What holds of how many are free.
+    // What holds of the number, without the bit that shuts newcomers out.
     ghost fits: { ℕ → Type 0 };
 
     // Whether the value is out where so many are free.
@@ -54,6 +66,7 @@ impl Counted for OneValue {
 #[derive(Drop)]
 pub struct Competing<C> {
     pub line: FairQueue<Task>,
+    alloc: Global,
     of: PhantomData<C>,
 }
 
@@ -65,6 +78,7 @@ impl<C> Competing<C> {
     {
         Competing {
             line: FairQueue::new(alloc),
+            alloc,
             of: PhantomData,
         }
     }
@@ -153,21 +167,37 @@ impl<C> Competing<C> {
         }
         Coming::New
     }
+
+    /// Notifies all that wait, and leaves an empty queue: whoever was there has no place any more.
+    pub fn close<K: WakeSink<Task>>(&mut self, sink: &mut K)
+        ensures wakes { FoldsTo K.woke sink.old (all_tasks self.old.line) sink.new }
+        ensures nobody { NobodyIsThere self.new.line }
+    {
+        self.line.tell(usize::MAX, sink);
+        self.line = FairQueue::new(self.alloc);
+    }
 }
 
 impl<C: Counted> Kept for Competing<C> {
     ghost rules = { rules_of C.fits C.lends };
 
     fn number(&self, number: u64) -> u64 {
-        let free = free(number);
+        if is_closed(number) {
+            return number;
+        }
+        let unshut = number % SHUT;
         if self.line.starving() > 0 {
-            free + SHUT
+            unshut + SHUT
         } else {
-            free
+            unshut
         }
     }
 
     fn settle<K: WakeSink<Task>>(&mut self, number: u64, sink: &mut K) -> bool {
+        if is_closed(number) {
+            self.close(sink);
+            return false;
+        }
         self.line.tell(free(number) as usize, sink);
         self.line.waiting() > 0
     }

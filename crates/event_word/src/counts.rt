@@ -13,4 +13,6 @@ pub struct Counts {
     pub starving: usize,
     /// Whether newcomers are shut out.
     pub is_shut: bool,
+    /// Whether nobody gets anything any more. A mutex never is closed.
+    pub is_closed: bool,
 }

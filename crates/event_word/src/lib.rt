@@ -17,12 +17,14 @@
 mod competing;
 mod contender;
 mod counts;
+mod error;
 mod shares;
 mod word;
 
 pub use competing::{Competing, Counted, OneValue, Permits, the_starving_find_one};
 pub use contender::{Arrival, Coming, Contender};
 pub use counts::Counts;
+pub use error::TryAcquireError;
 pub use shares::counts::RwLockCounts;
 pub use shares::number::{is_written, readers};
 pub use shares::queues::Queues;

@@ -1,14 +1,14 @@
 //! What those that compete for a lock do with its state out.
-ghost use Rattle.std.specs.Prelude.{◌≡◌, ◌<◌, ◌≤◌, true, Some, None, IfOk, OnErr};
+ghost use Rattle.std.specs.Prelude.{◌≡◌, ◌+◌, ◌<◌, ◌≤◌, true, Some, None, IfOk, OnErr};
 ghost use Rattle.atomic_table.specs.Table.{rest};
 ghost use Rattle.event_word.specs.Contender.{Comes, NobodyIsBy, coming_of, count_of, losses_after};
-ghost use Rattle.event_word.specs.Free.{ServesTheStarving, ServesWith, Stands, free_of, IsShut};
+ghost use Rattle.event_word.specs.Free.{ServesTheStarving, ServesWith, Stands, free_of, IsClosed, IsShut};
 ghost use Rattle.event_word.specs.Word.{HasState};
 ghost use Rattle.event_wait.specs.Attempted.{Stores};
 
 use super::Word;
 use super::held::Held;
-use crate::competing::{Competing, Counted, SHUT, free};
+use crate::competing::{Competing, Counted, SHUT, free, is_closed};
 use crate::contender::Arrival;
 use crate::counts::Counts;
 use crate::word::held::state;
@@ -28,6 +28,8 @@ impl<C: Counted, V> Word<Competing<C>, V> {
         ensures nobody { result.notified < result.free → result.waiting ≡ 0 }
         ensures shuts { (0 < result.starving → result.is_shut ≡ true)
             × (result.is_shut ≡ true → 0 < result.starving) }
+        ensures closed { result.is_closed ≡ true
+            → result.notified + result.waiting + result.starving ≡ 0 }
     {
         let (number, mut held) = self.take(rt);
         let counts = self.counted(&mut held, number);
@@ -44,6 +46,8 @@ impl<C: Counted, V> Word<Competing<C>, V> {
         ensures nobody { result.notified < result.free → result.waiting ≡ 0 }
         ensures shuts { (0 < result.starving → result.is_shut ≡ true)
             × (result.is_shut ≡ true → 0 < result.starving) }
+        ensures closed { result.is_closed ≡ true
+            → result.notified + result.waiting + result.starving ≡ 0 }
     {
         let line = &state!(held.seat, self).line;
         Counts {
@@ -52,6 +56,7 @@ impl<C: Counted, V> Word<Competing<C>, V> {
             waiting: line.waiting(),
             starving: line.starving(),
             is_shut: number >= SHUT,
+            is_closed: is_closed(number),
         }
     }
 

@@ -1,50 +1,72 @@
-//! A permit of a semaphore.
-ghost use Rattle.std.specs.Prelude.{◌≡◌, ◌+◌, ◌-◌, ◌^◌, min};
-ghost use Rattle.event_word.specs.Free.{free_of};
+//! Permits of a semaphore.
+ghost use Rattle.std.specs.Prelude.{◌≡◌, ◌+◌, ◌-◌, ◌<◌, ◌^◌, min};
+ghost use Rattle.event_word.specs.Free.{IsClosed, free_of};
 ghost use Rattle.event_word.specs.Word.{number_of};
 
 use super::origin::Origin;
 use super::step::Step;
 use std::marker::Model;
 
-/// One permit. It is no `Drop`, and only a step that counts one less makes one. A contract sees of which word it is.
+/// Permits that were taken at once, mostly one. It is no `Drop`, and only a step that counts so many less, of a word that is not
+/// closed, makes one. A contract sees how many there are, and of which word.
 pub struct Permit {
+    count: u64,
     origin: Origin,
+    ghost room: { count < 2 ^ 60 },
 }
 
 impl Model for Permit {
-    ghost use Rattle.atomic_table.specs.Seated.{TableId};
+    ghost use Rattle.event_word.specs.Permit.{Taken};
 
-    ghost Value = { TableId };
+    ghost Value = { Taken };
 
-    ghost view = { λ permit. permit.origin.table_id };
+    ghost view = { λ permit. record { origin = permit.origin.table_id; count = permit.count } };
 }
 
 impl Permit {
-    /// The permit that this step takes.
+    /// So many permits, which this step takes.
     #[inline(always)]
-    pub(crate) fn taken(step: Step) -> Self
-        requires { free_of (number_of step.from) ≡ free_of (number_of step.to) + 1 }
-        ensures { result ≡ step.origin.table_id }
+    pub(crate) fn taken(step: Step, count: u64) -> Self
+        requires open { IsClosed (number_of step.from) → ⊥ }
+        requires fewer { free_of (number_of step.from) ≡ free_of (number_of step.to) + count }
+        ensures origin { result.origin ≡ step.origin.table_id }
+        ensures count { result.count ≡ count }
     {
         Permit {
+            count,
             origin: step.into_origin(),
         }
     }
 
-    /// It is given back by this step, of its word: one more is free, if the number has room for one.
+    /// How many there are.
+    #[inline(always)]
+    pub fn count(&self) -> u64
+        ensures count { result ≡ self.now.count }
+        ensures room { result < 2 ^ 60 }
+    {
+        self.count
+    }
+
+    /// They are given back by this step, of their word: as many more are free, if the number has room for them.
     #[inline(always)]
     pub(crate) fn given(self, step: Step)
-        requires own { step.origin.table_id ≡ self }
+        requires own { step.origin.table_id ≡ self.origin }
         requires more { free_of (number_of step.to)
-            ≡ min (free_of (number_of step.from) + 1) (2 ^ 61 - 1) }
+            ≡ min (free_of (number_of step.from) + self.count) (2 ^ 60 - 1) }
+        requires closed { IsClosed (number_of step.from) → IsClosed (number_of step.to) }
     {
-        let Permit { origin: _ } = self;
+        let Permit {
+            count: _,
+            origin: _,
+        } = self;
         drop(step);
     }
 
-    /// Lets it go for ever.
-    pub fn forget(self) {
-        let Permit { origin: _ } = self;
+    /// Lets them go for ever. Returns how many there were.
+    pub fn forget(self) -> u64
+        ensures { result ≡ self.count }
+    {
+        let Permit { count, origin: _ } = self;
+        count
     }
 }

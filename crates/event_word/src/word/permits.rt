@@ -1,70 +1,113 @@
 //! The steps of a semaphore on its word.
-ghost use Rattle.std.specs.Prelude.{◌≡◌, ◌+◌, ◌-◌, ◌^◌, [], Some, None, min, IfSome};
+ghost use Rattle.std.specs.Prelude.{◌≡◌, ◌+◌, ◌-◌, ◌≤◌, ◌^◌, [], Err, min, IfOk, IfSome};
 ghost use Rattle.atomic_table.specs.Table.{rest};
-ghost use Rattle.event_word.specs.Free.{NoneFor, ServesTheStarving, ServesWith, free_of};
+ghost use Rattle.event_word.specs.declared.error.TryAcquireError.TheVariants.{Closed, NoPermits};
+ghost use Rattle.event_word.specs.Free.{IsClosed, NoneFor, ServesTheStarving, ServesWith, free_of};
 ghost use Rattle.event_word.specs.Word.{HasState, count, number_of};
 
 use super::held::Held;
 use super::permit::Permit;
 use super::serving::may_take;
 use super::{CROWDED, ONE, Step, Word};
-use crate::competing::{Competing, Permits, SHUT, free};
+use crate::competing::{CLOSED, Competing, Permits, free, is_closed};
+use crate::error::TryAcquireError;
+use crate::word::held::state;
+use event_wait::DeferredWake;
 use std::sync::Wait;
 
 // As many permits may be free.
-const MOST: u64 = SHUT - 1;
+const MOST: u64 = CLOSED - 1;
 
-// A word below it is open to newcomers, and has room for one more permit.
-const FULL: u64 = MOST * ONE;
+// Why a newcomer gets nothing where the word is so.
+fn refusal(seen: u64) -> TryAcquireError
+    ensures closed { result ≡ Closed → IsClosed (number_of seen) }
+    ensures open { result ≡ NoPermits → IsClosed (number_of seen) → ⊥ }
+{
+    if is_closed(seen / ONE) {
+        TryAcquireError::Closed
+    } else {
+        TryAcquireError::NoPermits
+    }
+}
 
 impl Word<Competing<Permits>, ()> {
-    /// Takes a permit, if one is free for newcomers. It is one load and one compare-exchange where no other thread comes between.
+    /// Whether it is closed. Then it stays so.
     #[inline(always)]
-    pub fn try_permit(&self) -> Option<Permit>
-        ensures { IfSome result (λ permit. permit ≡ self.now.table.shared.table_id) }
-    {
-        let (seen, mut seat) = self.look();
-        if seen < ONE || seen >= SHUT * ONE {
-            return None;
-        }
-        if let Some(step) = self.change(&mut seat, seen, seen - ONE) {
-            return Some(Permit::taken(step));
-        }
-        self.try_permit_again()
+    pub fn is_closed(&self) -> bool {
+        is_closed(self.number())
     }
 
+    /// Takes a permit, if one is free for newcomers. It is one load and one compare-exchange where no other thread comes between.
+    #[inline(always)]
+    pub fn try_permit(&self) -> Result<Permit, TryAcquireError>
+        ensures own { IfOk result (λ permit. permit.origin ≡ self.now.table.shared.table_id) }
+        ensures one { IfOk result (λ permit. permit.count ≡ 1) }
+    {
+        let (seen, mut seat) = self.look();
+        if seen < ONE || seen >= CLOSED * ONE {
+            return Err(refusal(seen));
+        }
+        if let Some(step) = self.change(&mut seat, seen, seen - ONE) {
+            return Ok(Permit::taken(step, 1));
+        }
+        self.try_permits(1)
+    }
+
+    /// Takes so many permits by one step, if as many are free for newcomers, and else none.
     #[cold]
     #[inline(never)]
-    fn try_permit_again(&self) -> Option<Permit>
-        ensures { IfSome result (λ permit. permit ≡ self.now.table.shared.table_id) }
+    pub fn try_permits(&self, count: u64) -> Result<Permit, TryAcquireError>
+        ensures own { IfOk result (λ permit. permit.origin ≡ self.now.table.shared.table_id) }
+        ensures all { IfOk result (λ permit. permit.count ≡ count) }
     {
         let (mut seen, mut seat) = self.look();
         for _ in 0..u64::MAX {
-            if seen >= SHUT * ONE || seen < ONE {
+            if seen >= CLOSED * ONE || seen / ONE < count {
+                return Err(refusal(seen));
+            }
+            if let Some(step) = self.change(&mut seat, seen, seen - count * ONE) {
+                return Ok(Permit::taken(step, count));
+            }
+            seen = self.look_again(&mut seat);
+        }
+        Err(TryAcquireError::NoPermits)
+    }
+
+    /// Takes so many permits by one step, or all that are free for newcomers if those are fewer. `None` says that newcomers are
+    /// shut out, or that it is closed.
+    pub fn try_up_to(&self, most: u64) -> Option<Permit>
+        ensures own { IfSome result (λ permit. permit.origin ≡ self.now.table.shared.table_id) }
+        ensures up_to { IfSome result (λ permit. permit.count ≤ most) }
+    {
+        let (mut seen, mut seat) = self.look();
+        for _ in 0..u64::MAX {
+            if seen >= CLOSED * ONE {
                 return None;
             }
-            if let Some(step) = self.change(&mut seat, seen, seen - ONE) {
-                return Some(Permit::taken(step));
+            let count = most.min(seen / ONE);
+            if let Some(step) = self.change(&mut seat, seen, seen - count * ONE) {
+                return Some(Permit::taken(step, count));
             }
             seen = self.look_again(&mut seat);
         }
         None
     }
 
-    /// Gives a permit of this word back, and notifies the first that waits, if one does. It does not wait for the state: whoever has that out
+    /// Gives permits of this word back, and notifies as many of those that wait. It does not wait for the state: whoever has that out
     /// notifies. It is one load and one compare-exchange where nobody waits.
     #[inline(always)]
     pub fn give_permit<R: Wait>(&self, rt: &R, permit: Permit)
-        requires { permit ≡ self.now.table.shared.table_id }
+        requires { permit.origin ≡ self.now.table.shared.table_id }
     {
         let (seen, mut seat) = self.look();
-        if seen % 4 != CROWDED && seen < FULL {
-            if let Some(step) = self.change(&mut seat, seen, seen + ONE) {
+        let count = permit.count();
+        if seen % 4 != CROWDED && seen < (CLOSED - count) * ONE {
+            if let Some(step) = self.change(&mut seat, seen, seen + count * ONE) {
                 permit.given(step);
                 return;
             }
         }
-        let step = self.added(rt, 1);
+        let step = self.added(rt, count);
         permit.given(step);
     }
 
@@ -78,7 +121,8 @@ impl Word<Competing<Permits>, ()> {
     fn added<R: Wait>(&self, rt: &R, permits: u64) -> Step
         ensures own { result.origin.table_id ≡ self.now.table.shared.table_id }
         ensures more { free_of (number_of result.to)
-            ≡ min (free_of (number_of result.from) + permits) (2 ^ 61 - 1) }
+            ≡ min (free_of (number_of result.from) + permits) (2 ^ 60 - 1) }
+        ensures closed { IsClosed (number_of result.from) → IsClosed (number_of result.to) }
     {
         let (mut seen, mut seat) = self.look();
         for _ in rt.forever() {
@@ -106,22 +150,55 @@ impl Word<Competing<Permits>, ()> {
         rt: &R,
         held: &mut Held<Competing<Permits>, ()>,
         notified: bool,
-    ) -> Option<Permit>
+    ) -> Result<Permit, TryAcquireError>
         requires seat { held.old.seat.table_id ≡ self.now.table.shared.table_id }
         requires serves { HasState (λ n q. ServesWith (count notified) n q.line) held.old.seat.me }
         ensures seat { (held.new.seat.table_id ≡ held.old.seat.table_id)
             × (held.new.seat.me.1 ≡ held.old.seat.me.1) }
         ensures serves { HasState (λ n q. ServesTheStarving n q.line) held.new.seat.me }
-        ensures own { IfSome result (λ permit. permit ≡ self.now.table.shared.table_id) }
-        ensures none { result ≡ None → HasState (λ n _. NoneFor notified n) held.new.seat.me }
+        ensures own { IfOk result (λ permit. permit.origin ≡ self.now.table.shared.table_id) }
+        ensures none { result ≡ Err NoPermits
+            → HasState (λ n _. NoneFor notified n) held.new.seat.me }
+        ensures closed { result ≡ Err Closed → HasState (λ n _. IsClosed n) held.new.seat.me }
     {
         for _ in rt.forever() {
             let seen = self.look_serving(held, notified);
+            if is_closed(seen / ONE) {
+                return Err(TryAcquireError::Closed);
+            }
             if !may_take(seen, notified) {
-                return None;
+                return Err(TryAcquireError::NoPermits);
             }
             if let Some(step) = held.change(self, seen, seen - ONE) {
-                return Some(Permit::taken(step));
+                return Ok(Permit::taken(step, 1));
+            }
+        }
+        unreachable!()
+    }
+
+    /// Closes it: nobody gets a permit any more. All that wait are notified, in order, and then nobody is in the queue. Permits that
+    /// are out come back still. It waits for the state.
+    pub fn close<R: Wait>(&self, rt: &R) {
+        let (_, mut held) = self.take(rt);
+        let mut waking = DeferredWake::new();
+        self.mark_closed(rt, &mut held);
+        state!(held.seat, self).close(&mut waking);
+        drop(self.put_back(rt, held));
+        waking.finish();
+    }
+
+    // Sets the bit, and clears that which shuts newcomers out.
+    fn mark_closed<R: Wait>(&self, rt: &R, held: &mut Held<Competing<Permits>, ()>)
+        requires seat { held.old.seat.table_id ≡ self.now.table.shared.table_id }
+        requires serves { HasState (λ n q. ServesTheStarving n q.line) held.old.seat.me }
+        ensures seat { held.new.seat.table_id ≡ held.old.seat.table_id }
+        ensures closed { HasState (λ n _. IsClosed n) held.new.seat.me }
+    {
+        for _ in rt.forever() {
+            let seen = self.look_serving(held, false);
+            let closed = free(seen / ONE) + CLOSED;
+            if let Some(_) = held.change(self, seen, closed * ONE + seen % 4) {
+                return;
             }
         }
         unreachable!()

@@ -1,20 +1,21 @@
 //! Looking at the number of a lock for which threads compete, with its state out.
 ghost use Rattle.std.specs.Prelude.{◌≡◌, ◌%◌, ◌<◌, ◌≤◌, false, true};
-ghost use Rattle.event_word.specs.Free.{IsOpen, NoneFor, ServesWith, free_of};
+ghost use Rattle.event_word.specs.Free.{IsClosed, IsOpen, NoneFor, ServesWith, free_of, unshut_of};
 ghost use Rattle.event_word.specs.Word.{HasState, count, number_of};
 
 use super::held::Held;
 use super::{ONE, Word};
-use crate::competing::{Competing, Counted, SHUT, free};
+use crate::competing::{CLOSED, Competing, Counted, free};
 
 /// Whether one may take what is free: one that was notified also where newcomers may not.
 #[inline(always)]
 pub(crate) fn may_take(seen: u64, notified: bool) -> bool
     ensures some { result ≡ true → (4 ≤ seen) × 0 < free_of (number_of seen) }
     ensures open { result ≡ true → notified ≡ false → IsOpen (number_of seen) }
-    ensures none { result ≡ false → NoneFor notified (number_of seen) }
+    ensures none { result ≡ false → (IsClosed (number_of seen) → ⊥)
+        → NoneFor notified (number_of seen) }
 {
-    free(seen / ONE) > 0 && (notified || seen < SHUT * ONE)
+    free(seen / ONE) > 0 && (notified || seen < CLOSED * ONE)
 }
 
 impl<C: Counted, V> Word<Competing<C>, V> {
@@ -26,7 +27,7 @@ impl<C: Counted, V> Word<Competing<C>, V> {
         requires serves { HasState (λ n q. ServesWith (count notified) n q.line) held.old.seat.me }
         ensures seat { (held.new.seat.table_id ≡ held.old.seat.table_id)
             × (held.new.seat.me.1 ≡ held.old.seat.me.1) }
-        ensures word { (result % 2 ≡ 1) × C.fits (free_of (number_of result)) }
+        ensures word { (result % 2 ≡ 1) × C.fits (unshut_of (number_of result)) }
         ensures serves { HasState (λ n q. (n ≡ number_of result)
             × ServesWith (count notified) n q.line) held.new.seat.me }
     {

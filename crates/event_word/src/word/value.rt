@@ -8,7 +8,7 @@ ghost use Rattle.event_word.specs.Word.{HasState, HasValue, HasValueToo, count, 
 use super::held::Held;
 use super::serving::may_take;
 use super::{CROWDED, ONE, Seat, Shelf, Word};
-use crate::competing::{Competing, OneValue, SHUT};
+use crate::competing::{CLOSED, Competing, OneValue};
 use std::sync::Wait;
 
 impl<V> Word<Competing<OneValue>, V> {
@@ -20,7 +20,7 @@ impl<V> Word<Competing<OneValue>, V> {
             × HasValue seat.me) }
     {
         let (seen, mut seat) = self.look();
-        if seen < ONE || seen >= SHUT * ONE {
+        if seen < ONE || seen >= CLOSED * ONE {
             return None;
         }
         if self.lend(&mut seat, seen, seen - ONE) {
@@ -37,7 +37,7 @@ impl<V> Word<Competing<OneValue>, V> {
     {
         let (mut seen, mut seat) = self.look();
         for _ in 0..u64::MAX {
-            if seen >= SHUT * ONE || seen < ONE {
+            if seen >= CLOSED * ONE || seen < ONE {
                 return None;
             }
             if self.lend(&mut seat, seen, seen - ONE) {
