@@ -4,6 +4,11 @@ use Rattle.event_queue.specs.Queue.{Queue}
 use Rattle.event_monitor.specs.declared.once_cell.once.Turn.{Turn}
 use Rattle.event_monitor.specs.declared.once_cell.once.Turn.TheVariants.{Make, Use}
 
+-- at which source tasks wait for a cell, and by which name a proof knows what is set
+pub record Cell : Type 0 where
+  pub source : ℕ
+  pub id : ℕ
+
 -- how many make the value, whether it is set, those that would make it, and those that wait for it
 pub record State (W : Type 0) : Type 0 where
   pub making : ℕ

@@ -4,10 +4,9 @@ use Rattle.std.specs.Borrow.{MutBor}
 use Rattle.std.specs.Fn.{Once, FnOnceReturnsAtMut}
 use Rattle.std.specs.List.{AllByRecursion}
 use Rattle.event_queue.specs.declared.key.Key.{Key}
+use Rattle.event_queue.specs.declared.reply.ListenError.{ListenError}
 use Rattle.event_queue.specs.Queue.{Queue}
 use Rattle.event_wait.specs.Line.{TellsAll, WaitsBy, CannotWait, after_leaving, woken_at_once}
-use Rattle.event_wait.specs.declared.error.LockError.{LockError}
-use Rattle.event_wait.specs.declared.error.LockError.TheVariants.{Listen, Memory, TooManyReaders, Finished}
 use Rattle.event_wait.specs.declared.request.Attempted.{Attempted}
 use Rattle.event_wait.specs.declared.request.Attempted.TheVariants.{Done, Waits, Absent, Refused}
 use Rattle.event_monitor.specs.declared.monitor.watched.Waiter.{Waiter}
@@ -44,7 +43,7 @@ module _ {C W : Type 0} where
     woken_by_trying q None = []
 
     -- the tasks that one wakes which waits if its attempt gives nothing
-    abbrev pub woken_by_attempting : Option Key → Queue (Unit {0}) (Waiter C W) → Attempted G LockError → List W
+    abbrev pub woken_by_attempting : Option Key → Queue (Unit {0}) (Waiter C W) → Attempted G ListenError → List W
     woken_by_attempting key q (Done output) = woken_tasks (after_leaving key q)
     woken_by_attempting key q (Waits waits) = []
     woken_by_attempting key q Absent = []
@@ -70,16 +69,13 @@ module _ {V C W G : Type 0} (gives : C → V → G → V → Type 0) (fails : C 
 
   module _ {O : Type 0} (exchanged : O → Option W → W → O → Type 0) where
     -- of one that was to attempt, or else to wait: it was given something; or it waits; or it could not come into the queue
-    abbrev pub Obtains : C → Option Key → State V C W → O → Attempted G LockError → State V C W → O → Type 0
+    abbrev pub Obtains : C → Option Key → State V C W → O → Attempted G ListenError → State V C W → O → Type 0
     Obtains condition key old before (Done output) new after = Takes condition key old output new × (after ≡ before)
     Obtains condition key old before (Waits waits) new after =
         TakesNothing condition old new × WaitsBy (Watches exchanged condition) key old.line before waits new.line after
     Obtains condition key old before Absent new after = ⊥
-    Obtains condition key old before (Refused (Listen error)) new after =
+    Obtains condition key old before (Refused error) new after =
         TakesNothing condition old new × CannotWait key error old.line new.line × (after ≡ before)
-    Obtains condition key old before (Refused (Memory error)) new after = ⊥
-    Obtains condition key old before (Refused TooManyReaders) new after = ⊥
-    Obtains condition key old before (Refused Finished) new after = ⊥
 
 -- an attempt gave this of some value
 pub record Gives {V C G : Type 0} (gives : C → V → G → V → Type 0) (condition : C) (output : G) : Type 0 where

@@ -1,15 +1,17 @@
 //! A barrier.
-ghost use Rattle.std.specs.Prelude.{◌≡◌, IsSomeAnd};
+ghost use Rattle.std.specs.Prelude.{◌≡◌, IfOk, IsSome, IsSomeAnd};
+ghost use Rattle.event_wait.specs.declared.lock.limit.Limit.TheVariants.{Never};
 ghost use Rattle.event_queue.specs.Key.{without};
 ghost use Rattle.event_queue.specs.Queue.{order_of};
 
 mod rounds;
 
 pub use self::rounds::{Ended, Rounds};
-use crate::ticket::{Handoff, Ticket};
-use event_queue::{Key, TaskExchange, WakeSink};
-use event_wait::waiters::found;
-use event_wait::{Attempted, Hold, Lock, LockError, Obtaining, Task};
+use crate::error::{BlockError, PollError};
+use crate::queueing::Queueing;
+use crate::ticket::{Handoff, Ticket, found};
+use event_queue::{Key, ListenError, TaskExchange, WakeSink};
+use event_wait::{Attempted, Hold, Limit, Lock, Task};
 use futures::Future;
 use futures::task::{Context, Poll};
 use std::alloc::Global;
@@ -26,11 +28,11 @@ pub struct Barrier {
 ///
 /// A thread blocks by [`wait`](BarrierWait::wait), [`wait_timeout`](BarrierWait::wait_timeout) or
 /// [`wait_deadline`](BarrierWait::wait_deadline). A task awaits it: it is a future, and a poll after its output is
-/// [`LockError::Finished`]. Dropped before its round has ended, it has not arrived.
+/// [`PollError::Finished`]. Dropped before its round has ended, it has not arrived.
 #[must_use = "it arrives only once it is waited on or polled"]
 #[derive(Drop)]
 pub struct BarrierWait<'a, R: Wait + Clock> {
-    obtaining: Obtaining<Lock<Rounds<Task>>, Ticket<Ended>, Arriving<'a, R>>,
+    queueing: Queueing<Lock<Rounds<Task>>, Ticket<Ended>, Arriving<'a, R>>,
 }
 
 /// A round has ended.
@@ -50,7 +52,7 @@ impl Barrier {
     /// Arrives, and waits until all have.
     pub fn wait<'a, R: Wait + Clock>(&'a self, rt: &'a R, alloc: Global) -> BarrierWait<'a, R> {
         BarrierWait {
-            obtaining: Obtaining::new(Arriving { barrier: self, rt }, alloc, Ticket::new()),
+            queueing: Queueing::new(Arriving { barrier: self, rt }, alloc, Ticket::new()),
         }
     }
 }
@@ -72,26 +74,32 @@ impl BarrierWaitResult {
 
 impl<R: Wait + Clock> BarrierWait<'_, R> {
     /// Arrives, and blocks the thread until all have. It allocates what the thread parks on, if it has to wait.
-    pub fn wait(self) -> Result<BarrierWaitResult, LockError> {
-        let (_, ended) = self.obtaining.wait()?;
-        Ok(BarrierWaitResult::of(ended))
+    pub fn wait(self) -> Result<BarrierWaitResult, BlockError> {
+        match self.wait_until(Limit::Never)? {
+            Some(ended) => Ok(ended),
+            None => unreachable!(),
+        }
     }
 
     /// Arrives, and blocks the thread until all have, or so long. `None` says that not all had arrived in time: then this one has
     /// not. With no time left it arrives only if it is the last. A clock that can't be read ends the wait; a moment that can't
     /// be represented never comes.
-    pub fn wait_timeout(self, timeout: Duration) -> Result<Option<BarrierWaitResult>, LockError> {
-        match self.obtaining.wait_timeout(timeout)? {
-            Some((_, ended)) => Ok(Some(BarrierWaitResult::of(ended))),
-            None => Ok(None),
-        }
+    pub fn wait_timeout(self, timeout: Duration) -> Result<Option<BarrierWaitResult>, BlockError> {
+        let limit = self.queueing.limit_after(timeout);
+        self.wait_until(limit)
     }
 
     /// Arrives, and blocks the thread until all have, or until this moment. `None` says that not all had arrived in time: then
     /// this one has not. At a moment that has passed it arrives only if it is the last. A clock that can't be read ends the
     /// wait.
-    pub fn wait_deadline(self, deadline: Instant) -> Result<Option<BarrierWaitResult>, LockError> {
-        match self.obtaining.wait_deadline(deadline)? {
+    pub fn wait_deadline(self, deadline: Instant) -> Result<Option<BarrierWaitResult>, BlockError> {
+        self.wait_until(Limit::At(deadline))
+    }
+
+    fn wait_until(self, limit: Limit) -> Result<Option<BarrierWaitResult>, BlockError>
+        ensures never { limit ≡ Never → IfOk result IsSome }
+    {
+        match self.queueing.wait_until(limit)? {
             Some((_, ended)) => Ok(Some(BarrierWaitResult::of(ended))),
             None => Ok(None),
         }
@@ -99,12 +107,12 @@ impl<R: Wait + Clock> BarrierWait<'_, R> {
 }
 
 impl<R: Wait + Clock> Future for BarrierWait<'_, R> {
-    type Output = Result<BarrierWaitResult, LockError>;
+    type Output = Result<BarrierWaitResult, PollError>;
 
-    ghost needs = { λ wait s. IsSomeAnd wait.obtaining.hold (λ it. s ≡ it.barrier.now.rounds) };
+    ghost needs = { λ wait s. IsSomeAnd wait.queueing.hold (λ it. s ≡ it.barrier.now.rounds) };
 
-    fn poll(&mut self, cx: &mut Context<'_>) -> Poll<Result<BarrierWaitResult, LockError>> {
-        match self.obtaining.poll(cx) {
+    fn poll(&mut self, cx: &mut Context<'_>) -> Poll<Result<BarrierWaitResult, PollError>> {
+        match self.queueing.poll(cx) {
             Poll::Ready(Ok((_, ended))) => Poll::Ready(Ok(BarrierWaitResult::of(ended))),
             Poll::Ready(Err(error)) => Poll::Ready(Err(error)),
             Poll::Pending => Poll::Pending,
@@ -149,7 +157,7 @@ impl Handoff<Ended> for Rounds<Task> {
         exchange: &X,
         on: &mut C,
         sink: &mut K,
-    ) -> Attempted<Ended, LockError> {
+    ) -> Attempted<Ended, ListenError> {
         match key {
             Some(key) => found(key, self.look_for_end(key, exchange, on)),
             None => self.arrive(exchange, on, sink),

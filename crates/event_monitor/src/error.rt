@@ -1,11 +1,108 @@
-//! Why nothing was set.
+//! Why nothing was obtained, or nothing was set: for each call only what can befall it.
 ghost use Rattle.std.specs.Prelude.{◌≡◌};
+ghost use Rattle.event_monitor.specs.Errors.{IsWhy, block_error, of_block, of_poll, of_wait};
 
-use event_wait::LockError;
+use event_queue::ListenError;
+use event_wait::{LockError, Refused};
+use std::alloc::AllocError;
 use std::error::Error;
 use std::fmt;
 use std::fmt::{Debug, Display, Formatter};
 use thiserror::Error;
+
+/// Why a thread could not wait. It is in no queue, and what it waited for is as if it had not asked.
+#[derive(Clone, Copy, Debug, PartialEq, Eq, Error)]
+pub enum WaitError {
+    /// It could not be put into the queue: memory was refused, or serial numbers are used up.
+    #[error("{0}")]
+    Listen(#[from] ListenError),
+    /// There was no memory for what the thread parks on.
+    #[error("no memory for a wait")]
+    Memory(#[from] AllocError),
+}
+
+/// Why a poll of a wait obtained nothing. It is in no queue, and what it waited for is as if it had not asked.
+#[derive(Clone, Copy, Debug, PartialEq, Eq, Error)]
+pub enum PollError {
+    /// It could not be put into the queue: memory was refused, or serial numbers are used up.
+    #[error("{0}")]
+    Listen(#[from] ListenError),
+    /// The future has given its output already.
+    #[error("the wait is over")]
+    Finished,
+}
+
+/// Why a thread obtained nothing by a wait that may have been polled before. It is in no queue, and what it waited for is as if
+/// it had not asked.
+#[derive(Clone, Copy, Debug, PartialEq, Eq, Error)]
+pub enum BlockError {
+    /// It could not be put into the queue: memory was refused, or serial numbers are used up.
+    #[error("{0}")]
+    Listen(#[from] ListenError),
+    /// There was no memory for what the thread parks on.
+    #[error("no memory for a wait")]
+    Memory(#[from] AllocError),
+    /// The future has given its output already.
+    #[error("the wait is over")]
+    Finished,
+}
+
+impl From<Refused<ListenError>> for WaitError {
+    ghost from_gives = { IsWhy };
+
+    fn from(refused: Refused<ListenError>) -> Self {
+        match refused {
+            Refused::Memory => WaitError::Memory(AllocError),
+            Refused::Request(error) => WaitError::Listen(error),
+        }
+    }
+}
+
+impl From<WaitError> for BlockError {
+    ghost from_gives = { λ from error. error ≡ block_error from };
+
+    fn from(error: WaitError) -> Self {
+        match error {
+            WaitError::Listen(error) => BlockError::Listen(error),
+            WaitError::Memory(error) => BlockError::Memory(error),
+        }
+    }
+}
+
+// What waits here is waited for beside the locks, whose errors have these reasons too.
+impl From<WaitError> for LockError {
+    ghost from_gives = { λ from error. error ≡ of_wait from };
+
+    fn from(error: WaitError) -> Self {
+        match error {
+            WaitError::Listen(error) => LockError::Listen(error),
+            WaitError::Memory(error) => LockError::Memory(error),
+        }
+    }
+}
+
+impl From<PollError> for LockError {
+    ghost from_gives = { λ from error. error ≡ of_poll from };
+
+    fn from(error: PollError) -> Self {
+        match error {
+            PollError::Listen(error) => LockError::Listen(error),
+            PollError::Finished => LockError::Finished,
+        }
+    }
+}
+
+impl From<BlockError> for LockError {
+    ghost from_gives = { λ from error. error ≡ of_block from };
+
+    fn from(error: BlockError) -> Self {
+        match error {
+            BlockError::Listen(error) => LockError::Listen(error),
+            BlockError::Memory(error) => LockError::Memory(error),
+            BlockError::Finished => LockError::Finished,
+        }
+    }
+}
 
 /// Why a cell was not set.
 #[derive(Clone, Copy, Debug, PartialEq, Eq, Error)]
@@ -15,7 +112,7 @@ pub enum SetReason {
     AlreadySet,
     /// Another one makes the value, and waiting for that was refused.
     #[error("{0}")]
-    WaitFailed(#[from] LockError),
+    WaitFailed(#[from] WaitError),
 }
 
 /// A value that was not set, and why.

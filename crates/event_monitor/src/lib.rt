@@ -9,10 +9,13 @@ mod barrier;
 mod error;
 mod monitor;
 mod once_cell;
+mod queueing;
 mod ticket;
 
 pub use barrier::{Barrier, BarrierWait, BarrierWaitResult, Ended, Rounds};
-pub use error::{SetError, SetReason};
+pub use error::{BlockError, PollError, SetError, SetReason, WaitError};
 pub use monitor::{Condition, Monitor, Until, Waiter, Watch, Watched};
-pub use once_cell::{Claim, Claiming, IsSet, Once, OnceCell, Seeing, Turn, Vacant};
+pub use once_cell::{
+    Claim, Claiming, Initializing, IsSet, Once, OnceCell, Seeing, Surely, Turn, Vacant,
+};
 pub use ticket::{Handoff, Ticket};

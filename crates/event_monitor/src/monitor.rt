@@ -6,9 +6,10 @@ ghost use Rattle.event_monitor.specs.Watched.{Changes, Fails, Gives, LastAttempt
 mod watched;
 
 pub use self::watched::{Condition, Waiter, Watched};
-use event_queue::{Key, TaskExchange, WakeSink};
+use crate::error::WaitError;
+use event_queue::{Key, ListenError, TaskExchange, WakeSink};
 use event_wait::{
-    Attempt, Attempted, Limit, Lock, LockError, Obtainable, Refused, Request, Task, poll_in, step,
+    Attempt, Attempted, Limit, Lock, Obtainable, Refused, Request, Task, poll_in, step,
 };
 use futures::Future;
 use futures::task::{Context, Poll};
@@ -87,7 +88,7 @@ pub struct Until<'a, V, C: Condition<V> + Copy, R: Wait> {
 impl<V, C: Condition<V> + Copy, R: Wait + Clock> Until<'_, V, C, R> {
     /// Blocks the thread until an attempt gives something. It allocates what the thread parks on, and a place in the queue, if
     /// it has to wait. An error says that it could not: then it is in no queue.
-    pub fn wait(&mut self) -> Result<C::Output, LockError>
+    pub fn wait(&mut self) -> Result<C::Output, WaitError>
         ensures gave { IfOk result (Gives C.gives self.old.watch) }
         ensures same { self.new.watch ≡ self.old.watch }
     {
@@ -100,7 +101,7 @@ impl<V, C: Condition<V> + Copy, R: Wait + Clock> Until<'_, V, C, R> {
     /// Blocks the thread until an attempt gives something, or so long. `None` says that even the last attempt, at that time,
     /// gave nothing: then the thread is in no queue. With no time left it only attempts: it enters no queue and allocates
     /// nothing. A clock that can't be read ends the wait; a moment that can't be represented never comes.
-    pub fn wait_timeout(&mut self, timeout: Duration) -> Result<Option<C::Output>, LockError>
+    pub fn wait_timeout(&mut self, timeout: Duration) -> Result<Option<C::Output>, WaitError>
         ensures gave { IfOk result (λ answer. IfSome answer (Gives C.gives self.old.watch)) }
         ensures late { IfOk result (λ answer. answer ≡ None → Fails C.fails self.old.watch) }
         ensures same { self.new.watch ≡ self.old.watch }
@@ -112,7 +113,7 @@ impl<V, C: Condition<V> + Copy, R: Wait + Clock> Until<'_, V, C, R> {
     /// Blocks the thread until an attempt gives something, or until this moment. `None` says that even the last attempt, at
     /// that time, gave nothing: then the thread is in no queue. At a moment that has passed it only attempts: it enters no
     /// queue and allocates nothing. A clock that can't be read ends the wait.
-    pub fn wait_deadline(&mut self, deadline: Instant) -> Result<Option<C::Output>, LockError>
+    pub fn wait_deadline(&mut self, deadline: Instant) -> Result<Option<C::Output>, WaitError>
         ensures gave { IfOk result (λ answer. IfSome answer (Gives C.gives self.old.watch)) }
         ensures late { IfOk result (λ answer. answer ≡ None → Fails C.fails self.old.watch) }
         ensures same { self.new.watch ≡ self.old.watch }
@@ -120,7 +121,7 @@ impl<V, C: Condition<V> + Copy, R: Wait + Clock> Until<'_, V, C, R> {
         self.wait_until(Limit::At(deadline))
     }
 
-    fn wait_until(&mut self, limit: Limit) -> Result<Option<C::Output>, LockError>
+    fn wait_until(&mut self, limit: Limit) -> Result<Option<C::Output>, WaitError>
         ensures never { limit ≡ Never → IfOk result IsSome }
         ensures gave { IfOk result (λ answer. IfSome answer (Gives C.gives self.old.watch)) }
         ensures late { IfOk result (λ answer. answer ≡ None → Fails C.fails self.old.watch) }
@@ -139,7 +140,7 @@ fn obtain<V, C: Condition<V> + Copy, R: Wait + Clock>(
     alloc: Global,
     watch: &mut Watch<C>,
     limit: Limit,
-) -> Result<Option<C::Output>, Refused<LockError>>
+) -> Result<Option<C::Output>, Refused<ListenError>>
     ensures never { limit ≡ Never → IfOk result IsSome }
     ensures gave { IfOk result (λ answer. IfSome answer (Gives C.gives watch.old)) }
     ensures late { IfOk result (λ answer. answer ≡ None → Fails C.fails watch.old) }
@@ -162,13 +163,13 @@ impl<V, C: Condition<V> + Copy, R: Wait> Drop for Until<'_, V, C, R> {
 }
 
 impl<V, C: Condition<V> + Copy, R: Wait + Clock> Future for Until<'_, V, C, R> {
-    type Output = Result<C::Output, LockError>;
+    type Output = Result<C::Output, ListenError>;
 
     ghost needs = { λ until s. s ≡ until.lock.now };
 
     ghost gives = { λ until answer. IfOk answer (Gives C.gives until.watch) };
 
-    fn poll(&mut self, cx: &mut Context<'_>) -> Poll<Result<C::Output, LockError>> {
+    fn poll(&mut self, cx: &mut Context<'_>) -> Poll<Result<C::Output, ListenError>> {
         poll_in(self.lock, self.rt, &mut self.watch, cx)
     }
 }
@@ -200,7 +201,7 @@ impl<C> Watch<C> {
 impl<V, C: Condition<V> + Copy> Request<Watched<V, C, Task>> for Watch<C> {
     type Output = C::Output;
 
-    type Refusal = LockError;
+    type Refusal = ListenError;
 
     ghost succeeds = { Succeeds C.gives };
 
@@ -212,7 +213,7 @@ impl<V, C: Condition<V> + Copy> Request<Watched<V, C, Task>> for Watch<C> {
         exchange: &X,
         on: &mut O,
         sink: &mut K,
-    ) -> Attempted<C::Output, LockError> {
+    ) -> Attempted<C::Output, ListenError> {
         let attempted = state.attempt_or_wait(self.key, self.condition, exchange, on, sink);
         self.key = attempted.key();
         attempted
@@ -222,7 +223,7 @@ impl<V, C: Condition<V> + Copy> Request<Watched<V, C, Task>> for Watch<C> {
         &mut self,
         state: &mut Watched<V, C, Task>,
         sink: &mut K,
-    ) -> Result<Option<C::Output>, LockError> {
+    ) -> Result<Option<C::Output>, ListenError> {
         state.cancel(self.key.take());
         Ok(state.attempt(self.condition, sink))
     }

@@ -1,66 +1,41 @@
 //! A cell that is set once.
-ghost use Rattle.std.specs.Prelude.{◌≡◌, ◌⊎◌, Err, IfErr, IfSome, IsSomeAnd};
+ghost use Rattle.std.specs.Prelude.{◌≡◌, ◌⊎◌, false, None, Err, IfErr, IfOk, IfSome, IsSome};
 ghost use Rattle.std.specs.Fn.{FnOnceReturns};
-ghost use Rattle.event_wait.specs.Refused.{IsMadeOfOne};
+ghost use Rattle.event_wait.specs.declared.lock.limit.Limit.TheVariants.{Never};
+ghost use Rattle.event_monitor.specs.Queued.{IsMadeOf};
 
+mod claim;
+mod initializing;
 mod once;
+mod waits;
 
+pub use self::claim::{Claim, Vacant};
+pub use self::initializing::{Initializing, Surely};
 pub use self::once::{IsSet, Once, Turn};
-use crate::error::{SetError, SetReason};
-use crate::ticket::{Handoff, Ticket};
-use event_queue::{Key, TaskExchange, WakeSink};
-use event_wait::waiters::found;
-use event_wait::{Attempted, Hold, Lock, LockError, Obtaining, Task, step};
-use futures::Future;
-use futures::task::{Context, Poll};
+pub use self::waits::{Claiming, Seeing};
+use crate::error::{SetError, SetReason, WaitError};
+use crate::ticket::Ticket;
+use event_wait::{Limit, Lock, Task, obtain, step};
 use std::alloc::Global;
-use std::sync::{OnceLock, Wait};
+use std::marker::Model;
+use std::sync::{OnceLock, OnceToken, Wait};
 use std::time::{Clock, Duration, Instant};
 
 /// A value that is set once. One at a time makes it, and the others wait; if that one gives up, the next has its turn.
+///
+/// A contract sees the number of the source at which tasks that wait are registered, and a name of what is set.
 #[derive(Drop)]
 pub struct OnceCell<T> {
     once: Lock<Once<Task>>,
     value: OnceLock<T>,
 }
 
-/// What a cell has for one that would make its value.
-#[derive(Drop)]
-pub enum Claim<'a, T, R: Wait + Clock> {
-    /// The value: it is set.
-    Value(&'a T),
-    /// The turn to make it.
-    Vacant(Vacant<'a, T, R>),
-}
+impl<T> Model for OnceCell<T> {
+    ghost use Rattle.event_monitor.specs.Once.{Cell};
 
-/// The turn to make the value of a cell. Dropping it hands the turn to the next.
-#[must_use = "a turn that is dropped at once is given up"]
-pub struct Vacant<'a, T, R: Wait + Clock> {
-    cell: &'a OnceCell<T>,
-    rt: &'a R,
-    turn: Turn,
-}
+    ghost Value = { Cell };
 
-/// A wait for the value of a cell, or for the turn to make it. It asks once it is waited on or polled, and not before.
-///
-/// A thread blocks by [`wait`](Claiming::wait), [`wait_timeout`](Claiming::wait_timeout) or
-/// [`wait_deadline`](Claiming::wait_deadline). A task awaits it: it is a future, and a poll after its output is
-/// [`LockError::Finished`]. Dropped while it waits, it leaves the queue, and its turn goes to the next.
-#[must_use = "nothing is asked for until it is waited on or polled"]
-#[derive(Drop)]
-pub struct Claiming<'a, T, R: Wait + Clock> {
-    obtaining: Obtaining<Lock<Once<Task>>, Ticket<Turn>, Asking<'a, T, R>>,
-}
-
-/// A wait for the value of a cell, by whoever sets it. It asks once it is waited on or polled, and not before.
-///
-/// A thread blocks by [`wait`](Seeing::wait), [`wait_timeout`](Seeing::wait_timeout) or
-/// [`wait_deadline`](Seeing::wait_deadline). A task awaits it: it is a future, and a poll after its output is
-/// [`LockError::Finished`]. Dropped while it waits, it leaves the queue.
-#[must_use = "nothing is asked for until it is waited on or polled"]
-#[derive(Drop)]
-pub struct Seeing<'a, T, R: Wait + Clock> {
-    obtaining: Obtaining<Lock<Once<Task>>, Ticket<IsSet>, Asking<'a, T, R>>,
+    ghost view = { λ cell. record { source = cell.once; id = cell.value.id } };
 }
 
 impl<T> OnceCell<T> {
@@ -72,47 +47,86 @@ impl<T> OnceCell<T> {
         }
     }
 
-    /// The value, if it is set.
+    /// The value, if it is set. The call takes no lock.
     pub fn get(&self) -> Option<&T> {
         self.value.get()
     }
 
+    /// Whether the value is set. The call takes no lock.
+    pub fn is_initialized(&self) -> bool {
+        self.value.get().is_some()
+    }
+
+    /// What shows a contract which value is set, if one is: all that show one of this cell agree on it. It has no bytes. The
+    /// call takes no lock.
+    pub fn witness(&self) -> Option<OnceToken<'_, T>>
+        ensures { IfSome result (λ token. token.of ≡ self.now.id) }
+    {
+        self.value.witness()
+    }
+
+    /// The value, for one that shows which it is.
+    pub fn value<'a>(&'a self, token: &OnceToken<'a, T>) -> &'a T
+        requires { token.now.of ≡ self.now.id }
+        ensures { result.now ≡ token.now.value }
+    {
+        self.value.value(token)
+    }
+
     /// A wait for the value, or for the turn to make it: while another one makes it, this one waits.
     pub fn claim<'a, R: Wait + Clock>(&'a self, rt: &'a R, alloc: Global) -> Claiming<'a, T, R> {
-        Claiming {
-            obtaining: Obtaining::new(Asking { cell: self, rt }, alloc, Ticket::new()),
-        }
+        Claiming::new(self, rt, alloc)
     }
 
     /// A wait until the value is set, by whoever sets it.
     pub fn wait<'a, R: Wait + Clock>(&'a self, rt: &'a R, alloc: Global) -> Seeing<'a, T, R> {
-        Seeing {
-            obtaining: Obtaining::new(Asking { cell: self, rt }, alloc, Ticket::new()),
-        }
+        Seeing::new(self, rt, alloc)
     }
 
     /// Sets the value. It blocks while another one makes it. An error hands the value back: the cell is set, or waiting was
-    /// refused.
+    /// refused. For a limit take [`Claiming::wait_timeout`], and then [`Vacant::set`].
     pub fn set<'a, R: Wait + Clock>(
         &'a self,
         rt: &'a R,
         alloc: Global,
         value: T,
     ) -> Result<&'a T, SetError<T>>
+        ensures kept { IfOk result (λ kept. kept.now ≡ value) }
         ensures returned { IfErr result (λ error. error.value ≡ value) }
     {
-        match self.claim(rt, alloc).wait() {
-            Ok(Claim::Vacant(turn)) => match turn.set(value) {
-                Ok(value) => Ok(value),
-                Err(value) => Err(SetError::new(value, SetReason::AlreadySet)),
-            },
-            Ok(Claim::Value(_)) => Err(SetError::new(value, SetReason::AlreadySet)),
-            Err(error) => Err(SetError::new(value, SetReason::WaitFailed(error))),
+        match self.set_witness(rt, alloc, value) {
+            Ok(token) => Ok(self.value(&token)),
+            Err(error) => Err(error),
+        }
+    }
+
+    /// The same. It returns what shows a contract that this value is set.
+    pub fn set_witness<'a, R: Wait + Clock>(
+        &'a self,
+        rt: &'a R,
+        alloc: Global,
+        value: T,
+    ) -> Result<OnceToken<'a, T>, SetError<T>>
+        ensures of { IfOk result (λ token. token.of ≡ self.now.id) }
+        ensures kept { IfOk result (λ token. token.value ≡ value) }
+        ensures returned { IfErr result (λ error. error.value ≡ value) }
+    {
+        let turn = match self.claim_until(rt, alloc, Limit::Never) {
+            Ok(Some(Claim::Vacant(turn))) => turn,
+            Ok(Some(Claim::Value(_))) => return Err(SetError::new(value, SetReason::AlreadySet)),
+            Ok(None) => unreachable!(),
+            Err(error) => return Err(SetError::new(value, SetReason::WaitFailed(error))),
+        };
+        turn.spend();
+        let (token, back) = self.insert(rt, value);
+        match back {
+            None => Ok(token),
+            Some(value) => Err(SetError::new(value, SetReason::AlreadySet)),
         }
     }
 
     /// The value. If it is set, the call takes no lock. Else `make` makes it, and the others wait meanwhile; if that fails, the
-    /// next has its turn.
+    /// next has its turn. It blocks while another one makes it.
     pub fn get_or_try_init<'a, R, E, F>(
         &'a self,
         rt: &'a R,
@@ -122,19 +136,59 @@ impl<T> OnceCell<T> {
     where
         T: Drop,
         R: Wait + Clock,
-        E: From<LockError>,
+        E: From<WaitError>,
         F: FnOnce() -> Result<T, E> + Drop,
         requires { F.IsAlwaysCallable make }
         ensures failed { IfErr result (λ error. FnOnceReturns F.FnOnce make tt (Err error)
-            ⊎ IsMadeOfOne E.from_gives error) }
+            ⊎ IsMadeOf E.from_gives error) }
     {
-        if let Some(value) = self.get() {
-            return Ok(value);
+        match self.get_or_try_init_until(rt, alloc, Limit::Never, make) {
+            Ok(Some(value)) => Ok(value),
+            Ok(None) => unreachable!(),
+            Err(error) => Err(error),
         }
-        match self.claim(rt, alloc).wait()? {
-            Claim::Value(value) => Ok(value),
-            Claim::Vacant(turn) => Ok(turn.insert(make()?).0),
-        }
+    }
+
+    /// The same, and while another one makes it, it blocks as [`Claiming::wait_timeout`] does: `None` says that it was in vain,
+    /// and then `make` was not called. The time that `make` takes is not counted.
+    pub fn get_or_try_init_timeout<'a, R, E, F>(
+        &'a self,
+        rt: &'a R,
+        alloc: Global,
+        timeout: Duration,
+        make: F,
+    ) -> Result<Option<&'a T>, E>
+    where
+        T: Drop,
+        R: Wait + Clock,
+        E: From<WaitError>,
+        F: FnOnce() -> Result<T, E> + Drop,
+        requires { F.IsAlwaysCallable make }
+        ensures failed { IfErr result (λ error. FnOnceReturns F.FnOnce make tt (Err error)
+            ⊎ IsMadeOf E.from_gives error) }
+    {
+        self.get_or_try_init_until(rt, alloc, Limit::after(rt, timeout), make)
+    }
+
+    /// The same, and while another one makes it, it blocks as [`Claiming::wait_deadline`] does: `None` says that it was in vain,
+    /// and then `make` was not called.
+    pub fn get_or_try_init_deadline<'a, R, E, F>(
+        &'a self,
+        rt: &'a R,
+        alloc: Global,
+        deadline: Instant,
+        make: F,
+    ) -> Result<Option<&'a T>, E>
+    where
+        T: Drop,
+        R: Wait + Clock,
+        E: From<WaitError>,
+        F: FnOnce() -> Result<T, E> + Drop,
+        requires { F.IsAlwaysCallable make }
+        ensures failed { IfErr result (λ error. FnOnceReturns F.FnOnce make tt (Err error)
+            ⊎ IsMadeOf E.from_gives error) }
+    {
+        self.get_or_try_init_until(rt, alloc, Limit::At(deadline), make)
     }
 
     /// The value. If it is not set, `make` makes it, and the others wait meanwhile. It blocks while another one makes it.
@@ -143,20 +197,80 @@ impl<T> OnceCell<T> {
         rt: &'a R,
         alloc: Global,
         make: F,
-    ) -> Result<&'a T, LockError>
+    ) -> Result<&'a T, WaitError>
     where
         T: Drop,
         R: Wait + Clock,
         F: FnOnce() -> T + Drop,
         requires { F.IsAlwaysCallable make }
     {
-        if let Some(value) = self.get() {
-            return Ok(value);
+        match self.get_or_init_until(rt, alloc, Limit::Never, make)? {
+            Some(value) => Ok(value),
+            None => unreachable!(),
         }
-        match self.claim(rt, alloc).wait()? {
-            Claim::Value(value) => Ok(value),
-            Claim::Vacant(turn) => Ok(turn.insert(make()).0),
-        }
+    }
+
+    /// The same, and while another one makes it, it blocks as [`Claiming::wait_timeout`] does: `None` says that it was in vain,
+    /// and then `make` was not called. The time that `make` takes is not counted.
+    pub fn get_or_init_timeout<'a, R, F>(
+        &'a self,
+        rt: &'a R,
+        alloc: Global,
+        timeout: Duration,
+        make: F,
+    ) -> Result<Option<&'a T>, WaitError>
+    where
+        T: Drop,
+        R: Wait + Clock,
+        F: FnOnce() -> T + Drop,
+        requires { F.IsAlwaysCallable make }
+    {
+        self.get_or_init_until(rt, alloc, Limit::after(rt, timeout), make)
+    }
+
+    /// The same, and while another one makes it, it blocks as [`Claiming::wait_deadline`] does: `None` says that it was in vain,
+    /// and then `make` was not called.
+    pub fn get_or_init_deadline<'a, R, F>(
+        &'a self,
+        rt: &'a R,
+        alloc: Global,
+        deadline: Instant,
+        make: F,
+    ) -> Result<Option<&'a T>, WaitError>
+    where
+        T: Drop,
+        R: Wait + Clock,
+        F: FnOnce() -> T + Drop,
+        requires { F.IsAlwaysCallable make }
+    {
+        self.get_or_init_until(rt, alloc, Limit::At(deadline), make)
+    }
+
+    /// The value for a task: if it is not set, this future makes it. While another one makes it, the task waits, for which it
+    /// takes memory. The call itself asks for nothing.
+    pub fn get_or_init_async<'a, R: Wait + Clock, M>(
+        &'a self,
+        rt: &'a R,
+        alloc: Global,
+        maker: M,
+    ) -> Initializing<'a, T, R, Surely<M>>
+        ensures maker { result.maker.maker ≡ maker }
+        ensures turn { result.has_turn ≡ false }
+    {
+        Initializing::new(self.claim(rt, alloc), Surely { maker })
+    }
+
+    /// The same, by a future that may fail: then the next has its turn.
+    pub fn get_or_try_init_async<'a, R: Wait + Clock, M>(
+        &'a self,
+        rt: &'a R,
+        alloc: Global,
+        maker: M,
+    ) -> Initializing<'a, T, R, M>
+        ensures maker { result.maker ≡ maker }
+        ensures turn { result.has_turn ≡ false }
+    {
+        Initializing::new(self.claim(rt, alloc), maker)
     }
 
     /// The value, if it is set, to be changed.
@@ -176,185 +290,81 @@ impl<T> OnceCell<T> {
         value.into_inner()
     }
 
-    fn give_back<R: Wait>(&self, rt: &R, turn: Turn) {
-        step!(self.once, rt, once, waking => once.give_back(turn, &mut waking))
-    }
-}
-
-impl<'a, T, R: Wait + Clock> Vacant<'a, T, R> {
-    /// Sets the value, and wakes all that wait. The value comes back if the cell is set.
-    pub fn set(self, value: T) -> Result<&'a T, T>
-        ensures { IfErr result (λ back. back ≡ value) }
+    fn get_or_try_init_until<'a, R, E, F>(
+        &'a self,
+        rt: &'a R,
+        alloc: Global,
+        limit: Limit,
+        make: F,
+    ) -> Result<Option<&'a T>, E>
+    where
+        T: Drop,
+        R: Wait + Clock,
+        E: From<WaitError>,
+        F: FnOnce() -> Result<T, E> + Drop,
+        requires { F.IsAlwaysCallable make }
+        ensures never { limit ≡ Never → IfOk result IsSome }
+        ensures failed { IfErr result (λ error. FnOnceReturns F.FnOnce make tt (Err error)
+            ⊎ IsMadeOf E.from_gives error) }
     {
-        match self.insert(value) {
-            (kept, None) => Ok(kept),
-            (_, Some(value)) => Err(value),
-        }
-    }
-
-    // What the cell has, once it has one, and this value if that is another one.
-    fn insert(self, value: T) -> (&'a T, Option<T>)
-        ensures { IfSome result.1 (λ back. back ≡ value) }
-    {
-        let Vacant { cell, rt, turn: _ } = self;
-        let (token, value) = match cell.value.try_insert(rt, value) {
-            Ok(token) => (token, None),
-            Err((token, value)) => (token, Some(value)),
-        };
-        cell.give_back(rt, Turn::Made);
-        (cell.value.value(&token), value)
-    }
-}
-
-impl<T, R: Wait + Clock> Drop for Vacant<'_, T, R> {
-    fn drop(self) {
-        let Vacant { cell, rt, turn } = self;
-        cell.give_back(rt, turn);
-    }
-}
-
-impl<'a, T, R: Wait + Clock> Claiming<'a, T, R> {
-    /// Blocks the thread until the value is set or it has the turn. It allocates what the thread parks on, if it has to wait.
-    pub fn wait(self) -> Result<Claim<'a, T, R>, LockError> {
-        if let Some(value) = at_hand(self.obtaining.idle()) {
-            return Ok(Claim::Value(value));
-        }
-        let (asking, turn) = self.obtaining.wait()?;
-        Ok(asking.claimed(turn))
-    }
-
-    /// Blocks the thread as [`wait`](Claiming::wait) does, or so long. `None` says that it was in vain: then the thread is in no
-    /// queue. With no time left it only asks: it enters no queue and allocates nothing. A clock that can't be read ends the
-    /// wait; a moment that can't be represented never comes.
-    pub fn wait_timeout(self, timeout: Duration) -> Result<Option<Claim<'a, T, R>>, LockError> {
-        if let Some(value) = at_hand(self.obtaining.idle()) {
-            return Ok(Some(Claim::Value(value)));
-        }
-        let Some((asking, turn)) = self.obtaining.wait_timeout(timeout)? else {
-            return Ok(None);
-        };
-        Ok(Some(asking.claimed(turn)))
-    }
-
-    /// Blocks the thread as [`wait`](Claiming::wait) does, or until this moment. `None` says that it was in vain: then the thread
-    /// is in no queue. At a moment that has passed it only asks. A clock that can't be read ends the wait.
-    pub fn wait_deadline(self, deadline: Instant) -> Result<Option<Claim<'a, T, R>>, LockError> {
-        if let Some(value) = at_hand(self.obtaining.idle()) {
-            return Ok(Some(Claim::Value(value)));
-        }
-        let Some((asking, turn)) = self.obtaining.wait_deadline(deadline)? else {
-            return Ok(None);
-        };
-        Ok(Some(asking.claimed(turn)))
-    }
-}
-
-impl<'a, T, R: Wait + Clock> Future for Claiming<'a, T, R> {
-    type Output = Result<Claim<'a, T, R>, LockError>;
-
-    ghost needs = { λ claiming s. IsSomeAnd claiming.obtaining.hold
-        (λ asking. s ≡ asking.cell.now.once) };
-
-    fn poll(&mut self, cx: &mut Context<'_>) -> Poll<Result<Claim<'a, T, R>, LockError>> {
-        if let Some(value) = at_hand(self.obtaining.idle()) {
-            self.obtaining.finish();
-            return Poll::Ready(Ok(Claim::Value(value)));
-        }
-        match self.obtaining.poll(cx) {
-            Poll::Ready(Ok((asking, turn))) => Poll::Ready(Ok(asking.claimed(turn))),
-            Poll::Ready(Err(error)) => Poll::Ready(Err(error)),
-            Poll::Pending => Poll::Pending,
-        }
-    }
-}
-
-impl<'a, T, R: Wait + Clock> Seeing<'a, T, R> {
-    /// Blocks the thread until the value is set. It allocates what the thread parks on, if it has to wait.
-    pub fn wait(self) -> Result<&'a T, LockError> {
-        if let Some(value) = at_hand(self.obtaining.idle()) {
-            return Ok(value);
-        }
-        let (asking, _is_set) = self.obtaining.wait()?;
-        Ok(asking.seen())
-    }
-
-    /// Blocks the thread as [`wait`](Seeing::wait) does, or so long. `None` says that it is not set: then the thread is in no
-    /// queue. With no time left it only looks: it enters no queue and allocates nothing. A clock that can't be read ends the
-    /// wait; a moment that can't be represented never comes.
-    pub fn wait_timeout(self, timeout: Duration) -> Result<Option<&'a T>, LockError> {
-        if let Some(value) = at_hand(self.obtaining.idle()) {
+        if let Some(value) = self.get() {
             return Ok(Some(value));
         }
-        let Some((asking, _is_set)) = self.obtaining.wait_timeout(timeout)? else {
-            return Ok(None);
-        };
-        Ok(Some(asking.seen()))
+        match self.claim_until(rt, alloc, limit)? {
+            Some(Claim::Vacant(turn)) => Ok(Some(turn.fill(make()?))),
+            Some(Claim::Value(value)) => Ok(Some(value)),
+            None => Ok(None),
+        }
     }
 
-    /// Blocks the thread as [`wait`](Seeing::wait) does, or until this moment. `None` says that it is not set: then the thread is
-    /// in no queue. At a moment that has passed it only looks. A clock that can't be read ends the wait.
-    pub fn wait_deadline(self, deadline: Instant) -> Result<Option<&'a T>, LockError> {
-        if let Some(value) = at_hand(self.obtaining.idle()) {
+    fn get_or_init_until<'a, R, F>(
+        &'a self,
+        rt: &'a R,
+        alloc: Global,
+        limit: Limit,
+        make: F,
+    ) -> Result<Option<&'a T>, WaitError>
+    where
+        T: Drop,
+        R: Wait + Clock,
+        F: FnOnce() -> T + Drop,
+        requires { F.IsAlwaysCallable make }
+        ensures never { limit ≡ Never → IfOk result IsSome }
+    {
+        if let Some(value) = self.get() {
             return Ok(Some(value));
         }
-        let Some((asking, _is_set)) = self.obtaining.wait_deadline(deadline)? else {
-            return Ok(None);
+        match self.claim_until(rt, alloc, limit)? {
+            Some(Claim::Vacant(turn)) => Ok(Some(turn.fill(make()))),
+            Some(Claim::Value(value)) => Ok(Some(value)),
+            None => Ok(None),
+        }
+    }
+
+    // Blocks the thread until it has the value or the turn, or until the limit.
+    fn claim_until<'a, R: Wait + Clock>(
+        &'a self,
+        rt: &'a R,
+        alloc: Global,
+        limit: Limit,
+    ) -> Result<Option<Claim<'a, T, R>>, WaitError>
+        ensures never { limit ≡ Never → IfOk result IsSome }
+    {
+        let mut ticket: Ticket<Turn> = Ticket::new();
+        match obtain(&self.once, rt, alloc, &mut ticket, limit) {
+            Ok(Some(turn)) => Ok(Some(self.claimed(rt, turn))),
+            Ok(None) => Ok(None),
+            Err(refused) => Err(WaitError::from(refused)),
+        }
+    }
+
+    fn claimed<'a, R: Wait + Clock>(&'a self, rt: &'a R, turn: Turn) -> Claim<'a, T, R> {
+        let vacant = Vacant {
+            cell: self,
+            rt,
+            turn,
         };
-        Ok(Some(asking.seen()))
-    }
-}
-
-impl<'a, T, R: Wait + Clock> Future for Seeing<'a, T, R> {
-    type Output = Result<&'a T, LockError>;
-
-    ghost needs = { λ seeing s. IsSomeAnd seeing.obtaining.hold
-        (λ asking. s ≡ asking.cell.now.once) };
-
-    fn poll(&mut self, cx: &mut Context<'_>) -> Poll<Result<&'a T, LockError>> {
-        if let Some(value) = at_hand(self.obtaining.idle()) {
-            self.obtaining.finish();
-            return Poll::Ready(Ok(value));
-        }
-        match self.obtaining.poll(cx) {
-            Poll::Ready(Ok((asking, _is_set))) => Poll::Ready(Ok(asking.seen())),
-            Poll::Ready(Err(error)) => Poll::Ready(Err(error)),
-            Poll::Pending => Poll::Pending,
-        }
-    }
-}
-
-// The value, without the lock, for one that waits in no queue.
-#[inline(always)]
-fn at_hand<'a, T, R>(asking: Option<&Asking<'a, T, R>>) -> Option<&'a T> {
-    asking?.cell.value.get()
-}
-
-/// Borrows a cell and the runtime.
-#[derive(Drop)]
-pub(crate) struct Asking<'a, T, R> {
-    cell: &'a OnceCell<T>,
-    rt: &'a R,
-}
-
-impl<'a, T, R: Wait + Clock> Hold<Lock<Once<Task>>> for Asking<'a, T, R> {
-    ghost held = { λ it. it.cell.now.once };
-
-    type Runtime = R;
-
-    fn lock(&self) -> &Lock<Once<Task>> {
-        &self.cell.once
-    }
-
-    fn rt(&self) -> &R {
-        self.rt
-    }
-}
-
-impl<'a, T, R: Wait + Clock> Asking<'a, T, R> {
-    fn claimed(self, turn: Turn) -> Claim<'a, T, R> {
-        let Asking { cell, rt } = self;
-        let vacant = Vacant { cell, rt, turn };
-        match cell.value.get() {
+        match self.value.get() {
             Some(value) => {
                 drop(vacant);
                 Claim::Value(value)
@@ -363,69 +373,21 @@ impl<'a, T, R: Wait + Clock> Asking<'a, T, R> {
         }
     }
 
-    // The value is set before the state says so, so this waits for nobody.
-    fn seen(self) -> &'a T {
-        let Asking { cell, rt } = self;
-        cell.value.wait(rt)
-    }
-}
-
-impl Handoff<Turn> for Once<Task> {
-    const TRIES: u32 = 0;
-
-    fn try_grant<K: WakeSink<Task>>(&mut self, _sink: &mut K) -> Option<Turn> {
-        self.try_make()
-    }
-
-    fn grant_or_queue<C, X: TaskExchange<Task, C>, K: WakeSink<Task>>(
-        &mut self,
-        key: Option<Key>,
-        exchange: &X,
-        on: &mut C,
-        _sink: &mut K,
-    ) -> Attempted<Turn, LockError> {
-        match key {
-            Some(key) => found(key, self.look_to_make(key, exchange, on)),
-            None => self.come_to_make(exchange, on),
-        }
+    // What shows what the cell has, once it has one, and this value if that is another one. The turn ends.
+    fn insert<R: Wait>(&self, rt: &R, value: T) -> (OnceToken<'_, T>, Option<T>)
+        ensures of { result.0.of ≡ self.now.id }
+        ensures kept { result.1 ≡ None → result.0.value ≡ value }
+        ensures returned { IfSome result.1 (λ back. back ≡ value) }
+    {
+        let inserted = match self.value.try_insert(rt, value) {
+            Ok(token) => (token, None),
+            Err((token, value)) => (token, Some(value)),
+        };
+        self.give_back(rt, Turn::Made);
+        inserted
     }
 
-    fn leave<K: WakeSink<Task>>(&mut self, key: Key, _sink: &mut K) -> Option<Turn> {
-        self.leave_making(key)
-    }
-
-    fn cancel<K: WakeSink<Task>>(&mut self, key: Key, sink: &mut K) {
-        if let Some(turn) = self.leave_making(key) {
-            self.give_back(turn, sink);
-        }
-    }
-}
-
-impl Handoff<IsSet> for Once<Task> {
-    const TRIES: u32 = 0;
-
-    fn try_grant<K: WakeSink<Task>>(&mut self, _sink: &mut K) -> Option<IsSet> {
-        self.try_use()
-    }
-
-    fn grant_or_queue<C, X: TaskExchange<Task, C>, K: WakeSink<Task>>(
-        &mut self,
-        key: Option<Key>,
-        exchange: &X,
-        on: &mut C,
-        _sink: &mut K,
-    ) -> Attempted<IsSet, LockError> {
-        match key {
-            Some(key) => found(key, self.look_to_use(key, exchange, on)),
-            None => self.come_to_use(exchange, on),
-        }
-    }
-
-    fn leave<K: WakeSink<Task>>(&mut self, key: Key, _sink: &mut K) -> Option<IsSet> {
-        self.leave_using(key)
-    }
-
-    fn cancel<K: WakeSink<Task>>(&mut self, key: Key, _sink: &mut K) {
-        self.leave_using(key);
+    fn give_back<R: Wait>(&self, rt: &R, turn: Turn) {
+        step!(self.once, rt, once, waking => once.give_back(turn, &mut waking))
     }
 }

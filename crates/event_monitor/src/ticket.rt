@@ -1,10 +1,11 @@
 //! The place in a queue of one that wants something of a state.
 ghost use Rattle.std.specs.Prelude.{◌≡◌, ⊤, IsSome};
 ghost use Rattle.event_queue.specs.declared.key.Key.{Key};
+ghost use Rattle.event_monitor.specs.Queued.{found_by, waits_by};
 ghost use Rattle.event_wait.specs.Attempted.{Attempts, LeavesBy};
 
-use event_queue::{Key, TaskExchange, WakeSink};
-use event_wait::{Attempt, Attempted, LockError, Request, Task};
+use event_queue::{Key, ListenError, RegisterResult, TaskExchange, WakeSink};
+use event_wait::{Attempt, Attempted, Request, Task};
 use std::marker::{Model, PhantomData};
 
 /// A state that hands something to those that come, or that wait for it in its queue.
@@ -26,7 +27,7 @@ pub trait Handoff<G> {
         exchange: &X,
         on: &mut C,
         sink: &mut K,
-    ) -> Attempted<G, LockError>
+    ) -> Attempted<G, ListenError>
         ensures exchanged { Attempts (X.exchanged exchange.now) on.old result on.new }
         ensures absent { result ≡ Attempted.Absent → IsSome key };
 
@@ -69,7 +70,7 @@ impl<G> Drop for Ticket<G> {
 impl<G, S: Handoff<G>> Request<S> for Ticket<G> {
     type Output = G;
 
-    type Refusal = LockError;
+    type Refusal = ListenError;
 
     ghost succeeds = { λ _ _ _. ⊤ };
 
@@ -81,7 +82,7 @@ impl<G, S: Handoff<G>> Request<S> for Ticket<G> {
         exchange: &X,
         on: &mut C,
         sink: &mut K,
-    ) -> Attempted<G, LockError> {
+    ) -> Attempted<G, ListenError> {
         let attempted = state.grant_or_queue(self.key, exchange, on, sink);
         self.key = attempted.key();
         attempted
@@ -91,7 +92,7 @@ impl<G, S: Handoff<G>> Request<S> for Ticket<G> {
         &mut self,
         state: &mut S,
         sink: &mut K,
-    ) -> Result<Option<G>, LockError> {
+    ) -> Result<Option<G>, ListenError> {
         match self.key.take() {
             Some(key) => Ok(state.leave(key, sink)),
             None => Ok(state.try_grant(sink)),
@@ -115,5 +116,26 @@ impl<G, S: Handoff<G>> Attempt<S> for Ticket<G> {
         if let Some(key) = self.key.take() {
             state.cancel(key, sink);
         }
+    }
+}
+
+/// Whether it waits, by which key, or why not.
+pub(crate) fn waiting<G>(waits: Result<Key, ListenError>) -> Attempted<G, ListenError>
+    ensures { result ≡ waits_by waits }
+{
+    match waits {
+        Ok(key) => Attempted::Waits(key),
+        Err(error) => Attempted::Refused(error),
+    }
+}
+
+/// Whether this one was notified, waits still, or was never there.
+pub(crate) fn found<G>(key: Key, looked: RegisterResult<G>) -> Attempted<G, ListenError>
+    ensures { result ≡ found_by key looked }
+{
+    match looked {
+        RegisterResult::Notified(grant) => Attempted::Done(grant),
+        RegisterResult::Registered => Attempted::Waits(key),
+        RegisterResult::NeverInserted => Attempted::Absent,
     }
 }

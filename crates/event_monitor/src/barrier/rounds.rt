@@ -1,16 +1,17 @@
 //! The state of a barrier.
-ghost use Rattle.std.specs.Prelude.{◌≡◌, ◌+◌, ◌<◌, ◌≤◌, max, [], length, true, false, None, IfSome};
+ghost use Rattle.std.specs.Prelude.{◌≡◌, ◌+◌, ◌<◌, ◌≤◌, max, [], length, true, false, None, Err, IfSome};
 ghost use Rattle.event_queue.specs.Exchange.{RegistersWith};
+ghost use Rattle.event_queue.specs.Insert.{Inserts};
 ghost use Rattle.event_queue.specs.Key.{without};
 ghost use Rattle.event_queue.specs.Queue.{order_of};
 ghost use Rattle.event_wait.specs.Attempted.{OnDone, OnRefused, OnWaits};
-ghost use Rattle.event_wait.specs.Joining.{CannotJoin, Comes, IfRefused};
+ghost use Rattle.event_wait.specs.Joining.{Comes, IfRefused};
 ghost use Rattle.event_wait.specs.Line.{HandsOut, Looked, OnGranted, as_told, left_by};
 ghost use Rattle.event_monitor.specs.Rounds.{NobodyWaitsInVain};
 
-use event_queue::{Key, List, RegisterResult, TaskExchange, WakeSink};
+use event_queue::{Key, List, ListenError, RegisterResult, TaskExchange, WakeSink};
 use event_wait::waiters::{Left, hand_all, join_line, leave_line, look_for};
-use event_wait::{Attempted, LockError, Task};
+use event_wait::{Attempted, Task};
 use std::alloc::Global;
 use std::marker::Model;
 
@@ -93,7 +94,7 @@ impl<W> Rounds<W> {
         exchange: &X,
         on: &mut C,
         sink: &mut S,
-    ) -> Attempted<Ended, LockError>
+    ) -> Attempted<Ended, ListenError>
         ensures ends { OnDone result (λ is_leader. (is_leader ≡ true)
             × (self.old.parties ≤ self.old.arrived + 1) × (self.new.arrived ≡ 0)
             × HandsOut S.woke (length self.old.line.waiting) self.old.line self.new.line
@@ -104,7 +105,7 @@ impl<W> Rounds<W> {
             × (sink.new ≡ sink.old)) }
         ensures parties { self.new.parties ≡ self.old.parties }
         ensures refused { OnRefused result ((self.new ≡ self.old) × (sink.new ≡ sink.old)) }
-        ensures reason { IfRefused result (λ error. CannotJoin error self.old.line self.new.line
+        ensures reason { IfRefused result (λ error. Inserts self.old.line (Err error) self.new.line
             × (self.old.arrived + 1 < self.old.parties)) }
     {
         if let Some(ended) = self.try_end(sink) {
@@ -115,7 +116,7 @@ impl<W> Rounds<W> {
                 self.arrived += 1;
                 Attempted::Waits(key)
             }
-            Err(error) => Attempted::Refused(LockError::Listen(error)),
+            Err(error) => Attempted::Refused(error),
         }
     }
 

@@ -5,9 +5,10 @@ ghost use Rattle.std.specs.List.{FoldsTo};
 ghost use Rattle.event_wait.specs.Line.{CannotWait, Leaves, TellsAll, WaitsBy};
 ghost use Rattle.event_monitor.specs.Watched.{NobodyWaitsInVain, Obtains, Watches, stored_by, woken_by_attempting, woken_by_trying, woken_tasks};
 
+use crate::ticket::waiting;
 use event_queue::{Key, List, ListenError, TaskExchange, WakeSink};
-use event_wait::waiters::{leave, tell_all, wait_in_line, waiting};
-use event_wait::{Attempted, LockError};
+use event_wait::Attempted;
+use event_wait::waiters::{leave, tell_all, wait_in_line};
 use std::alloc::Global;
 use std::marker::Model;
 
@@ -110,7 +111,7 @@ impl<V, C: Condition<V> + Copy, W: Drop> Watched<V, C, W> {
         exchange: &X,
         on: &mut O,
         sink: &mut K,
-    ) -> Attempted<C::Output, LockError>
+    ) -> Attempted<C::Output, ListenError>
         ensures obtains { Obtains C.gives C.fails (X.exchanged exchange.now) condition key self.old
             on.old result self.new on.new }
         ensures wakes { FoldsTo K.woke sink.old

@@ -1,18 +1,20 @@
 //! The state of a cell that is set once.
-ghost use Rattle.std.specs.Prelude.{◌≡◌, ◌+◌, ◌<◌, ◌≤◌, ◌++◌, true, false, [], is_some, length, None, IfSome, MatchOption};
+ghost use Rattle.std.specs.Prelude.{◌≡◌, ◌+◌, ◌<◌, ◌≤◌, ◌++◌, true, false, [], is_some, length, None, IfSome, MatchOption, Err};
 ghost use Rattle.std.specs.List.{FoldsTo};
+ghost use Rattle.event_queue.specs.Insert.{Inserts};
 ghost use Rattle.event_queue.specs.Queue.{tasks_of};
 ghost use Rattle.event_queue.specs.Exchange.{RegistersWith};
 ghost use Rattle.event_queue.specs.Key.{without};
 ghost use Rattle.event_queue.specs.Queue.{order_of};
 ghost use Rattle.event_wait.specs.Attempted.{OnDone, OnRefused, OnWaits};
-ghost use Rattle.event_wait.specs.Joining.{CannotJoin, Comes, IfRefused};
+ghost use Rattle.event_wait.specs.Joining.{Comes, IfRefused};
 ghost use Rattle.event_wait.specs.Line.{HandsOut, Looked, OnGranted, TellsAll, as_told, is_granted, left_by};
 ghost use Rattle.event_monitor.specs.Once.{MakersStay, NobodyWaitsInVain, making_at, making_by, turn_at, turns};
 
-use event_queue::{Key, List, RegisterResult, TaskExchange, WakeSink};
-use event_wait::waiters::{hand_all, hand_out, join_line, leave_line, look_for, waiting};
-use event_wait::{Attempted, LockError, Task};
+use crate::ticket::waiting;
+use event_queue::{Key, List, ListenError, RegisterResult, TaskExchange, WakeSink};
+use event_wait::waiters::{hand_all, hand_out, join_line, leave_line, look_for};
+use event_wait::{Attempted, Task};
 use std::alloc::Global;
 use std::marker::Model;
 
@@ -106,7 +108,7 @@ impl<W> Once<W> {
         &mut self,
         exchange: &X,
         on: &mut C,
-    ) -> Attempted<Turn, LockError>
+    ) -> Attempted<Turn, ListenError>
         ensures kept { self.new.is_set ≡ self.old.is_set }
         ensures turn { OnDone result (λ turn. turn ≡ turn_at self.old) }
         ensures takes { OnDone result (λ _. (self.new.making ≡ making_at self.old)
@@ -116,7 +118,7 @@ impl<W> Once<W> {
         ensures waits { OnWaits result ((self.new.making ≡ self.old.making)
             × (0 < turns self.old)) }
         ensures refused { OnRefused result (self.new ≡ self.old) }
-        ensures reason { IfRefused result (λ error. CannotJoin error self.old.makers self.new.makers
+        ensures reason { IfRefused result (λ error. Inserts self.old.makers (Err error) self.new.makers
             × (0 < turns self.old)) }
         ensures readers { self.new.readers ≡ self.old.readers }
     {
@@ -132,7 +134,7 @@ impl<W> Once<W> {
         &mut self,
         exchange: &X,
         on: &mut C,
-    ) -> Attempted<IsSet, LockError>
+    ) -> Attempted<IsSet, ListenError>
         ensures kept { self.new.is_set ≡ self.old.is_set }
         ensures set { OnDone result (λ _. (self.old.is_set ≡ true) × (self.new ≡ self.old)) }
         ensures joins { Comes (X.exchanged exchange.now) self.old.readers on.old result
@@ -140,7 +142,7 @@ impl<W> Once<W> {
         ensures waits { OnWaits result (self.old.is_set ≡ false) }
         ensures refused { OnRefused result (self.new ≡ self.old) }
         ensures reason { IfRefused result (λ error.
-            CannotJoin error self.old.readers self.new.readers × (self.old.is_set ≡ false)) }
+            Inserts self.old.readers (Err error) self.new.readers × (self.old.is_set ≡ false)) }
         ensures makers { MakersStay self.old self.new }
     {
         if self.is_set {

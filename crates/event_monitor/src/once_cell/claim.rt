@@ -1,0 +1,65 @@
+//! What a cell has for one that would make its value.
+ghost use Rattle.std.specs.Prelude.{◌≡◌, IfErr, IfOk};
+
+use super::OnceCell;
+use super::once::Turn;
+use std::sync::Wait;
+use std::time::Clock;
+
+/// What a cell has for one that would make its value.
+#[derive(Drop)]
+pub enum Claim<'a, T, R: Wait + Clock> {
+    /// The value: it is set.
+    Value(&'a T),
+    /// The turn to make it.
+    Vacant(Vacant<'a, T, R>),
+}
+
+/// The turn to make the value of a cell. Dropping it hands the turn to the next.
+#[must_use = "a turn that is dropped at once is given up"]
+pub struct Vacant<'a, T, R: Wait + Clock> {
+    pub(super) cell: &'a OnceCell<T>,
+    pub(super) rt: &'a R,
+    pub(super) turn: Turn,
+}
+
+impl<'a, T, R: Wait + Clock> Vacant<'a, T, R> {
+    /// Sets the value, and wakes all that wait. The value comes back if the cell is set.
+    pub fn set(self, value: T) -> Result<&'a T, T>
+        ensures kept { IfOk result (λ kept. kept.now ≡ value) }
+        ensures returned { IfErr result (λ back. back ≡ value) }
+    {
+        let Vacant { cell, rt, turn: _ } = self;
+        let (token, back) = cell.insert(rt, value);
+        match back {
+            None => Ok(cell.value(&token)),
+            Some(value) => Err(value),
+        }
+    }
+
+    // One that sets the value itself needs it no more.
+    pub(super) fn spend(self) {
+        let Vacant {
+            cell: _,
+            rt: _,
+            turn: _,
+        } = self;
+    }
+
+    // What the cell has, once it has one.
+    pub(super) fn fill(self, value: T) -> &'a T
+    where
+        T: Drop,
+    {
+        let Vacant { cell, rt, turn: _ } = self;
+        let (token, _) = cell.insert(rt, value);
+        cell.value(&token)
+    }
+}
+
+impl<T, R: Wait + Clock> Drop for Vacant<'_, T, R> {
+    fn drop(self) {
+        let Vacant { cell, rt, turn } = self;
+        cell.give_back(rt, turn);
+    }
+}
