@@ -12,14 +12,16 @@ pub mod states;
 mod taker;
 
 pub use event_monitor::{
-    Barrier, BarrierWait, BarrierWaitResult, Claim, Claiming, Condition, Monitor, OnceCell, Seeing,
-    SetError, SetReason, Until, Vacant,
+    Barrier, BarrierWait, BarrierWaitResult, BlockError, Claim, Claiming, Condition, Initializing,
+    Monitor, OnceCell, PollError, Seeing, SetError, SetReason, Surely, Until, Vacant, WaitError,
 };
 pub use event_wait::LockError;
-pub use event_word::{Counts, RwLockCounts};
+pub use event_word::{Counts, RwLockCounts, TryAcquireError};
 pub use mutex::{Lock, LockArc, Mutex, MutexGuard, MutexGuardArc};
 pub use rw_lock::{
     Read, ReadArc, RwLock, RwLockReadGuard, RwLockReadGuardArc, RwLockWriteGuard,
     RwLockWriteGuardArc, Write, WriteArc,
 };
-pub use semaphore::{Acquire, AcquireArc, Semaphore, SemaphoreGuard, SemaphoreGuardArc};
+pub use semaphore::{
+    Acquire, AcquireArc, AcquireError, Semaphore, SemaphoreGuard, SemaphoreGuardArc,
+};

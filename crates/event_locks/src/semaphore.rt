@@ -1,17 +1,19 @@
 //! A semaphore.
-ghost use Rattle.std.specs.Prelude.{◌≡◌, ◌<◌, true, IfSome};
+ghost use Rattle.std.specs.Prelude.{◌≡◌, ◌+◌, ◌<◌, ◌≤◌, true, Ok, IfErr, IfOk, IfSome};
 ghost use Rattle.event_wait.specs.Rounds.{gives_what, tries_for};
 ghost use Rattle.event_wait.specs.Attempted.{Attempts, OnDone, OnRefused, OnUndone, key_of};
 ghost use Rattle.event_locks.specs.Losses.{LosesOnceAtMost};
 ghost use Rattle.event_word.specs.Contender.{coming_of, losses_after};
 ghost use Rattle.event_word.specs.declared.contender.Coming.TheVariants.{Notified};
-ghost use Rattle.event_word.specs.Free.{ServesTheStarving, Stands, free_of};
+ghost use Rattle.event_word.specs.Free.{IsClosed, ServesTheStarving, Stands, free_of};
 ghost use Rattle.event_word.specs.Word.{HasState};
 
 mod acquire;
+mod error;
 mod guard;
 
 pub use self::acquire::{Acquire, AcquireArc};
+pub use self::error::AcquireError;
 pub use self::guard::{SemaphoreGuard, SemaphoreGuardArc};
 use crate::taker::Taker;
 use event_queue::{Key, TaskExchange};
@@ -19,7 +21,9 @@ use event_wait::{
     Attempted, Borrowed, LockError, Obtainable, Obtaining, Shared, TakesAny, Task, Waitable,
     WakerSource,
 };
-use event_word::{Coming, Competing, Contender, Counts, Held, Permit, Permits, Word};
+use event_word::{
+    Coming, Competing, Contender, Counts, Held, Permit, Permits, TryAcquireError, Word,
+};
 use std::alloc::{AllocError, Global};
 use std::fmt;
 use std::fmt::{Debug, Formatter};
@@ -42,7 +46,7 @@ pub struct Semaphore {
 
 impl Semaphore {
     /// As many permits are free at most.
-    pub const MAX_PERMITS: usize = 0x1fff_ffff_ffff_ffff;
+    pub const MAX_PERMITS: usize = 0x0fff_ffff_ffff_ffff;
 
     /// A semaphore with `permits` permits, all free; with [`MAX_PERMITS`](Semaphore::MAX_PERMITS) if that is less. It allocates
     /// two small blocks, and returns an error if there is no memory.
@@ -54,38 +58,90 @@ impl Semaphore {
         })
     }
 
-    /// How many permits are free. Another thread may take one at once. It takes no lock.
+    /// How many permits are free. Another thread may take one at once. Of one that is closed nobody gets them, but those that come
+    /// back are counted. It takes no lock.
     pub fn available(&self) -> usize {
         self.word.free() as usize
     }
 
-    /// How it stands at some moment of this call. It may wait for the queue.
+    /// Closes it. From here on nobody gets a permit: neither a newcomer nor any that wait, whose waits end with
+    /// [`AcquireError::Closed`]. All that wait are woken. Permits that are out come back still, and are counted as free. It may wait
+    /// for the queue. One that is closed already is as it was.
+    pub fn close<R: Wait>(&self, rt: &R) {
+        self.word.close(rt);
+    }
+
+    /// Whether it is closed. Then it stays so. It takes no lock.
+    pub fn is_closed(&self) -> bool {
+        self.word.is_closed()
+    }
+
+    /// How it stands at some moment of this call. At one that is closed nobody is in the queue. It may wait for the queue.
     pub fn counts<R: Wait>(&self, rt: &R) -> Counts
         ensures nobody_waits_in_vain { result.notified < result.free → result.waiting ≡ 0 }
         ensures shuts { (0 < result.starving → result.is_shut ≡ true)
             × (result.is_shut ≡ true → 0 < result.starving) }
+        ensures closed { result.is_closed ≡ true
+            → result.notified + result.waiting + result.starving ≡ 0 }
     {
         self.word.counts(rt)
     }
 
-    /// A permit, if one is free and nobody starves. It takes no memory, and waits for nobody.
+    /// A permit, if it is not closed, one is free and nobody starves. It takes no memory, and waits for nobody.
     #[must_use = "a guard that is dropped at once gives back what it holds"]
     #[inline(always)]
-    pub fn try_acquire<'a, R: Wait + Clock>(&'a self, rt: &'a R) -> Option<SemaphoreGuard<'a, R>> {
+    pub fn try_acquire<'a, R: Wait + Clock>(
+        &'a self,
+        rt: &'a R,
+    ) -> Result<SemaphoreGuard<'a, R>, TryAcquireError> {
         let permit = self.word.try_permit()?;
-        Some(SemaphoreGuard::new(Borrowed { lock: self, rt }, permit))
+        Ok(SemaphoreGuard::new(Borrowed { lock: self, rt }, permit))
     }
 
-    /// A permit that shares its semaphore, and so may go to another thread, if one is free and nobody starves. It returns an
-    /// error if no share of the semaphore can be made.
+    /// As [`try_acquire`](Semaphore::try_acquire), but the permit shares its semaphore, and so may go to another thread. It returns
+    /// an error if no share of the semaphore can be made.
     #[must_use = "a guard that is dropped at once gives back what it holds"]
     pub fn try_acquire_arc<R: Wait + Clock + Drop>(
         this: &Arc<Self, Global>,
         rt: R,
-    ) -> Result<Option<SemaphoreGuardArc<R>>, AllocError> {
+    ) -> Result<Result<SemaphoreGuardArc<R>, TryAcquireError>, AllocError> {
         let lock = Arc::try_clone(this)?;
         let permit = lock.word.try_permit();
         Ok(permit.map(|permit| SemaphoreGuardArc::new(Shared { lock, rt }, permit)))
+    }
+
+    /// So many permits, all at once and by one guard, if it is not closed, as many are free and nobody starves; else none. It takes
+    /// no memory, and waits for nobody.
+    ///
+    /// No wait asks for many: the queue has no count for each that waits. Two that wait for one after another, and have a part each,
+    /// would wait for each other.
+    #[must_use = "a guard that is dropped at once gives back what it holds"]
+    pub fn try_acquire_many<'a, R: Wait + Clock>(
+        &'a self,
+        rt: &'a R,
+        n: usize,
+    ) -> Result<SemaphoreGuard<'a, R>, TryAcquireError>
+        ensures all { IfOk result (λ guard. guard ≡ n) }
+    {
+        let permit = self.word.try_permits(n as u64)?;
+        Ok(SemaphoreGuard::new(Borrowed { lock: self, rt }, permit))
+    }
+
+    /// As [`try_acquire_many`](Semaphore::try_acquire_many), by a guard that shares the semaphore, and so may go to another thread.
+    /// It returns an error if no share of the semaphore can be made.
+    #[must_use = "a guard that is dropped at once gives back what it holds"]
+    pub fn try_acquire_many_arc<R: Wait + Clock + Drop>(
+        this: &Arc<Self, Global>,
+        rt: R,
+        n: usize,
+    ) -> Result<Result<SemaphoreGuardArc<R>, TryAcquireError>, AllocError>
+        ensures all { IfOk result (λ answer. IfOk answer (λ guard. guard ≡ n)) }
+    {
+        let lock = Arc::try_clone(this)?;
+        match lock.word.try_permits(n as u64) {
+            Ok(permit) => Ok(Ok(SemaphoreGuardArc::new(Shared { lock, rt }, permit))),
+            Err(error) => Ok(Err(error)),
+        }
     }
 
     /// A wait for a permit.
@@ -110,9 +166,20 @@ impl Semaphore {
         self.word.add(rt, n as u64);
     }
 
+    /// Takes so many of the free permits away for ever, or all if fewer are free. Returns how many. While one starves it takes none:
+    /// what is free then is for those that wait. Nor does it of one that is closed. It takes no memory, and waits for nobody.
+    pub fn forget_permits(&self, n: usize) -> usize
+        ensures at_most { result ≤ n }
+    {
+        match self.word.try_up_to(n as u64) {
+            Some(permit) => permit.forget() as usize,
+            None => 0,
+        }
+    }
+
     #[inline(always)]
     fn give_back<R: Wait>(&self, rt: &R, permit: Permit)
-        requires { permit ≡ self.now.word.table.shared.table_id }
+        requires { permit.origin ≡ self.now.word.table.shared.table_id }
     {
         self.word.give_permit(rt, permit);
     }
@@ -125,11 +192,14 @@ impl Semaphore {
         losses: &mut u32,
         exchange: &X,
         on: &mut C,
-    ) -> Attempted<Permit, LockError>
+    ) -> Attempted<Result<Permit, AcquireError>, LockError>
         requires seat { held.old.seat.table_id ≡ self.now.word.table.shared.table_id }
         requires stands { HasState (λ n q. Stands n q.line) held.old.seat.me }
         ensures seat { held.new.seat.table_id ≡ held.old.seat.table_id }
-        ensures own { OnDone result (λ permit. permit ≡ self.now.word.table.shared.table_id) }
+        ensures own { OnDone result (λ granted. IfOk granted (λ permit. permit.origin
+            ≡ self.now.word.table.shared.table_id)) }
+        ensures closed { OnDone result (λ granted. IfErr granted (λ error. (error ≡ AcquireError.Closed)
+            × HasState (λ n _. IsClosed n) held.new.seat.me)) }
         ensures serves { HasState (λ n q. ServesTheStarving n q.line) held.new.seat.me }
         ensures place { place.new ≡ key_of result }
         ensures done { OnDone result (λ _. losses.new ≡ losses.old) }
@@ -147,8 +217,12 @@ impl Semaphore {
             return Attempted::Waits(key);
         }
         match self.word.take_permit(rt, held, coming.is_notified()) {
-            Some(permit) => Attempted::Done(permit),
-            None => match self.word.lose(held, place, losses, arrival, exchange, on) {
+            Ok(permit) => Attempted::Done(Ok(permit)),
+            Err(TryAcquireError::Closed) => Attempted::Done(Err(AcquireError::Closed)),
+            Err(TryAcquireError::NoPermits) => match self
+                .word
+                .lose(held, place, losses, arrival, exchange, on)
+            {
                 Ok(key) => Attempted::Waits(key),
                 Err(error) => Attempted::Refused(error),
             },
@@ -157,12 +231,13 @@ impl Semaphore {
 }
 
 impl Waitable<Taker> for Semaphore {
-    type Output = Permit;
+    type Output = Result<Permit, AcquireError>;
 
     type Refusal = LockError;
 
     ghost rules = { λ semaphore.
-        gives_what (λ permit. permit ≡ semaphore.word.table.shared.table_id)
+        gives_what (λ granted. IfOk granted (λ permit. permit.origin
+        ≡ semaphore.word.table.shared.table_id))
         (λ before after. LosesOnceAtMost before.contender after.contender) };
 
     ghost source = { λ semaphore. semaphore.source };
@@ -178,7 +253,7 @@ impl Waitable<Taker> for Semaphore {
         request: &mut Taker,
         exchange: &X,
         on: &mut C,
-    ) -> Attempted<Permit, LockError> {
+    ) -> Attempted<Result<Permit, AcquireError>, LockError> {
         let (_, mut held) = self.word.take(rt);
         let Contender { place, losses } = &mut request.contender;
         let attempted = self.attempt_held(rt, &mut held, place, losses, exchange, on);
@@ -186,7 +261,11 @@ impl Waitable<Taker> for Semaphore {
         attempted
     }
 
-    fn leave<R: Wait>(&self, rt: &R, request: &mut Taker) -> Result<Option<Permit>, LockError> {
+    fn leave<R: Wait>(
+        &self,
+        rt: &R,
+        request: &mut Taker,
+    ) -> Result<Option<Result<Permit, AcquireError>>, LockError> {
         let (_, mut held) = self.word.take(rt);
         let coming = self
             .word
@@ -194,13 +273,14 @@ impl Waitable<Taker> for Semaphore {
             .coming();
         let permit = self.word.take_permit(rt, &mut held, coming.is_notified());
         drop(self.word.put_back(rt, held));
-        Ok(permit)
+        Ok(granted(permit))
     }
 }
 
 impl Obtainable<Taker> for Semaphore {
     ghost trying = { λ semaphore.
-        tries_for (λ permit. permit ≡ semaphore.word.table.shared.table_id) };
+        tries_for (λ granted. IfOk granted (λ permit. permit.origin
+        ≡ semaphore.word.table.shared.table_id)) };
 
     #[inline(always)]
     fn is_waiting(&self, request: &Taker) -> bool {
@@ -208,8 +288,12 @@ impl Obtainable<Taker> for Semaphore {
     }
 
     #[inline(always)]
-    fn attempt<R: Wait>(&self, _rt: &R, _request: &mut Taker) -> Option<Permit> {
-        self.word.try_permit()
+    fn attempt<R: Wait>(
+        &self,
+        _rt: &R,
+        _request: &mut Taker,
+    ) -> Option<Result<Permit, AcquireError>> {
+        granted(self.word.try_permit())
     }
 
     fn give_up<R: Wait>(&self, rt: &R, request: &mut Taker) {
@@ -231,5 +315,17 @@ impl Debug for Semaphore {
         f.debug_struct("Semaphore")
             .field("available", &self.available())
             .finish()
+    }
+}
+
+// What one that attempts is granted: permits, or that there never will be any.
+#[inline(always)]
+fn granted(taken: Result<Permit, TryAcquireError>) -> Option<Result<Permit, AcquireError>>
+    ensures same { IfSome result (λ granted. IfOk granted (λ permit. taken ≡ Ok permit)) }
+{
+    match taken {
+        Ok(permit) => Some(Ok(permit)),
+        Err(TryAcquireError::Closed) => Some(Err(AcquireError::Closed)),
+        Err(TryAcquireError::NoPermits) => None,
     }
 }

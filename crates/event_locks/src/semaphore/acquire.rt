@@ -1,12 +1,15 @@
 //! Waits for a permit.
-ghost use Rattle.std.specs.Prelude.{◌≡◌, IsSomeAnd};
+ghost use Rattle.std.specs.Prelude.{◌≡◌, IfOk, IsSomeAnd};
 ghost use Rattle.std.specs.Arc.{arc_value};
+ghost use Rattle.futures.specs.Poll.{IfReady, OnPending};
+ghost use Rattle.futures.specs.declared.task.Poll.TheVariants.{Pending};
 
 use super::Semaphore;
+use super::error::AcquireError;
 use super::guard::{SemaphoreGuard, SemaphoreGuardArc};
-use crate::polled::guarded;
 use crate::taker::Taker;
 use event_wait::{Borrowed, LockError, Obtaining, Shared};
+use event_word::Permit;
 use futures::Future;
 use futures::task::{Context, Poll};
 use std::sync::Wait;
@@ -38,10 +41,11 @@ impl<'a, R: Wait + Clock> Acquire<'a, R> {
     }
 
     /// Blocks the thread until it has a permit. It allocates what the thread parks on and a place in the queue, if it has to
-    /// wait. An error says that it could not: then it is in no queue.
+    /// wait. An error says that it could not, or that the semaphore is closed: then it is in no queue.
     #[inline(always)]
-    pub fn wait(self) -> Result<SemaphoreGuard<'a, R>, LockError> {
+    pub fn wait(self) -> Result<SemaphoreGuard<'a, R>, AcquireError> {
         let (hold, permit) = self.obtaining.wait()?;
+        let permit = permit?;
         Ok(SemaphoreGuard::new(hold, permit))
     }
 
@@ -51,9 +55,12 @@ impl<'a, R: Wait + Clock> Acquire<'a, R> {
     pub fn wait_timeout(
         self,
         timeout: Duration,
-    ) -> Result<Option<SemaphoreGuard<'a, R>>, LockError> {
-        let got = self.obtaining.wait_timeout(timeout)?;
-        Ok(got.map(|(hold, permit)| SemaphoreGuard::new(hold, permit)))
+    ) -> Result<Option<SemaphoreGuard<'a, R>>, AcquireError> {
+        let Some((hold, permit)) = self.obtaining.wait_timeout(timeout)? else {
+            return Ok(None);
+        };
+        let permit = permit?;
+        Ok(Some(SemaphoreGuard::new(hold, permit)))
     }
 
     /// Blocks the thread until it has a permit, or until this moment. `None` says that it was in vain: then the thread is in no
@@ -61,9 +68,12 @@ impl<'a, R: Wait + Clock> Acquire<'a, R> {
     pub fn wait_deadline(
         self,
         deadline: Instant,
-    ) -> Result<Option<SemaphoreGuard<'a, R>>, LockError> {
-        let got = self.obtaining.wait_deadline(deadline)?;
-        Ok(got.map(|(hold, permit)| SemaphoreGuard::new(hold, permit)))
+    ) -> Result<Option<SemaphoreGuard<'a, R>>, AcquireError> {
+        let Some((hold, permit)) = self.obtaining.wait_deadline(deadline)? else {
+            return Ok(None);
+        };
+        let permit = permit?;
+        Ok(Some(SemaphoreGuard::new(hold, permit)))
     }
 }
 
@@ -73,8 +83,9 @@ impl<R: Wait + Clock + Drop> AcquireArc<R> {
     }
 
     /// As [`Acquire::wait`].
-    pub fn wait(self) -> Result<SemaphoreGuardArc<R>, LockError> {
+    pub fn wait(self) -> Result<SemaphoreGuardArc<R>, AcquireError> {
         let (hold, permit) = self.obtaining.wait()?;
+        let permit = permit?;
         Ok(SemaphoreGuardArc::new(hold, permit))
     }
 
@@ -82,39 +93,64 @@ impl<R: Wait + Clock + Drop> AcquireArc<R> {
     pub fn wait_timeout(
         self,
         timeout: Duration,
-    ) -> Result<Option<SemaphoreGuardArc<R>>, LockError> {
-        let got = self.obtaining.wait_timeout(timeout)?;
-        Ok(got.map(|(hold, permit)| SemaphoreGuardArc::new(hold, permit)))
+    ) -> Result<Option<SemaphoreGuardArc<R>>, AcquireError> {
+        let Some((hold, permit)) = self.obtaining.wait_timeout(timeout)? else {
+            return Ok(None);
+        };
+        let permit = permit?;
+        Ok(Some(SemaphoreGuardArc::new(hold, permit)))
     }
 
     /// As [`Acquire::wait_deadline`].
     pub fn wait_deadline(
         self,
         deadline: Instant,
-    ) -> Result<Option<SemaphoreGuardArc<R>>, LockError> {
-        let got = self.obtaining.wait_deadline(deadline)?;
-        Ok(got.map(|(hold, permit)| SemaphoreGuardArc::new(hold, permit)))
+    ) -> Result<Option<SemaphoreGuardArc<R>>, AcquireError> {
+        let Some((hold, permit)) = self.obtaining.wait_deadline(deadline)? else {
+            return Ok(None);
+        };
+        let permit = permit?;
+        Ok(Some(SemaphoreGuardArc::new(hold, permit)))
     }
 }
 
 impl<'a, R: Wait + Clock> Future for Acquire<'a, R> {
-    type Output = Result<SemaphoreGuard<'a, R>, LockError>;
+    type Output = Result<SemaphoreGuard<'a, R>, AcquireError>;
 
     ghost needs = { λ acquire s. IsSomeAnd acquire.obtaining.hold
         (λ hold. s ≡ hold.lock.now.source) };
 
-    fn poll(&mut self, cx: &mut Context<'_>) -> Poll<Result<SemaphoreGuard<'a, R>, LockError>> {
-        guarded(self.obtaining.poll(cx), SemaphoreGuard::new)
+    fn poll(&mut self, cx: &mut Context<'_>) -> Poll<Result<SemaphoreGuard<'a, R>, AcquireError>> {
+        permitted(self.obtaining.poll(cx), SemaphoreGuard::new)
     }
 }
 
 impl<R: Wait + Clock + Drop> Future for AcquireArc<R> {
-    type Output = Result<SemaphoreGuardArc<R>, LockError>;
+    type Output = Result<SemaphoreGuardArc<R>, AcquireError>;
 
     ghost needs = { λ acquire s. IsSomeAnd acquire.obtaining.hold
         (λ hold. s ≡ (arc_value hold.lock).source) };
 
-    fn poll(&mut self, cx: &mut Context<'_>) -> Poll<Result<SemaphoreGuardArc<R>, LockError>> {
-        guarded(self.obtaining.poll(cx), SemaphoreGuardArc::new)
+    fn poll(&mut self, cx: &mut Context<'_>) -> Poll<Result<SemaphoreGuardArc<R>, AcquireError>> {
+        permitted(self.obtaining.poll(cx), SemaphoreGuardArc::new)
+    }
+}
+
+// Makes the guard of the hold and of the permits that came with it, once the poll has them.
+#[inline(always)]
+fn permitted<H: Drop, G, F: FnOnce(H, Permit) -> G>(
+    polled: Poll<Result<(H, Result<Permit, AcquireError>), LockError>>,
+    new: F,
+) -> Poll<Result<G, AcquireError>>
+    requires { IfReady polled (λ answer. IfOk answer (λ got. IfOk got.1 (λ permit. F.pre new got.0 permit))) }
+    ensures { OnPending result (polled ≡ Pending) }
+{
+    match polled {
+        Poll::Ready(Ok((hold, permit))) => match permit {
+            Ok(permit) => Poll::Ready(Ok(new(hold, permit))),
+            Err(error) => Poll::Ready(Err(error)),
+        },
+        Poll::Ready(Err(error)) => Poll::Ready(Err(AcquireError::WaitFailed(error))),
+        Poll::Pending => Poll::Pending,
     }
 }

@@ -8,34 +8,59 @@ use event_word::Permit;
 use std::alloc::Global;
 use std::fmt;
 use std::fmt::{Debug, Formatter};
+use std::marker::Model;
 use std::sync::{Arc, Wait};
 use std::time::Clock;
 
-/// A permit. Dropping it gives the permit back.
+/// One permit, or those that were taken at once. Dropping it gives them back. A contract sees how many.
 #[must_use = "a guard that is dropped at once gives back what it holds"]
 pub struct SemaphoreGuard<'a, R: Wait + Clock> {
     hold: Borrowed<'a, Semaphore, R>,
     permit: Permit,
-    ghost own: { permit ≡ hold.lock.now.word.table.shared.table_id },
+    ghost own: { permit.origin ≡ hold.lock.now.word.table.shared.table_id },
 }
 
-/// A permit that shares its semaphore, and so may go to another thread. Dropping it gives the permit back.
+/// The same, but it shares its semaphore, and so may go to another thread.
 #[must_use = "a guard that is dropped at once gives back what it holds"]
 pub struct SemaphoreGuardArc<R: Wait + Clock + Drop> {
     hold: Shared<Semaphore, R>,
     permit: Permit,
-    ghost own: { permit ≡ (arc_value hold.lock).word.table.shared.table_id },
+    ghost own: { permit.origin ≡ (arc_value hold.lock).word.table.shared.table_id },
+}
+
+impl<'a, R: Wait + Clock> Model for SemaphoreGuard<'a, R> {
+    ghost use Rattle.std.specs.Prelude.{ℕ};
+
+    ghost Value = { ℕ };
+
+    ghost view = { λ guard. guard.permit.count };
+}
+
+impl<R: Wait + Clock + Drop> Model for SemaphoreGuardArc<R> {
+    ghost use Rattle.std.specs.Prelude.{ℕ};
+
+    ghost Value = { ℕ };
+
+    ghost view = { λ guard. guard.permit.count };
 }
 
 impl<'a, R: Wait + Clock> SemaphoreGuard<'a, R> {
     #[inline(always)]
     pub(crate) fn new(hold: Borrowed<'a, Semaphore, R>, permit: Permit) -> Self
-        requires { permit ≡ hold.lock.now.word.table.shared.table_id }
+        requires { permit.origin ≡ hold.lock.now.word.table.shared.table_id }
+        ensures { result ≡ permit.count }
     {
         SemaphoreGuard { hold, permit }
     }
 
-    /// Keeps the permit from coming back: there is one less from here on.
+    /// How many permits it has: one, or as many as were asked for at once.
+    pub fn num_permits(&self) -> usize
+        ensures { result ≡ self.now }
+    {
+        self.permit.count() as usize
+    }
+
+    /// Keeps what it has from coming back: there are so many permits less from here on.
     pub fn forget(self) {
         let SemaphoreGuard { hold: _, permit } = self;
         permit.forget();
@@ -44,12 +69,20 @@ impl<'a, R: Wait + Clock> SemaphoreGuard<'a, R> {
 
 impl<R: Wait + Clock + Drop> SemaphoreGuardArc<R> {
     pub(crate) fn new(hold: Shared<Semaphore, R>, permit: Permit) -> Self
-        requires { permit ≡ (arc_value hold.lock).word.table.shared.table_id }
+        requires { permit.origin ≡ (arc_value hold.lock).word.table.shared.table_id }
+        ensures { result ≡ permit.count }
     {
         SemaphoreGuardArc { hold, permit }
     }
 
-    /// Keeps the permit from coming back: there is one less from here on.
+    /// How many permits it has: one, or as many as were asked for at once.
+    pub fn num_permits(&self) -> usize
+        ensures { result ≡ self.now }
+    {
+        self.permit.count() as usize
+    }
+
+    /// Keeps what it has from coming back: there are so many permits less from here on.
     pub fn forget(self) {
         let SemaphoreGuardArc { hold: _, permit } = self;
         permit.forget();
