@@ -1,10 +1,15 @@
 //! What each lock does in the order in which callers of other crates' locks use it.
+use crate::kinds::numbers;
 use crate::support::{check, new_lock, new_mutex, new_semaphore, new_task, sum, wait_until};
-use event_locks::{Barrier, LockError, Mutex, OnceCell, Semaphore, SetError, SetReason};
+use event_locks::{
+    AcquireError, Barrier, LockError, Mutex, OnceCell, Semaphore, SetError, SetReason,
+    TryAcquireError,
+};
 use std::fmt::Debug;
 use std::sync::Arc;
 use std::sync::atomic::{AtomicUsize, Ordering};
 use std::thread::{self, Threads};
+use std::time::Duration;
 use test_support::{Runtime, for_two_seconds};
 
 #[test]
@@ -35,6 +40,108 @@ fn a_semaphore_has_no_more_permits_than_it_can_count(rt: HostRuntime) {
     check(&rt, "free", semaphore.available(), Semaphore::MAX_PERMITS);
 }
 
+// Why so many are not given at once.
+fn refused<R: Runtime>(rt: &R, semaphore: &Semaphore, n: usize) -> Option<TryAcquireError> {
+    semaphore.try_acquire_many(rt, n).err()
+}
+
+#[test]
+fn a_semaphore_gives_all_at_once_or_none(rt: HostRuntime) {
+    let semaphore = new_semaphore(&rt, 3);
+    let too_few = Some(TryAcquireError::NoPermits);
+    for n in [4, usize::MAX] {
+        check(&rt, "too many", refused(&rt, &semaphore, n), too_few);
+    }
+    check(&rt, "free", semaphore.available(), 3);
+    let two = semaphore.try_acquire_many(&rt, 2).expect(&rt, "permits");
+    check(&rt, "permits", two.num_permits(), 2);
+    check(&rt, "free", semaphore.available(), 1);
+    check(&rt, "too many", refused(&rt, &semaphore, 2), too_few);
+    let one = semaphore.try_acquire(&rt).expect(&rt, "a permit");
+    check(&rt, "permits", one.num_permits(), 1);
+    check(&rt, "none", refused(&rt, &semaphore, 0), None);
+    check(&rt, "another", semaphore.try_acquire(&rt).err(), too_few);
+    drop(two);
+    check(&rt, "free", semaphore.available(), 2);
+    one.forget();
+    check(&rt, "free", semaphore.available(), 2);
+}
+
+#[test]
+fn permits_that_came_at_once_share_their_semaphore(rt: HostRuntime) {
+    let semaphore = Arc::new(rt.alloc(), new_semaphore(&rt, 3)).expect(&rt, "memory");
+    let two = Semaphore::try_acquire_many_arc(&semaphore, rt, 2).expect(&rt, "a share");
+    let two = two.expect(&rt, "permits");
+    check(&rt, "permits", two.num_permits(), 2);
+    let others = Semaphore::try_acquire_many_arc(&semaphore, rt, 2).expect(&rt, "a share");
+    check(
+        &rt,
+        "too many",
+        others.err(),
+        Some(TryAcquireError::NoPermits),
+    );
+    check(&rt, "shares", Arc::strong_count(&semaphore), 2);
+    two.forget();
+    check(&rt, "free", semaphore.available(), 1);
+}
+
+#[test]
+fn no_more_permits_are_forgotten_than_are_free(rt: HostRuntime) {
+    let semaphore = new_semaphore(&rt, 3);
+    let held = semaphore.try_acquire(&rt);
+    check(&rt, "one of two", semaphore.forget_permits(1), 1);
+    check(&rt, "free", semaphore.available(), 1);
+    check(&rt, "all", semaphore.forget_permits(usize::MAX), 1);
+    check(&rt, "none", semaphore.forget_permits(1), 0);
+    check(&rt, "free", semaphore.available(), 0);
+    drop(held);
+    check(&rt, "free", semaphore.available(), 1);
+}
+
+// What comes back or is added is counted still.
+#[test]
+fn a_closed_semaphore_gives_nothing(rt: HostRuntime) {
+    let semaphore = new_semaphore(&rt, 3);
+    let held = semaphore.try_acquire_many(&rt, 2);
+    check(&rt, "closed", semaphore.is_closed(), false);
+    for _ in 0..2u32 {
+        semaphore.close(&rt);
+        check(&rt, "closed", semaphore.is_closed(), true);
+    }
+    drop(held);
+    semaphore.add_permits(&rt, 1);
+    let closed = Some(TryAcquireError::Closed);
+    check(&rt, "one", semaphore.try_acquire(&rt).err(), closed);
+    for n in [0, 1, 5] {
+        check(&rt, "many", refused(&rt, &semaphore, n), closed);
+    }
+    check(&rt, "forgotten", semaphore.forget_permits(1), 0);
+    let counts = numbers(semaphore.counts(&rt));
+    check(&rt, "free, and nobody waits", counts, [4, 0, 0, 0]);
+    check(&rt, "closed", semaphore.counts(&rt).is_closed, true);
+    check(&rt, "shut", semaphore.counts(&rt).is_shut, false);
+    check(&rt, "free", semaphore.available(), 4);
+}
+
+#[test]
+fn a_wait_for_a_closed_semaphore_ends_at_once(rt: HostRuntime) {
+    let semaphore = Arc::new(rt.alloc(), new_semaphore(&rt, 1)).expect(&rt, "memory");
+    semaphore.close(&rt);
+    let closed = Some(AcquireError::Closed);
+    let mut polled = semaphore.acquire(&rt, rt.alloc());
+    let answer = new_task(&rt).poll(&mut polled);
+    check(&rt, "a poll", answer.is_ready(), true);
+    let waited = semaphore.acquire(&rt, rt.alloc()).wait().err();
+    check(&rt, "a wait", waited, closed);
+    let owned = Semaphore::acquire_arc(&semaphore, rt, rt.alloc()).expect(&rt, "a share");
+    check(&rt, "an owned one", owned.wait().err(), closed);
+    let late = semaphore.acquire(&rt, rt.alloc());
+    let late = late.wait_timeout(Duration::ZERO).err();
+    check(&rt, "a late one", late, closed);
+    let other = Semaphore::try_acquire_arc(&semaphore, rt).expect(&rt, "a share");
+    check(&rt, "another", other.err(), Some(TryAcquireError::Closed));
+}
+
 // What this shows of itself is this text.
 fn shows<V: Debug, R: Runtime>(rt: &R, value: &V, expected: &str) {
     let shown = format!(in rt.alloc(); "{value:?}").expect(rt, "a text");
@@ -46,7 +153,7 @@ fn a_semaphore_and_its_permits_show_themselves(rt: HostRuntime) {
     let semaphore = Arc::new(rt.alloc(), new_semaphore(&rt, 3)).expect(&rt, "memory");
     let permit = semaphore.try_acquire(&rt).expect(&rt, "a permit");
     let owned = Semaphore::try_acquire_arc(&semaphore, rt).expect(&rt, "a share");
-    shows(&rt, &owned, "Some(SemaphoreGuardArc)");
+    shows(&rt, &owned, "Ok(SemaphoreGuardArc)");
     shows(&rt, &*semaphore, "Semaphore { available: 1 }");
     shows(&rt, &permit, "SemaphoreGuard");
 }

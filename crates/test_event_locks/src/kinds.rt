@@ -1,7 +1,7 @@
 //! Each kind of wait, so that what is said of every one is written once and run with each.
 use crate::waits::Waits;
 use event_locks::{
-    Acquire, AcquireArc, Barrier, BarrierWait, Claim, Claiming, Counts, Lock, LockArc, LockError,
+    Acquire, AcquireArc, Barrier, BarrierWait, BlockError, Claim, Claiming, Counts, Lock, LockArc,
     Mutex, MutexGuard, MutexGuardArc, OnceCell, ReadArc, RwLock, RwLockReadGuard,
     RwLockReadGuardArc, RwLockWriteGuard, RwLockWriteGuardArc, Seeing, Semaphore, SemaphoreGuard,
     SemaphoreGuardArc, Vacant, WriteArc,
@@ -102,7 +102,7 @@ impl<'a, R: Wait + Clock + Sync> Kind for Of<'a, Semaphore, R> {
     type Held = Option<SemaphoreGuard<'a, R>>;
 
     fn hold(&self) -> Option<SemaphoreGuard<'a, R>> {
-        self.lock.try_acquire(self.rt)
+        self.lock.try_acquire(self.rt).ok()
     }
 
     fn waits(&self) -> Result<Self::Waits, AllocError> {
@@ -120,7 +120,7 @@ impl<'a, R: Wait + Clock + Clone + Sync> Kind for Of<'a, Arc<Semaphore, Global>,
     type Held = Result<Option<SemaphoreGuardArc<R>>, AllocError>;
 
     fn hold(&self) -> Result<Option<SemaphoreGuardArc<R>>, AllocError> {
-        Semaphore::try_acquire_arc(self.lock, self.rt.clone()?)
+        Ok(Semaphore::try_acquire_arc(self.lock, self.rt.clone()?)?.ok())
     }
 
     fn waits(&self) -> Result<Self::Waits, AllocError> {
@@ -251,9 +251,9 @@ impl<'a, R: Wait + Clock + Sync> Kind for Of<'a, Barrier, R> {
 impl<'a, R: Wait + Clock + Sync> Kind for Of<'a, OnceCell<u64>, R> {
     type Waits = Claiming<'a, u64, R>;
 
-    type Held = Result<Option<Claim<'a, u64, R>>, LockError>;
+    type Held = Result<Option<Claim<'a, u64, R>>, BlockError>;
 
-    fn hold(&self) -> Result<Option<Claim<'a, u64, R>>, LockError> {
+    fn hold(&self) -> Result<Option<Claim<'a, u64, R>>, BlockError> {
         let claiming = self.lock.claim(self.rt, self.alloc);
         claiming.wait_timeout(Duration::ZERO)
     }

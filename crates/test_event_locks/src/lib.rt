@@ -8,6 +8,7 @@
 //! | `threads` | threads that wait in each way, and are woken once they are let in |
 //! | `races` | one lets go while another one goes into the queue |
 //! | `stress` | threads and tasks at these locks, which give up at times |
+//! | `cell` | a value that tasks make: one at a time, and once that one is gone the next |
 //! | `behaviours` | what each lock does when it is called in the order that its users know from other crates |
 //! | `monitor` | a value that threads and tasks wait for: that a thread parks until it changes, whatever changes it, or until its limit, and until the lock is free |
 #![tactic(auto)]
@@ -15,6 +16,8 @@
 #[cfg(test)]
 mod behaviours;
 mod cases;
+#[cfg(test)]
+mod cell;
 mod kinds;
 #[cfg(test)]
 mod monitor;
@@ -30,4 +33,4 @@ mod waits;
 
 pub use cases::{Case, each};
 pub use kinds::{Arrives, Kind, Of, Read, See, Sets, Sharing, Write, numbers};
-pub use waits::Waits;
+pub use waits::{Refusal, Waits};

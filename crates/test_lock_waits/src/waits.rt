@@ -1,13 +1,15 @@
 //! Tasks that wait in each way, and are woken once they are let in. One that gives up hands on what it was handed, and lets in
 //! who waited for it alone.
 use crate::support::{check, new_lock, new_semaphore, new_task};
-use event_locks::{Barrier, LockError, Mutex, OnceCell, RwLock, Semaphore};
+use event_locks::{
+    Barrier, LockError, Mutex, OnceCell, PollError, RwLock, Semaphore, TryAcquireError,
+};
 use futures::task::Poll;
 use futures::test::MockTask;
 use std::sync::Arc;
 use std::thread;
 use std::time::Duration;
-use test_event_locks::{Case, Kind, Sharing, Waits, each, numbers};
+use test_event_locks::{Case, Kind, Refusal, Sharing, Waits, each, numbers};
 use test_support::Runtime;
 
 /// A wait that a task of its own polls.
@@ -31,10 +33,15 @@ impl<W: Waits> Polled<W> {
         self.task.is_woken()
     }
 
+    /// What it answers at this poll.
+    pub fn poll(&mut self) -> Poll<Result<W::Granted, W::Refusal>> {
+        self.waits.can_be_polled();
+        self.task.poll(&mut self.waits)
+    }
+
     /// Whether it is granted at this poll. Then it lets it go at once.
     pub fn is_ready(&mut self) -> bool {
-        self.waits.can_be_polled();
-        self.task.poll(&mut self.waits).is_ready()
+        self.poll().is_ready()
     }
 
     /// Polls in vain. That wakes nobody: its task is registered.
@@ -57,11 +64,11 @@ impl<W: Waits> Polled<W> {
 
     /// Whether it answers at this poll that it is over.
     pub fn is_over(&mut self) -> bool {
-        self.waits.can_be_polled();
-        matches!(
-            self.task.poll(&mut self.waits),
-            Poll::Ready(Err(LockError::Finished))
-        )
+        match self.poll() {
+            Poll::Ready(Err(refusal)) => refusal.reason() == Some(LockError::Finished),
+            Poll::Ready(Ok(_granted)) => false,
+            Poll::Pending => false,
+        }
     }
 
     /// Drops the wait. Its task is left, and counts as not woken.
@@ -144,9 +151,9 @@ fn one_that_gave_a_value_at_hand_is_over(rt: HostRuntime) {
     check(&rt, "whether it is there", is_ready, [true, true]);
     let claimed = matches!(
         task.poll(&mut claims),
-        Poll::Ready(Err(LockError::Finished))
+        Poll::Ready(Err(PollError::Finished))
     );
-    let seen = matches!(task.poll(&mut sees), Poll::Ready(Err(LockError::Finished)));
+    let seen = matches!(task.poll(&mut sees), Poll::Ready(Err(PollError::Finished)));
     check(&rt, "whether both are over", [claimed, seen], [true, true]);
 }
 
@@ -174,7 +181,12 @@ fn permits_that_share_their_semaphore_are_given_up(rt: HostRuntime) {
     let semaphore = Arc::new(rt.alloc(), new_semaphore(&rt, 1)).expect(&rt, "memory");
     let owned = Semaphore::try_acquire_arc(&semaphore, rt).expect(&rt, "a share");
     let other = Semaphore::try_acquire_arc(&semaphore, rt).expect(&rt, "a share");
-    check(&rt, "another", other.is_none(), true);
+    check(
+        &rt,
+        "another",
+        other.err(),
+        Some(TryAcquireError::NoPermits),
+    );
     let late = Semaphore::acquire_arc(&semaphore, rt, rt.alloc()).expect(&rt, "a share");
     let late = late.wait_timeout(Duration::ZERO).expect(&rt, "an answer");
     check(&rt, "a late one", late.is_none(), true);

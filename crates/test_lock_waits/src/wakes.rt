@@ -2,7 +2,10 @@
 use crate::support::{check, new_lock, new_task};
 use crate::waits::Polled;
 use event_locks::{Barrier, Claim, OnceCell, RwLock};
+use futures::Future;
+use futures::task::{Context, Poll};
 use std::sync::Arc;
+use std::sync::atomic::{AtomicBool, Ordering};
 use std::thread::{self, Threads};
 use std::time::Duration;
 use test_support::Runtime;
@@ -57,4 +60,43 @@ fn a_turn_that_is_given_up_goes_to_a_thread(rt: HostRuntime) {
     check(&rt, "whether it is woken", next.is_woken(), true);
     let claims = || matches!(cell.claim(&rt, rt.alloc()).wait(), Ok(Claim::Vacant(_)));
     is_let_in(&rt, claims, move || drop(next));
+}
+
+// It makes the value once this is so.
+#[derive(Drop)]
+struct Maker<'a> {
+    is_so: &'a AtomicBool,
+}
+
+impl Future for Maker<'_> {
+    type Output = u64;
+
+    fn poll(&mut self, cx: &mut Context<'_>) -> Poll<u64> {
+        if self.is_so.load(Ordering::SeqCst) {
+            return Poll::Ready(7);
+        }
+        cx.yield_now()
+    }
+}
+
+// A task makes the value, and two threads wait: one would make it, and one only sees it.
+#[test]
+fn a_task_that_makes_a_value_lets_threads_in(rt: HostRuntime) {
+    let (cell, task) = (&OnceCell::new(rt.alloc()), &new_task(&rt));
+    let is_so = &AtomicBool::new(false);
+    let mut makes = cell.get_or_init_async(&rt, rt.alloc(), Maker { is_so });
+    let is_pending = task.poll(&mut makes).is_pending();
+    check(&rt, "whether it waits", is_pending, true);
+    let claims = || cell
+        .get_or_init(&rt, rt.alloc(), || 8u64)
+        .is_ok_and(|it| *it == 7);
+    let sees = || cell.wait(&rt, rt.alloc()).wait().is_ok_and(|it| *it == 7);
+    let waits = || {
+        let (claimed, seen) = thread::join(&rt, claims, sees);
+        claimed && seen
+    };
+    is_let_in(&rt, waits, move || {
+        is_so.store(true, Ordering::SeqCst);
+        task.poll(&mut makes).is_ready()
+    });
 }

@@ -1,7 +1,7 @@
 //! What is dropped gives its memory back: where little is left, it can be made and dropped again and again.
 use crate::support::{Runtime, all_memory, check, comes_back, new_id, new_task};
 use event_listener::{Event, Limit, Listener};
-use event_locks::{Barrier, LockError, Mutex, OnceCell, RwLock, Semaphore};
+use event_locks::{AcquireError, Barrier, LockError, Mutex, OnceCell, RwLock, Semaphore};
 use futures::task::Poll;
 use std::cell::Cell;
 use std::io;
@@ -74,7 +74,7 @@ fn of_a_semaphore<R: Runtime + Copy>(rt: &R, is_given: bool) {
     let held = Semaphore::try_acquire_arc(&permits, *rt).expect(rt, "a share");
     let another = Semaphore::try_acquire_arc(&permits, *rt)
         .expect(rt, "a share")
-        .is_some();
+        .is_ok();
     check(rt, "another", another, false);
     let late = Semaphore::acquire_arc(&permits, *rt, rt.alloc());
     is_late(rt, late.expect(rt, "a share"));
@@ -143,7 +143,10 @@ fn a_poll_that_is_refused_keeps_no_share(rt: HostRuntime) {
     let hog = all_memory(&rt);
     let polled = task.poll(&mut waits);
     drop(hog);
-    let is_refused = matches!(polled, Poll::Ready(Err(LockError::Listen(_))));
+    let is_refused = matches!(
+        polled,
+        Poll::Ready(Err(AcquireError::WaitFailed(LockError::Listen(_))))
+    );
     check(&rt, "whether it is refused", is_refused, true);
     check(&rt, "shares", Arc::strong_count(&permits), 1);
 }

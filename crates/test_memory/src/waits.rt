@@ -5,7 +5,7 @@ use event_locks::{Barrier, LockError};
 use futures::task::Poll;
 use std::cell::Cell;
 use std::time::{Duration, Instant};
-use test_event_locks::{Case, Kind, Sharing, Waits, each};
+use test_event_locks::{Case, Kind, Refusal, Sharing, Waits, each};
 use test_queue_memory::{Budget, Starved};
 use test_support::{Changed, Ticks};
 
@@ -29,11 +29,13 @@ impl<R: Runtime, K: Kind> Starved for InVain<'_, R, K> {
             let polled = task.poll(&mut waits);
             drop(waits);
             match polled {
-                Poll::Ready(answer) => answer.err(),
+                Poll::Ready(Err(refusal)) => refusal.reason(),
+                Poll::Ready(Ok(_granted)) => None,
                 Poll::Pending => None,
             }
         } else {
-            waits.wait_timeout(Duration::from_millis(1500)).err()
+            let answer = waits.wait_timeout(Duration::from_millis(1500));
+            answer.err().and_then(|refusal| refusal.reason())
         };
         budget.give_back();
         match refusal {
