@@ -9,7 +9,7 @@ use Rattle.event_wait.specs.declared.request.Attempted.TheVariants as attempted
 use Rattle.event_wait.specs.declared.lock.wait.Refused.{Refused}
 use Rattle.event_wait.specs.declared.lock.wait.Refused.TheVariants.{Memory, Request}
 use Rattle.event_wait.specs.Attempted.{LeavesBy}
-use Rattle.event_wait.specs.declared.error.LockError.{LockError}
+use Rattle.event_channel.specs.declared.error.WaitError.{WaitError}
 use Rattle.event_wait.specs.Rounds.{Rounds, Rules, Trying, Tries, Fails, Gets as GetsBy}
 use Rattle.event_history.specs.declared.history.View.{View}
 use Rattle.event_history.specs.History.{Machine, Makes}
@@ -167,7 +167,7 @@ module _ {T W : Type 0} (capacity : Option ℕ) where
       rw says (ends_so message why v w kept.0 (subst (λ (o : Option (Result (Unit {0}) SendReason)). SendsWaiting capacity {E = Refused ListenError} message v (Ok o) w) answer (subst (λ (n : Option ℕ). SendsWaiting n {E = Refused ListenError} message v (Ok waited) w) same waits)))
 
   -- one that could not wait says why
-  pub ends_refused : (start : Option ℕ) → start ≡ capacity → (message : T) (refused : Refused ListenError) (said : SendReason) (error : LockError) (v w : View (State T W) (ChannelCall T))
+  pub ends_refused : (start : Option ℕ) → start ≡ capacity → (message : T) (refused : Refused ListenError) (said : SendReason) (error : WaitError) (v w : View (State T W) (ChannelCall T))
       → said ≡ reason.WaitFailed error → SendsWaiting start {E = Refused ListenError} message v (Err refused) w → EndsUnsent capacity message v said w
   ends_refused start same message refused said error v w says waits = rw says (subst (λ (n : Option ℕ). SendsWaiting n {E = Refused ListenError} message v (Err refused) w) same waits)
 

@@ -1,5 +1,5 @@
 -- In one history messages are received in the order in which they were sent.
-use Rattle.std.proofs.Common.{◌≡◌, Bool, List, [], ◌∷◌, ◌++◌, ℕ, refl, sym, ap, subst, ◌∙◌, ⊎_elim, Option, Some, None, Ok, Err, true, false}
+use Rattle.std.proofs.Common.{◌≡◌, ◌⊎◌, ◌-◌, ◌==◌, length, arith, inl, inr, Bool, List, [], ◌∷◌, ◌++◌, ℕ, refl, sym, ap, subst, ◌∙◌, ⊎_elim, Option, Some, None, Ok, Err, true, false}
 use Rattle.std.proofs.lemmas.List.{append-nil, append_assoc}
 use Rattle.event_history.specs.History.{Extends, IsAmong, Leads, LeadsTo, Runs, entry}
 use Rattle.event_history.proofs.RestsOnLemmas.{among_back, among_either, among_front}
@@ -10,10 +10,10 @@ use Rattle.event_wait.specs.declared.request.Attempted.TheVariants.{Done, Waits,
 use Rattle.event_channel.specs.declared.call.ChannelCall.{ChannelCall}
 use Rattle.event_channel.specs.declared.call.ChannelCall.TheVariants as call
 use Rattle.event_channel.specs.Calls.{LeavesReceivers, calls, channel_machine}
-use Rattle.event_channel.specs.Messages.{State}
+use Rattle.event_channel.specs.Messages.{State, AreDue, for_newcomers}
 use Rattle.event_channel.specs.declared.error.TryRecvError.{TryRecvError}
 use Rattle.event_channel.specs.declared.error.TryRecvError.TheVariants.{Empty, Closed}
-use Rattle.event_channel.specs.Steps.{IsEmptyFor}
+use Rattle.event_channel.specs.Steps.{FindsNone}
 use Rattle.event_channel.specs.Sent.{ChannelLog, sent_by, received_by, forced_out_by, out_by, all_of}
 
 module _ {T W : Type 0} where
@@ -29,35 +29,35 @@ module _ {T W : Type 0} where
 
   -- each call sends behind all others, and receives from the front
   pub moves : (before after : State T W) (c : ChannelCall T) → calls before c after → before.messages ++ sent_by c ≡ out_by c ++ after.messages
-  moves before after (call.Send message (Ok sent)) h = sym (ap (λ (s : State T W). s.messages) h.rest)
+  moves before after (call.Send message (Ok sent)) h = sym (ap (λ (s : State T W). s.messages) h.0.rest)
   moves before after (call.Send message (Err reason)) h = stays before after (alike before after h.1)
   moves before after (call.ForceSend message (Ok None)) h = sym (ap (λ (s : State T W). s.messages) h.rest)
   moves before after (call.ForceSend message (Ok (Some first))) h = h.moves
   moves before after (call.ForceSend message (Err reason)) h = stays before after (alike before after h.1)
-  moves before after (call.SendOrWait message key (Done (Ok sent))) h = sym (ap (λ (s : State T W). s.messages) h.0.rest)
-  moves before after (call.SendOrWait message key (Done (Err reason))) h = stays before after (ap (λ (s : State T W). s.messages) h.1)
-  moves before after (call.SendOrWait message key (Waits waits)) h = stays before after (ap (λ (s : State T W). s.messages) h.2)
-  moves before after (call.SendOrWait message key Absent) h = stays before after (ap (λ (s : State T W). s.messages) h.1)
-  moves before after (call.SendOrWait message key (Refused error)) h = stays before after (ap (λ (s : State T W). s.messages) h.2)
+  moves before after (call.SendOrWait message key (Done (Ok sent))) h = sym (ap (λ (s : State T W). s.messages) h.2.1.rest)
+  moves before after (call.SendOrWait message key (Done (Err reason))) h = stays before after (ap (λ (s : State T W). s.messages) h.2.1)
+  moves before after (call.SendOrWait message key (Waits waits)) h = stays before after (ap (λ (s : State T W). s.messages) h.2.2)
+  moves before after (call.SendOrWait message key Absent) h = stays before after (ap (λ (s : State T W). s.messages) h.2.1)
+  moves before after (call.SendOrWait message key (Refused error)) h = stays before after (ap (λ (s : State T W). s.messages) h.2.2)
   moves before after (call.SendOrLeave message key (Ok sent)) h =
-      sym (ap (λ (s : State T W). s.messages) h.2.0 ∙ ap (λ (s : State T W). s.messages) h.1.rest)
+      sym (ap (λ (s : State T W). s.messages) h.2.0 ∙ ap (λ (s : State T W). s.messages) h.1.0.rest)
   moves before after (call.SendOrLeave message key (Err reason)) h =
       stays before after (ap (λ (s : State T W). s.messages) h.2.0 ∙ ap (λ (s : State T W). s.messages) h.1.1)
   moves before after (call.LeaveSenders key) h = stays before after (ap (λ (s : State T W). s.messages) h.0)
-  moves before after (call.Receive (Ok message)) h = append-nil before.messages ∙ h.first
+  moves before after (call.Receive (Ok message)) h = append-nil before.messages ∙ h.0.first
   moves before after (call.Receive (Err error)) h = stays before after (alike before after h.1)
-  moves before after (call.ReceiveOrWait false key (Done (Some message))) h = append-nil before.messages ∙ h.0.first
-  moves before after (call.ReceiveOrWait false key (Done None)) h = stays before after (ap (λ (s : State T W). s.messages) h.2)
-  moves before after (call.ReceiveOrWait false key (Waits waits)) h = stays before after (ap (λ (s : State T W). s.messages) h.2)
-  moves before after (call.ReceiveOrWait false key Absent) h = absurd h
-  moves before after (call.ReceiveOrWait false key (Refused error)) h = stays before after (ap (λ (s : State T W). s.messages) h.2)
-  moves before after (call.ReceiveOrWait true key (Done (Some message))) h = append-nil before.messages ∙ h.0.first
+  moves before after (call.ReceiveOrWait false key (Done (Some message))) h = append-nil before.messages ∙ h.2.1.first
+  moves before after (call.ReceiveOrWait false key (Done None)) h = stays before after (ap (λ (s : State T W). s.messages) h.2.2)
+  moves before after (call.ReceiveOrWait false key (Waits waits)) h = stays before after (ap (λ (s : State T W). s.messages) h.2.2)
+  moves before after (call.ReceiveOrWait false key Absent) h = absurd h.2
+  moves before after (call.ReceiveOrWait false key (Refused error)) h = stays before after (ap (λ (s : State T W). s.messages) h.2.2)
+  moves before after (call.ReceiveOrWait true key (Done (Some message))) h = append-nil before.messages ∙ h.1.first
   moves before after (call.ReceiveOrWait true key (Done None)) h = stays before after (ap (λ (s : State T W). s.messages) h.2)
   moves before after (call.ReceiveOrWait true key (Waits waits)) h = stays before after (ap (λ (s : State T W). s.messages) h.2)
   moves before after (call.ReceiveOrWait true key Absent) h = absurd h
   moves before after (call.ReceiveOrWait true key (Refused error)) h = stays before after (ap (λ (s : State T W). s.messages) h.2)
   moves before after (call.ReceiveOrLeave is_stream key (Ok message)) h =
-      append-nil before.messages ∙ h.1.first ∙ ap (λ ms. message ∷ ms) (sym (left is_stream key h.0 after h.2))
+      append-nil before.messages ∙ h.1.0.first ∙ ap (λ ms. message ∷ ms) (sym (left is_stream key h.0 after h.2))
   moves before after (call.ReceiveOrLeave is_stream key (Err error)) h =
       stays before after (left is_stream key h.0 after h.2 ∙ ap (λ (s : State T W). s.messages) h.1.1)
   moves before after (call.ReceiveMany [] key) h = absurd h.1
@@ -142,13 +142,38 @@ seen_to_be_sent capacity v w c called message h =
     let seen = in_order_as_seen capacity v w c called in
     received_was_sent capacity w.seen seen.0 seen.1 message (subst (λ log. IsAmong message (all_of received_by log)) (sym led.seen) (received_last (v.seen ++ led.between) (entry led.number c) message h))
 
-no_messages : {T W : Type 0} (q : State T W) (error : TryRecvError) → IsEmptyFor q error → q.messages ≡ []
-no_messages q Empty h = h.0
-no_messages q Closed h = h.0
+no_length : {X : Type 0} (xs : List X) → length xs ≡ 0 → xs ≡ []
+no_length [] h = refl
+no_length (x ∷ xs) h = absurd (omega (arith, h))
 
--- where the last call found no message, all that was sent went out
-pub none_waits : {T W : Type 0} (capacity : Option ℕ) (v w : View (State T W) (ChannelCall T)) (error : TryRecvError) → Extends (channel_machine capacity) v (call.Receive (Err error)) w → all_of sent_by w.seen ≡ all_of out_by w.seen
-none_waits capacity v w error (before, after, led) =
-    in_order_from_start capacity w.seen after (leads_as_seen capacity v w (call.Receive (Err error)) before after led)
-    ∙ ap (λ ms. all_of out_by w.seen ++ ms) (alike before after led.step.1 ∙ no_messages before error led.step.0)
-    ∙ append-nil (all_of out_by w.seen)
+-- where no message is there for newcomers there is none, or each is due
+none_or_due : {T W : Type 0} (q : State T W) (error : TryRecvError) → FindsNone (for_newcomers q) q error → (q.messages ≡ []) ⊎ AreDue q
+none_or_due q Closed h = inl h.0
+none_or_due {T} {W} q Empty h = by_keys q.starving_receivers refl
+  where
+    by_keys : (keys : List Key) → q.starving_receivers ≡ keys → (q.messages ≡ []) ⊎ AreDue q
+    by_keys [] is = inl (no_length q.messages (rw (h.1, is) at h.0))
+    by_keys (key ∷ keys) is =
+        let some : (length (key ∷ keys) == 0) ≡ false = grind arith in
+        let none : length q.messages - length q.receivers.told ≡ 0 = rw (h.1, is, some) at h.0 in
+        inr (record { is_open = h.1; starves = rw is (omega arith); few = omega (arith, none) })
+
+module _ {T W : Type 0} (capacity : Option ℕ) (v w : View (State T W) (ChannelCall T)) (error : TryRecvError) where
+  -- where the last call found no message at all, all that was sent went out
+  went_out : (before after : State T W) → Leads (channel_machine capacity) v (call.Receive (Err error)) before after w → before.messages ≡ [] → all_of sent_by w.seen ≡ all_of out_by w.seen
+  went_out before after led none =
+      in_order_from_start capacity w.seen after (leads_as_seen capacity v w (call.Receive (Err error)) before after led)
+      ∙ ap (λ ms. all_of out_by w.seen ++ ms) (alike before after led.step.1 ∙ none)
+      ∙ append-nil (all_of out_by w.seen)
+
+  -- where it found none for newcomers, that is so, or each that waits is due
+  pub none_waits : Extends (channel_machine capacity) v (call.Receive (Err error)) w
+      → (all_of sent_by w.seen ≡ all_of out_by w.seen) ⊎ ((q : State T W) × LeadsTo (channel_machine capacity) w.seen q × AreDue q)
+  none_waits (before, after, led) = ⊎_elim
+      (λ none. inl (went_out before after led none))
+      (λ due. inr (after, leads_as_seen capacity v w (call.Receive (Err error)) before after led, subst (λ (s : State T W). AreDue s) (sym led.step.1) due))
+      (none_or_due before error led.step.0)
+
+-- where it found the end, all that was sent went out
+pub end_comes_last : {T W : Type 0} (capacity : Option ℕ) (v w : View (State T W) (ChannelCall T)) → Extends (channel_machine capacity) v (call.Receive (Err Closed)) w → all_of sent_by w.seen ≡ all_of out_by w.seen
+end_comes_last capacity v w (before, after, led) = went_out capacity v w Closed before after led led.step.0.0

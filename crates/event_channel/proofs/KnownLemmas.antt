@@ -1,6 +1,6 @@
 -- What a hand knows to be sent.
-use Rattle.std.proofs.Common.{List, [], ◌∷◌, ◌++◌, ℕ, refl, sym, subst, inl, ⊎_elim, Option, Result, Ok, Err, IfErr, IfOk}
-use Rattle.event_history.specs.History.{Extends, IsAmong, Looks, StartsWith, both_views, entry, met_of}
+use Rattle.std.proofs.Common.{◌⊎◌, inr, List, [], ◌∷◌, ◌++◌, ℕ, refl, sym, subst, inl, ⊎_elim, Option, Result, Ok, Err, IfErr, IfOk}
+use Rattle.event_history.specs.History.{Extends, IsAmong, LeadsTo, Looks, StartsWith, both_views, entry, met_of}
 use Rattle.event_history.proofs.HandLemmas.{begins_last}
 use Rattle.event_history.proofs.RestsOnLemmas.{among_back, among_either, among_front}
 use Rattle.event_history.specs.declared.history.Entry.{Entry}
@@ -10,7 +10,7 @@ use Rattle.event_channel.specs.declared.call.ChannelCall.TheVariants as call
 use Rattle.event_channel.specs.declared.error.SendError.{SendError}
 use Rattle.event_channel.specs.declared.error.TryRecvError.{TryRecvError}
 use Rattle.event_channel.specs.Calls.{answer_of, channel_machine}
-use Rattle.event_channel.specs.Messages.{State}
+use Rattle.event_channel.specs.Messages.{AreDue, State}
 use Rattle.event_channel.specs.Sent.{ChannelLog, all_of, out_by, sent_by}
 use Rattle.event_channel.proofs.HistoryLemmas.{none_waits, seen_to_be_sent}
 
@@ -45,18 +45,21 @@ module _ {T W : Type 0} (capacity : Option ℕ) where
   absorbed v other w looks message h =
       sent_in_longer message w.seen other.seen (begins_last w.seen looks.others w.met (met_of other) v.met looks.idle.2 looks.met) h
 
+  pub kept : (v other w : View (State T W) (ChannelCall T)) → Looks (channel_machine capacity) (both_views v other) w → (message : T) → IsAmong message (all_of sent_by v.seen) → IsAmong message (all_of sent_by w.seen)
+  kept v other w looks message h = sent_in_longer message w.seen v.seen looks.seen h
+
   -- what a receive gives was sent
   pub received : (v w : View (State T W) (ChannelCall T)) (reply : Result T TryRecvError) → Extends (channel_machine capacity) v (call.Receive reply) w → IfOk reply (λ message. IsAmong message (all_of sent_by w.seen))
   received v w (Ok message) called = seen_to_be_sent capacity v w (call.Receive (Ok message)) called message (inl refl)
   received v w (Err error) called = tt
 
-  -- what a hand sent that another one absorbed, which then finds no message, went out
+  -- what a hand sent that another one absorbed, which then finds no message, went out, or each that waits is due
   pub sent : (u v w x y : View (State T W) (ChannelCall T)) (message : T) (answer : Result (Unit {0}) (SendError T)) (reply : Result T TryRecvError)
       → Extends (channel_machine capacity) u (call.Send message (answer_of answer)) v → Looks (channel_machine capacity) (both_views w v) x → Extends (channel_machine capacity) x (call.Receive reply) y
-      → IfOk answer (λ done. IfErr reply (λ error. IsAmong message (all_of out_by y.seen)))
+      → IfOk answer (λ done. IfErr reply (λ error. IsAmong message (all_of out_by y.seen) ⊎ ((q : State T W) × LeadsTo (channel_machine capacity) y.seen q × AreDue q)))
   sent u v w x y message (Err error) reply sends absorbs receives = tt
   sent u v w x y message (Ok done) (Ok other) sends absorbs receives = tt
   sent u v w x y message (Ok done) (Err error) sends absorbs receives =
       let its = by_a_call u v (call.Send message (Ok done)) sends message (inl refl) in
-      subst (λ (ms : List T). IsAmong message ms) (none_waits capacity x y error receives)
-      (before_a_call x y (call.Receive (Err error)) receives message (absorbed w v x absorbs message its))
+      let known = before_a_call x y (call.Receive (Err error)) receives message (absorbed w v x absorbs message its) in
+      ⊎_elim (λ out. inl (subst (λ (ms : List T). IsAmong message ms) out known)) (λ due. inr due) (none_waits capacity x y error receives)

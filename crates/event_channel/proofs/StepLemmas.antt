@@ -1,6 +1,6 @@
 -- What a function of the state does, as a call of a history.
-use Rattle.std.proofs.Common.{◌≡◌, ◌⊎◌, ◌+◌, ℕ, suc, min, take, arith, Bool, true, false, [], ◌∷◌, length, refl, sym, ap, ◌∙◌, subst, inl, inr, Option, Some, None, Result, Ok, Err, IfOk, IfErr}
-use Rattle.std.specs.Prelude.{◌↔◌, OnErr, IsTrue, IsFalse}
+use Rattle.std.proofs.Common.{◌≡◌, ◌⊎◌, ◌+◌, ◌<◌, ◌≤◌, ◌==◌, ◌||◌, ℕ, suc, min, take, arith, Bool, true, false, [], ◌∷◌, length, refl, sym, ap, ◌∙◌, subst, inl, inr, Option, Some, None, Result, Ok, Err, IfOk, IfErr}
+use Rattle.std.specs.Prelude.{◌↔◌, OnErr, OnOk, IsTrue, IsFalse}
 use Rattle.std.proofs.lemmas.Bool.{false≢true}
 use Rattle.std.proofs.lemmas.List.{length-take-le}
 use Rattle.event_queue.specs.declared.key.Key.{Key}
@@ -17,10 +17,11 @@ use Rattle.event_channel.specs.declared.error.SendReason.{SendReason}
 use Rattle.event_channel.specs.declared.error.SendReason.TheVariants.{Full}
 use Rattle.event_channel.specs.declared.error.TryRecvError.{TryRecvError}
 use Rattle.event_channel.specs.declared.error.TryRecvError.TheVariants.{Empty, Closed}
-use Rattle.event_channel.specs.Messages.{State}
-use Rattle.event_channel.specs.Steps.{Pushes, Refuses, Forces, Takes, IsEmptyFor, Closes}
-use Rattle.event_channel.specs.Waits.{Received, Receives, Sends, Sent}
-use Rattle.event_channel.specs.Calls.{ClosesOnce, ForcesOne, LeavesReceivers, LeavesSenders, ReceivesOne as DoesReceive, SendsOne, answer_of, calls, received_at_once, rests_on_none, sent_at_once, with_any_task}
+use Rattle.event_channel.specs.Messages.{State, for_newcomers, room_for_newcomers, room_for_one}
+use Rattle.event_channel.proofs.TurnLemmas.{most_for_newcomers}
+use Rattle.event_channel.specs.Steps.{Pushes, Refuses, RefusesAt, Forces, Takes, IsEmptyFor, Closes}
+use Rattle.event_channel.specs.Waits.{Received, Receives, ReceivesInTurn, SendsInTurn, Sent}
+use Rattle.event_channel.specs.Calls.{ClosesOnce, ForcesOne, LeavesReceivers, LeavesSenders, ReceivesOne as DoesReceive, SendsOne, answer_of, calls, received_at_once, receiver_key, rests_on_none, sent_at_once, with_any_task}
 use Rattle.event_channel.specs.Requests.{GivesUpReceiving, GivesUpSending, ReceivesMany, ReceivesOne, ReceivesOrLeaves, ReceivesOrWaits, SendsOrLeaves, SendsOrWaits, TriesToReceive, TriesToSend}
 
 -- no call comes after others of its hand
@@ -35,74 +36,82 @@ one_more : (n : ℕ) → suc n ≡ 1 + n
 one_more n = omega arith
 
 module _ {T W : Type 0} (old new : State T W) where
-  pub sends_one : (X : Type 0) (message : T) (reply : Result (Unit {0}) (SendError T)) → IfOk reply (λ _. Pushes message old new) → OnErr reply ((new ≡ old) × X) → IfErr reply (λ error. Refuses old error.reason)
-      → SendsOne message (answer_of reply) old new
-  sends_one X message (Ok sent) pushed refused reason = pushed
-  sends_one X message (Err error) pushed refused reason = (reason, refused.0)
+  pub sends_one : (X : Type 0) (message : T) (reply : Result (Unit {0}) (SendError T)) → IfOk reply (λ _. Pushes message old new) → OnOk reply (0 < room_for_newcomers old) → OnErr reply ((new ≡ old) × X)
+      → IfErr reply (λ error. Refuses old error.reason) → SendsOne None message (answer_of reply) old new
+  sends_one X message (Ok sent) pushed may refused reason = (pushed, may)
+  sends_one X message (Err error) pushed may refused reason = (reason, refused.0)
 
   pub forces_one : (X : Type 0) (message : T) (reply : Result (Option T) (SendError T)) → IfOk reply (λ out. Forces message out old new) → OnErr reply ((new ≡ old) × X) → IfErr reply (λ error. Refuses old error.reason)
       → ForcesOne message (answer_of reply) old new
   forces_one X message (Ok out) forced refused reason = forced
   forces_one X message (Err error) forced refused reason = (reason, refused.0)
 
-  -- an attempt to send this message
-  pub tries_to_send : (before : Option T) (message : T) (answer : Option (Result (Unit {0}) SendReason)) → before ≡ Some message → SendsOne message (sent_at_once answer) old new
-      → (c : ChannelCall T) × TriesToSend before answer c × calls old c new
-  tries_to_send before message answer is does = rw is (call.Send message (sent_at_once answer), refl, does)
+  -- an attempt to send this message; one whose message is sent attempts nothing
+  pub tries_to_send : (before slot : Option T) (answer : Option (Result (Unit {0}) SendReason)) → before ≡ slot → ((message : T) → slot ≡ Some message → SendsOne None message (sent_at_once answer) old new)
+      → (slot ≡ None → (answer ≡ None) × (new ≡ old)) → (c : ChannelCall T) × TriesToSend before answer c × calls old c new
+  tries_to_send before (Some message) answer is sends absent = rw is (call.Send message (sent_at_once answer), refl, sends message refl)
+  tries_to_send before None answer is sends absent = rw is (call.LeaveSenders None, ((absent refl).0, refl), left_with_nothing (absent refl).1)
+    where
+      left_with_nothing : new ≡ old → LeavesSenders None old new
+      left_with_nothing same = subst (λ (s : State T W). LeavesSenders None old s) (sym same) (refl, record { left = refl; struck = refl })
 
-  pub finds_it_full : (before : Option T) (message : T) (why : SendReason) → before ≡ Some message → why ≡ Full → Refuses old why → new ≡ old
-      → (c : ChannelCall T) × TriesToSend before None c × calls old c new
-  finds_it_full before message why is full refuses same = tries_to_send before message None is (subst (λ (r : SendReason). Refuses old r) full refuses, same)
+  -- a send that was refused for this reason found the channel full
+  pub found_it_full : (key : Option Key) (message : T) (why : SendReason) → why ≡ Full → RefusesAt (room_for_one key old) old why → new ≡ old → SendsOne key message (Err Full) old new
+  found_it_full key message why full refuses same = (subst (λ (r : SendReason). RefusesAt (room_for_one key old) old r) full refuses, same)
 
-  pub is_refused : (before : Option T) (message : T) (why : SendReason) → before ≡ Some message → Refuses old why → new ≡ old
-      → (c : ChannelCall T) × TriesToSend before (Some (Err why)) c × calls old c new
-  is_refused before message why is refuses same = tries_to_send before message (Some (Err why)) is (refuses, same)
-
-  pub receives_one : (is_stream : Bool) (answer : Option (Option T)) → DoesReceive (received_at_once answer) old new → (c : ChannelCall T) × TriesToReceive is_stream answer c × calls old c new
+  pub receives_one : (is_stream : Bool) (answer : Option (Option T)) → DoesReceive None (received_at_once answer) old new → (c : ChannelCall T) × TriesToReceive is_stream answer c × calls old c new
   receives_one is_stream answer does = (call.Receive (received_at_once answer), refl, does)
 
   pub receives_none : (is_stream : Bool) (answer : Option (Option T)) (why said : TryRecvError) → why ≡ said → received_at_once answer ≡ Err said → IsEmptyFor old why → new ≡ old
       → (c : ChannelCall T) × TriesToReceive is_stream answer c × calls old c new
   receives_none is_stream answer why said is says empty same =
-      receives_one is_stream answer (subst (λ (reply : Result T TryRecvError). DoesReceive reply old new) (sym says) (subst (λ (w : TryRecvError). IsEmptyFor old w) is empty, same))
+      receives_one is_stream answer (subst (λ (reply : Result T TryRecvError). DoesReceive None reply old new) (sym says) (subst (λ (w : TryRecvError). IsEmptyFor old w) is empty, same))
 
 module _ {W C : Type 0} (exchanged : C → Option W → W → C → Type 0) where
   any_waits : (key : Option Key) (old : Queue (Unit {0}) W) (on : C) (waits : Key) (new : Queue (Unit {0}) W) (on' : C) → WaitsBy exchanged key old on waits new on' → WaitsBy with_any_task key old tt waits new tt
   any_waits key old on waits new on' h = record { task = h.task; made = tt; same = h.same; told = h.told; waiting = h.waiting }
 
 module _ {T W C : Type 0} (exchanged : C → Option W → W → C → Type 0) where
-  any_sends : (message : Option T) (key : Option Key) (before : State T W) (on : C) (answer : Sent) (rest : State T W) (line : Queue (Unit {0}) W) (on' : C)
-      → Sends exchanged message key before on answer rest line on' → Sends with_any_task message key before tt answer rest line tt
-  any_sends message key before on (Done (Ok sent)) rest line on' h = (h.0, h.1, refl)
-  any_sends message key before on (Done (Err reason)) rest line on' h = (h.0, h.1, h.2, refl)
-  any_sends message key before on (Waits waits) rest line on' h = (h.0, h.1, h.2, any_waits exchanged key before.senders on waits line on' h.3)
-  any_sends message key before on Absent rest line on' h = (h.0, h.1, h.2, refl)
-  any_sends message key before on (Refused error) rest line on' h = (h.0, h.1, h.2, h.3, refl)
+  any_sends : (message : Option T) (key : Option Key) (before : State T W) (losses : ℕ) (on : C) (answer : Sent) (after : State T W) (losses' : ℕ) (on' : C)
+      → SendsInTurn exchanged message key before losses on answer after losses' on' → SendsInTurn with_any_task message key before losses tt answer after losses' tt
+  any_sends message key before losses on (Done (Ok sent)) after losses' on' h = (h.0, h.1, h.2, h.3, refl)
+  any_sends message key before losses on (Done (Err reason)) after losses' on' h = (h.0, h.1, h.2, h.3, refl)
+  any_sends message key before losses on (Waits waits) after losses' on' h = (h.0, h.1, h.2, any_waits exchanged key before.senders on waits after.senders on' h.3, h.4)
+  any_sends message key before losses on Absent after losses' on' h = (h.0, h.1, h.2, h.3, refl)
+  any_sends message key before losses on (Refused error) after losses' on' h = (h.0, h.1, h.2, h.3, h.4, h.5, refl)
 
   any_receives : (key : Option Key) (before : State T W) (old : Queue (Unit {0}) W) (on : C) (answer : Received T) (rest : State T W) (new : Queue (Unit {0}) W) (on' : C)
       → Receives exchanged key before old on answer rest new on' → Receives with_any_task key before old tt answer rest new tt
-  any_receives key before old on (Done (Some message)) rest new on' h = (h.0, h.1, refl)
+  any_receives key before old on (Done (Some message)) rest new on' h = (h.0, h.1, h.2, refl)
   any_receives key before old on (Done None) rest new on' h = (h.0, h.1, h.2, h.3, refl)
   any_receives key before old on (Waits waits) rest new on' h = (h.0, h.1, h.2, any_waits exchanged key old on waits new on' h.3)
   any_receives key before old on Absent rest new on' h = elim h [ ]
   any_receives key before old on (Refused error) rest new on' h = (h.0, h.1, h.2, h.3, refl)
 
+  any_in_turn : (key : Option Key) (before : State T W) (losses : ℕ) (on : C) (answer : Received T) (after : State T W) (losses' : ℕ) (on' : C)
+      → ReceivesInTurn exchanged key before losses on answer after losses' on' → ReceivesInTurn with_any_task key before losses tt answer after losses' tt
+  any_in_turn key before losses on (Done (Some message)) after losses' on' h = (h.0, h.1, h.2, h.3, refl)
+  any_in_turn key before losses on (Done None) after losses' on' h = (h.0, h.1, h.2, h.3, h.4, refl)
+  any_in_turn key before losses on (Waits waits) after losses' on' h = (h.0, h.1, h.2, any_waits exchanged key before.receivers on waits after.receivers on' h.3, h.4)
+  any_in_turn key before losses on Absent after losses' on' h = elim h [ ]
+  any_in_turn key before losses on (Refused error) after losses' on' h = (h.0, h.1, h.2, h.3, h.4, h.5, refl)
+
   -- one that sends or waits
-  pub sends_or_waits : (before message : Option T) (key : Option Key) (old new : State T W) (on on' : C) (answer : Sent)
-      → before ≡ message → Sends exchanged message key old on answer (record new { senders = old.senders }) new.senders on' → (message ≡ None → answer ≡ Absent)
+  pub sends_or_waits : (before message : Option T) (key : Option Key) (old new : State T W) (losses losses' : ℕ) (on on' : C) (answer : Sent)
+      → before ≡ message → SendsInTurn exchanged message key old losses on answer new losses' on' → (message ≡ None → answer ≡ Absent)
       → (c : ChannelCall T) × SendsOrWaits before answer c × calls old c new
-  sends_or_waits before (Some message) key old new on on' answer is does absent =
-      rw is (call.SendOrWait message key answer, (key, refl), any_sends (Some message) key old on answer (record new { senders = old.senders }) new.senders on' does)
-  sends_or_waits before None key old new on on' answer is does absent =
-      let left = subst (λ (a : Sent). Sends exchanged None key old on a (record new { senders = old.senders }) new.senders on') (absent refl) does in
-      rw is (call.LeaveSenders key, (absent refl, key, refl), (ap (λ (s : State T W). record s { senders = new.senders }) left.1, left.2))
+  sends_or_waits before (Some message) key old new losses losses' on on' answer is does absent =
+      rw is (call.SendOrWait message key answer, (key, refl), (losses, losses', any_sends (Some message) key old losses on answer new losses' on' does))
+  sends_or_waits before None key old new losses losses' on on' answer is does absent =
+      let left = subst (λ (a : Sent). SendsInTurn exchanged None key old losses on a new losses' on') (absent refl) does in
+      rw is (call.LeaveSenders key, (absent refl, key, refl), (ap (λ (s : State T W). record s { senders = new.senders; starving_senders = new.starving_senders }) left.1, left.2))
 
   -- one that receives or waits, in either queue
-  pub receives_or_waits : (is_stream : Bool) (key : Option Key) (old new : State T W) (on on' : C) (answer : Received T) → is_stream ≡ false
-      → Receives exchanged key old old.receivers on answer (record new { receivers = old.receivers }) new.receivers on'
+  pub receives_or_waits : (is_stream : Bool) (key : Option Key) (old new : State T W) (losses losses' : ℕ) (on on' : C) (answer : Received T) → is_stream ≡ false
+      → ReceivesInTurn exchanged key old losses on answer new losses' on'
       → (c : ChannelCall T) × ReceivesOrWaits is_stream answer c × calls old c new
-  receives_or_waits is_stream key old new on on' answer is does =
-      rw is (call.ReceiveOrWait false key answer, (key, refl), any_receives key old old.receivers on answer (record new { receivers = old.receivers }) new.receivers on' does)
+  receives_or_waits is_stream key old new losses losses' on on' answer is does =
+      rw is (call.ReceiveOrWait false key answer, (key, refl), (losses, losses', any_in_turn key old losses on answer new losses' on' does))
 
   pub next_or_waits : (is_stream : Bool) (key : Option Key) (old new : State T W) (on on' : C) (answer : Received T) → is_stream ≡ true
       → Receives exchanged key old old.streams on answer (record new { streams = old.streams }) new.streams on'
@@ -125,33 +134,32 @@ module _ {T W : Type 0} where
 
   -- one that was in no queue left none
   left_none : (is_stream : Bool) (old new : State T W) → LeavesReceivers is_stream None old new → new ≡ old
-  left_none false old new left = left.0 ∙ ap (λ line. record old { receivers = line }) left.1
+  left_none false old new left =
+      left.0 ∙ ap (λ line. record old { receivers = line; starving_receivers = new.starving_receivers; streams = new.streams }) left.1.left
+      ∙ ap (λ keys. record old { starving_receivers = keys; streams = new.streams }) left.1.struck ∙ ap (λ line. record old { streams = line }) left.1.streams
   left_none true old new left = left.0 ∙ ap (λ line. record old { streams = line }) left.1
 
-  left_no_senders : (old new : State T W) → LeavesSenders None old new → new ≡ old
-  left_no_senders old new left = left.0 ∙ ap (λ line. record old { senders = line }) left.1
-
   -- an attempt, and then leaving
-  pub sends_or_leaves : (before : Option T) (answer : Option (Result (Unit {0}) SendReason)) (key : Option Key) (old between new : State T W)
-      → (c : ChannelCall T) × TriesToSend before answer c × calls old c between → LeavesSenders key between new
+  pub sends_or_leaves : (before slot : Option T) (answer : Option (Result (Unit {0}) SendReason)) (key : Option Key) (old between new : State T W) → before ≡ slot
+      → ((message : T) → slot ≡ Some message → SendsOne key message (sent_at_once answer) old between) → (slot ≡ None → (answer ≡ None) × (between ≡ old)) → LeavesSenders key between new
       → (c : ChannelCall T) × SendsOrLeaves before answer c × calls old c new
-  sends_or_leaves (Some message) answer key old between new (c, is, does) left =
-      (call.SendOrLeave message key (sent_at_once answer), (key, refl), (between, subst (λ (c : ChannelCall T). calls old c between) is does, left))
-  sends_or_leaves None answer key old between new (c, is, does) left =
-      (call.LeaveSenders key, (is.0, key, refl), subst (λ (s : State T W). LeavesSenders key s new) (left_no_senders old between (subst (λ (c : ChannelCall T). calls old c between) is.1 does)) left)
+  sends_or_leaves before (Some message) answer key old between new is sends absent left =
+      rw is (call.SendOrLeave message key (sent_at_once answer), (key, refl), (between, sends message refl, left))
+  sends_or_leaves before None answer key old between new is sends absent left =
+      rw is (call.LeaveSenders key, ((absent refl).0, key, refl), subst (λ (s : State T W). LeavesSenders key s new) (absent refl).1 left)
 
   pub receives_or_leaves : (before is_stream : Bool) (answer : Option (Option T)) (key : Option Key) (old between new : State T W) → before ≡ is_stream
-      → (c : ChannelCall T) × TriesToReceive before answer c × calls old c between → LeavesReceivers is_stream key between new
+      → DoesReceive (receiver_key is_stream key) (received_at_once answer) old between → LeavesReceivers is_stream key between new
       → (c : ChannelCall T) × ReceivesOrLeaves before answer c × calls old c new
-  receives_or_leaves before is_stream answer key old between new same (c, is, does) left =
-      rw same (call.ReceiveOrLeave is_stream key (received_at_once answer), (key, refl), (between, subst (λ (c : ChannelCall T). calls old c between) is does, left))
+  receives_or_leaves before is_stream answer key old between new same does left =
+      rw same (call.ReceiveOrLeave is_stream key (received_at_once answer), (key, refl), (between, does, left))
 
   pub many_then_leaves : (answer : Option (Option ℕ)) (key : Option Key) (old between new : State T W)
       → (c : ChannelCall T) × ReceivesMany None answer c × calls old c between → LeavesReceivers false key between new
       → (c : ChannelCall T) × ReceivesMany key answer c × calls old c new
   many_then_leaves None key old between new (c, inl is, does) left =
       let h = subst (λ (c : ChannelCall T). calls old c between) is does in
-      (call.ReceiveOrLeave false key (Err Empty), inl refl, (h.0, h.1, subst (λ (s : State T W). LeavesReceivers false key s new) (left_none false h.0 between h.2) left))
+      (call.LeaveReceivers false key, inr refl, subst (λ (s : State T W). LeavesReceivers false key s new) (left_none false h.0 between h.2 ∙ h.1.1) left)
   many_then_leaves None key old between new (c, inr is, does) left =
       let h = subst (λ (c : ChannelCall T). calls old c between) is does in
       (call.LeaveReceivers false key, inr refl, subst (λ (s : State T W). LeavesReceivers false key s new) (left_none false old between h) left)
@@ -162,10 +170,6 @@ module _ {T W : Type 0} where
       let h = subst (λ (c : ChannelCall T). calls old c between) is.2 does in
       (call.ReceiveMany is.0 key, (is.0, is.1, refl), (h.0, h.1, subst (λ (s : State T W). LeavesReceivers false key s new) (left_none false h.0 between h.2) left))
 
-  -- one whose message is sent attempts nothing
-  pub nothing_to_send : (before : Option T) (answer : Option (Result (Unit {0}) SendReason)) (state : State T W) → before ≡ None → answer ≡ None → (c : ChannelCall T) × TriesToSend before answer c × calls state c state
-  nothing_to_send before answer state is nothing = rw is (call.LeaveSenders None, (nothing, refl), (refl, refl))
-
   pub gives_up_sending : (before : Option T) (key : Option Key) (old new : State T W) → LeavesSenders key old new → (c : ChannelCall T) × GivesUpSending before c × calls old c new
   gives_up_sending before key old new left = (call.LeaveSenders key, (key, refl), left)
 
@@ -175,17 +179,24 @@ module _ {T W : Type 0} where
 
   -- one that is to receive many has room for none
   pub many_without_room : (state : State T W) → (c : ChannelCall T) × ReceivesMany None None c × calls state c state
-  many_without_room state = (call.LeaveReceivers false None, inr refl, (refl, refl))
+  many_without_room state = (call.LeaveReceivers false None, inr refl, (refl, record { left = refl; struck = refl; streams = refl }))
 
   pub many_of_none : (old new : State T W) (why : TryRecvError) → why ≡ Empty → IsEmptyFor old why → new ≡ old → (c : ChannelCall T) × ReceivesMany None None c × calls old c new
-  many_of_none old new why is empty same = (call.ReceiveOrLeave false None (Err Empty), inl refl, (new, (subst (λ (w : TryRecvError). IsEmptyFor old w) is empty, same), (refl, refl)))
+  many_of_none old new why is empty same = (call.ReceiveOrLeave false None (Err Empty), inl refl, (new, (subst (λ (w : TryRecvError). IsEmptyFor old w) is empty, same), (refl, record { left = refl; struck = refl; streams = refl })))
 
-  pub many_taken : (old between new : State T W) (message : T) (count limit room : ℕ) → Takes (message ∷ []) old between
-      → count ≡ min limit (min room (length between.messages)) → Takes (take count between.messages) between new
+  pub many_taken : (old between new : State T W) (message : T) (count limit room : ℕ) → Takes (message ∷ []) old between → 0 < for_newcomers old
+      → count ≡ min limit (min room (for_newcomers between)) → Takes (take count between.messages) between new
       → (c : ChannelCall T) × ReceivesMany None (Some (Some (1 + count))) c × calls old c new
-  many_taken old between new message count limit room first counted rest =
-      let size : length (message ∷ take count between.messages) ≡ 1 + count = ap suc (length-take-le count between.messages (omega (arith, counted))) ∙ one_more count in
-      (call.ReceiveMany (message ∷ take count between.messages) None, (message ∷ take count between.messages, size, refl), (new, (between, first, rest), (refl, refl)))
+  many_taken old between new message count limit room first may counted rest =
+      let there = for_newcomers between in
+      let few : there ≤ length between.messages = most_for_newcomers (between.is_closed || length between.starving_receivers == 0) (length between.receivers.told) (length between.messages) in
+      let some : count ≤ there = omega (arith, counted) in
+      let taken : length (take count between.messages) ≡ count = length-take-le count between.messages (omega (arith, some, few)) in
+      let size : length (message ∷ take count between.messages) ≡ 1 + count = ap suc taken ∙ one_more count in (
+        call.ReceiveMany (message ∷ take count between.messages) None,
+        (message ∷ take count between.messages, size, refl),
+        (new, (between, first, rest, may, subst (λ (n : ℕ). n ≤ there) (sym taken) some), (refl, record { left = refl; struck = refl; streams = refl })),
+      )
 
   pub many_taken_then_leaves : (output : Option ℕ) (key : Option Key) (old between new : State T W)
       → (c : ChannelCall T) × ReceivesMany None (Some output) c × calls old c between → LeavesReceivers false key between new

@@ -1,5 +1,5 @@
 -- What each call does to the state under a channel's lock.
-use Rattle.std.specs.Prelude.{◌≡◌, ◌↔◌, ℕ, Bool, true, false, IsTrue, List, [], ◌∷◌, length, Option, Some, None, Result, Ok, Err}
+use Rattle.std.specs.Prelude.{◌≡◌, ◌↔◌, ℕ, ◌<◌, ◌≤◌, Bool, true, false, IsTrue, List, [], ◌∷◌, length, Option, Some, None, Result, Ok, Err}
 use Rattle.event_queue.specs.declared.key.Key.{Key}
 use Rattle.event_wait.specs.Line.{LeavesThenTells}
 use Rattle.event_history.specs.History.{Machine}
@@ -10,9 +10,9 @@ use Rattle.event_channel.specs.declared.error.SendReason.{SendReason}
 use Rattle.event_channel.specs.declared.error.SendReason.TheVariants.{Full}
 use Rattle.event_channel.specs.declared.error.TryRecvError.{TryRecvError}
 use Rattle.event_channel.specs.declared.error.TryRecvError.TheVariants.{Empty, Closed}
-use Rattle.event_channel.specs.Messages.{State, IsFull, limit_of, new_state, room_in}
-use Rattle.event_channel.specs.Steps.{Pushes, Refuses, Forces, Takes, IsEmptyFor, Closes, KeepsAllButSenders, KeepsAllButReceivers, KeepsAllButStreams}
-use Rattle.event_channel.specs.Waits.{Receives, Received, Sends}
+use Rattle.event_channel.specs.Messages.{State, IsFull, for_newcomers, for_one, limit_of, new_state, room_for_one}
+use Rattle.event_channel.specs.Steps.{Pushes, Refuses, RefusesAt, Forces, Takes, FindsNone, Closes, KeepsAllButSenders, KeepsAllButReceivers, KeepsAllButStreams}
+use Rattle.event_channel.specs.Waits.{ReceiverLeaves, Receives, ReceivesInTurn, Received, SenderLeaves, SendsInTurn}
 
 -- why a message was not sent, without the message
 abbrev pub answer_of : {T G : Type 0} → Result G (SendError T) → Result G SendReason
@@ -34,6 +34,11 @@ received_at_once (Some (Some message)) = Ok message
 abbrev pub with_any_task : {W : Type 0} → Unit {0} → Option W → W → Unit {0} → Type 0
 with_any_task on stored task on' = Unit {0}
 
+-- the key of a receiver that is no stream
+abbrev pub receiver_key : Bool → Option Key → Option Key
+receiver_key false key = key
+receiver_key true key = None
+
 -- no call comes after others of its hand
 abbrev pub rests_on_none : {T : Type 0} → ChannelCall T → List (ChannelCall T)
 rests_on_none = λ _. []
@@ -43,43 +48,45 @@ module _ {T W : Type 0} where
   abbrev pub is_new : Option ℕ → State T W → Type 0
   is_new capacity s = s ≡ new_state (limit_of capacity)
 
-  -- the message was put behind all others, or was refused and nothing changed
-  abbrev pub SendsOne : T → Result (Unit {0}) SendReason → State T W → State T W → Type 0
-  SendsOne message (Ok sent) before after = Pushes message before after
-  SendsOne message (Err reason) before after = Refuses before reason × (after ≡ before)
+  -- the message of this one, which may have a place in the queue, was put behind all others, and there was room for it; or it
+  -- was refused and nothing changed
+  abbrev pub SendsOne : Option Key → T → Result (Unit {0}) SendReason → State T W → State T W → Type 0
+  SendsOne key message (Ok sent) before after = Pushes message before after × (0 < room_for_one key before)
+  SendsOne key message (Err reason) before after = RefusesAt (room_for_one key before) before reason × (after ≡ before)
 
   -- the message was put behind all others, and if the channel was full the first of all went out; or it was refused
   abbrev pub ForcesOne : T → Result (Option T) SendReason → State T W → State T W → Type 0
   ForcesOne message (Ok out) before after = Forces message out before after
   ForcesOne message (Err reason) before after = Refuses before reason × (after ≡ before)
 
-  -- the message was in front of all others; or there was none, and nothing changed
-  abbrev pub ReceivesOne : Result T TryRecvError → State T W → State T W → Type 0
-  ReceivesOne (Ok message) before after = Takes (message ∷ []) before after
-  ReceivesOne (Err error) before after = IsEmptyFor before error × (after ≡ before)
+  -- the message was in front of all others, and there for this one, which may have a place in the queue; or there was none for
+  -- it, and nothing changed
+  abbrev pub ReceivesOne : Option Key → Result T TryRecvError → State T W → State T W → Type 0
+  ReceivesOne key (Ok message) before after = Takes (message ∷ []) before after × (0 < for_one key before)
+  ReceivesOne key (Err error) before after = FindsNone (for_one key before) before error × (after ≡ before)
 
-  -- these messages were in front of all others: senders are notified of the first, and then of the rest
+  -- these messages were in front of all others, and there for newcomers: senders are notified of the first, and then of the
+  -- rest
   abbrev pub ReceivesSome : List T → State T W → State T W → Type 0
   ReceivesSome [] before after = ⊥
   ReceivesSome (message ∷ messages) before after =
       (between : State T W) × Takes (message ∷ []) before between × Takes messages between after
+      × (0 < for_newcomers before) × (length messages ≤ for_newcomers between)
 
   -- this one, if it is one, left the queue of the senders, and another is notified in its place if one is due
   abbrev pub LeavesSenders : Option Key → State T W → State T W → Type 0
-  LeavesSenders key before after =
-      KeepsAllButSenders before after × LeavesThenTells key (room_in after) before.senders after.senders
+  LeavesSenders key before after = KeepsAllButSenders before after × SenderLeaves key before after
 
   -- the same of the queue of the receivers, or of the streams
   abbrev pub LeavesReceivers : Bool → Option Key → State T W → State T W → Type 0
-  LeavesReceivers false key before after =
-      KeepsAllButReceivers before after × LeavesThenTells key (length after.messages) before.receivers after.receivers
+  LeavesReceivers false key before after = KeepsAllButReceivers before after × ReceiverLeaves key before after
   LeavesReceivers true key before after =
       KeepsAllButStreams before after × LeavesThenTells key (length after.messages) before.streams after.streams
 
   -- one that receives or waits, in the queue of the receivers or of the streams
   abbrev pub ReceivesOrWaits : Bool → Option Key → Received T → State T W → State T W → Type 0
   ReceivesOrWaits false key answer before after =
-      Receives with_any_task key before before.receivers tt answer (record after { receivers = before.receivers }) after.receivers tt
+      (losses losses' : ℕ) × ReceivesInTurn with_any_task key before losses tt answer after losses' tt
   ReceivesOrWaits true key answer before after =
       Receives with_any_task key before before.streams tt answer (record after { streams = before.streams }) after.streams tt
 
@@ -89,17 +96,17 @@ module _ {T W : Type 0} where
   ClosesOnce false before after = (before.is_closed ≡ true) × (after ≡ before)
 
   abbrev pub calls : State T W → ChannelCall T → State T W → Type 0
-  calls before (call.Send message reply) after = SendsOne message reply before after
+  calls before (call.Send message reply) after = SendsOne None message reply before after
   calls before (call.ForceSend message reply) after = ForcesOne message reply before after
   calls before (call.SendOrWait message key answer) after =
-      Sends with_any_task (Some message) key before tt answer (record after { senders = before.senders }) after.senders tt
+      (losses losses' : ℕ) × SendsInTurn with_any_task (Some message) key before losses tt answer after losses' tt
   calls before (call.SendOrLeave message key reply) after =
-      (between : State T W) × SendsOne message reply before between × LeavesSenders key between after
+      (between : State T W) × SendsOne key message reply before between × LeavesSenders key between after
   calls before (call.LeaveSenders key) after = LeavesSenders key before after
-  calls before (call.Receive reply) after = ReceivesOne reply before after
+  calls before (call.Receive reply) after = ReceivesOne None reply before after
   calls before (call.ReceiveOrWait is_stream key answer) after = ReceivesOrWaits is_stream key answer before after
   calls before (call.ReceiveOrLeave is_stream key reply) after =
-      (between : State T W) × ReceivesOne reply before between × LeavesReceivers is_stream key between after
+      (between : State T W) × ReceivesOne (receiver_key is_stream key) reply before between × LeavesReceivers is_stream key between after
   calls before (call.ReceiveMany messages key) after =
       (between : State T W) × ReceivesSome messages before between × LeavesReceivers false key between after
   calls before (call.LeaveReceivers is_stream key) after = LeavesReceivers is_stream key before after

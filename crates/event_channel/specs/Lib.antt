@@ -9,5 +9,7 @@ pub mod Messages
 pub mod Order
 pub mod Requests
 pub mod Sent
+pub mod Served
 pub mod Steps
+pub mod Turns
 pub mod Waits

@@ -1,7 +1,7 @@
 -- What each call does to the messages.
 use Rattle.std.specs.Prelude.{◌≡◌, ℕ, ◌<◌, ◌++◌, List, [], ◌∷◌, Option, Some, None, true, false, length}
 use Rattle.event_wait.specs.Line.{TellsUpTo, TellsAll, or_more, woken_up_to, woken_at_once}
-use Rattle.event_channel.specs.Messages.{State, IsFull, IsBounded, room_in}
+use Rattle.event_channel.specs.Messages.{State, IsFull, IsBounded, for_newcomers, room_for_newcomers, room_in}
 use Rattle.event_channel.specs.declared.error.SendReason.{SendReason}
 use Rattle.event_channel.specs.declared.error.SendReason.TheVariants.{Closed, Full, TimedOut, Memory, WaitFailed}
 use Rattle.event_channel.specs.declared.error.TryRecvError.{TryRecvError}
@@ -24,13 +24,18 @@ module _ {T W : Type 0} where
     pub receivers : TellsUpTo (receivers_due before after) before.receivers after.receivers
     pub streams : TellsAll before.streams after.streams
 
-  -- a channel refuses a message if it is closed, or open and full, or, without a limit, out of memory
+  -- a channel refuses the message of one for whom there is so much room if it is closed, or open and that is none, or, without a
+  -- limit, out of memory
+  abbrev pub RefusesAt : ℕ → State T W → SendReason → Type 0
+  RefusesAt room before Closed = before.is_closed ≡ true
+  RefusesAt room before Full = (before.is_closed ≡ false) × (room ≡ 0)
+  RefusesAt room before TimedOut = ⊥
+  RefusesAt room before Memory = (before.is_closed ≡ false) × ¬ IsBounded before
+  RefusesAt room before (WaitFailed error) = ⊥
+
+  -- it refuses the message of a newcomer
   abbrev pub Refuses : State T W → SendReason → Type 0
-  Refuses before Closed = before.is_closed ≡ true
-  Refuses before Full = (before.is_closed ≡ false) × IsFull before
-  Refuses before TimedOut = ⊥
-  Refuses before Memory = (before.is_closed ≡ false) × ¬ IsBounded before
-  Refuses before (WaitFailed error) = ⊥
+  Refuses before reason = RefusesAt (room_for_newcomers before) before reason
 
   -- the message is put behind all others of a full channel, and the first of all goes out; nobody need be notified
   pub record Replaces (message first : T) (before after : State T W) : Type 0 where
@@ -63,10 +68,14 @@ module _ {T W : Type 0} where
   abbrev pub woken_by_taking : ℕ → State T W → State T W → List W
   woken_by_taking taken before after = woken_up_to (senders_due taken before after) before.senders
 
-  -- there is no message, and the channel is open or closed
+  -- of so many messages that are there for one there is none, and the channel is open; or there is none at all, and it is closed
+  abbrev pub FindsNone : ℕ → State T W → TryRecvError → Type 0
+  FindsNone there before Empty = (there ≡ 0) × (before.is_closed ≡ false)
+  FindsNone there before WasClosed = (before.messages ≡ []) × (before.is_closed ≡ true)
+
+  -- there is no message for newcomers, and the channel is open or closed
   abbrev pub IsEmptyFor : State T W → TryRecvError → Type 0
-  IsEmptyFor before Empty = (before.messages ≡ []) × (before.is_closed ≡ false)
-  IsEmptyFor before WasClosed = (before.messages ≡ []) × (before.is_closed ≡ true)
+  IsEmptyFor before error = FindsNone (for_newcomers before) before error
 
   -- an open channel is closed, and all that wait are notified
   pub record Closes (before after : State T W) : Type 0 where
@@ -76,12 +85,15 @@ module _ {T W : Type 0} where
     pub receivers : TellsAll before.receivers after.receivers
     pub streams : TellsAll before.streams after.streams
 
-  -- nothing changes but the queue of the senders, of the receivers, or of the streams
+  -- nothing changes but the queue of the senders, of the receivers and with them the streams, or of the streams
   abbrev pub KeepsAllButSenders : State T W → State T W → Type 0
-  KeepsAllButSenders before after = after ≡ record before { senders = after.senders }
+  KeepsAllButSenders before after =
+      after ≡ record before { senders = after.senders; starving_senders = after.starving_senders }
 
   abbrev pub KeepsAllButReceivers : State T W → State T W → Type 0
-  KeepsAllButReceivers before after = after ≡ record before { receivers = after.receivers }
+  KeepsAllButReceivers before after =
+      after
+      ≡ record before { receivers = after.receivers; starving_receivers = after.starving_receivers; streams = after.streams }
 
   abbrev pub KeepsAllButStreams : State T W → State T W → Type 0
   KeepsAllButStreams before after = after ≡ record before { streams = after.streams }

@@ -1,14 +1,15 @@
 -- What became of one that was to send or to receive, or else to wait.
-use Rattle.std.specs.Prelude.{◌≡◌, List, [], ◌∷◌, ◌++◌, Option, Some, None, Result, Ok, Err, true, false, length}
+use Rattle.std.specs.Prelude.{◌≡◌, ℕ, ◌<◌, ◌==◌, if◌then◌else◌, List, [], ◌∷◌, ◌++◌, Option, Some, None, Result, Ok, Err, true, false, length}
 use Rattle.event_queue.specs.declared.key.Key.{Key}
 use Rattle.event_queue.specs.declared.reply.ListenError.{ListenError}
 use Rattle.event_queue.specs.Queue.{Queue}
-use Rattle.event_wait.specs.Line.{LeavesThenTells, WaitsBy, CannotWait, woken_by_leaving}
+use Rattle.event_wait.specs.Line.{LeavesThenTells, TellsAll, WaitsBy, CannotWait, woken_at_once, woken_by_leaving}
 use Rattle.event_wait.specs.declared.request.Attempted.{Attempted}
 use Rattle.event_wait.specs.declared.request.Attempted.TheVariants.{Done, Waits, Absent, Refused}
 use Rattle.event_channel.specs.Errors.{IsUnsent}
-use Rattle.event_channel.specs.Messages.{State, IsFull, room_in}
-use Rattle.event_channel.specs.Steps.{Pushes, Refuses, Takes, woken_by_pushing, woken_by_taking}
+use Rattle.event_channel.specs.Messages.{State, for_newcomers, for_one, room_for_one, room_in}
+use Rattle.event_channel.specs.Steps.{Pushes, RefusesAt, Takes, woken_by_pushing, woken_by_taking}
+use Rattle.event_channel.specs.Turns.{CannotWaitInTurn, Counts, but, is_told, struck}
 use Rattle.event_channel.specs.declared.error.SendReason.{SendReason}
 
 -- what an attempt to send leads to, and one to receive: a message, or the end of them
@@ -36,32 +37,88 @@ module _ {T W : Type 0} where
   PushesFrom None before after = ⊥
 
 module _ {T W C : Type 0} (exchanged : C → Option W → W → C → Type 0) where
-  -- Of one that was to send, by its queue before and after, and by the state but for that queue: the message was put behind
-  -- all others; or it was refused, and the sender is in the queue no more; or the sender waits; or there was no message.
-  abbrev pub Sends : Option T → Option Key → State T W → C → Sent → State T W → Queue (Unit {0}) W → C → Type 0
-  Sends message key before on (Done (Ok sent)) rest line on' =
-      PushesFrom message before rest × LeavesThenTells key (room_in rest) before.senders line × (on' ≡ on)
-  Sends message key before on (Done (Err reason)) rest line on' =
-      Refuses before reason × (rest ≡ before) × LeavesThenTells key (room_in rest) before.senders line × (on' ≡ on)
-  Sends message key before on (Waits waits) rest line on' =
-      (before.is_closed ≡ false) × IsFull before × (rest ≡ before) × WaitsBy exchanged key before.senders on waits line on'
-  Sends message key before on Absent rest line on' =
-      (message ≡ None) × (rest ≡ before) × LeavesThenTells key (room_in rest) before.senders line × (on' ≡ on)
-  Sends message key before on (Refused error) rest line on' =
-      (before.is_closed ≡ false) × IsFull before × (rest ≡ before) × CannotWait key error before.senders line × (on' ≡ on)
-
-  -- Of one that was to receive, likewise: the message was in front of all others; or there was none, and it waits, or is in the
-  -- queue no more.
+  -- Of a stream, by its queue before and after, and by the state but for that queue: the message was in front of all others, and
+  -- there for newcomers; or none was, and it waits, or is in the queue no more.
   abbrev pub Receives : Option Key → State T W → Queue (Unit {0}) W → C → Received T → State T W → Queue (Unit {0}) W → C → Type 0
   Receives key before line on (Done (Some message)) rest line' on' =
-      Takes (message ∷ []) before rest × LeavesThenTells key (length rest.messages) line line' × (on' ≡ on)
+      (0 < for_newcomers before) × Takes (message ∷ []) before rest × LeavesThenTells key (length rest.messages) line line' × (on' ≡ on)
   Receives key before line on (Done None) rest line' on' =
       (before.messages ≡ []) × (before.is_closed ≡ true) × (rest ≡ before) × LeavesThenTells key (length rest.messages) line line' × (on' ≡ on)
   Receives key before line on (Waits waits) rest line' on' =
-      (before.messages ≡ []) × (before.is_closed ≡ false) × (rest ≡ before) × WaitsBy exchanged key line on waits line' on'
+      (for_newcomers before ≡ 0) × (before.is_closed ≡ false) × (rest ≡ before) × WaitsBy exchanged key line on waits line' on'
   Receives key before line on Absent rest line' on' = ⊥
   Receives key before line on (Refused error) rest line' on' =
-      (before.messages ≡ []) × (before.is_closed ≡ false) × (rest ≡ before) × CannotWait key error line line' × (on' ≡ on)
+      (for_newcomers before ≡ 0) × (before.is_closed ≡ false) × (rest ≡ before) × CannotWait key error line line' × (on' ≡ on)
+
+module _ {T W : Type 0} where
+  -- the state but for the queue of the receivers, and but for the streams
+  abbrev pub but_receivers : State T W → State T W → State T W
+  but_receivers before after =
+      record after { receivers = before.receivers; starving_receivers = before.starving_receivers }
+
+  abbrev pub but_receivers_and_streams : State T W → State T W → State T W
+  but_receivers_and_streams before after = record (but_receivers before after) { streams = before.streams }
+
+  -- the state but for the queue of the senders
+  abbrev pub but_senders : State T W → State T W → State T W
+  but_senders before after = record after { senders = before.senders; starving_senders = before.starving_senders }
+
+  -- one left the queue of the senders, if it was there, and starves no more; others are notified in its place if they are due
+  pub record SenderLeaves (key : Option Key) (before after : State T W) : Type 0 where
+    pub left : LeavesThenTells key (room_in after) before.senders after.senders
+    pub struck : after.starving_senders ≡ but key before.starving_senders
+
+  -- all streams were notified if there is a message for newcomers, and else none
+  pub record StreamsFollow (before after : State T W) : Type 0 where
+    pub tells : 0 < for_newcomers after → TellsAll before.streams after.streams
+    pub stay : for_newcomers after ≡ 0 → after.streams ≡ before.streams
+
+  -- so it is where one leaves the queue of the receivers
+  abbrev pub StreamsGoOn : Option Key → State T W → State T W → Type 0
+  StreamsGoOn None before after = after.streams ≡ before.streams
+  StreamsGoOn (Some key) before after = StreamsFollow before after
+
+  -- the same of the queue of the receivers: what was due to one that leaves may be there for newcomers
+  pub record ReceiverLeaves (key : Option Key) (before after : State T W) : Type 0 where
+    pub left : LeavesThenTells key (length after.messages) before.receivers after.receivers
+    pub struck : after.starving_receivers ≡ but key before.starving_receivers
+    pub streams : StreamsGoOn key before after
+
+module _ {T W C : Type 0} (exchanged : C → Option W → W → C → Type 0) where
+  -- Of one that was to send, by how often it lost: the message was put behind all others, and there was room for it; or it was
+  -- refused; or there was no room for it, and it waits and is counted, or is in the queue no more; or there was no message.
+  abbrev pub SendsInTurn : Option T → Option Key → State T W → ℕ → C → Sent → State T W → ℕ → C → Type 0
+  SendsInTurn message key before losses on (Done (Ok sent)) after losses' on' =
+      (0 < room_for_one key before) × PushesFrom message before (but_senders before after) × SenderLeaves key before after × (losses' ≡ losses) × (on' ≡ on)
+  SendsInTurn message key before losses on (Done (Err reason)) after losses' on' =
+      RefusesAt (room_for_one key before) before reason × (but_senders before after ≡ before) × SenderLeaves key before after × (losses' ≡ losses) × (on' ≡ on)
+  SendsInTurn message key before losses on (Waits waits) after losses' on' =
+      (room_for_one key before ≡ 0) × (before.is_closed ≡ false) × (but_senders before after ≡ before)
+      × WaitsBy exchanged key before.senders on waits after.senders on'
+      × Counts (is_told key before.senders) key waits losses before.starving_senders losses' after.starving_senders
+  SendsInTurn message key before losses on Absent after losses' on' =
+      (message ≡ None) × (but_senders before after ≡ before) × SenderLeaves key before after × (losses' ≡ losses) × (on' ≡ on)
+  SendsInTurn message key before losses on (Refused error) after losses' on' =
+      (room_for_one key before ≡ 0) × (before.is_closed ≡ false) × (but_senders before after ≡ before)
+      × CannotWaitInTurn (is_told key before.senders) key losses error before.senders after.senders
+      × (after.starving_senders ≡ struck (is_told key before.senders) key before.starving_senders) × (losses' ≡ losses) × (on' ≡ on)
+
+  -- Of one that was to receive one message, likewise: the message was in front of all others, and there for it; or there is none,
+  -- and none will come; or none was there for it, and it waits and is counted, or is in the queue no more.
+  abbrev pub ReceivesInTurn : Option Key → State T W → ℕ → C → Received T → State T W → ℕ → C → Type 0
+  ReceivesInTurn key before losses on (Done (Some message)) after losses' on' =
+      (0 < for_one key before) × Takes (message ∷ []) before (but_receivers_and_streams before after) × ReceiverLeaves key before after × (losses' ≡ losses) × (on' ≡ on)
+  ReceivesInTurn key before losses on (Done None) after losses' on' =
+      (before.messages ≡ []) × (before.is_closed ≡ true) × (but_receivers_and_streams before after ≡ before) × ReceiverLeaves key before after × (losses' ≡ losses) × (on' ≡ on)
+  ReceivesInTurn key before losses on (Waits waits) after losses' on' =
+      (for_one key before ≡ 0) × (before.is_closed ≡ false) × (but_receivers before after ≡ before)
+      × WaitsBy exchanged key before.receivers on waits after.receivers on'
+      × Counts (is_told key before.receivers) key waits losses before.starving_receivers losses' after.starving_receivers
+  ReceivesInTurn key before losses on Absent after losses' on' = ⊥
+  ReceivesInTurn key before losses on (Refused error) after losses' on' =
+      (for_one key before ≡ 0) × (before.is_closed ≡ false) × (but_receivers before after ≡ before)
+      × CannotWaitInTurn (is_told key before.receivers) key losses error before.receivers after.receivers
+      × (after.starving_receivers ≡ struck (is_told key before.receivers) key before.starving_receivers) × (losses' ≡ losses) × (on' ≡ on)
 
 module _ {T W : Type 0} where
   -- the tasks that this wakes: of those that wait for the message, and of senders if one that was notified has left
@@ -73,7 +130,25 @@ module _ {T W : Type 0} where
   woken_by_sending key before Absent after = woken_by_leaving key (room_in after) before.senders
   woken_by_sending key before (Refused error) after = []
 
-  -- the tasks that this wakes: of senders, and of those that wait in the same queue if one that was notified has left
+  -- the tasks that are woken where one leaves the queue of the receivers: of the next ones, and of streams
+  abbrev pub woken_streams : Option Key → State T W → State T W → List W
+  woken_streams None before after = []
+  woken_streams (Some key) before after = if for_newcomers after == 0 then [] else woken_at_once before.streams
+
+  abbrev pub woken_by_receiver_leaving : Option Key → State T W → State T W → List W
+  woken_by_receiver_leaving key before after =
+      woken_by_leaving key (length after.messages) before.receivers ++ woken_streams key before after
+
+  -- the tasks that one wakes that was to receive: of senders, and those
+  abbrev pub woken_by_receiver : Option Key → State T W → Received T → State T W → List W
+  woken_by_receiver key before (Done (Some message)) after =
+      woken_by_taking 1 before after ++ woken_by_receiver_leaving key before after
+  woken_by_receiver key before (Done None) after = woken_by_receiver_leaving key before after
+  woken_by_receiver key before (Waits waits) after = []
+  woken_by_receiver key before Absent after = []
+  woken_by_receiver key before (Refused error) after = []
+
+  -- the tasks that a stream wakes: of senders, and of those that wait in the same queue if one that was notified has left
   abbrev pub woken_by_receiving : Option Key → State T W → Queue (Unit {0}) W → Received T → State T W → List W
   woken_by_receiving key before line (Done (Some message)) after =
       woken_by_taking 1 before after ++ woken_by_leaving key (length after.messages) line

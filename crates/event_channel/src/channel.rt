@@ -9,13 +9,13 @@ ghost use Rattle.event_history.specs.Hands.{IsOf, SameTable, known_by};
 ghost use Rattle.event_history.specs.History.{Extends};
 
 use crate::call::ChannelHand;
-use crate::error::{SendError, SendReason};
+use crate::error::{SendError, SendReason, WaitError};
 use crate::messages::Messages;
 use crate::sending::Sending;
 use crate::steps::{Close, IsClosed, IsFull, Len, Push, PushForced};
 use event_history::{Lock, perform};
 use event_queue::ListenError;
-use event_wait::{DeferredWake, Limit, LockError, Refused, Task};
+use event_wait::{DeferredWake, Limit, Refused, Task};
 use std::alloc::{AllocError, Global};
 use std::marker::Model;
 use std::sync::atomic::{AtomicUsize, Ordering};
@@ -82,10 +82,10 @@ impl<T: Drop, R: Clone + Drop> Link<T, R> {
 pub(crate) struct Handles(AtomicUsize);
 
 /// Why a wait was refused.
-pub(crate) fn wait_error(refused: Refused<ListenError>) -> LockError {
+pub(crate) fn wait_error(refused: Refused<ListenError>) -> WaitError {
     match refused {
-        Refused::Memory => LockError::Memory(AllocError),
-        Refused::Request(error) => LockError::Listen(error),
+        Refused::Memory => WaitError::Memory(AllocError),
+        Refused::Request(error) => WaitError::Listen(error),
     }
 }
 

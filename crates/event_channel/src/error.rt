@@ -1,11 +1,23 @@
 //! Why a message was not sent, or none received.
 ghost use Rattle.std.specs.Prelude.{◌≡◌, ◌↔◌, IsTrue};
 
-use event_wait::LockError;
+use event_queue::ListenError;
+use std::alloc::AllocError;
 use std::error::Error;
 use std::fmt;
 use std::fmt::{Debug, Display, Formatter};
 use thiserror::Error;
+
+/// Why a wait was refused.
+#[derive(Clone, Copy, Debug, PartialEq, Eq, Error)]
+pub enum WaitError {
+    /// It could not be put into the queue: memory was refused, or serial numbers are used up.
+    #[error("{0}")]
+    Listen(#[from] ListenError),
+    /// There was no memory for what the thread parks on, or for the message that was to be received.
+    #[error("no memory for a wait")]
+    Memory(#[from] AllocError),
+}
 
 /// Why a message was not sent.
 #[derive(Clone, Copy, Debug, PartialEq, Eq, Error)]
@@ -13,7 +25,8 @@ pub enum SendReason {
     /// The channel is closed.
     #[error("the channel is closed")]
     Closed,
-    /// As many messages wait as may. Only [`try_send`](crate::Sender::try_send) returns this.
+    /// As many messages wait as may, or each free place is due to a send that was notified, while one
+    /// [starves](crate::PATIENCE). Only [`try_send`](crate::Sender::try_send) returns this.
     #[error("the channel is full")]
     Full,
     /// The channel was full until the limit of the wait.
@@ -25,7 +38,7 @@ pub enum SendReason {
     Memory,
     /// The channel is full, and waiting for room was refused.
     #[error("{0}")]
-    WaitFailed(#[from] LockError),
+    WaitFailed(#[from] WaitError),
 }
 
 /// A message that was not sent, and why.
@@ -38,7 +51,7 @@ pub struct SendError<T> {
 /// Why [`try_recv`](crate::Receiver::try_recv) received no message.
 #[derive(Clone, Copy, Debug, PartialEq, Eq, Error)]
 pub enum TryRecvError {
-    /// No message waits.
+    /// No message waits, or each that does is due to a receive that was notified, while one [starves](crate::PATIENCE).
     #[error("the channel is empty")]
     Empty,
     /// No message waits, and the channel is closed, so none will come.
@@ -54,7 +67,7 @@ pub enum RecvError {
     Closed,
     /// The channel is empty, and waiting for a message was refused.
     #[error("{0}")]
-    WaitFailed(#[from] LockError),
+    WaitFailed(#[from] WaitError),
 }
 
 /// Why no message was received in time.
@@ -68,7 +81,7 @@ pub enum RecvTimeoutError {
     Closed,
     /// The channel is empty, and waiting for a message was refused.
     #[error("{0}")]
-    WaitFailed(#[from] LockError),
+    WaitFailed(#[from] WaitError),
 }
 
 impl<T> SendError<T> {

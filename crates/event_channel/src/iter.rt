@@ -2,9 +2,8 @@
 ghost use Rattle.std.specs.Iterator.{at_most};
 ghost use Rattle.event_channel.specs.Iter.{iter_left, try_iter_left};
 
-use crate::error::RecvError;
+use crate::error::{RecvError, WaitError};
 use crate::receiver::Receiver;
-use event_wait::LockError;
 use std::fmt;
 use std::fmt::{Debug, Formatter};
 use std::sync::{Forever, Wait};
@@ -47,11 +46,11 @@ impl<T: Drop, R: Wait + Clock + Clone> Receiver<T, R> {
 }
 
 impl<'a, T: Drop, R: Wait + Clock + Clone> Iterator for Iter<'a, T, R> {
-    type Item = Result<T, LockError>;
+    type Item = Result<T, WaitError>;
 
     ghost remaining = { λ s. at_most (iter_left s) };
 
-    fn next(&mut self) -> Option<Result<T, LockError>> {
+    fn next(&mut self) -> Option<Result<T, WaitError>> {
         self.turns.next();
         match self.receiver.recv_blocking() {
             Ok(message) => Some(Ok(message)),

@@ -1,13 +1,16 @@
 //! What follows of one history of a channel.
-ghost use Rattle.std.specs.Prelude.{◌≡◌, ◌≤◌, ◌+◌, ◌++◌, ℕ, Option, Result, Err, IfErr, IfOk, [], ◌∷◌, length, true};
+ghost use Rattle.std.specs.Prelude.{◌≡◌, ◌⊎◌, ◌≤◌, ◌+◌, ◌++◌, ℕ, Option, Result, Err, IfErr, IfOk, [], ◌∷◌, length, true};
 ghost use Rattle.event_channel.specs.Calls.{answer_of, calls, channel_machine};
-ghost use Rattle.event_channel.specs.Messages.{State, limit_of};
+ghost use Rattle.event_channel.specs.Messages.{AreDue, PlacesAreDue, State, limit_of};
+ghost use Rattle.event_channel.specs.Served.{LosesByThose, NoMoreInVain, NoMoreSendersInVain, SenderLosesByThose};
+ghost use Rattle.event_queue.specs.declared.key.Key.{Key};
 ghost use Rattle.event_channel.specs.Sent.{ChannelLog, all_of, forced_out_by, out_by, received_by, sent_by};
 ghost use Rattle.event_channel.specs.declared.call.ChannelCall.{ChannelCall};
 ghost use Rattle.event_channel.specs.declared.call.ChannelCall.TheVariants as call;
 ghost use Rattle.event_channel.specs.declared.error.SendError.{SendError};
 ghost use Rattle.event_channel.specs.declared.error.SendReason.TheVariants.{Closed, Full};
 ghost use Rattle.event_channel.specs.declared.error.TryRecvError.{TryRecvError};
+ghost use Rattle.event_channel.specs.declared.error.TryRecvError.TheVariants.{Closed as WasClosed};
 ghost use Rattle.event_history.specs.History.{Extends, IsAmong, LeadsTo, Looks, Runs, both_views, entry};
 ghost use Rattle.event_history.specs.declared.history.View.{View};
 
@@ -16,7 +19,8 @@ ghost use Rattle.event_history.specs.declared.history.View.{View};
 /// wait. From any state on, those that waited there come first. Where no forced send found the channel full, all that went
 /// out were received. So it is of the history that a hand has seen after a call. And what was received was sent: of the history
 /// that a hand has seen after a call that received a message, some call sent it. Where a receive of a hand finds no message,
-/// all that was sent has gone out.
+/// all that was sent has gone out, or each that waits is due: a receiver starves, and as many are notified as there are
+/// messages. Where it finds the end, all has gone out.
 pub fn sent_is_received_in_order<T, W>()
     ensures in_order { (capacity : Option ℕ) (log : ChannelLog T) (q : State T W)
         → LeadsTo (channel_machine capacity) log q
@@ -40,11 +44,16 @@ pub fn sent_is_received_in_order<T, W>()
     ensures finds_none { (capacity : Option ℕ) (v w : View (State T W) (ChannelCall T))
         (error : TryRecvError)
         → Extends (channel_machine capacity) v (call.Receive (Err error)) w
+        → (all_of sent_by w.seen ≡ all_of out_by w.seen)
+        ⊎ ((q : State T W) × LeadsTo (channel_machine capacity) w.seen q × AreDue q) }
+    ensures finds_the_end { (capacity : Option ℕ) (v w : View (State T W) (ChannelCall T))
+        → Extends (channel_machine capacity) v (call.Receive (Err WasClosed)) w
         → all_of sent_by w.seen ≡ all_of out_by w.seen }
 {}
 
 /// No message is made up between two hands, and none is lost. What one receives was sent. Where one sent a message, and another
-/// takes that hand in and then finds none, the message has gone out.
+/// takes that hand in and then finds none, the message has gone out, or each that waits is due to a receiver that was
+/// notified, while one starves.
 pub fn no_message_is_lost<T, W>()
     ensures received { (capacity : Option ℕ) (v w : View (State T W) (ChannelCall T))
         (reply : Result T TryRecvError)
@@ -55,11 +64,12 @@ pub fn no_message_is_lost<T, W>()
         → Extends (channel_machine capacity) u (call.Send message (answer_of sent)) v
         → Looks (channel_machine capacity) (both_views w v) x
         → Extends (channel_machine capacity) x (call.Receive reply) y
-        → IfOk sent (λ done. IfErr reply (λ error. IsAmong message (all_of out_by y.seen))) }
+        → IfOk sent (λ done. IfErr reply (λ error. IsAmong message (all_of out_by y.seen)
+        ⊎ ((q : State T W) × LeadsTo (channel_machine capacity) y.seen q × AreDue q))) }
 {}
 
-/// A hand knows what it sent by its own call, what it knew to be sent before a call, and what another hand knew to be sent that
-/// it takes in.
+/// A hand knows what it sent by its own call, and what another hand knew to be sent that it takes in. What it knew to be sent
+/// before a call, or before it takes another hand in, it knows afterwards.
 pub fn sent_is_known<T, W>()
     ensures by_a_call { (capacity : Option ℕ) (v w : View (State T W) (ChannelCall T))
         (call : ChannelCall T) → Extends (channel_machine capacity) v call w
@@ -73,11 +83,16 @@ pub fn sent_is_known<T, W>()
         → Looks (channel_machine capacity) (both_views v other) w
         → (message : T) → IsAmong message (all_of sent_by other.seen)
         → IsAmong message (all_of sent_by w.seen) }
+    ensures kept { (capacity : Option ℕ) (v other w : View (State T W) (ChannelCall T))
+        → Looks (channel_machine capacity) (both_views v other) w
+        → (message : T) → IsAmong message (all_of sent_by v.seen)
+        → IsAmong message (all_of sent_by w.seen) }
 {}
 
 /// A channel has the capacity that it was made with from its first state, which is open and has no message, to its last, and
 /// never more messages than that. Where a send finds it full, by a call of a hand, it has just as many: so many more were sent
-/// by calls of the history than went out. Where a send finds it closed, a call of the history closed it.
+/// by calls of the history than went out; or a sender starves, and as many are notified as there are places free. Where a send
+/// finds it closed, a call of the history closed it.
 ///
 /// Without a limit the capacity is the greatest `usize`. That a send of one's own finds room does not follow, since no clause
 /// says that nobody else has a handle.
@@ -89,14 +104,34 @@ pub fn capacity_is_kept<T, W>()
     ensures full { (capacity : Option ℕ) (v w : View (State T W) (ChannelCall T)) (message : T)
         → Extends (channel_machine capacity) v (call.Send message (Err Full)) w
         → (q : State T W) × LeadsTo (channel_machine capacity) w.seen q
-        × (length q.messages ≡ limit_of capacity) }
+        × ((length q.messages ≡ limit_of capacity) ⊎ PlacesAreDue q) }
     ensures full_was_sent { (capacity : Option ℕ) (v w : View (State T W) (ChannelCall T))
         (message : T)
         → Extends (channel_machine capacity) v (call.Send message (Err Full)) w
-        → length (all_of sent_by w.seen) ≡ length (all_of out_by w.seen) + limit_of capacity }
+        → (length (all_of sent_by w.seen) ≡ length (all_of out_by w.seen) + limit_of capacity)
+        ⊎ ((q : State T W) × LeadsTo (channel_machine capacity) w.seen q × PlacesAreDue q) }
     ensures closed_was_closed { (capacity : Option ℕ) (v w : View (State T W) (ChannelCall T))
         (message : T)
         → Extends (channel_machine capacity) v (call.Send message (Err Closed)) w
         → (earlier : ChannelLog T) × (later : ChannelLog T) × (by : ℕ)
         × (w.seen ≡ earlier ++ entry by (call.Close true) ∷ later) }
+{}
+
+/// While a receiver starves no call has more receivers notified above the messages, and one that is notified and finds nothing
+/// makes them fewer. So one that starves loses at most as often as more were notified than there were messages
+/// when it began to: where each that is notified comes, it has the next message that it is notified of.
+pub fn starving_receivers_are_served<T, W>()
+    ensures no_more_in_vain { (before after : State T W) (c : ChannelCall T)
+        → NoMoreInVain c before after }
+    ensures fewer_by_a_loss { (before after : State T W) (key : Option Key) (waits : Key)
+        → LosesByThose key waits before after }
+{}
+
+/// The same of senders and free places: while one starves no call but one by force has more senders notified above the places, and
+/// one that is notified and finds no room makes them fewer.
+pub fn starving_senders_are_served<T, W>()
+    ensures no_more_in_vain { (before after : State T W) (c : ChannelCall T)
+        → NoMoreSendersInVain c before after }
+    ensures fewer_by_a_loss { (before after : State T W) (message : T) (key : Option Key)
+        (waits : Key) → SenderLosesByThose message key waits before after }
 {}

@@ -23,11 +23,14 @@ mod steps;
 
 pub use call::{ChannelCall, ChannelHand};
 pub use channel::ChannelError;
-pub use error::{RecvError, RecvTimeoutError, SendError, SendReason, TryRecvError};
-pub use event_wait::LockError;
+pub use error::{RecvError, RecvTimeoutError, SendError, SendReason, TryRecvError, WaitError};
+pub use event_wait::Task;
 pub use iter::{Iter, TryIter};
-pub use laws::{capacity_is_kept, no_message_is_lost, sent_is_known, sent_is_received_in_order};
-pub use messages::{Messages, received_in_order};
+pub use laws::{
+    capacity_is_kept, no_message_is_lost, sent_is_known, sent_is_received_in_order,
+    starving_receivers_are_served, starving_senders_are_served,
+};
+pub use messages::{Messages, PATIENCE, received_in_order};
 pub use receiver::{Receiver, WeakReceiver};
 pub use recv::Recv;
 pub use send::Send;

@@ -1,21 +1,24 @@
 //! The state under the lock of a channel.
-ghost use Rattle.std.specs.Prelude.{◌≡◌, ◌+◌, ◌-◌, ◌<◌, ◌≤◌, ◌↔◌, min, true, false, [], ◌∷◌, ◌++◌, take, drop, length, vec_len, vec_capacity, IfOk, IfErr, OnErr, IsTrue, IsFalse};
+ghost use Rattle.std.specs.Prelude.{◌≡◌, ◌+◌, ◌-◌, ◌<◌, ◌≤◌, ◌↔◌, min, true, false, [], ◌∷◌, ◌++◌, take, drop, length, vec_len, vec_capacity, IfOk, IfErr, OnOk, OnErr, IsTrue, IsFalse};
 ghost use Rattle.std.specs.List.{FoldsTo};
 ghost use Rattle.std.specs.VecDeque.{deque_capacity};
 ghost use Rattle.event_wait.specs.Line.{TellsAll, TellsUpTo, or_more, woken_up_to, woken_at_once};
 ghost use Rattle.event_channel.specs.Errors.{IsUnsent, IsUnsentAtOnce};
-ghost use Rattle.event_channel.specs.Messages.{NobodyWaitsInVain, IsFull, limit_of, new_state, room_in};
+ghost use Rattle.event_channel.specs.Messages.{NobodyWaitsInVain, IsFull, for_newcomers, limit_of, new_state, room_for, room_for_newcomers, room_in, there_for};
 ghost use Rattle.event_channel.specs.Order.{IsReceivedInOrder};
-ghost use Rattle.event_channel.specs.Steps.{Pushes, Refuses, Forces, Takes, IsEmptyFor, Closes, woken_by_forcing, woken_by_pushing, woken_by_taking};
+ghost use Rattle.event_channel.specs.Steps.{Pushes, Refuses, RefusesAt, Forces, Takes, FindsNone, IsEmptyFor, Closes, woken_by_forcing, woken_by_pushing, woken_by_taking};
 
+mod turns;
 mod waits;
 
 use crate::error::{SendError, SendReason, TryRecvError};
-use event_queue::{List, WakeSink};
+use event_queue::{Key, List, WakeSink};
 use event_wait::waiters::{tell_all, tell_more};
 use std::alloc::{AllocError, AllocFailed, Global};
 use std::collections::VecDeque;
 use std::marker::Model;
+pub use turns::PATIENCE;
+use turns::left_for_newcomers;
 pub(crate) use waits::{key_after, put_back};
 
 /// The messages, first the one that is received next; how many there may be at most; whether the channel is closed; and the
@@ -24,6 +27,10 @@ pub(crate) use waits::{key_after, put_back};
 /// One that is notified has no message or place of its own: it looks, and waits again if another one came before. A message
 /// notifies one receiver more and all streams, so whoever was notified before and is left alone keeps it from nobody. A
 /// message that is taken does the same for the senders.
+///
+/// A receiver that was notified and found nothing [`PATIENCE`] times starves. While one in the queue does, newcomers take only
+/// messages that are not due to notified ones: so many more than those as there are. A stream is a newcomer. So it is with
+/// senders and places. What comes by force takes any place.
 #[derive(Drop)]
 pub struct Messages<T, W> {
     items: VecDeque<T>,
@@ -32,6 +39,8 @@ pub struct Messages<T, W> {
     senders: List<(), W>,
     receivers: List<(), W>,
     streams: List<(), W>,
+    starving_senders: Vec<Key, Global>,
+    starving_receivers: Vec<Key, Global>,
 }
 
 impl<T, W> Model for Messages<T, W> {
@@ -47,6 +56,8 @@ impl<T, W> Model for Messages<T, W> {
       senders = m.senders;
       receivers = m.receivers;
       streams = m.streams;
+      starving_senders = m.starving_senders.items;
+      starving_receivers = m.starving_receivers.items;
     } };
 
     ghost invariant = { λ m. IsKept (record {
@@ -56,6 +67,8 @@ impl<T, W> Model for Messages<T, W> {
       senders = m.senders;
       receivers = m.receivers;
       streams = m.streams;
+      starving_senders = m.starving_senders.items;
+      starving_receivers = m.starving_receivers.items;
     }) (deque_capacity m.items) };
 }
 
@@ -125,19 +138,82 @@ impl<T, W> Messages<T, W> {
             senders: List::new(alloc),
             receivers: List::new(alloc),
             streams: List::new(alloc),
+            starving_senders: Vec::new(alloc),
+            starving_receivers: Vec::new(alloc),
         })
     }
 
-    /// Puts a message behind all others, if the channel is open and not full, and wakes a receiver and all streams. It
-    /// allocates only where there is no limit.
+    /// How many messages more there may be from newcomers: as many as there is room for, or while a sender starves, those whose
+    /// places are due to no notified one.
+    pub fn room_for_newcomers(&self) -> usize
+        ensures count { result ≡ room_for_newcomers self.now }
+        ensures most { result ≤ room_in self.now }
+        ensures due { result ≡ 0 → room_in self.now ≤ length self.now.senders.told }
+        ensures closed { self.now.is_closed ≡ true → result ≡ room_in self.now }
+    {
+        let room = self.capacity - self.items.len();
+        left_for_newcomers(self.is_closed, &self.starving_senders, &self.senders, room)
+    }
+
+    /// Puts a message behind all others, if the channel is open and there is room for newcomers, and wakes a receiver and all
+    /// streams. It allocates only where there is no limit.
     pub fn push<S: WakeSink<W>>(&mut self, message: T, sink: &mut S) -> Result<(), SendError<T>>
         ensures pushed { IfOk result (λ _. Pushes message self.old self.new) }
+        ensures may { OnOk result (0 < room_for_newcomers self.old) }
         ensures wakes { IfOk result (λ _.
             FoldsTo S.woke sink.old (woken_by_pushing self.old self.new) sink.new) }
         ensures returned { IfErr result (λ error. error.message ≡ message) }
         ensures refused { OnErr result ((self.new ≡ self.old) × (sink.new ≡ sink.old)) }
         ensures reason { IfErr result (λ error. Refuses self.old error.reason) }
         ensures at_once { IfErr result (λ error. IsUnsentAtOnce error.reason) }
+        ensures due { IfErr result (λ error. error.reason ≡ SendReason.Full
+            → room_in self.old ≤ length self.old.senders.told) }
+    {
+        if !self.is_closed && self.room_for_newcomers() == 0 {
+            return Err(SendError::new(message, SendReason::Full));
+        }
+        self.push_any(message, sink)
+    }
+
+    // `push` of one that was notified, or was not.
+    fn push_as<S: WakeSink<W>>(
+        &mut self,
+        told: bool,
+        message: T,
+        sink: &mut S,
+    ) -> Result<(), SendError<T>>
+        ensures pushed { IfOk result (λ _. Pushes message self.old self.new) }
+        ensures may { OnOk result (0 < room_for told self.old) }
+        ensures wakes { IfOk result (λ _.
+            FoldsTo S.woke sink.old (woken_by_pushing self.old self.new) sink.new) }
+        ensures returned { IfErr result (λ error. error.message ≡ message) }
+        ensures refused { OnErr result ((self.new ≡ self.old) × (sink.new ≡ sink.old)) }
+        ensures reason { IfErr result (λ error.
+            RefusesAt (room_for told self.old) self.old error.reason) }
+        ensures at_once { IfErr result (λ error. IsUnsentAtOnce error.reason) }
+        ensures due { IfErr result (λ error. error.reason ≡ SendReason.Full
+            → room_in self.old ≤ length self.old.senders.told) }
+        ensures full { told ≡ true → IfErr result (λ error. error.reason ≡ SendReason.Full
+            → room_in self.old ≡ 0) }
+    {
+        if told {
+            return self.push_any(message, sink);
+        }
+        self.push(message, sink)
+    }
+
+    // Puts a message behind all others, if the channel is open and not full, on a place that is due to others or not, and wakes a
+    // receiver and all streams.
+    fn push_any<S: WakeSink<W>>(&mut self, message: T, sink: &mut S) -> Result<(), SendError<T>>
+        ensures pushed { IfOk result (λ _. Pushes message self.old self.new) }
+        ensures wakes { IfOk result (λ _.
+            FoldsTo S.woke sink.old (woken_by_pushing self.old self.new) sink.new) }
+        ensures returned { IfErr result (λ error. error.message ≡ message) }
+        ensures refused { OnErr result ((self.new ≡ self.old) × (sink.new ≡ sink.old)) }
+        ensures reason { IfErr result (λ error. RefusesAt (room_in self.old) self.old error.reason) }
+        ensures at_once { IfErr result (λ error. IsUnsentAtOnce error.reason) }
+        ensures full { IfErr result (λ error. error.reason ≡ SendReason.Full
+            → room_in self.old ≡ 0) }
     {
         if self.is_closed {
             return Err(SendError::new(message, SendReason::Closed));
@@ -155,8 +231,8 @@ impl<T, W> Messages<T, W> {
         }
     }
 
-    /// [`push`](Messages::push), but where the channel is full the first message of all goes out, and is returned: then nobody
-    /// is woken.
+    /// [`push`](Messages::push) on any place, due to others or not; where the channel is full the first message of all goes out,
+    /// and is returned: then nobody is woken.
     pub fn push_forced<S: WakeSink<W>>(
         &mut self,
         message: T,
@@ -173,17 +249,62 @@ impl<T, W> Messages<T, W> {
         if !self.is_closed && self.items.len() >= self.capacity {
             return Ok(Some(replace_first(&mut self.items, message)));
         }
-        self.push(message, sink)?;
+        self.push_any(message, sink)?;
         Ok(None)
     }
 
-    /// Takes the first message, and wakes a sender.
+    /// How many messages there are for newcomers: all, or while a receiver starves those that are due to no notified one.
+    pub fn for_newcomers(&self) -> usize
+        ensures count { result ≡ for_newcomers self.now }
+        ensures most { result ≤ length self.now.messages }
+        ensures due { result ≡ 0 → length self.now.messages ≤ length self.now.receivers.told }
+        ensures closed { self.now.is_closed ≡ true → result ≡ length self.now.messages }
+    {
+        let starving = &self.starving_receivers;
+        left_for_newcomers(self.is_closed, starving, &self.receivers, self.items.len())
+    }
+
+    /// Takes the first message, if it is there for newcomers, and wakes a sender.
     pub fn pop<S: WakeSink<W>>(&mut self, sink: &mut S) -> Result<T, TryRecvError>
         ensures popped { IfOk result (λ message. Takes (message ∷ []) self.old self.new) }
+        ensures may { OnOk result (0 < for_newcomers self.old) }
         ensures wakes { IfOk result (λ _.
             FoldsTo S.woke sink.old (woken_by_taking 1 self.old self.new) sink.new) }
         ensures empty { OnErr result ((self.new ≡ self.old) × (sink.new ≡ sink.old)) }
         ensures reason { IfErr result (IsEmptyFor self.old) }
+        ensures due { OnErr result (length self.old.messages ≤ length self.old.receivers.told) }
+    {
+        if !self.is_closed && self.for_newcomers() == 0 {
+            return Err(TryRecvError::Empty);
+        }
+        self.pop_any(sink)
+    }
+
+    // `pop` of one that was notified, or was not.
+    fn pop_as<S: WakeSink<W>>(&mut self, told: bool, sink: &mut S) -> Result<T, TryRecvError>
+        ensures popped { IfOk result (λ message. Takes (message ∷ []) self.old self.new) }
+        ensures may { OnOk result (0 < there_for told self.old) }
+        ensures wakes { IfOk result (λ _.
+            FoldsTo S.woke sink.old (woken_by_taking 1 self.old self.new) sink.new) }
+        ensures empty { OnErr result ((self.new ≡ self.old) × (sink.new ≡ sink.old)) }
+        ensures reason { IfErr result (FindsNone (there_for told self.old) self.old) }
+        ensures due { OnErr result (length self.old.messages ≤ length self.old.receivers.told) }
+        ensures none { told ≡ true → OnErr result (self.old.messages ≡ []) }
+    {
+        if told {
+            return self.pop_any(sink);
+        }
+        self.pop(sink)
+    }
+
+    // Takes the first message, due to others or not, and wakes a sender.
+    fn pop_any<S: WakeSink<W>>(&mut self, sink: &mut S) -> Result<T, TryRecvError>
+        ensures popped { IfOk result (λ message. Takes (message ∷ []) self.old self.new) }
+        ensures wakes { IfOk result (λ _.
+            FoldsTo S.woke sink.old (woken_by_taking 1 self.old self.new) sink.new) }
+        ensures empty { OnErr result ((self.new ≡ self.old) × (sink.new ≡ sink.old)) }
+        ensures none { OnErr result (self.old.messages ≡ []) }
+        ensures reason { IfErr result (FindsNone (length self.old.messages) self.old) }
     {
         match self.items.pop_front() {
             Some(message) => {
@@ -196,8 +317,8 @@ impl<T, W> Messages<T, W> {
         }
     }
 
-    /// Takes the first messages, `limit` at most and no more than `into` has room for, puts them behind what `into` has, and
-    /// wakes as many senders. Returns how many it took. It does not allocate.
+    /// Takes the first messages, `limit` at most and no more than are there for newcomers and `into` has room for, puts them
+    /// behind what `into` has, and wakes as many senders. Returns how many it took. It does not allocate.
     pub fn pop_into<S: WakeSink<W>>(
         &mut self,
         into: &mut Vec<T>,
@@ -205,14 +326,14 @@ impl<T, W> Messages<T, W> {
         sink: &mut S,
     ) -> usize
         ensures count { result ≡ min limit
-            (min (vec_capacity into.old - vec_len into.old) (length self.old.messages)) }
+            (min (vec_capacity into.old - vec_len into.old) (for_newcomers self.old)) }
         ensures popped { Takes (take result self.old.messages) self.old self.new }
         ensures appended { into.new.items ≡ into.old.items ++ take result self.old.messages }
         ensures wakes { FoldsTo S.woke sink.old
             (woken_by_taking result self.old self.new) sink.new }
     {
         let room = into.capacity() - into.len();
-        let count = limit.min(room).min(self.items.len());
+        let count = limit.min(room).min(self.for_newcomers());
         move_first(&mut self.items, into, count);
         let places = self.capacity - self.items.len();
         tell_more(&mut self.senders, places, count, sink);
@@ -275,7 +396,8 @@ impl<T, W> Messages<T, W> {
     }
 
     /// Nobody waits in vain: a receiver only while as many are notified as there are messages, a sender only while as many
-    /// are notified as there are places free, a stream only while there is no message, and nobody once the channel is closed.
+    /// are notified as there are places free, a stream only while there is no message for newcomers, and nobody once the channel
+    /// is closed.
     pub fn nobody_waits_in_vain(&self)
         ensures waits { NobodyWaitsInVain self.now }
         ensures fits { length self.now.messages ≤ self.now.capacity }

@@ -10,11 +10,11 @@ ghost use Rattle.event_history.specs.History.{Extends, Looks, both_views, newcom
 
 use crate::call::{ChannelHand, RestingHand};
 use crate::channel::{Link, wait_error};
-use crate::error::{RecvError, RecvTimeoutError, TryRecvError};
+use crate::error::{RecvError, RecvTimeoutError, TryRecvError, WaitError};
 use crate::receiving::{Receiving, ReceivingMany};
 use crate::recv::{Recv, received};
 use event_queue::ListenError;
-use event_wait::{Limit, LockError, Refused};
+use event_wait::{Limit, Refused};
 use futures::Stream;
 use futures::task::{Context, Poll};
 use std::alloc::AllocError;
@@ -109,7 +109,8 @@ impl<T: Drop, R: Wait + Clock + Clone> Receiver<T, R> {
         self.link.channel.lock.join(hand, other);
     }
 
-    /// Receives the first message, if one waits. The call does not allocate.
+    /// Receives the first message, if one waits. While a receive [starves](crate::PATIENCE) a message that is due to a notified one
+    /// is not there for this call: then it answers `Empty` although messages wait. The call does not allocate.
     #[inline(always)]
     pub fn try_recv(&self) -> Result<T, TryRecvError> {
         let mut hand = self.hand();
@@ -211,7 +212,7 @@ impl<T: Drop, R: Wait + Clock + Clone> Receiver<T, R> {
             return Ok(0);
         }
         if into.reserve(1).is_err() {
-            return Err(RecvError::WaitFailed(LockError::Memory(AllocError)));
+            return Err(RecvError::WaitFailed(WaitError::Memory(AllocError)));
         }
         if into.capacity() - into.len() < limit {
             let _ = into.reserve(limit.min(self.len()));
@@ -359,13 +360,13 @@ impl<T: Drop, R: Wait + Clock + Clone> Drop for Receiver<T, R> {
 /// Each message wakes every stream that waits, beside one receive: a stream that is polled once and left alone keeps no
 /// message from others.
 impl<T: Drop, R: Wait + Clock + Clone> Stream for Receiver<T, R> {
-    type Item = Result<T, LockError>;
+    type Item = Result<T, WaitError>;
 
     ghost use Rattle.std.specs.Prelude.{◌≡◌};
 
     ghost needs = { λ receiver s. s ≡ receiver.channel.source };
 
-    fn poll_next(&mut self, cx: &mut Context<'_>) -> Poll<Option<Result<T, LockError>>> {
+    fn poll_next(&mut self, cx: &mut Context<'_>) -> Poll<Option<Result<T, WaitError>>> {
         let mut hand = self.hand.take();
         let polled = self
             .link
@@ -376,7 +377,7 @@ impl<T: Drop, R: Wait + Clock + Clone> Stream for Receiver<T, R> {
         match polled {
             Poll::Ready(Ok(Some(message))) => Poll::Ready(Some(Ok(message))),
             Poll::Ready(Ok(None)) => Poll::Ready(None),
-            Poll::Ready(Err(error)) => Poll::Ready(Some(Err(LockError::Listen(error)))),
+            Poll::Ready(Err(error)) => Poll::Ready(Some(Err(WaitError::Listen(error)))),
             Poll::Pending => Poll::Pending,
         }
     }

@@ -1,6 +1,6 @@
 //! Receives that wait for a message.
 ghost use Rattle.std.specs.Prelude.{◌≡◌, true, false};
-ghost use Rattle.event_channel.specs.Calls.{LeavesReceivers, calls};
+ghost use Rattle.event_channel.specs.Calls.{LeavesReceivers, ReceivesOne, calls, received_at_once, receiver_key};
 ghost use Rattle.event_channel.specs.Requests.{ReceivesOrWaits};
 ghost use Rattle.event_channel.specs.declared.call.ChannelCall.{ChannelCall};
 ghost use Rattle.event_wait.specs.Attempted.{Attempts};
@@ -12,12 +12,13 @@ use event_queue::{Key, ListenError, TaskExchange, WakeSink};
 use event_wait::{Attempted, Task};
 use std::marker::Model;
 
-/// The place of one that receives a message, or all as a stream, in its queue. A contract sees whether it is a stream, and
-/// that place.
+/// The place of one that receives a message, or all as a stream, in its queue, and how often it was notified and found
+/// nothing. A contract sees whether it is a stream, and that place.
 #[derive(Drop)]
 pub(crate) struct Receiving {
     is_stream: bool,
     key: Option<Key>,
+    losses: u32,
 }
 
 impl Model for Receiving {
@@ -36,6 +37,7 @@ impl Receiving {
         Receiving {
             is_stream: false,
             key: None,
+            losses: 0,
         }
     }
 
@@ -45,6 +47,7 @@ impl Receiving {
         Receiving {
             is_stream: true,
             key: None,
+            losses: 0,
         }
     }
 }
@@ -53,6 +56,7 @@ impl Receiving {
 fn receive_or_wait<T, W: Drop, C, X: TaskExchange<W, C>, K: WakeSink<W>>(
     is_stream: bool,
     key: Option<Key>,
+    losses: &mut u32,
     state: &mut Messages<T, W>,
     exchange: &X,
     on: &mut C,
@@ -65,7 +69,25 @@ fn receive_or_wait<T, W: Drop, C, X: TaskExchange<W, C>, K: WakeSink<W>>(
     if is_stream {
         return state.next_or_wait(key, exchange, on, sink);
     }
-    state.pop_or_wait(key, exchange, on, sink)
+    state.pop_or_wait(key, losses, exchange, on, sink)
+}
+
+// Receives, if a message is there for it. A stream is a newcomer here.
+fn receive_at_once<T, W: Drop, K: WakeSink<W>>(
+    is_stream: bool,
+    key: Option<Key>,
+    state: &mut Messages<T, W>,
+    sink: &mut K,
+) -> Option<Option<T>>
+    ensures { ReceivesOne (receiver_key is_stream key) (received_at_once result) state.old
+        state.new }
+{
+    let key = if is_stream { None } else { key };
+    match state.pop_by(key, sink) {
+        Ok(message) => Some(Some(message)),
+        Err(TryRecvError::Empty) => None,
+        Err(TryRecvError::Closed) => Some(None),
+    }
 }
 
 // Leaves its queue.
@@ -109,7 +131,16 @@ impl<T> Request<Messages<T, Task>> for Receiving {
         on: &mut C,
         sink: &mut K,
     ) -> Attempted<Option<T>, ListenError> {
-        let attempted = receive_or_wait(self.is_stream, self.key, state, exchange, on, sink);
+        let losses = &mut self.losses;
+        let attempted = receive_or_wait(
+            self.is_stream,
+            self.key,
+            losses,
+            state,
+            exchange,
+            on,
+            sink,
+        );
         self.key = key_after(self.key, &attempted);
         attempted
     }
@@ -119,8 +150,9 @@ impl<T> Request<Messages<T, Task>> for Receiving {
         state: &mut Messages<T, Task>,
         sink: &mut K,
     ) -> Result<Option<Option<T>>, ListenError> {
-        let received = self.attempt(state, sink);
-        leave(self.is_stream, self.key.take(), state, sink);
+        let key = self.key.take();
+        let received = receive_at_once(self.is_stream, key, state, sink);
+        leave(self.is_stream, key, state, sink);
         Ok(received)
     }
 }
@@ -162,6 +194,7 @@ impl<T> Attempt<Messages<T, Task>> for Receiving {
 #[derive(Drop)]
 pub(crate) struct ReceivingMany<T> {
     key: Option<Key>,
+    losses: u32,
     into: Vec<T>,
     more: usize,
 }
@@ -186,6 +219,7 @@ impl<T> ReceivingMany<T> {
     {
         ReceivingMany {
             key: None,
+            losses: 0,
             into,
             more,
         }
@@ -196,6 +230,7 @@ impl<T> ReceivingMany<T> {
     {
         let ReceivingMany {
             key: _,
+            losses: _,
             into,
             more: _,
         } = self;
@@ -243,7 +278,7 @@ impl<T> Request<Messages<T, Task>> for ReceivingMany<T> {
             state.cancel_receiver(key, sink);
             return Attempted::Refused(ListenError::Memory);
         }
-        match receive_or_wait(false, key, state, exchange, on, sink) {
+        match receive_or_wait(false, key, &mut self.losses, state, exchange, on, sink) {
             Attempted::Done(Some(message)) => {
                 self.key = None;
                 self.into.push_reserved(message);

@@ -4,10 +4,10 @@ ghost use Rattle.event_channel.specs.Hands.{Says};
 
 use crate::call::RestingHand;
 use crate::channel::{Channel, wait_error};
-use crate::error::RecvError;
+use crate::error::{RecvError, WaitError};
 use crate::receiving::Receiving;
 use event_queue::ListenError;
-use event_wait::{Limit, LockError, Refused};
+use event_wait::{Limit, Refused};
 use futures::Future;
 use futures::task::{Context, Poll};
 use std::alloc::Global;
@@ -153,7 +153,7 @@ impl<'a, T: Drop, R: Wait + Clock + Clone> Future for Recv<'a, T, R> {
             Poll::Ready(Ok(Some(message))) => Poll::Ready(Ok(message)),
             Poll::Ready(Ok(None)) => Poll::Ready(Err(RecvError::Closed)),
             Poll::Ready(Err(error)) => {
-                Poll::Ready(Err(RecvError::WaitFailed(LockError::Listen(error))))
+                Poll::Ready(Err(RecvError::WaitFailed(WaitError::Listen(error))))
             }
             Poll::Pending => Poll::Pending,
         }

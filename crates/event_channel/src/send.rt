@@ -5,9 +5,9 @@ ghost use Rattle.event_channel.specs.Handle.{Carries};
 
 use crate::call::RestingHand;
 use crate::channel::{Channel, wait_error};
-use crate::error::{SendError, SendReason};
+use crate::error::{SendError, SendReason, WaitError};
 use crate::sending::Sending;
-use event_wait::{Limit, LockError};
+use event_wait::Limit;
 use futures::Future;
 use futures::task::{Context, Poll};
 use std::alloc::Global;
@@ -157,7 +157,7 @@ impl<'a, T: Drop, R: Wait + Clock + Clone> Future for Send<'a, T, R> {
             Poll::Ready(Ok(Ok(()))) => Poll::Ready(Ok(())),
             Poll::Ready(Ok(Err(reason))) => Poll::Ready(Err(self.sending.refuse(reason))),
             Poll::Ready(Err(error)) => {
-                let reason = SendReason::WaitFailed(LockError::Listen(error));
+                let reason = SendReason::WaitFailed(WaitError::Listen(error));
                 Poll::Ready(Err(self.sending.refuse(reason)))
             }
             Poll::Pending => Poll::Pending,

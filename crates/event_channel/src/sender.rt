@@ -141,7 +141,8 @@ impl<T: Drop, R: Wait + Clock + Clone> Sender<T, R> {
         self.link.channel.lock.join(hand, other);
     }
 
-    /// Sends a message if the channel is open and not full.
+    /// Sends a message if the channel is open and has a free place. While a send [starves](crate::PATIENCE) a place that is due to a
+    /// notified one is not free for this call.
     ///
     /// An error hands the message back. The call allocates if the channel has no limit and no room.
     #[inline(always)]
@@ -169,7 +170,8 @@ impl<T: Drop, R: Wait + Clock + Clone> Sender<T, R> {
         self.link.channel.try_send(&self.link.rt, hand, message)
     }
 
-    /// Sends a message if the channel is open. If it is full the first message of all goes out, and is returned.
+    /// Sends a message if the channel is open, on any free place, due to others or not. If it is full the first message of all
+    /// goes out, and is returned.
     ///
     /// An error hands the message back. The call allocates if the channel has no limit and no room.
     pub fn force_send(&self, message: T) -> Result<Option<T>, SendError<T>>

@@ -1,5 +1,8 @@
 //! Sends that wait for room.
-ghost use Rattle.std.specs.Prelude.{◌≡◌, Some, IsSome};
+ghost use Rattle.std.specs.Prelude.{◌≡◌, None, Some, IsSome};
+ghost use Rattle.event_channel.specs.Calls.{SendsOne, sent_at_once};
+ghost use Rattle.event_channel.specs.Waits.{Empties};
+ghost use Rattle.event_wait.specs.Attempted.{LeavesBy};
 
 use crate::error::{SendError, SendReason};
 use crate::messages::{Messages, key_after, put_back};
@@ -8,12 +11,13 @@ use event_queue::{Key, ListenError, TaskExchange, WakeSink};
 use event_wait::{Attempted, Task};
 use std::marker::Model;
 
-/// A message that is to be sent, and the place of its sender in the queue. A contract sees the message until it is sent or
-/// returned, and that place.
+/// A message that is to be sent, the place of its sender in the queue, and how often it was notified and found no room. A
+/// contract sees the message until it is sent or returned, and that place.
 #[derive(Drop)]
 pub(crate) struct Sending<T> {
     message: Option<T>,
     key: Option<Key>,
+    losses: u32,
 }
 
 impl<T> Model for Sending<T> {
@@ -32,6 +36,7 @@ impl<T> Sending<T> {
         Sending {
             message: Some(message),
             key: None,
+            losses: 0,
         }
     }
 
@@ -44,6 +49,33 @@ impl<T> Sending<T> {
         match self.message.take() {
             Some(message) => SendError::new(message, reason),
             None => unreachable!(),
+        }
+    }
+}
+
+// Sends the message in a slot, if there is one and room for it, by its place in the queue.
+#[inline(always)]
+fn send_at_once<T, W: Drop, K: WakeSink<W>>(
+    slot: &mut Option<T>,
+    key: Option<Key>,
+    state: &mut Messages<T, W>,
+    sink: &mut K,
+) -> Option<Result<(), SendReason>>
+    ensures sends { (message : T) → slot.old ≡ Some message
+        → SendsOne key message (sent_at_once result) state.old state.new }
+    ensures absent { slot.old ≡ None → (result ≡ None) × (state.new ≡ state.old) }
+    ensures empties { LeavesBy Empties slot.old result slot.new }
+{
+    let message = slot.take()?;
+    match state.push_by(key, message, sink) {
+        Ok(()) => Some(Ok(())),
+        Err(error) => {
+            let reason = error.reason;
+            put_back(slot, error.into_inner());
+            if reason == SendReason::Full {
+                return None;
+            }
+            Some(Err(reason))
         }
     }
 }
@@ -75,7 +107,8 @@ impl<T: Drop> Request<Messages<T, Task>> for Sending<T> {
         on: &mut C,
         sink: &mut K,
     ) -> Attempted<Result<(), SendReason>, ListenError> {
-        let attempted = state.push_or_wait(&mut self.message, self.key, exchange, on, sink);
+        let (message, losses) = (&mut self.message, &mut self.losses);
+        let attempted = state.push_or_wait(message, self.key, losses, exchange, on, sink);
         self.key = key_after(self.key, &attempted);
         attempted
     }
@@ -85,8 +118,9 @@ impl<T: Drop> Request<Messages<T, Task>> for Sending<T> {
         state: &mut Messages<T, Task>,
         sink: &mut K,
     ) -> Result<Option<Result<(), SendReason>>, ListenError> {
-        let sent = self.attempt(state, sink);
-        state.cancel_sender(self.key.take(), sink);
+        let key = self.key.take();
+        let sent = send_at_once(&mut self.message, key, state, sink);
+        state.cancel_sender(key, sink);
         Ok(sent)
     }
 }
@@ -111,18 +145,7 @@ impl<T: Drop> Attempt<Messages<T, Task>> for Sending<T> {
         state: &mut Messages<T, Task>,
         sink: &mut K,
     ) -> Option<Result<(), SendReason>> {
-        let message = self.message.take()?;
-        match state.push(message, sink) {
-            Ok(()) => Some(Ok(())),
-            Err(error) => {
-                let reason = error.reason;
-                put_back(&mut self.message, error.into_inner());
-                if reason == SendReason::Full {
-                    return None;
-                }
-                Some(Err(reason))
-            }
-        }
+        send_at_once(&mut self.message, None, state, sink)
     }
 
     fn give_up<K: WakeSink<Task>>(&mut self, state: &mut Messages<T, Task>, sink: &mut K) {

@@ -1,17 +1,21 @@
 //! One that sends or receives, and waits where it can't.
-ghost use Rattle.std.specs.Prelude.{◌≡◌, None, Some, length};
+ghost use Rattle.std.specs.Prelude.{◌≡◌, None, Some, length, IfErr};
 ghost use Rattle.std.specs.List.{FoldsTo};
 ghost use Rattle.event_wait.specs.Line.{LeavesThenTells, woken_by_leaving};
 ghost use Rattle.event_wait.specs.Attempted.{Attempts, OnDone, OnRefused, OnUndone};
+ghost use Rattle.event_channel.specs.Calls.{ReceivesOne, SendsOne, answer_of};
+ghost use Rattle.event_channel.specs.Errors.{IsUnsentAtOnce};
 ghost use Rattle.event_channel.specs.Messages.{room_in};
 ghost use Rattle.event_channel.specs.Steps.{KeepsAllButSenders, KeepsAllButReceivers, KeepsAllButStreams};
-ghost use Rattle.event_channel.specs.Waits.{Empties, Receives, Sends, woken_by_receiving, woken_by_sending};
+ghost use Rattle.event_channel.specs.Waits.{Empties, ReceiverLeaves, Receives, ReceivesInTurn, SenderLeaves, SendsInTurn, woken_by_receiver, woken_by_receiver_leaving, woken_by_receiving, woken_by_sending};
+ghost use Rattle.event_channel.specs.Turns.{is_told};
 
 use super::Messages;
-use crate::error::{SendReason, TryRecvError};
+use super::turns::{is_told, leave_in_turn, left_for_newcomers, wait_in_turn};
+use crate::error::{SendError, SendReason, TryRecvError};
 use event_queue::{Key, ListenError, TaskExchange, WakeSink};
 use event_wait::Attempted;
-use event_wait::waiters::{leave_then_tell, wait_in_line};
+use event_wait::waiters::{leave_then_tell, tell_all, wait_in_line};
 
 // Puts back what was taken out.
 pub(crate) fn put_back<T>(slot: &mut Option<T>, value: T)
@@ -36,20 +40,22 @@ pub(crate) fn key_after<G>(key: Option<Key>, attempted: &Attempted<G, ListenErro
 }
 
 impl<T, W: Drop> Messages<T, W> {
-    /// [`push`](Messages::push) of the message in a slot; where the channel is full its sender waits, with the task that the
-    /// exchange makes. A message that is not sent stays in its slot; one whose slot is empty is absent. It tries each time,
-    /// notified or not; one that was notified in vain goes to the end of the queue. One that does not wait is in the queue
-    /// no more, and another is notified in its place if one is due. A newcomer that waits may allocate.
+    /// [`push`](Messages::push) of the message in a slot; one that was notified takes a place that is due to it, too. Where there
+    /// is no room for it its sender waits, with the task that the exchange makes. A message that is not sent stays in its slot;
+    /// one whose slot is empty is absent. It tries each time, notified or not; one that was notified in vain goes to the end of
+    /// the queue, and has lost once more: it starves if that is [`PATIENCE`](super::PATIENCE) times. One that does not wait is in
+    /// the queue no more, and another is notified in its place if one is due. One that is new or starves may allocate.
     pub fn push_or_wait<C, X: TaskExchange<W, C>, S: WakeSink<W>>(
         &mut self,
         message: &mut Option<T>,
         key: Option<Key>,
+        losses: &mut u32,
         exchange: &X,
         on: &mut C,
         sink: &mut S,
     ) -> Attempted<Result<(), SendReason>, ListenError>
-        ensures sends { Sends (X.exchanged exchange.now) message.old key self.old on.old result
-            (record self.new { senders = self.old.senders }) self.new.senders on.new }
+        ensures sends { SendsInTurn (X.exchanged exchange.now) message.old key self.old losses.old
+            on.old result self.new losses.new on.new }
         ensures absent { message.old ≡ None → result ≡ Attempted.Absent }
         ensures ends { OnDone result (λ sent. Empties message.old sent message.new) }
         ensures waits { OnUndone result (message.new ≡ message.old) }
@@ -62,7 +68,8 @@ impl<T, W: Drop> Messages<T, W> {
             self.cancel_sender(key, sink);
             return Attempted::Absent;
         };
-        match self.push(unsent, sink) {
+        let told = is_told(&self.senders, key);
+        match self.push_as(told, unsent, sink) {
             Ok(()) => {
                 self.cancel_sender(key, sink);
                 Attempted::Done(Ok(()))
@@ -71,10 +78,14 @@ impl<T, W: Drop> Messages<T, W> {
                 let reason = error.reason;
                 put_back(message, error.into_inner());
                 match reason {
-                    SendReason::Full => match wait_in_line(&mut self.senders, key, exchange, on) {
-                        Ok(key) => Attempted::Waits(key),
-                        Err(error) => Attempted::Refused(error),
-                    },
+                    SendReason::Full => {
+                        let line = &mut self.senders;
+                        let starving = &mut self.starving_senders;
+                        match wait_in_turn(line, starving, told, key, losses, exchange, on) {
+                            Ok(key) => Attempted::Waits(key),
+                            Err(error) => Attempted::Refused(error),
+                        }
+                    }
                     reason => {
                         self.cancel_sender(key, sink);
                         Attempted::Done(Err(reason))
@@ -84,29 +95,33 @@ impl<T, W: Drop> Messages<T, W> {
         }
     }
 
-    /// [`pop`](Messages::pop); one for whom there is no message waits, as a sender does. `None` is the end: there is no
-    /// message, and the channel is closed, so none will come.
+    /// [`pop`](Messages::pop); one that was notified takes what is due to it, too. One for whom there is no message waits, as
+    /// a sender does: if it was notified it has lost once more, and starves if that is [`PATIENCE`](super::PATIENCE) times.
+    /// `None` is the end: there is no message, and the channel is closed, so none will come.
     pub fn pop_or_wait<C, X: TaskExchange<W, C>, S: WakeSink<W>>(
         &mut self,
         key: Option<Key>,
+        losses: &mut u32,
         exchange: &X,
         on: &mut C,
         sink: &mut S,
     ) -> Attempted<Option<T>, ListenError>
-        ensures receives { Receives (X.exchanged exchange.now) key self.old self.old.receivers
-            on.old result (record self.new { receivers = self.old.receivers })
-            self.new.receivers on.new }
+        ensures receives { ReceivesInTurn (X.exchanged exchange.now) key self.old losses.old
+            on.old result self.new losses.new on.new }
         ensures exchanges { Attempts (X.exchanged exchange.now) on.old result on.new }
         ensures wakes { FoldsTo S.woke sink.old
-            (woken_by_receiving key self.old self.old.receivers result self.new) sink.new }
+            (woken_by_receiver key self.old result self.new) sink.new }
     {
-        match self.pop(sink) {
+        let told = is_told(&self.receivers, key);
+        match self.pop_as(told, sink) {
             Ok(message) => {
                 self.cancel_receiver(key, sink);
                 Attempted::Done(Some(message))
             }
             Err(TryRecvError::Empty) => {
-                match wait_in_line(&mut self.receivers, key, exchange, on) {
+                let line = &mut self.receivers;
+                let starving = &mut self.starving_receivers;
+                match wait_in_turn(line, starving, told, key, losses, exchange, on) {
                     Ok(key) => Attempted::Waits(key),
                     Err(error) => Attempted::Refused(error),
                 }
@@ -118,7 +133,8 @@ impl<T, W: Drop> Messages<T, W> {
         }
     }
 
-    /// [`pop_or_wait`](Messages::pop_or_wait) for a stream, which waits in the queue of the streams.
+    /// [`pop_or_wait`](Messages::pop_or_wait) for a stream, which waits in the queue of the streams. It takes what is there for
+    /// newcomers.
     pub fn next_or_wait<C, X: TaskExchange<W, C>, S: WakeSink<W>>(
         &mut self,
         key: Option<Key>,
@@ -150,34 +166,72 @@ impl<T, W: Drop> Messages<T, W> {
         }
     }
 
-    /// Takes this sender, if it is one, out of its queue. If now fewer are notified than there are places free, others are,
-    /// and are woken.
+    /// [`push`](Messages::push) of one that may have a place in the queue of the senders: if it was notified it takes a place that
+    /// is due to it, too.
+    pub fn push_by<S: WakeSink<W>>(
+        &mut self,
+        key: Option<Key>,
+        message: T,
+        sink: &mut S,
+    ) -> Result<(), SendError<T>>
+        ensures sends { SendsOne key message (answer_of result) self.old self.new }
+        ensures returned { IfErr result (λ error. error.message ≡ message) }
+        ensures at_once { IfErr result (λ error. IsUnsentAtOnce error.reason) }
+    {
+        let told = is_told(&self.senders, key);
+        self.push_as(told, message, sink)
+    }
+
+    /// Takes this sender, if it is one, out of its queue: it starves no more. If now fewer are notified than there are places
+    /// free, others are, and are woken.
     #[inline(always)]
     pub fn cancel_sender<S: WakeSink<W>>(&mut self, key: Option<Key>, sink: &mut S)
-        ensures left { LeavesThenTells key (room_in self.new) self.old.senders self.new.senders }
+        ensures left { SenderLeaves key self.old self.new }
         ensures wakes { FoldsTo S.woke sink.old
             (woken_by_leaving key (room_in self.new) self.old.senders) sink.new }
         ensures others { KeepsAllButSenders self.old self.new }
     {
         let room = self.capacity - self.items.len();
-        leave_then_tell(&mut self.senders, key, room, sink);
+        let line = &mut self.senders;
+        leave_in_turn(line, &mut self.starving_senders, key, room, sink);
     }
 
-    /// Takes this receiver, if it is one, out of its queue. If now fewer are notified than there are messages, others are,
-    /// and are woken.
+    /// [`pop`](Messages::pop) of one that may have a place in the queue of the receivers: if it was notified it takes what is
+    /// due to it, too.
+    pub fn pop_by<S: WakeSink<W>>(
+        &mut self,
+        key: Option<Key>,
+        sink: &mut S,
+    ) -> Result<T, TryRecvError>
+        ensures receives { ReceivesOne key result self.old self.new }
+    {
+        let told = is_told(&self.receivers, key);
+        self.pop_as(told, sink)
+    }
+
+    /// Takes this receiver, if it is one, out of its queue: it starves no more. If now fewer are notified than there are
+    /// messages, others are, and are woken. If now a message is there for newcomers, all streams are.
     #[inline(always)]
     pub fn cancel_receiver<S: WakeSink<W>>(&mut self, key: Option<Key>, sink: &mut S)
-        ensures left { LeavesThenTells key (length self.new.messages) self.old.receivers
-            self.new.receivers }
+        ensures left { ReceiverLeaves key self.old self.new }
         ensures wakes { FoldsTo S.woke sink.old
-            (woken_by_leaving key (length self.new.messages) self.old.receivers) sink.new }
+            (woken_by_receiver_leaving key self.old self.new) sink.new }
         ensures others { KeepsAllButReceivers self.old self.new }
     {
-        leave_then_tell(&mut self.receivers, key, self.items.len(), sink);
+        let Some(gone) = key else {
+            return;
+        };
+        let messages = self.items.len();
+        let (line, starving) = (&mut self.receivers, &mut self.starving_receivers);
+        leave_in_turn(line, starving, Some(gone), messages, sink);
+        let starving = &self.starving_receivers;
+        if left_for_newcomers(self.is_closed, starving, &self.receivers, messages) > 0 {
+            tell_all(&mut self.streams, sink);
+        }
     }
 
-    /// Takes this stream, if it is one, out of its queue. Nobody is notified in its place: where there is a message, no
-    /// stream waits.
+    /// Takes this stream, if it is one, out of its queue. Nobody need be notified in its place: where there is a message for
+    /// newcomers, no stream waits.
     #[inline(always)]
     pub fn cancel_stream<S: WakeSink<W>>(&mut self, key: Option<Key>, sink: &mut S)
         ensures left { LeavesThenTells key (length self.new.messages) self.old.streams

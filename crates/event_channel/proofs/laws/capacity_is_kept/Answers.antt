@@ -8,7 +8,7 @@ pub returns-clause-at_most : goal.returns-clause-at_most
 returns-clause-at_most g c capacity log q leads = (kept capacity log q leads).1
 
 pub returns-clause-full : goal.returns-clause-full
-returns-clause-full g c capacity v w message called = let (q, leads, many, order) = full capacity v w message called in (q, leads, many)
+returns-clause-full g c = full
 
 pub returns-clause-full_was_sent : goal.returns-clause-full_was_sent
 returns-clause-full_was_sent g c = full_was_sent

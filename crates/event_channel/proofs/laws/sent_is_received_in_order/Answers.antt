@@ -1,5 +1,5 @@
 use Rattle.std.proofs.Common.{ap, ◌++◌, ◌∙◌}
-use Rattle.event_channel.proofs.HistoryLemmas.{all_received, in_order_as_seen, in_order_between, in_order_from_start, none_waits, received_was_sent, seen_to_be_sent}
+use Rattle.event_channel.proofs.HistoryLemmas.{all_received, end_comes_last, in_order_as_seen, in_order_between, in_order_from_start, none_waits, received_was_sent, seen_to_be_sent}
 use Rattle.event_channel.proofs.laws.sent_is_received_in_order.Goals as goal
 
 pub returns-clause-in_order : goal.returns-clause-in_order
@@ -22,3 +22,6 @@ returns-clause-seen_to_be_sent g c = seen_to_be_sent
 
 pub returns-clause-finds_none : goal.returns-clause-finds_none
 returns-clause-finds_none g c = none_waits
+
+pub returns-clause-finds_the_end : goal.returns-clause-finds_the_end
+returns-clause-finds_the_end g c = end_comes_last

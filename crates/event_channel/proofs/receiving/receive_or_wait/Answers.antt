@@ -6,4 +6,4 @@ pub returns-then-is_stream-clause-receives : goal.returns-then-is_stream-clause-
 returns-then-is_stream-clause-receives g c = next_or_waits _ _ _ _ _ _ _ _ (search rules) c.next_or_wait.ensures.receives
 
 pub returns-clause-receives : goal.returns-clause-receives
-returns-clause-receives g c = receives_or_waits _ _ _ _ _ _ _ _ (search rules) c.pop_or_wait.ensures.receives
+returns-clause-receives g c = receives_or_waits _ _ _ _ _ _ _ _ _ _ (search rules) c.pop_or_wait.ensures.receives

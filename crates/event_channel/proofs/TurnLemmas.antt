@@ -1,0 +1,92 @@
+-- One that was not notified leaves as many notified as there were.
+use Rattle.std.proofs.Common.{◌≡◌, ℕ, ◌+◌, ◌<◌, ◌≤◌, ◌==◌, ◌||◌, Bool, true, false, List, [], ◌∷◌, length, refl, sym, ap, ◌∙◌, arith, Option, Some, None, is_some}
+use Rattle.std.specs.Map.{lookup, remove_entry}
+use Rattle.event_queue.specs.declared.key.Key.{Key}
+use Rattle.event_queue.specs.declared.reply.ListenError.{ListenError}
+use Rattle.event_queue.specs.Key.{is_key}
+use Rattle.event_queue.specs.Queue.{Queue}
+use Rattle.event_wait.specs.Line.{CannotWait, Leaves, WaitsBy, others_of}
+use Rattle.std.proofs.lemmas.Bool.{false≢true}
+use Rattle.event_channel.specs.Messages.{State, IsKept, for_newcomers, room_in}
+use Rattle.event_channel.specs.Turns.{is_told, left_for_newcomers}
+
+-- there are no more for newcomers than there are, and no more of fewer
+pub most_for_newcomers : (all_is : Bool) (told there : ℕ) → left_for_newcomers all_is told there ≤ there
+most_for_newcomers true told there = omega arith
+most_for_newcomers false told there = omega arith
+
+pub fewer_for_newcomers : (all_is : Bool) (told there fewer : ℕ) → fewer ≤ there → 0 < left_for_newcomers all_is told fewer → 0 < left_for_newcomers all_is told there
+fewer_for_newcomers true told there fewer less some = omega (arith, less, some)
+fewer_for_newcomers false told there fewer less some = omega (arith, less, some)
+
+module _ {X : Type 0} where
+  removed-absent : (key : Key) (entries : List (Key × X)) → is_some (lookup (is_key key) entries) ≡ false → remove_entry (is_key key) entries ≡ entries
+  removed-absent key [] absent = refl
+  removed-absent key (e ∷ es) absent = by_test (is_key key e.0) refl (removed-absent key es)
+    where
+      by_test : (b : Bool) → is_key key e.0 ≡ b → (is_some (lookup (is_key key) es) ≡ false → remove_entry (is_key key) es ≡ es) → remove_entry (is_key key) (e ∷ es) ≡ e ∷ es
+      by_test true here rest = absurd (let no : true ≡ false = rw here at absent in cc)
+      by_test false apart rest = rw apart (ap (λ l. e ∷ l) (rest (rw apart at absent)))
+
+module _ {W : Type 0} where
+  others-untold : (key : Option Key) (q : Queue (Unit {0}) W) → is_told key q ≡ false → others_of key q.told ≡ q.told
+  others-untold None q untold = refl
+  others-untold (Some key) q untold = removed-absent key q.told untold
+
+  left-untold : (key : Option Key) (old new : Queue (Unit {0}) W) → is_told key old ≡ false → Leaves key old new → length new.told ≡ length old.told
+  left-untold None old new untold left = ap (λ (q : Queue (Unit {0}) W). length q.told) left
+  left-untold (Some key) old new untold left = rw (left.told, others-untold (Some key) old untold) refl
+
+  pub as_many-waits : {C : Type 0} (exchanged : C → Option W → W → C → Type 0) (key : Option Key) (old : Queue (Unit {0}) W) (before : C) (waits : Key) (new : Queue (Unit {0}) W) (after : C)
+      → is_told key old ≡ false → WaitsBy exchanged key old before waits new after → length new.told ≡ length old.told
+  as_many-waits exchanged key old before waits new after untold h = rw (h.told, others-untold key old untold) refl
+
+  pub as_many-refused : (key : Option Key) (error : ListenError) (old new : Queue (Unit {0}) W) → is_told key old ≡ false → CannotWait key error old new → length new.told ≡ length old.told
+  as_many-refused key error old new untold h = left-untold key old new untold h.leaves
+
+-- one found nothing, and the queue of the receivers is another one now: still nobody waits in vain
+module _ {T W : Type 0} where
+  pub kept-waiting : (old : State T W) (line : Queue (Unit {0}) W) (keys : List Key) (places : ℕ) (told : Bool) → IsKept old places → old.is_closed ≡ false → length old.messages ≤ length old.receivers.told
+      → (told ≡ true → old.messages ≡ []) → (told ≡ false → length line.told ≡ length old.receivers.told) → (told ≡ false → keys ≡ old.starving_receivers) → (told ≡ false → for_newcomers old ≡ 0)
+      → IsKept (record old { receivers = line; starving_receivers = keys }) places
+  kept-waiting old line keys places told kept is_open due none as_many same newcomers = record {
+    waits = record {
+      receivers = λ less. absurd (by told refl less);
+      senders = kept.waits.senders;
+      streams = λ some. absurd (for_none told refl some);
+      closed = λ closed. absurd (false≢true (sym is_open ∙ closed));
+    };
+    fits = kept.fits;
+    reserved = kept.reserved;
+  }
+    where
+      by : (b : Bool) → told ≡ b → length line.told < length old.messages → ⊥
+      by true is less = let gone : length old.messages ≡ 0 = ap length (none is) in omega (arith, less, gone)
+      by false is less = omega (arith, less, due, as_many is)
+
+      for_none : (b : Bool) → told ≡ b → 0 < left_for_newcomers (old.is_closed || length keys == 0) (length line.told) (length old.messages) → ⊥
+      for_none true is some =
+          let gone : length old.messages ≡ 0 = ap length (none is) in
+          let most = most_for_newcomers (old.is_closed || length keys == 0) (length line.told) (length old.messages) in
+          omega (arith, some, gone, most)
+      for_none false is some =
+          let was : 0 < for_newcomers old = rw (same is, as_many is) at some in
+          omega (arith, was, newcomers is)
+
+  -- the same of the queue of the senders
+  pub kept-waiting_to_send : (old : State T W) (line : Queue (Unit {0}) W) (keys : List Key) (places : ℕ) (told : Bool) → IsKept old places → old.is_closed ≡ false → room_in old ≤ length old.senders.told
+      → (told ≡ true → room_in old ≡ 0) → (told ≡ false → length line.told ≡ length old.senders.told) → IsKept (record old { senders = line; starving_senders = keys }) places
+  kept-waiting_to_send old line keys places told kept is_open due none as_many = record {
+    waits = record {
+      receivers = kept.waits.receivers;
+      senders = λ less. absurd (by told refl less);
+      streams = kept.waits.streams;
+      closed = λ closed. absurd (false≢true (sym is_open ∙ closed));
+    };
+    fits = kept.fits;
+    reserved = kept.reserved;
+  }
+    where
+      by : (b : Bool) → told ≡ b → length old.messages + length line.told < old.capacity → ⊥
+      by true is less = let gone = none is in omega (arith, less, gone)
+      by false is less = let same = as_many is in omega (arith, less, due, same)

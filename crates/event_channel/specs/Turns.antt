@@ -1,0 +1,47 @@
+-- Those in a queue that starve: each was notified and found nothing, twice at least.
+use Rattle.std.specs.Prelude.{◌≡◌, ◌⊎◌, ℕ, ◌+◌, ◌-◌, ◌≤◌, min, Bool, true, false, if◌then◌else◌, Option, Some, None, is_some, List, [], ◌∷◌, ◌++◌}
+use Rattle.std.specs.Map.{lookup}
+use Rattle.event_queue.specs.declared.key.Key.{Key}
+use Rattle.event_queue.specs.declared.reply.ListenError.{ListenError}
+use Rattle.event_queue.specs.declared.reply.ListenError.TheVariants.{Memory}
+use Rattle.event_queue.specs.Key.{is_key, without}
+use Rattle.event_queue.specs.Queue.{Queue}
+use Rattle.event_wait.specs.Line.{CannotWait, Leaves}
+
+-- these keys but this one, if it is one
+abbrev pub but : Option Key → List Key → List Key
+but None keys = keys
+but (Some key) keys = without key keys
+
+-- those that starve once one that was notified is in the queue no more; one that was not is not there
+abbrev pub struck : Bool → Option Key → List Key → List Key
+struck true key keys = but key keys
+struck false key keys = keys
+
+-- how often one has lost whose attempt finds nothing now: once more if it was notified
+abbrev pub losses_with : Bool → ℕ → ℕ
+losses_with false losses = losses
+losses_with true losses = min (losses + 1) 4294967295
+
+-- how much of this is there for newcomers: all, or what is not due to those that are notified
+abbrev pub left_for_newcomers : Bool → ℕ → ℕ → ℕ
+left_for_newcomers all_is told there = if all_is then there else there - told
+
+-- One found nothing, and waits by this key now. If it was notified it has lost once more, and is counted among those that
+-- starve if that is twice at least. One that was not is counted as it was.
+pub record Counts (told : Bool) (key : Option Key) (waits : Key) (losses : ℕ) (old : List Key) (losses' : ℕ) (new : List Key) : Type 0 where
+  pub lost : losses' ≡ losses_with told losses
+  pub untold : told ≡ false → new ≡ old
+  pub starves : told ≡ true → 2 ≤ losses' → new ≡ but key old ++ waits ∷ []
+  pub patient : told ≡ true → losses' ≤ 1 → new ≡ but key old
+
+module _ {W : Type 0} where
+  -- whether this one is in the queue, and notified
+  abbrev pub is_told : Option Key → Queue (Unit {0}) W → Bool
+  is_told None q = false
+  is_told (Some key) q = is_some (lookup (is_key key) q.told)
+
+  -- one could not be put at the end of the queue, or could not be counted among those that starve, and is in it no more
+  abbrev pub CannotWaitInTurn : Bool → Option Key → ℕ → ListenError → Queue (Unit {0}) W → Queue (Unit {0}) W → Type 0
+  CannotWaitInTurn told key losses error old new =
+      CannotWait key error old new ⊎ ((told ≡ true) × (1 ≤ losses) × (error ≡ Memory) × Leaves key old new)
