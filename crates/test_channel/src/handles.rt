@@ -2,7 +2,7 @@
 use crate::support::{Runtime, Sides, check, sides};
 use crate::waiting::Waiting;
 use crate::ways::Answer;
-use event_channel::{LockError, SendError, SendReason, bounded};
+use event_channel::{SendError, SendReason, WaitError, bounded};
 use futures::test::MockTask;
 use std::alloc::{AllocError, AllocGlobal};
 use std::cell::Cell;
@@ -160,7 +160,7 @@ fn handles_futures_and_errors_are_shown(rt: HostRuntime) {
         ),
         (SendReason::Memory, "Memory: no memory for a message"),
         (
-            SendReason::WaitFailed(LockError::Memory(AllocError)),
+            SendReason::WaitFailed(WaitError::Memory(AllocError)),
             "WaitFailed(Memory(AllocError)): no memory for a wait",
         ),
     ] {

@@ -7,6 +7,7 @@
 //! | `handles` | clones, weak handles, such as are refused, the last of a side, a closed channel; that a channel and its messages are freed; what handles and errors say |
 //! | `limits` | calls that wait until a limit, and what comes while they look at the clock there |
 //! | `wakes` | threads that are blocked, and woken one by one; who is woken as one that was told is dropped, or comes to its limit |
+//! | `turns` | one that lost twice, by turns with others: it has the third, and newcomers what is not due; who is dropped, polled for another reason or at its limit then; a close |
 //! | `threads` | 8 threads that send and 8 that receive, each in a way of its own, or many at once; handles made anew by weak ones; a close among them; calls that are given up |
 //!
 //! What is said of every way to send or to receive is written once, and run with each: `ways` has them, with what they
@@ -26,6 +27,8 @@ mod script;
 mod support;
 #[cfg(test)]
 mod threads;
+#[cfg(test)]
+mod turns;
 #[cfg(test)]
 mod waiting;
 #[cfg(test)]

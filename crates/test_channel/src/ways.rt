@@ -2,7 +2,7 @@
 use crate::support::Runtime;
 use crate::waiting::Waiting;
 use event_channel::{
-    LockError, Receiver, RecvError, RecvTimeoutError, SendError, SendReason, Sender, TryRecvError,
+    Receiver, RecvError, RecvTimeoutError, SendError, SendReason, Sender, TryRecvError, WaitError,
 };
 use futures::StreamExt;
 use futures::executor::block_on;
@@ -175,7 +175,7 @@ fn of_timed_recv(answer: Result<usize, RecvTimeoutError>) -> Answer {
     }
 }
 
-pub fn of_item(item: Option<Result<usize, LockError>>) -> Answer {
+pub fn of_item(item: Option<Result<usize, WaitError>>) -> Answer {
     match item {
         Some(Ok(message)) => Answer::Received(message),
         Some(Err(_)) => Answer::Failed,

@@ -1,8 +1,8 @@
 //! What channels leave where memory is refused: a message is in the channel or comes back, and is never lost.
 use crate::support::{Answer, Runtime, all_memory, check, count_refused, leave, new_task};
 use event_channel::{
-    ChannelError, LockError, Receiver, RecvError, RecvTimeoutError, SendError, SendReason, Sender,
-    TryRecvError, bounded, unbounded,
+    ChannelError, Receiver, RecvError, RecvTimeoutError, SendError, SendReason, Sender,
+    TryRecvError, WaitError, bounded, unbounded,
 };
 use event_queue::ListenError;
 use futures::StreamExt;
@@ -12,9 +12,9 @@ use std::cell::Cell;
 use std::time::Duration;
 use test_queue_memory::{Budget, Starved};
 
-const LISTENING: LockError = LockError::Listen(ListenError::Memory);
+const LISTENING: WaitError = WaitError::Listen(ListenError::Memory);
 
-const NO_MEMORY: LockError = LockError::Memory(AllocError);
+const NO_MEMORY: WaitError = WaitError::Memory(AllocError);
 
 const MAX: Duration = Duration::MAX;
 
