@@ -209,7 +209,8 @@
 //! - [`Listener`]: when a listener is finished, that only a finished one fails, and that a wait which fails for memory
 //!   returns the same listener.
 //! - [`QueueListener`]: which calls its polls and waits, a discard and a drop are, with their replies.
-//! - [`EventHand`]: calls of a caller's own hand, and what hands and listeners learn of each other.
+//! - [`EventHand`]: calls of a caller's own hand, and what hands and listeners learn of each other. Laws as [`told_by_another`] and
+//!   [`passes_on`] say what follows for whom a hand's history has waiting.
 //! - [`RecordedEvent::close`]: a record is a history of its queue, and has the notes of each hand.
 //! - [`RecordedState::apply`]: one step of a queue, and one entry more.
 //!
@@ -224,6 +225,11 @@ mod recorded;
 #[doc(hidden)]
 pub use event::Shared;
 pub use event::{Event, EventHand, EventId, EventIds, IdsUsedUp, given_numbers_are_distinct};
+pub use event_history::{
+    first_told_first, never_absent, one_history_one_order, own_listener_stays, owns_on, passes_on,
+    stays, tag_was_told, tells_all, told_by_another, told_hands_call_later, told_is_found,
+    told_or_as_many_before, told_until_own_call,
+};
 pub use event_queue::{
     Additional, Call, IntoNotification, IntoTagged, Key, List, ListenError, Notification, Notify,
     NotifyError, RegisterResult, Relaxed, Reply, State, Steps, Tag, TagWith, TaskExchange,
