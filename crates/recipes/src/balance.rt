@@ -1,7 +1,7 @@
 //! A balance that is waited for, over any runtime.
 ghost use Rattle.std.specs.Prelude.{◌≡◌, ◌+◌, ◌≤◌, IfOk, IfSome};
 
-use event_locks::{Condition, LockError, Monitor};
+use event_locks::{Condition, Monitor, WaitError};
 use futures::executor::block_on;
 use std::alloc::{AllocGlobal, Global};
 use std::random::RandomSource;
@@ -78,7 +78,7 @@ pub fn withdraw<R: Wait + Clock>(
     alloc: Global,
     balance: &Balance,
     amount: u64,
-) -> Result<Receipt, LockError>
+) -> Result<Receipt, WaitError>
     ensures { IfOk result (λ receipt. receipt.left + amount ≡ receipt.before) }
 {
     balance.until(rt, alloc, Withdrawal { amount }).wait()
@@ -91,7 +91,7 @@ pub fn withdraw_within<R: Wait + Clock>(
     balance: &Balance,
     amount: u64,
     limit: Duration,
-) -> Result<Option<Receipt>, LockError>
+) -> Result<Option<Receipt>, WaitError>
     ensures { IfOk result (λ answer.
         IfSome answer (λ receipt. receipt.left + amount ≡ receipt.before)) }
 {

@@ -1,6 +1,9 @@
 //! A value that is made when it is first wanted, and again if that failed.
-use event_locks::{Claim, OnceCell};
+ghost use Rattle.std.specs.Prelude.{◌≡◌, IfSome};
+
+use event_locks::OnceCell;
 use futures::executor::block_on;
+use futures::future::ready;
 use std::alloc::{AllocGlobal, Global};
 use std::random::RandomSource;
 use std::sync::Wait;
@@ -17,7 +20,24 @@ pub fn port<R: Wait + Clock>(
     Ok(*port)
 }
 
-/// Makes the value of a cell if it is this task's turn, and then has it as any other.
+/// Sets the port, if nobody has, and looks at it as anybody does. Whoever looks, and when, has the one that was set.
+pub fn set_port<R: Wait + Clock>(
+    rt: &R,
+    alloc: Global,
+    cell: &OnceCell<u16>,
+    port: u16,
+) -> Option<u16>
+    ensures { IfSome result (λ seen. seen ≡ port) }
+{
+    let Ok(set) = cell.set_witness(rt, alloc, port) else {
+        return None;
+    };
+    let seen = cell.witness()?;
+    set.agrees(&seen);
+    Some(*cell.value(&seen))
+}
+
+/// The name. A task makes it if nobody has, and others wait meanwhile.
 pub fn make_name<R>(
     rt: &R,
     alloc: Global,
@@ -26,8 +46,6 @@ pub fn make_name<R>(
 where
     R: Wait + Clock + RandomSource + AllocGlobal,
 {
-    if let Claim::Vacant(turn) = block_on(rt, cell.claim(rt, alloc))?? {
-        let _ = turn.set("Ada");
-    }
-    Ok(*block_on(rt, cell.wait(rt, alloc))??)
+    let name = cell.get_or_init_async(rt, alloc, ready("Ada"));
+    Ok(*block_on(rt, name)??)
 }

@@ -1,10 +1,11 @@
 //! Two threads at a channel, with clauses of what one of them received and the other sent.
-ghost use Rattle.std.specs.Prelude.{◌≡◌, IfErr, IfOk};
+ghost use Rattle.std.specs.Prelude.{◌≡◌, ◌⊎◌, IfErr, IfOk};
 ghost use Rattle.event_history.specs.Hands.{IsOf, SameTable};
-ghost use Rattle.recipes.specs.Hands.{SawOut, SawSent, Sends};
+ghost use Rattle.recipes.specs.Hands.{SawAllDue, SawOut, SawSent, Sends};
 
-use event_channel::{ChannelHand, Receiver, SendError, Sender, TryRecvError, no_message_is_lost};
-use event_listener::Task;
+use event_channel::{
+    ChannelHand, Receiver, SendError, Sender, Task, TryRecvError, no_message_is_lost,
+};
 use std::sync::Wait;
 use std::thread::{self, Threads};
 use std::time::Clock;
@@ -17,8 +18,9 @@ pub struct Exchange {
 }
 
 /// Has another thread send a number, and then receives one. What is received was sent. And no message is lost: where the
-/// number was sent and none is received, it has gone out before. The call may wait for the other thread, and for the lock of
-/// the channel. Without a limit the channel may allocate.
+/// number was sent and none is received, it has gone out before, or each that waits is due to a receive that was notified,
+/// while one starves. The call may wait for the other thread, and for the lock of the channel. Without a limit the channel may
+/// allocate.
 pub fn send_then_receive<R>(
     rt: &R,
     sender: &Sender<u64, R>,
@@ -33,7 +35,7 @@ where
     ensures hand { SameTable hand.old hand.new }
     ensures received { IfOk result.received (λ message. SawSent hand.new message) }
     ensures none_lost { IfOk result.sent (λ sent. IfErr result.received (λ error.
-        SawOut hand.new number)) }
+        SawOut hand.new number ⊎ SawAllDue receiver.now.capacity hand.new)) }
 {
     let mut other = sender.fork(hand);
     // The length is whatever it is just then.

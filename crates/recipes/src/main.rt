@@ -18,7 +18,7 @@ mod two_channels;
 use awaits::{deposit, first_of, meet, read_after_write, take_two};
 use balance::{Balance, deposit_later, withdraw, withdraw_as_task, withdraw_within};
 use cache::{Squares, square};
-use cell::{make_name, port};
+use cell::{make_name, port, set_port};
 use event_channel::unbounded;
 use event_locks::{Barrier, Mutex, OnceCell, RwLock, Semaphore};
 use first_wait::first_wait;
@@ -86,8 +86,9 @@ where
     let failed = port(rt, alloc, &cell, "http").is_err();
     let made = port(rt, alloc, &cell, "8080")?;
     let kept = port(rt, alloc, &cell, "9090")?;
+    let set = set_port(rt, alloc, &OnceCell::new(alloc), 443).unwrap_or(0);
     let name = make_name(rt, alloc, &OnceCell::new(alloc))?;
-    println!(rt; "cell: {failed} {made} {kept}; {name}")?;
+    println!(rt; "cell: {failed} {made} {kept}; {set} {name}")?;
     Ok(())
 }
 

@@ -1,6 +1,5 @@
 //! A pool of workers. Each job has a channel of its own for the answer.
-use event_channel::{Receiver, RecvError, Sender, bounded, unbounded};
-use event_locks::LockError;
+use event_channel::{Receiver, RecvError, Sender, WaitError, bounded, unbounded};
 use std::alloc::Global;
 use std::sync::Wait;
 use std::thread::{self, JoinHandle, Threads};
@@ -30,12 +29,12 @@ impl<R: Wait + Clock + Clone> Answer<R> {
 #[derive(Drop)]
 pub struct Pool<R: Wait + Clock + Clone> {
     jobs: Sender<Job<R>, R>,
-    workers: Vec<JoinHandle<Result<(), LockError>>>,
+    workers: Vec<JoinHandle<Result<(), WaitError>>>,
 }
 
 // Does jobs until the channel is closed and empty. A job that is too large drops its sender, and so closes the channel
 // of its answer.
-fn work<R: Wait + Clock + Clone>(jobs: Receiver<Job<R>, R>) -> Result<(), LockError> {
+fn work<R: Wait + Clock + Clone>(jobs: Receiver<Job<R>, R>) -> Result<(), WaitError> {
     for job in jobs.iter() {
         let Job { number, answer } = job?;
         if let Some(square) = number.checked_mul(number) {
@@ -69,7 +68,7 @@ where
     }
 
     /// Takes in no more jobs, and returns once all are done.
-    pub fn finish(self, rt: R) -> Result<(), LockError> {
+    pub fn finish(self, rt: R) -> Result<(), WaitError> {
         let Pool { jobs, workers } = self;
         drop(jobs);
         let mut ended = Ok(());
