@@ -1,30 +1,22 @@
-# help      prints these lines. Times are those of an idle machine with four processors, from nothing. What a check proves is
-#           kept, so the next one of the same sources takes seconds
-# run       compiles and runs the program of the worked rows, with every check at run time, and proves nothing: under a
-#           minute. `make run V=1` shows the text of each, too
-# test      proves the libraries, runs all tests and programs, and tries what must not compile: half an hour
-# gate      proves every crate with its tests, and tries the wrong bodies that the prover must refuse: one to two hours. A merge
-#           asks for `make test` and `make gate`, as .ci/run runs them
-# prove     proves every crate and its tests, and runs tests and programs, but tries no wrong bodies; `make prove JOBS=4`
-#           works on four crates at a time in 10 GB
-# vectors   proves and runs the program of the worked rows, and keeps it as crates/vectors/out/vectors: 12 minutes
-# check     proves every crate, without tests: what an edit changed takes seconds or minutes
-# refused   tries programs that must not compile, and one that must: a minute
-# quoted    compares what pages quote, and the API pages, with the sources: a second
-# api       writes the API page of each library, its public items with their clauses, from the sources: a second
-# explore   shows a run of a world: `make explore RUN='mutex 2: 0:2 1:5'`, or lines on its input: a minute. It proves
-#           nothing; with PROVED=1 it proves the program first
-# fuzz      compares events and records with a queue on random lists of calls: `make fuzz SECONDS=600 SEED=7`, from another
-#           seed each time if none is given; it proves the program first, which takes minutes
-# soak      has 8 threads call an event and a recorded event, and counts: `make soak SECONDS=600 SEED=7`, the same
-# starved   runs the programs with fewer addresses than they need, and looks at what they print; it proves them first,
-#           which takes minutes
-# fmt       formats the files
-# bench     measures events, locks and channels beside Rust crates, if those are at hand: `make bench ORACLE=FOLDER`, as
-#           scripts/bench says. It writes the tables and the chart of docs/BENCHMARKS.md: a quarter of an hour, and the
-#           program's proof
-# diff      compares the queue with the Rust crate, if its answers are at hand: `make diff ORACLE=FOLDER`, with
-#           a folder as crates/replies/src/main.rt says
+# About how long each takes, from nothing, on an idle machine with four processors. What a check proves is kept for the next.
+#
+# help       1 s       prints these lines
+# run        1 min     runs the worked rows, and proves nothing; V=1 shows their texts
+# test       30 min    proves the libraries, runs all tests and programs, and tries what must not compile
+# gate       2 h       proves all, and tries the wrong bodies, which must be refused; a merge asks for test and gate
+# prove      1 h       proves all, and runs tests and programs; JOBS=4 works on four crates at a time, in 10 GB
+# check      1 h       proves all but tests; after an edit it takes seconds or minutes
+# vectors    12 min    proves and runs the worked rows, and keeps the program as crates/vectors/out/vectors
+# refused    1 min     tries programs that must not compile, and some that must
+# quoted     1 s       compares what pages quote, and the API pages, with the sources
+# api        1 s       writes the API pages
+# explore    1 min     shows a run of a world: RUN='mutex 2: 0:2 1:5', or its input; PROVED=1 proves the program first
+# fuzz       10 min    compares events and records with a queue on random calls, for SECONDS=60, from SEED=7
+# soak       10 min    has 8 threads call an event and a recorded event, and counts, for SECONDS=60, from SEED=7
+# starved    10 min    runs the programs with too few addresses, and looks at what they print
+# fmt        1 min     formats the files
+# bench      30 min    measures events, locks and channels, beside Rust crates with ORACLE=FOLDER (scripts/bench)
+# diff       10 min    compares the queue with the Rust crate's answers in ORACLE=FOLDER (crates/replies)
 .PHONY: help run test tests gate prove vectors check refused quoted api explore fuzz soak starved fmt bench diff
 
 # So that a target fails where the first command of a pipe does.
@@ -35,19 +27,16 @@ SHELL := bash
 needs_rt = $(if $(shell command -v rt),,$(error $@ needs the toolchain's command 'rt', which is not on the path))
 
 help:
-	@sed -n 's/^# \{0,1\}//p; /^\.PHONY/q' $(firstword $(MAKEFILE_LIST))
+	@sed '/^\.PHONY/,$$d; s/^# \{0,1\}//' $(firstword $(MAKEFILE_LIST))
 
 run:
-	$(needs_rt)@echo "Compiling the worked rows, without proof. They run in about a minute."
-	@echo "A row is a list of calls with the answers that they must give: it is ok if they give them, and differs if one does not."
+	$(needs_rt)@echo "Compiling the worked rows, without proof. Each is a list of calls with the answers that they must give."
 	@(cd crates/vectors && rt try < /dev/null) | scripts/rows $(V)
 	@echo "Nothing was proved: the rows ran with every check at run time. 'make gate' proves all."
 
-test:
+# A folder is called tests.
+test tests:
 	$(needs_rt)@scripts/test
-
-# A folder has this name.
-tests: test
 
 gate:
 	$(needs_rt)@rt ci
@@ -55,11 +44,11 @@ gate:
 prove:
 	$(needs_rt)@rt all test $(if $(JOBS),--jobs $(JOBS))
 
-vectors:
-	$(needs_rt)@cd crates/vectors && rt run
-
 check:
 	$(needs_rt)@rt all check
+
+vectors:
+	$(needs_rt)@cd crates/vectors && rt run
 
 refused:
 	$(needs_rt)@scripts/refused
@@ -79,7 +68,7 @@ soak: kind = threads
 
 # The first run proves and keeps the program, and does nothing.
 fuzz soak:
-	$(needs_rt)@echo "Proving the program first. That takes minutes, unless an earlier run has kept it." >&2
+	$(needs_rt)@echo "Proving the program first, if no earlier run has kept it." >&2
 	@cd crates/soak && rt run -- $(kind) seed 0 times 0 < /dev/null >&2
 	@crates/soak/out/soak $(kind) seed "$(or $(SEED),$(shell date +%s))" seconds "$(or $(SECONDS),60)"
 
