@@ -1,4 +1,4 @@
--- The bytes of a claim, of a writer and of a mark. Assumes `Logic`.
+-- The bytes of a claim, of a writer, of a mark and of one at rest. Assumes `Logic`.
 use Rattle.event_slot.proofs.Names.{El, Good, one, lawful, shows, peeks, param, rewrite, drop, by, feq_l, ◌≡◌, ℕ, T, List, [], ◌∷◌, ◌++◌, refl, ap, ◌∙◌, Option, Some, None, Ura, Val, vstruct, vcons, vnil, of_list, has_ty, WT, Coded, SProp, ent, emp, ex, ex_i, guard, guard_i, via, never_e, Lft, Fml, shown, fact_i, Logic, sem, ‵, ◌$◌, ◌∵◌, !, qed, move, keep, fsplit, fjoin, fpick, fpack, use0, feq_i, nothing, done, RattleType, Valss, Is, NamedLft, ShrRef, Opens, Ptr, InBlock, block_ptr, null_ptr, ptr_val}
 use mir.Syntax.{ty_ptr, ty_struct, tcons, tnil}
 use denote.Copied.{Struct-Copied}
@@ -9,6 +9,7 @@ use denote.Struct.Struct.{Shape, Struct, within}
 use denote.Struct.Owning.{shape}
 use Rattle.core.specs.contracts.marker.PhantomData as marker
 use Rattle.event_slot.specs.Holding.{Names, writer, writes, held, claim_shares, writing_shares}
+use Rattle.event_slot.specs.contracts.rest.Rest as rest
 use Rattle.event_slot.specs.contracts.rule.Mark as mark
 
 -- a claim and a writer are a pointer and nothing else
@@ -89,6 +90,18 @@ module _ (V : RattleType) where
 
   pub token_made : {M : Type 1} {𝓤 : Ura M} (𝓛 : Logic 𝓤) → ent 𝓤 (emp 𝓤) (sem 𝓛 (Token.own_val (tt, tt) (token ∷ [])))
   token_made 𝓛 = makes_shadow 𝓛 (Token.own_val (tt, tt) (token ∷ [])) (λ vss. (tt, ((λ uss. (tt, tt)), tt))) ((vstruct vnil ∷ [], tt), (refl, ((tt, (refl, tt)), tt)))
+
+  pub token_told : (vs : List Val) → Is Token (tt, tt) vs → vs ≡ token ∷ []
+  token_told vs is = is.1.0 ∙ ap (λ (ws : List Val). vstruct (of_list (ws ++ [])) ∷ []) is.1.1.0.1.0
+
+  abbrev pub Resting : RattleType
+  Resting = Struct (shape (rest.the_type V))
+
+  pub resting_made : {M : Type 1} {𝓤 : Ura M} (𝓛 : Logic 𝓤) → ent 𝓤 (emp 𝓤) (sem 𝓛 (Resting.own_val (tt, tt) (token ∷ [])))
+  resting_made 𝓛 = makes_shadow 𝓛 (Resting.own_val (tt, tt) (token ∷ [])) (λ vss. (tt, ((λ uss. (tt, tt)), tt))) ((vstruct vnil ∷ [], tt), (refl, ((tt, (refl, tt)), tt)))
+
+  pub resting_told : (vs : List Val) → Is Resting (tt, tt) vs → vs ≡ token ∷ []
+  resting_told vs is = is.1.0 ∙ ap (λ (ws : List Val). vstruct (of_list (ws ++ [])) ∷ []) is.1.1.0.1.0
 
 -- whoever holds a slot, or sees its value, has its address
 module _ {M : Type 1} {𝓤 : Ura M} (𝓛 : Logic 𝓤) {W : Type 0} (cw : Coded W) (γ : ℕ) (R Q : RattleType) (c : ℕ → ℕ) (holds : ℕ → Option Q.Denot → List W → Type 0) (β : Lft) where

@@ -1,5 +1,5 @@
 -- What the shared slot holds, and a right to its value, name no thread.
-use Rattle.std.proofs.Common.{ℕ, zero, suc, List, Option, Some, None, ◌∷◌, ◌++◌}
+use Rattle.std.proofs.Common.{ℕ, zero, suc, List, Option, Some, None, [], ◌∷◌, ◌++◌}
 use base.Fraction.{full_share}
 use base.Fml.{Lft}
 use base.Shift.{Keyless}
@@ -8,9 +8,11 @@ use denote.RattleType.{RattleType}
 use denote.RawPtr.{Ptr, block_ptr, null_ptr}
 use denote.Param.Send.{IsSend, IsSync, Common, part_keyless}
 use Rattle.core.proofs.atomic.Sent.{chain-Keyless}
+use types.Keyed.{entry_keyless}
+use Rattle.atomic_table.specs.Seated.{halved}
 use Rattle.atomic_table.proofs.Sent.{roster_keyless}
 use Rattle.counted_slot.specs.Counting.{Id, Phase, free, away, shared, state}
-use Rattle.event_slot.specs.Holding.{any, Names, count, place, behind, lies, writer, right_to, kept, claim_owns, writing_owns, claim_shares, writing_shares}
+use Rattle.event_slot.specs.Holding.{any, Names, count, place, behind, lies, writer, right_to, kept, claim_owns, writing_owns, claim_shares, writing_shares, rest_owns}
 
 module _ (R : RattleType) (s : IsSend R) (y : IsSync R) where
   pub state_keyless : (b o : ℕ) (t : Id) (n : ℕ) (p : Phase R.Denot) → Keyless (state R any b o t n p)
@@ -58,3 +60,7 @@ module _ (β : Lft) (R : RattleType) (y : IsSync R) where
   pub writing_common : (p : Ptr) (x : R.Denot) → Common (writing_shares β R p x)
   writing_common (block_ptr b o) x κ = y.shared x b (place R b o) (κ ++ β)
   writing_common null_ptr x κ = tt
+
+pub rest_keyless : {W : Type 0} (e : W → Gv) (slot id : ℕ) (ws : List W) → Keyless (rest_owns e slot id ws)
+rest_keyless e slot id [] = tt
+rest_keyless e slot id (w ∷ ws) = entry_keyless halved slot id _

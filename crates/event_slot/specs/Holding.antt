@@ -1,5 +1,5 @@
 -- What a slot shares, and what a claim and a writer hold: the value and its word as a counted slot has them, the state that lies beside the value, and the views of the marks, of which the rule holds.
-use Rattle.std.specs.Prelude.{◌≡◌, ℕ, zero, suc, ◌+◌, List, Option, Some, None}
+use Rattle.std.specs.Prelude.{◌≡◌, ℕ, zero, suc, ◌+◌, List, [], ◌∷◌, Option, Some, None}
 use base.Stored.{Gv, Coded, coded×, coded_ℕ, coded_via}
 use base.Fml.{Lft, GName, Fml, ftrue, ffalse, fsep, fex, fobs, fbor}
 use prog.Memory.{up, align}
@@ -10,6 +10,7 @@ use denote.RattleType.{RattleType}
 use denote.RawPtr.{Ptr, block_ptr, null_ptr}
 use denote.Sharing.{said, beside, some, ends, always, within}
 use Rattle.core.specs.Sync.RawAtomic.{word}
+use Rattle.atomic_table.specs.Marked.{mark_owns}
 use Rattle.atomic_table.specs.Seated.{roster}
 use Rattle.counted_slot.specs.Counting.{fact, Id, State, reads, offset}
 use Rattle.counted_slot.specs.Counting as counting
@@ -124,3 +125,8 @@ claim_shares β R p right v κ = counting.claim_shares β R any p right v κ
 abbrev pub writing_shares : Lft → (R : RattleType) → Ptr → R.Denot → Lft → Fml
 writing_shares β R (block_ptr b o) x = within β (seen R b o x)
 writing_shares β R null_ptr x = said ffalse
+
+-- a mark at rest, or none
+abbrev pub rest_owns : {W : Type 0} → (W → Gv) → ℕ → ℕ → List W → Fml
+rest_owns e slot id [] = ftrue
+rest_owns e slot id (w ∷ ws) = mark_owns e slot id w

@@ -9,7 +9,8 @@
 //! Between any two steps of any threads the caller's rule holds, [`Ruled::holds`]: a fact about the word, about the state while it is
 //! at home, and about what each [`Mark`] knows. It may read the slot's key, which is given when the slot is made, and which no step
 //! changes. A mark is a token without bytes. Each step is made with one, asks that it keeps the rule, and may change what that mark
-//! knows, as [`Trades`] and [`Tells`] say. Marks are made by steps, too, and cut in two or joined, as [`Splits`] and [`Joins`] say.
+//! knows, as [`Trades`] and [`Tells`] say. Marks are made by steps, too, and cut in two or joined, as [`Splits`] and [`Joins`] say. A mark
+//! that no step is made with may lie in a [`Rest`].
 //!
 //! A guard over a writer has a mark besides, which has to be of the same slot. It is a [`Tied`], so that it can lend `&mut T`.
 //!
@@ -20,6 +21,7 @@
 
 mod claim;
 mod lends;
+mod rest;
 mod rule;
 mod sleep;
 mod slot;
@@ -27,6 +29,7 @@ mod tied;
 mod writing;
 
 pub use claim::Claim;
+pub use rest::Rest;
 pub use rule::{Joins, Mark, Ruled, Splits, Tells, Trades};
 pub use slot::Slot;
 pub use tied::{Tied, Ties};

@@ -1,7 +1,8 @@
 //! A rule over a word, the state behind it, and what its marks know.
-ghost use Rattle.std.specs.Prelude.{◌≡◌, ℕ, List, Option};
+ghost use Rattle.std.specs.Prelude.{◌≡◌, ℕ, List, [], ◌∷◌, Option};
 ghost use Rattle.atomic_table.specs.Marked.{mark_owns};
 
+use crate::rest::Rest;
 use std::marker::{Model, PhantomData};
 
 /// A value that lies in a [`Slot`](crate::Slot) with a state `S` behind it, and the rule of that slot.
@@ -68,6 +69,19 @@ pub struct Mark<W> {
 
 impl<W> Model for Mark<W> {
     ghost also_owns = { λ m. mark_owns W.row.coded.code m.slot m.id m.view };
+}
+
+impl<W> Mark<W> {
+    /// The mark at rest.
+    #[inline(always)]
+    pub fn rest(self) -> Rest<W>
+        ensures { (result.slot ≡ self.slot) × (result.id ≡ self.id) × (result.views ≡ self.view ∷ []) }
+    {
+        let Self { marker: _ } = self;
+        Rest {
+            marker: PhantomData,
+        }
+    }
 }
 
 impl<W> Drop for Mark<W> {

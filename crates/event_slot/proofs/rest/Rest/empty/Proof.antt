@@ -1,0 +1,24 @@
+-- `empty` makes the struct without bytes, which owns nothing.
+use Rattle.event_slot.proofs.Names.{◌≡◌, [], ◌∷◌, refl, a_type, Val, inst_fn, SProp, emp, tables, ‵, raw, ◌⊛◌, ◌$◌, ◌∵◌, !, qed, by, keep, split, fjoin, use0, no_more, and_then, returns, enter, alloc_all, pass_all, free_all, look_at, get, sets, agg, RattleType, owns, types_at, nothing, param, Stays, walk_of, shown, fact_i, proved, leaves}
+use Rattle.atomic_table.proofs.Names.{layouts, alive}
+use Rattle.event_slot.specs.contracts.rest.Rest as rest
+use Rattle.event_slot.proofs.Fields.{token, Resting, resting_made}
+use Rattle.event_slot.specs.contracts.rest.Rest.empty.{ended, clauses}
+use Rattle.event_slot.specs.contracts.rest.Rest.empty.Key.{name as #self}
+use Rattle.event_slot.proofs.rest.Rest.empty.Statement.{statement}
+use Rattle.event_slot.proofs.rest.Rest.empty.Code as code
+
+pub empty_spec : {M : Type 1} → statement M
+empty_spec 𝓤 𝓛 𝓜 𝓡 wired U _ =
+    let H = 𝓛.H in let 𝓣 = tables 𝓤 H 𝓜 𝓡 𝓡.env in let W : RattleType = param 0 U in let En = ended U in let c = clauses U 𝓛 𝓜.mem 𝓡.returns in
+    let inst = layouts (a_type ∷ []) (U, tt) in let fn = inst_fn inst code.function in let Rr : RattleType = rest.the_row W in
+    let hs : Stays En.signature.params En.kept = tt in
+    proved 𝓛 En hs c 𝓜 𝓡 tt (#self inst) fn (code.unfolded 𝓤 H 𝓜 𝓡 wired (U, tt)) (λ κs. tt) (λ κs. tt) (λ κs qs bounds a gh are.
+    let r : Rr.Denot = record { marker = record {}; slot = 0; id = 0; views = [] } in
+    let Told : Type 0 = r.views ≡ [] in let y : (walk_of 𝓛 En hs c).Ghost = ((κs, qs, bounds, a, tt), gh) in let Post : Val → SProp 𝓤 = (walk_of 𝓛 En hs c).post y in
+    qed 𝓛 ((raw (alive 𝓛 En.signature κs qs) ⊛ ‵ (owns (types_at En.signature.params κs) a y.0.4)) ∷ raw ((c κs a).requires gh) ∷ []) ∵
+    split ! $ keep ! (0 ∷ []) $ nothing ! $ use0 𝓛 (‵ ((Resting W).own_val (tt, tt) (token ∷ []))) (resting_made W 𝓛) $ fjoin ! $
+    enter ! 𝓣.C 𝓣.Λ fn [] Post $ alloc_all ! (λ l. pass_all ! refl tt $
+    sets ! (agg ! (no_more !)) refl (tt, tt) $ sets ! (agg ! (and_then ! (get ! refl) (no_more !))) refl (tt, (tt, tt)) $
+    use0 𝓛 (raw (shown 𝓤 Told)) (fact_i 𝓤 Told (emp 𝓤) refl) $ nothing ! $
+    returns ! (look_at ! 0 refl) $ free_all ! refl $ keep ! (3 ∷ 0 ∷ 2 ∷ 1 ∷ []) $ by ! (leaves 𝓛 En hs c y token r tt tt)))
