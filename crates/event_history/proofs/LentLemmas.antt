@@ -1,5 +1,5 @@
 -- What a wait says of a request and its hand that are lent holds of the two.
-use Rattle.std.proofs.Common.{◌≡◌, ◌∙◌, refl, ap, ℕ, zero, suc, inl, inr, Option, Some, None, Result, Ok, Err}
+use Rattle.std.proofs.Common.{◌∙◌, ap, ℕ, zero, suc, inl, inr, Option, Some, None, Result, Ok, Err}
 use Rattle.event_wait.specs.declared.lock.wait.Refused.{Refused}
 use Rattle.event_wait.specs.declared.lock.wait.Refused.TheVariants.{Memory, Request}
 use Rattle.event_wait.specs.Rounds.{Rules, Trying, Rounds, SomeRounds, OneRoundAtLeast, Fails, Tries, Gets, Ends, Waits, TriesOrWaits, Obtains}

@@ -10,6 +10,5 @@ mod LawsStays
 mod LawsTold
 mod LawsUntil
 mod LentLemmas
-mod Rests
 pub mod RestsOnLemmas
 mod Views

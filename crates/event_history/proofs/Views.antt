@@ -91,7 +91,7 @@ module _ {S C : Type 0} where
   each_stood vs log (n ∷ ns) [] k = k
   each_stood vs log (n ∷ ns) (m ∷ ms) k = (k.0.stood, each_stood vs log ns ms k.1)
 
-  -- a seat that is not spent is none of those that another one took in
+  -- a mark that is not spent is none of those that another one took in
   apart : (vs : List (View S C)) (id n : ℕ) (v u : View S C) → get_elem? vs id ≡ some v → v.spent ≡ false → get_elem? vs n ≡ some u → u.spent ≡ true → n ≢ id
   apart vs id n v u at alive there spent e = not_both spent (ap (λ (x : View S C). x.spent) (some-injective u v (sym there ∙ (ap (get_elem? vs) e ∙ at))) ∙ alive)
 
@@ -100,7 +100,7 @@ module _ {S C : Type 0} where
   alive_is_none vs log id v at alive (n ∷ ns) [] k = absurd k
   alive_is_none vs log id v at alive (n ∷ ns) (m ∷ ms) k = ((λ e. apart vs id n v k.0.view at alive k.0.at k.0.spent (sym e)), alive_is_none vs log id v at alive ns ms k.1)
 
-  -- a seat that is not spent has another view
+  -- a mark that is not spent has another view
   pub stays_set : (vs : List (View S C)) (id : ℕ) (v w : View S C) → get_elem? vs id ≡ some v → v.spent ≡ false → (n : ℕ) (u : View S C) → get_elem? vs n ≡ some u → u.spent ≡ true → get_elem? (set vs id w) n ≡ some u
   stays_set vs id v w at alive n u there spent = set_else vs id n w (apart vs id n v u at alive there spent) ∙ there
 
@@ -110,7 +110,7 @@ module _ {S C : Type 0} where
   pub more_on : (vs : List (View S C)) (log : List (Entry C)) (w : View S C) → Goes_on vs (vs ++ w ∷ []) log log
   more_on vs log w = record { later = []; longer = sym (append-nil log); stay = λ n u there spent. at_longer vs (w ∷ []) n u there; calls = λ n u there spent. refl }
 
-  -- one call more, of a seat that is not spent
+  -- one call more, of a mark that is not spent
   pub call_on : (vs : List (View S C)) (log : List (Entry C)) (id : ℕ) (v w : View S C) (e : Entry C) → get_elem? vs id ≡ some v → v.spent ≡ false → e.by ≡ id → Goes_on vs (set vs id w) log (log ++ e ∷ [])
   call_on vs log id v w e at alive by = record {
     later = e ∷ [];
@@ -122,7 +122,7 @@ module _ {S C : Type 0} where
   pub newcomer_fits : (vs : List (View S C)) (log seen : List (Entry C)) (by : ℕ) → StartsWith log seen → calls_by by log ≡ [] → Fits vs log by (newcomer seen)
   newcomer_fits vs log seen by begins none_yet = record { number = tt; begins = begins; own = λ _. none_yet; others = []; met = tt; differ = tt }
 
-  -- the views of a state that fits, where one seat's view was changed and the history was not
+  -- the views of a state that fits, where one mark's view was changed and the history was not
   pub fits_set : (vs : List (View S C)) (log : List (Entry C)) (id : ℕ) (v w : View S C) → get_elem? vs id ≡ some v → v.spent ≡ false → ((by : ℕ) (u : View S C) → get_elem? vs by ≡ some u → Fits vs log by u) → (Fits (set vs id w) log id v → Fits (set vs id w) log id w)
       → (by : ℕ) (u : View S C) → get_elem? (set vs id w) by ≡ some u → Fits (set vs id w) log by u
   fits_set vs log id v w at alive fits here =

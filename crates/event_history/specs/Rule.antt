@@ -1,18 +1,16 @@
 -- What holds between any two steps, and what each kind of step tells.
-use Rattle.std.specs.Prelude.{◌≡◌, ◌≢◌, ℕ, ◌≤◌, Bool, true, false, MatchBool, List, [], ◌∷◌, length, slice_index}
-use mathlib.Core.Option.{none, some}
-use mathlib.Core.Option as home
+use Rattle.std.specs.Prelude.{◌≡◌, ◌≢◌, ◌⊎◌, ℕ, ◌≤◌, Bool, true, false, Option, Some, None, List, [], ◌∷◌, length}
+use mathlib.Core.Option.{some}
 use lib.ListN.{get_elem?}
-use Rattle.atomic_table.specs.Table.{State, Me, Step, rest}
 use Rattle.event_history.specs.declared.history.Entry.{Entry}
 use Rattle.event_history.specs.declared.history.Met.{Met}
 use Rattle.event_history.specs.declared.history.View.{View}
 use Rattle.event_history.specs.History.{Machine, calls_by, StartsWith, IsNumber, AllDiffer, Stood, EachRests, LeadsTo, Leads, Looks, newcomer}
 
--- only the owner has a state out, and it is this one
-abbrev pub IsOut : {S : Type 0} → ℕ → S → ℕ → List S → Type 0
-IsOut owner q by [] = Unit {0}
-IsOut owner q by (o ∷ os) = (by ≡ owner) × (o ≡ q)
+-- Only the owner has a state out, and it is this one. Once the owner owes a wake, the word says that others may sleep
+abbrev pub IsOut : {S : Type 0} → ℕ → ℕ → S → ℕ → Bool → List S → Type 0
+IsOut word owner q by owes [] = Unit {0}
+IsOut word owner q by owes (o ∷ os) = (by ≡ owner) × (o ≡ q) × (owes ≡ true → word ≡ 2)
 
 module _ {S C : Type 0} where
   -- a hand that another one took in
@@ -20,7 +18,7 @@ module _ {S C : Type 0} where
   spent_view = record { by = []; seen = []; mine = []; out = []; met = []; spent = true; owes = false }
 
   module _ (views : List (View S C)) (log : List (Entry C)) where
-    -- the seat of that number is spent, and this is what was known of it
+    -- the mark of that number is spent, and this is what was known of it
     pub record Knows (number : ℕ) (m : Met C) : Type 0 where
       pub view : View S C
       pub at : get_elem? views number ≡ some view
@@ -44,71 +42,71 @@ module _ {S C : Type 0} where
 
 module _ {S C : Type 0} (machine : Machine S C) where
   -- the state at home, or the one that a hand has taken out, is where the history leads
-  abbrev pub Stands : ℕ → List (home.Option S) → List (View S C) → List (Entry C) → Type 0
-  Stands w [] views log = ⊥
-  Stands w (none ∷ hs) views log = (w ≢ 0) × (owner : ℕ) × (q : S) × LeadsTo machine log q × ((by : ℕ) (v : View S C) → get_elem? views by ≡ some v → IsOut owner q by v.out)
-  Stands w (some q ∷ hs) views log = (w ≡ 0) × LeadsTo machine log q × ((by : ℕ) (v : View S C) → get_elem? views by ≡ some v → v.out ≡ [])
+  abbrev pub Stands : ℕ → Option S → List (View S C) → List (Entry C) → Type 0
+  Stands word None views log = ((word ≡ 1) ⊎ (word ≡ 2)) × (owner : ℕ) × (q : S) × LeadsTo machine log q × ((by : ℕ) (v : View S C) → get_elem? views by ≡ some v → IsOut word owner q by v.owes v.out)
+  Stands word (Some q) views log = (word ≡ 0) × LeadsTo machine log q × ((by : ℕ) (v : View S C) → get_elem? views by ≡ some v → v.out ≡ [])
 
-  pub record Kept (s : State S (View S C)) : Type 0 where
+  pub record Kept (word : ℕ) (home : Option S) (views : List (View S C)) : Type 0 where
     pub log : List (Entry C)
-    pub wide : length s.words ≡ 1
-    pub fits : (by : ℕ) (v : View S C) → get_elem? s.views by ≡ some v → Fits s.views log by v
-    pub others : (by : ℕ) → length s.views ≤ by → calls_by by log ≡ []
-    pub stands : Stands (slice_index s.words 0) s.homes s.views log
+    pub fits : (by : ℕ) (v : View S C) → get_elem? views by ≡ some v → Fits views log by v
+    pub others : (by : ℕ) → length views ≤ by → calls_by by log ≡ []
+    pub stands : Stands word home views log
     pub rested : EachRests machine.rests log
 
--- a seat's view, and what it has taken out
-abbrev pub Sat : Type 0 → Type 0 → Type 0
-Sat S C = Me S (View S C)
-
+-- Of a step with a mark: what the mark knows before and after it, v and w, what its hand has taken out before and after it, out
+-- and out', and the word that the step found, r.
 module _ {S C : Type 0} where
-  -- a new seat has seen some history
-  abbrev pub entered : Step S → Sat S C → ℕ → Sat S C → Type 0
-  entered st m r n = (seen : List (Entry C)) × (n.0 ≡ newcomer seen) × (n.1 ≡ [])
+  -- a new mark has seen some history
+  abbrev pub entered : View S C → ℕ → View S C → Type 0
+  entered v r w = (seen : List (Entry C)) × (w ≡ newcomer seen)
 
-  -- the seat has the state alone
-  abbrev pub Holds : View S C → Sat S C → Type 0
-  Holds v n = (q : S) × (n ≡ (record v { out = q ∷ [] }, (0, q) ∷ []))
+  -- the hand has the state alone
+  abbrev pub Holds : View S C → View S C → Option S → Type 0
+  Holds v w out' = (q : S) × (w ≡ record v { out = q ∷ [] }) × (out' ≡ Some q)
 
-  -- where the word was 0, it has it now
-  abbrev pub taken : Step S → Sat S C → ℕ → Sat S C → Type 0
-  taken st m r n = (r ≡ 0 → Holds m.0 n) × (r ≢ 0 → n ≡ m)
+  -- where the word was as expected, the hand has the state, and what it knew is u; else nothing has changed
+  abbrev pub Tries : View S C → ℕ → View S C → Option S → ℕ → View S C → Option S → Type 0
+  Tries u old v out r w out' = (r ≡ old → Holds u w out') × (r ≢ old → (w ≡ v) × (out' ≡ out))
 
-  -- the hand owes the mark, or not
+  abbrev pub taken : ℕ → ℕ → View S C → Option S → ℕ → View S C → Option S → Type 0
+  taken old new v = Tries v old v
+
+  -- the hand owes others a wake, or not
   abbrev pub owing : Bool → View S C → View S C
   owing owes v = record v { owes = owes }
 
-  -- a new seat has seen some history. Where the word was 0, it has the state; where it was 2, it owes the mark that it wrote over
-  abbrev pub arrived : Step S → Sat S C → ℕ → Sat S C → Type 0
-  arrived st m r n = (seen : List (Entry C)) × (r ≡ 0 → Holds (newcomer seen) n) × (r ≡ 2 → n ≡ (owing true (newcomer seen), [])) × (r ≢ 0 → r ≢ 2 → n ≡ (newcomer seen, []))
+  -- a new mark has seen some history, and its hand has the state where the word was as expected
+  abbrev pub arrived : ℕ → ℕ → View S C → Option S → ℕ → View S C → Option S → Type 0
+  arrived old new v out r w out' = (seen : List (Entry C)) × Tries (newcomer seen) old (newcomer seen) out r w out'
 
-  -- the word has the mark, so the seat does not owe it; where the word was 0, the seat has the state
-  abbrev pub marked : Step S → Sat S C → ℕ → Sat S C → Type 0
-  marked st m r n = taken st (owing false m.0, m.1) r n
+  -- the same as `taken`, and the word says that others may sleep, so the hand owes them nothing
+  abbrev pub taken_awaited : ℕ → ℕ → View S C → Option S → ℕ → View S C → Option S → Type 0
+  taken_awaited old new v = Tries (owing false v) old v
 
-  -- the seat owes the mark from here on
-  abbrev pub slept : Step S → Sat S C → ℕ → Sat S C → Type 0
-  slept st m r n = n ≡ (owing true m.0, m.1)
+  -- the hand waits for the state, maybe among others, which it owes a wake once it has it
+  abbrev pub awaited : ℕ → ℕ → View S C → Option S → ℕ → View S C → Option S → Type 0
+  awaited old new v out r w out' = (w ≡ owing true v) × (out' ≡ out)
 
-  -- the seat owes it no longer
-  abbrev pub woke : Step S → Sat S C → ℕ → Sat S C → Type 0
-  woke st m r n = n ≡ (owing false m.0, m.1)
-
-  -- a new seat has the state alone, or has just seen some history
-  abbrev pub Arrived : Bool → Sat S C → Type 0
-  Arrived takes n = (seen : List (Entry C)) × MatchBool takes (Holds (newcomer seen) n) (n ≡ (newcomer seen, []))
+  -- it owes that no longer
+  abbrev pub woke : View S C → ℕ → View S C → Type 0
+  woke v r w = w ≡ owing false v
 
   module _ (machine : Machine S C) where
     -- the state that was out is at home, changed by the call
-    abbrev pub Returns : Sat S C → C → View S C → Type 0
-    Returns m call w = (q : S) × (r : S) × (m.0.out ≡ q ∷ []) × (m.1 ≡ (0, r) ∷ []) × Leads machine m.0 call q r w
+    abbrev pub Returns : View S C → Option S → C → View S C → Type 0
+    Returns v out call w = (q : S) × (r : S) × (v.out ≡ q ∷ []) × (out ≡ Some r) × Leads machine v call q r w
 
-    -- by a call of which this was said; where the word was 2, the seat owes the mark that it wrote over
-    abbrev pub PutsBack : (C → Type 0) → Sat S C → ℕ → Sat S C → Type 0
-    PutsBack made m r n = (n.1 ≡ rest m.1) × (c : C) × made c × (w : View S C) × Returns m c w × (r ≡ 2 → n.0 ≡ owing true w) × (r ≢ 2 → n.0 ≡ w)
+    -- by a call of which this was said
+    abbrev pub PutsBack : (C → Type 0) → View S C → Option S → View S C → Option S → Type 0
+    PutsBack made v out w out' = (out' ≡ None) × (c : C) × made c × Returns v out c w
 
-    abbrev pub extended : (C → Type 0) → Step S → Sat S C → ℕ → Sat S C → Type 0
-    extended made st m r n = PutsBack made m r n
+    -- where the word was as expected; else others may sleep, and the hand owes one of them a wake
+    abbrev pub put_back : (C → Type 0) → ℕ → ℕ → View S C → Option S → ℕ → View S C → Option S → Type 0
+    put_back made old new v out r w out' = (r ≡ old → PutsBack made v out w out') × (r ≢ old → (w ≡ owing true v) × (out' ≡ out))
 
-    abbrev pub looked : Step S → Sat S C → ℕ → Sat S C → Type 0
-    looked st m r n = (n.1 ≡ m.1) × Looks machine m.0 n.0
+    -- the word was as expected, and the hand still owes that
+    abbrev pub put_awaited : (C → Type 0) → ℕ → ℕ → View S C → Option S → ℕ → View S C → Option S → Type 0
+    put_awaited made old new v out r w out' = (r ≡ old) × (u : View S C) × (w ≡ owing true u) × PutsBack made (owing false v) out u out'
+
+    abbrev pub looked : View S C → ℕ → View S C → Type 0
+    looked v r w = Looks machine v w

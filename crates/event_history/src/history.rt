@@ -58,8 +58,8 @@ pub struct Met<C> {
 }
 
 /// What a hand knows: its number once it made a call, the history that it has seen, its own calls in it, the state that
-/// it took out, the hands that it took in, whether another one took it in, and whether it owes the mark of the lock's word:
-/// others may sleep that it keeps no mark of.
+/// it took out, the hands that it took in, whether another one took it in, and whether it owes others a wake: they may sleep
+/// until the state is given back, and the lock's word may not say so.
 pub struct View<S, C> {
     pub by: LinkedList<u64>,
     pub seen: LinkedList<Entry<C>>,

@@ -1,17 +1,15 @@
 //! Which hand something is.
 ghost use Rattle.std.specs.Prelude.{◌≡◌, ℕ, length};
 ghost use Rattle.std.specs.Borrow.{ftrue};
-ghost use Rattle.atomic_table.specs.Seated.{TableId, table_id_coded};
 
-use crate::rest::Rest;
-use atomic_table::Seat;
+use event_slot::{Mark, Rest};
 use std::marker::{Model, Send, Sync};
 
-/// Which seat a hand has, or which hand rests, if one does, for proofs alone: it takes no memory. It names no state and no call,
+/// Which mark a hand has, or which hand rests, if one does, for proofs alone: it takes no memory. It names no state and no call,
 /// so that a hand goes to another thread with little proof.
 #[derive(Drop)]
 pub(crate) struct Identity {
-    pub ghost table_id: { TableId } by { table_id_coded },
+    pub ghost slot: { ℕ },
     pub ghost id: { ℕ },
     pub ghost hands: { ℕ },
 }
@@ -26,10 +24,10 @@ unsafe impl Send for Identity {}
 unsafe impl Sync for Identity {}
 
 impl Identity {
-    /// Of the hand that has this seat. The call does nothing at run time.
+    /// Of the hand that has this mark. The call does nothing at run time.
     #[inline(always)]
-    pub(crate) fn of_seat<S, V>(_seat: &Seat<S, V>) -> Self
-        ensures { (result.table_id ≡ _seat.now.table_id) × (result.id ≡ _seat.now.id) }
+    pub(crate) fn of_mark<V>(_mark: &Mark<V>) -> Self
+        ensures { (result.slot ≡ _mark.now.slot) × (result.id ≡ _mark.now.id) }
     {
         Identity {}
     }
@@ -37,8 +35,8 @@ impl Identity {
     /// Of the hand that rests here, or of none. The call does nothing at run time.
     #[inline(always)]
     pub(crate) fn of_rest<V>(_rest: &Rest<V>) -> Self
-        ensures { (result.table_id ≡ _rest.now.badge.table_id) × (result.id ≡ _rest.now.badge.id)
-            × (result.hands ≡ length _rest.now.badge.views) }
+        ensures { (result.slot ≡ _rest.now.slot) × (result.id ≡ _rest.now.id)
+            × (result.hands ≡ length _rest.now.views) }
     {
         Identity {}
     }

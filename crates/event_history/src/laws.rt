@@ -13,7 +13,7 @@ ghost use Rattle.event_history.specs.declared.history.Entry.{Entry};
 ghost use Rattle.event_history.specs.declared.history.View.{View};
 ghost use Rattle.event_history.specs.declared.queue_call.QueueCall.{QueueCall};
 ghost use Rattle.event_history.specs.declared.queue_call.QueueCall.TheVariants.{Insert, Register, Remove, Notify, Counts};
-ghost use Rattle.event_history.specs.History.{entry, calls_by, newcomer, StartsWith, IsAmong, AreAmong, EachRests, Runs, LeadsTo, Leads, Extends, Looks, machine_of};
+ghost use Rattle.event_history.specs.History.{entry, calls_by, newcomer, StartsWith, IsAmong, AreAmong, EachRests, Runs, LeadsTo, Leads, Extends, Looks, both_views, machine_of};
 ghost use Rattle.event_history.specs.Queue.{calls, queue_machine, rests_on};
 ghost use Rattle.event_history.specs.Laws.{QueueLog, IsTold, Waits, IsIn, Stays, EachStays, Listens, OwnsListener, FindsTold, TellsFirst, GoesToFirst, WasTold};
 
@@ -223,12 +223,15 @@ pub fn passes_on<T, W>()
         → FindsTold propagate reply }
 {}
 
-/// A hand has seen, after a call, all that it had seen before. A hand that another one made calls after all that the other
-/// one had seen by then.
+/// A hand has seen, after a call, all that it had seen before, and after it took another one in, all that the other one had seen.
+/// A hand that another one made calls after all that the other one had seen by then.
 pub fn told_hands_call_later<S: Steps>()
     ensures seen { (start : S.Start) (v w : View S S.Call) (call : S.Call)
         → Extends (machine_of S.Steps start) v call w
         → StartsWith w.seen v.seen }
+    ensures took_in { (start : S.Start) (v other w : View S S.Call)
+        → Looks (machine_of S.Steps start) (both_views v other) w
+        → StartsWith w.seen other.seen }
     ensures later { (start : S.Start) (v w : View S S.Call) (call : S.Call)
         → Extends (machine_of S.Steps start) (newcomer v.seen) call w
         → (between : List (Entry S.Call))

@@ -1,10 +1,10 @@
 //! A state behind a lock, and one history of all calls on it, which is ghost: compiled code has no trace of it.
 //!
-//! A [`Traced`] state is taken by one compare-exchange and given back by one swap. In proofs a list of all calls stands
-//! behind the lock, each with its reply and the [`Hand`] that made it. It runs, call by call, from the state at the start
-//! to the state as it is, by the relation of [`Steps`]. What is given of the start when the lock is made, as the capacity of a
-//! channel, is known from then on. A hand is a caller's right to call, of no bytes. It knows a history that the one behind the
-//! lock begins with, and its own calls in it.
+//! A [`Traced`] state is taken by one compare-exchange and given back by another. It lies in a slot of `event_slot`, so no
+//! memory is allocated for it. In proofs a list of all calls stands behind the lock, each with its reply and the [`Hand`] that
+//! made it. It runs, call by call, from the state at the start to the state as it is, by the relation of [`Steps`]. What is
+//! given of the start when the lock is made, as the capacity of a channel, is known from then on. A hand is a caller's right to
+//! call, of no bytes. It knows a history that the one behind the lock begins with, and its own calls in it.
 //!
 //! So the clause of a call says: *there is one history; it runs from the start; it begins with all that this hand had
 //! seen; it ends with this call and its reply; and the calls of this hand in it are just those that it made, each once, in
@@ -34,7 +34,6 @@ mod laws;
 mod lock;
 mod queue_call;
 mod request;
-mod rest;
 mod rule;
 mod step;
 pub mod steps;
@@ -52,7 +51,6 @@ pub use laws::{
 pub use lock::Lock;
 pub use queue_call::QueueCall;
 pub use request::{Attempt, Request};
-pub use rest::Rest;
 pub use rule::Rule;
 pub use step::Step;
 pub use traced::{Traced, wait_to_take};

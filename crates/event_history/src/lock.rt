@@ -17,13 +17,12 @@ use crate::traced::Traced;
 use crate::{make, take_out};
 use event_queue::TaskExchange;
 use event_wait::{Attempted, DeferredWake, Task, WakerSource};
-use std::alloc::{AllocError, Global};
 use std::marker::{Brand, Model};
 use std::sync::Wait;
 
 /// A state under a lock, with one history of all calls on it, and the queues of those that wait for something of it.
 ///
-/// A contract sees the number of the source at which tasks that wait are registered, the table that the state is in, and what
+/// A contract sees the number of the source at which tasks that wait are registered, the name of the lock, and what
 /// was given of its start.
 #[derive(Drop)]
 pub struct Lock<S: Steps> {
@@ -38,29 +37,22 @@ impl<S: Steps> Model for Lock<S> {
 
     ghost view = { λ lock. record {
       source = lock.source;
-      table = lock.traced.table.shared.table_id;
-      start = lock.traced.table.shared.key;
+      table = lock.traced.slot.name;
+      start = lock.traced.slot.key;
     } };
 }
 
 impl<S: Steps> Lock<S> {
-    /// A lock round this state, and a first hand. The call allocates, and returns an error if that fails, which drops the
-    /// state. The state starts as `start` says, which no program sees.
-    pub fn new(
-        alloc: Global,
-        state: S,
-        start: &S::Start,
-    ) -> Result<(Self, Hand<S, S::Call>), AllocError>
-    where
-        S: Drop,
+    /// A lock round this state, and a first hand. The call does not allocate. The state starts as `start` says, which no program
+    /// sees.
+    pub fn new(state: S, start: &S::Start) -> (Self, Hand<S, S::Call>)
         requires starts { S.starts start.now state }
-        ensures start { IfOk result (λ made. made.0.start ≡ start.now) }
-        ensures hand { IfOk result (λ made. IsOf made.0.table made.1
-            × (known_by made.1 ≡ newcomer [])) }
+        ensures start { result.0.start ≡ start.now }
+        ensures hand { IsOf result.0.table result.1 × (known_by result.1 ≡ newcomer []) }
     {
-        let (traced, hand) = Traced::new(alloc, state, start)?;
+        let (traced, hand) = Traced::new(state, start);
         let source = WakerSource::new();
-        Ok((Lock { traced, source }, hand))
+        (Lock { traced, source }, hand)
     }
 
     /// A hand that made no call yet, and has seen the history so far. It is one load.
@@ -99,20 +91,20 @@ impl<S: Steps> Lock<S> {
         ensures kept { IfErr result (λ back. (back ≡ step) × (beside.new ≡ beside.old)
             × (known_by hand.new ≡ known_by hand.old)) }
     {
-        let seat = &mut hand.seat;
-        if !self.traced.try_take(seat) {
-            return Err(step);
-        }
+        let mark = &mut hand.mark;
         let traced = &self.traced;
-        Ok(make!(traced, seat, step, beside))
+        match traced.try_take(mark) {
+            Some(claim) => Ok(make!(traced, claim, mark, step, beside)),
+            None => Err(step),
+        }
     }
 
     /// The state alone, for [`perform!`](crate::perform).
     #[doc(hidden)]
     #[inline(always)]
     pub fn traced(&self) -> &Traced<S>
-        ensures table { result.now.table.shared.table_id ≡ self.now.table }
-        ensures start { result.now.table.shared.key ≡ self.now.start }
+        ensures table { result.now.slot.name ≡ self.now.table }
+        ensures start { result.now.slot.key ≡ self.now.start }
     {
         &self.traced
     }
@@ -239,11 +231,11 @@ impl<S: Steps> Lock<S> {
     {
         let mut waking = DeferredWake::new();
         let traced = &self.traced;
-        let seat = &mut hand.seat;
-        take_out!(traced, rt, seat);
-        let state = seat.slot_mut(&traced.table.shared, 0);
+        let mark = &mut hand.mark;
+        let mut claim = take_out!(traced, rt, mark);
+        let state = claim.state_mut();
         let answer = request.attempt_or_wait(state, exchange, on, &mut waking);
-        traced.give_back::<Brand, _, _>(seat, &answer, &*request);
+        traced.give_back::<Brand, _, _>(claim, mark, &answer, &*request);
         waking.finish_seldom();
         answer
     }
@@ -291,11 +283,11 @@ impl<S: Steps> Lock<S> {
     {
         let mut waking = DeferredWake::new();
         let traced = &self.traced;
-        let seat = &mut hand.seat;
-        take_out!(traced, rt, seat);
-        let state = seat.slot_mut(&traced.table.shared, 0);
+        let mark = &mut hand.mark;
+        let mut claim = take_out!(traced, rt, mark);
+        let state = claim.state_mut();
         let answer = request.leave(state, &mut waking);
-        traced.give_back::<Brand, _, _>(seat, &answer, &*request);
+        traced.give_back::<Brand, _, _>(claim, mark, &answer, &*request);
         waking.finish_seldom();
         answer
     }

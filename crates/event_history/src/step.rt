@@ -1,13 +1,14 @@
 //! A call on a traced state.
-ghost use Rattle.std.specs.Prelude.{◌≡◌, ◌∷◌, [], false};
-ghost use Rattle.event_history.specs.Hands.{IsOf, SameTable, known_by};
+ghost use Rattle.std.specs.Prelude.{◌≡◌, ◌∷◌, [], false, Some};
+ghost use Rattle.event_history.specs.Hands.{IsClaimOf, IsOf, SameTable, known_by};
 ghost use Rattle.event_history.specs.History.{AreAmong, ExtendsThat, machine_of};
 
 use crate::hand::Hand;
 use crate::history::{Steps, View};
-use crate::traced::{Traced, wait_to_take};
+use crate::rule::Rule;
+use crate::traced::Traced;
 use crate::{make, take_out};
-use atomic_table::Seat;
+use event_slot::{Claim, Mark};
 use std::marker::Brand;
 use std::snapshot::Snapshot;
 use std::sync::Wait;
@@ -16,9 +17,10 @@ use std::sync::Wait;
 /// this is no function: what is at home is taken with no such test.
 #[macro_export]
 macro_rules! take_out {
-    ($traced:expr, $rt:expr, $seat:expr) => {
-        if !$traced.try_take($seat) {
-            $crate::wait_to_take($traced, $rt, $seat);
+    ($traced:expr, $rt:expr, $mark:expr) => {
+        match $traced.try_take($mark) {
+            Some(claim) => claim,
+            None => $crate::wait_to_take($traced, $rt, $mark),
         }
     };
 }
@@ -44,25 +46,26 @@ pub trait Step<S: Steps, B> {
         ensures does { does self state.old beside.old result state.new beside.new };
 }
 
-/// Makes one call on the state that is out with this seat, gives the state back, and is what the call replied. It is no
+/// Makes one call on the state that is out with this claim, gives the state back, and is what the call replied. It is no
 /// function, as `take_out!`: a step that wakes others may wait. What makes the step may stand last, as
 /// `|step, state, beside| ..`; by default it is [`Step::make`](crate::Step::make).
 #[doc(hidden)]
 #[macro_export]
 macro_rules! make {
-    ($traced:expr, $seat:expr, $step:expr, $beside:expr) => {
-        $crate::make!($traced, $seat, $step, $beside, |step, state, beside| {
+    ($traced:expr, $claim:expr, $mark:expr, $step:expr, $beside:expr) => {
+        $crate::make!($traced, $claim, $mark, $step, $beside, |step, state, beside| {
             $crate::Step::make(step, state, beside)
         })
     };
-    ($traced:expr, $seat:expr, $step:expr, $beside:expr, |$own:ident, $state:ident, $on:ident| $made:expr) => {{
+    ($traced:expr, $claim:expr, $mark:expr, $step:expr, $beside:expr, |$own:ident, $state:ident, $on:ident| $made:expr) => {{
+        let mut claim = $claim;
         let $own = $step;
         let asked = std::snapshot::Snapshot::of(&$own);
         let before = std::snapshot::Snapshot::of(&*$beside);
-        let $state = $seat.slot_mut(&$traced.table.shared, 0);
+        let $state = claim.state_mut();
         let $on = &mut *$beside;
         let reply = $made;
-        $traced.end($seat, asked, before, &reply, &*$beside);
+        $traced.end(claim, $mark, asked, before, &reply, &*$beside);
         reply
     }};
 }
@@ -76,10 +79,10 @@ macro_rules! make {
 macro_rules! perform {
     ($lock:expr, $rt:expr, $hand:expr, $step:expr, $beside:expr $(, |$own:ident, $state:ident, $on:ident| $made:expr)?) => {{
         let traced = $lock.traced();
-        let seat = &mut $hand.seat;
-        $crate::take_out!(traced, $rt, seat);
+        let mark = &mut $hand.mark;
+        let claim = $crate::take_out!(traced, $rt, mark);
         let beside = &mut *$beside;
-        $crate::make!(traced, seat, $step, beside $(, |$own, $state, $on| $made)?)
+        $crate::make!(traced, claim, mark, $step, beside $(, |$own, $state, $on| $made)?)
     }};
 }
 
@@ -90,14 +93,15 @@ macro_rules! perform {
 macro_rules! perform_first {
     ($lock:expr, $rt:expr, $step:expr, $beside:expr $(, |$own:ident, $state:ident, $on:ident| $made:expr)?) => {{
         let traced = $lock.traced();
-        let (takes, seat) = traced.arrive();
-        let mut seat = seat;
-        if !takes {
-            $crate::wait_to_take(traced, $rt, &mut seat);
-        }
+        let (arrived, mark) = traced.arrive();
+        let mut mark = mark;
+        let claim = match arrived {
+            Some(claim) => claim,
+            None => $crate::wait_to_take(traced, $rt, &mut mark),
+        };
         let beside = &mut *$beside;
-        let reply = $crate::make!(traced, &mut seat, $step, beside $(, |$own, $state, $on| $made)?);
-        ($crate::Hand::of(seat), reply)
+        let reply = $crate::make!(traced, claim, &mut mark, $step, beside $(, |$own, $state, $on| $made)?);
+        ($crate::Hand::of(mark), reply)
     }};
 }
 
@@ -112,44 +116,44 @@ impl<S: Steps> Traced<S> {
         step: K,
         beside: &mut B,
     ) -> K::Reply
-        requires hand { IsOf self.now.table.shared.table_id hand.old }
+        requires hand { IsOf self.now.slot.name hand.old }
         requires may { K.may step }
         requires rests { (reply : K.Reply)
             → AreAmong (S.rests (K.call step reply)) (known_by hand.old).mine }
         ensures hand { SameTable hand.old hand.new }
-        ensures call { ExtendsThat (machine_of S.Steps self.now.table.shared.key)
+        ensures call { ExtendsThat (machine_of S.Steps self.now.slot.key)
             (λ before after. K.does step before beside.old result after beside.new)
             (known_by hand.old) (K.call step result) (known_by hand.new) }
     {
-        let seat = &mut hand.seat;
-        take_out!(self, rt, seat);
-        make!(self, seat, step, beside)
+        let mark = &mut hand.mark;
+        let claim = take_out!(self, rt, mark);
+        make!(self, claim, mark, step, beside)
     }
 
-    /// Ends the call of this step, which was made on the state that is out with this seat: gives the state back.
+    /// Ends the call of this step, which was made on the state that is out with this claim: gives the state back.
     #[doc(hidden)]
     #[inline(always)]
     pub fn end<B, K: Step<S, B>>(
         &self,
-        seat: &mut Seat<S, View<S, S::Call>>,
+        claim: Claim<'_, Rule, S>,
+        mark: &mut Mark<View<S, S::Call>>,
         step: Snapshot<K>,
         before: Snapshot<B>,
         reply: &K::Reply,
         after: &B,
     )
-        requires seat { seat.old.table_id ≡ self.now.table.shared.table_id }
-        requires made { (q : S) × (r : S) × (seat.old.me.0.out ≡ q ∷ [])
-            × (seat.old.me.1 ≡ (0, r) ∷ []) × (seat.old.me.0.spent ≡ false)
-            × (seat.old.me.0.owes ≡ false)
+        requires claim { IsClaimOf self.now.slot.name self.now.slot.key claim }
+        requires mark { mark.old.slot ≡ self.now.slot.name }
+        requires made { (q : S) × (r : S) × (mark.old.view.out ≡ q ∷ []) × (claim.state ≡ Some r)
+            × (mark.old.view.spent ≡ false) × (mark.old.view.owes ≡ false)
             × S.goes q (K.call step.value reply.now) r
             × K.does step.value q before.value reply.now r after.now }
-        requires rests { AreAmong (S.rests (K.call step.value reply.now)) seat.old.me.0.mine }
-        ensures seat { (seat.new.table_id ≡ seat.old.table_id) × (seat.new.id ≡ seat.old.id)
-            × (seat.new.me.1 ≡ []) }
-        ensures call { ExtendsThat (machine_of S.Steps self.now.table.shared.key)
-            (λ q r. K.does step.value q before.value reply.now r after.now) seat.old.me.0
-            (K.call step.value reply.now) seat.new.me.0 }
+        requires rests { AreAmong (S.rests (K.call step.value reply.now)) mark.old.view.mine }
+        ensures mark { (mark.new.slot ≡ mark.old.slot) × (mark.new.id ≡ mark.old.id) }
+        ensures call { ExtendsThat (machine_of S.Steps self.now.slot.key)
+            (λ q r. K.does step.value q before.value reply.now r after.now) mark.old.view
+            (K.call step.value reply.now) mark.new.view }
     {
-        self.give_back::<Brand, _, _>(seat, reply, &step);
+        self.give_back::<Brand, _, _>(claim, mark, reply, &step);
     }
 }

@@ -71,7 +71,7 @@ impl<R: Wait + Clock> Step<Tally, &R> for AddSlowly {
 
 #[test]
 fn threads_that_meet_add_in_one_history(rt: HostRuntime) -> Result<(), Fail> {
-    let (tally, first) = Traced::new(rt.alloc(), Tally { sum: 0 }, &0)?;
+    let (tally, first) = Traced::new(Tally { sum: 0 }, &0);
     first.end();
     let shared = &tally;
     let added = thread::map_indices(
@@ -100,7 +100,7 @@ fn threads_that_meet_add_in_one_history(rt: HostRuntime) -> Result<(), Fail> {
 // Each thread but the first finds the state taken for far longer than it pauses, so it sleeps, and has to be woken.
 #[test]
 fn a_thread_that_sleeps_for_the_state_is_woken(rt: HostRuntime) -> Result<(), Fail> {
-    let (tally, first) = Traced::new(rt.alloc(), Tally { sum: 0 }, &0)?;
+    let (tally, first) = Traced::new(Tally { sum: 0 }, &0);
     first.end();
     let shared = &tally;
     let before = thread::map_indices(
@@ -129,7 +129,7 @@ fn a_thread_that_sleeps_for_the_state_is_woken(rt: HostRuntime) -> Result<(), Fa
 
 #[test]
 fn a_hand_at_rest_is_shared_by_threads(rt: HostRuntime) -> Result<(), Fail> {
-    let (tally, hand) = Traced::new(rt.alloc(), Tally { sum: 0 }, &0)?;
+    let (tally, hand) = Traced::new(Tally { sum: 0 }, &0);
     let mut resting = hand.rest();
     assert!(rt; mem::size_of_val(&resting) == 0);
     let shared = &resting;

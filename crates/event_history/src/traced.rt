@@ -1,17 +1,17 @@
 //! A state under a lock of one word.
-ghost use Rattle.std.specs.Prelude.{◌≡◌, ◌∷◌, [], false, true, IfOk, MatchBool};
-ghost use Rattle.event_history.specs.Hands.{IsOf, SameTable, known_by};
+ghost use Rattle.std.specs.Prelude.{◌≡◌, ◌∷◌, [], false, true, None, Some, IfSome};
+ghost use Rattle.event_history.specs.Hands.{IsClaimOf, IsOf, SameTable, known_by};
 ghost use Rattle.event_history.specs.History.{AreAmong, Looks, both_views, machine_from, machine_of, newcomer};
-ghost use Rattle.event_history.specs.Rule.{Arrived, Holds, PutsBack, Returns, owing};
+ghost use Rattle.event_history.specs.Rule.{Holds, PutsBack, Returns, owing};
 
 use crate::hand::Hand;
 use crate::history::{Made, Steps, View};
 use crate::rule::{
-    Absorb, Arrive, Begins, Enter, GiveBack, Look, Mark, Rule, Sleep, Take, Tell, Wake,
+    Absorb, Arrive, Await, Begins, Enter, Look, PutAwaited, PutBack, Rule, Take, TakeAwaited, Tell,
+    Wake,
 };
-use atomic_table::{Refused, Seat, Table};
+use event_slot::{Claim, Mark, Slot};
 use event_wait::{PAUSES, pause};
-use std::alloc::{AllocError, Global};
 use std::marker::Brand;
 use std::sync::Wait;
 
@@ -22,103 +22,103 @@ const TAKEN: u64 = 1;
 
 const AWAITED: u64 = 2;
 
-/// A state that threads share, under a lock, with one history of all calls on it.
+/// A state that threads share, under a lock, with one history of all calls on it. It lies in place.
 ///
-/// A contract knows it by the `table_id` of its table, and by the `key` of the table what was given of its start.
+/// A contract knows it by the `name` of its slot, and by the `key` of the slot what was given of its start.
 pub struct Traced<S: Steps> {
     #[doc(hidden)]
-    pub table: Table<S, View<S, S::Call>, S::Start, Rule<S>, Global>,
-    ghost sized: { (table.shared.table_id.words ≡ 1) × (table.shared.table_id.slots ≡ 1) },
+    pub slot: Slot<Rule, S>,
 }
 
 impl<S: Steps> Traced<S> {
-    /// A state under a lock, with no calls, and a first hand. The call allocates the state's place and the lock's word, and
-    /// returns an error if that fails, which drops the state. The state starts as `start` says, which no program sees.
-    pub fn new(
-        alloc: Global,
-        state: S,
-        start: &S::Start,
-    ) -> Result<(Self, Hand<S, S::Call>), AllocError>
-    where
-        S: Drop,
+    /// A state under a lock, with no calls, and a first hand. The call does not allocate. The state starts as `start` says,
+    /// which no program sees.
+    pub fn new(state: S, start: &S::Start) -> (Self, Hand<S, S::Call>)
         requires starts { S.starts start.now state }
-        ensures start { IfOk result (λ t. t.0.table.shared.key ≡ start.now) }
-        ensures hand { IfOk result (λ t. IsOf t.0.table.shared.table_id t.1
-            × (known_by t.1 ≡ newcomer [])) }
+        ensures start { result.0.slot.key ≡ start.now }
+        ensures hand { IsOf result.0.slot.name result.1 × (known_by result.1 ≡ newcomer []) }
     {
-        let mut slots = Vec::with_capacity(alloc, 1)?;
-        if let Err(_) = slots.push(state) {
-            return Err(AllocError);
-        }
-        match Table::new(alloc, &[FREE], slots, start) {
-            Ok((table, seat)) => Ok((Traced { table }, Hand::of(seat))),
-            Err(Refused { slots: _ }) => Err(AllocError),
-        }
+        let (slot, mark) = Slot::new(Rule, state, FREE, start);
+        (Traced { slot }, Hand::of(mark))
     }
 
     /// A hand that made no call yet, and has seen the history so far. It is one load.
     #[inline(always)]
     pub fn hand(&self) -> Hand<S, S::Call>
-        ensures { IsOf self.now.table.shared.table_id result
+        ensures { IsOf self.now.slot.name result
             × (known_by result ≡ newcomer (known_by result).seen) }
     {
-        Hand::of(self.table.shared.load_new_seat::<Enter>(0).1)
+        Hand::of(self.slot.enter::<Enter>().1)
     }
 
-    /// Takes the state out, if no other hand has it. It leaves no mark, so the hand may owe none.
+    /// Takes the state out, if no other hand has it. It can't say that others may sleep, so the hand may owe none a wake.
     #[doc(hidden)]
     #[inline(always)]
-    pub fn try_take(&self, seat: &mut Seat<S, View<S, S::Call>>) -> bool
-        requires seat { (seat.old.table_id ≡ self.now.table.shared.table_id) × (seat.old.me.1 ≡ [])
-            × (seat.old.me.0.out ≡ []) × (seat.old.me.0.spent ≡ false) }
-        requires marked { seat.old.me.0.owes ≡ false }
-        ensures seat { (seat.new.table_id ≡ seat.old.table_id) × (seat.new.id ≡ seat.old.id) }
-        ensures takes { MatchBool result (Holds seat.old.me.0 seat.new.me)
-            (seat.new.me ≡ seat.old.me) }
+    pub fn try_take(&self, mark: &mut Mark<View<S, S::Call>>) -> Option<Claim<'_, Rule, S>>
+        requires mark { (mark.old.slot ≡ self.now.slot.name) × (mark.old.view.spent ≡ false)
+            × (mark.old.view.owes ≡ false) }
+        ensures mark { (mark.new.slot ≡ mark.old.slot) × (mark.new.id ≡ mark.old.id) }
+        ensures takes { IfSome result (λ claim. IsClaimOf self.now.slot.name self.now.slot.key claim
+            × Holds mark.old.view mark.new.view claim.state) }
+        ensures kept { result ≡ None → mark.new.view ≡ mark.old.view }
     {
-        self.table
-            .shared
-            .compare_exchange::<Take>(seat, 0, FREE, TAKEN)
-            == FREE
+        let (found, claim) = self.slot.claim().exchange::<Take>(mark, FREE, TAKEN);
+        if found == FREE {
+            Some(claim)
+        } else {
+            claim.done();
+            None
+        }
     }
 
-    /// A seat of a new hand, and whether it has taken the state out, since no other hand had it.
-    ///
-    /// It is one swap. Where others may sleep that swap wrote over their mark, which is put back.
+    /// A new hand's mark, and the state, if no other hand has it. It is one compare-exchange.
     #[doc(hidden)]
     #[inline(always)]
-    pub fn arrive(&self) -> (bool, Seat<S, View<S, S::Call>>)
-        ensures seat { result.1.table_id ≡ self.now.table.shared.table_id }
-        ensures takes { Arrived result.0 result.1.me }
+    pub fn arrive(&self) -> (Option<Claim<'_, Rule, S>>, Mark<View<S, S::Call>>)
+        ensures mark { (result.1.slot ≡ self.now.slot.name) }
+        ensures takes { IfSome result.0 (λ claim. IsClaimOf self.now.slot.name self.now.slot.key claim
+            × Holds (newcomer result.1.view.seen) result.1.view claim.state) }
+        ensures kept { result.0 ≡ None → result.1.view ≡ newcomer result.1.view.seen }
     {
-        let (found, seat) = self.table.shared.swap_new_seat::<Arrive>(0, TAKEN);
-        let mut seat = seat;
-        let takes = found == FREE || (found == AWAITED && self.take_awaited(&mut seat));
-        (takes, seat)
+        let (found, claim, mark) = self.slot.arrive::<Arrive>(FREE, TAKEN);
+        if found == FREE {
+            (Some(claim), mark)
+        } else {
+            claim.done();
+            (None, mark)
+        }
     }
 
-    // Takes the state out, if no other hand has it, and leaves the mark that others may sleep, which the hand may owe.
-    #[cold]
-    #[inline(never)]
-    fn take_awaited(&self, seat: &mut Seat<S, View<S, S::Call>>) -> bool
-        requires { (seat.old.table_id ≡ self.now.table.shared.table_id) × (seat.old.me.1 ≡ [])
-            × (seat.old.me.0.out ≡ []) × (seat.old.me.0.spent ≡ false) }
-        ensures seat { (seat.new.table_id ≡ seat.old.table_id) × (seat.new.id ≡ seat.old.id) }
-        ensures takes { MatchBool result (Holds (owing false seat.old.me.0) seat.new.me)
-            (seat.new.me ≡ (owing false seat.old.me.0, [])) }
+    // Takes the state out, if no other hand has it, and says that others may sleep, whom the hand may owe a wake.
+    fn take_awaited(&self, mark: &mut Mark<View<S, S::Call>>) -> Option<Claim<'_, Rule, S>>
+        requires { (mark.old.slot ≡ self.now.slot.name) × (mark.old.view.spent ≡ false) }
+        ensures mark { (mark.new.slot ≡ mark.old.slot) × (mark.new.id ≡ mark.old.id) }
+        ensures takes { IfSome result (λ claim. IsClaimOf self.now.slot.name self.now.slot.key claim
+            × Holds (owing false mark.old.view) mark.new.view claim.state) }
+        ensures kept { result ≡ None → mark.new.view ≡ mark.old.view }
     {
-        self.table.shared.swap::<Mark>(seat, 0, AWAITED) == FREE
+        let (found, claim) = self
+            .slot
+            .claim()
+            .exchange::<TakeAwaited>(mark, FREE, AWAITED);
+        if found == FREE {
+            Some(claim)
+        } else {
+            claim.done();
+            None
+        }
     }
 
-    // Sleeps while the word has the mark. Whoever is woken owes the mark: others may sleep still.
-    fn sleep<R: Wait>(&self, rt: &R, seat: &mut Seat<S, View<S, S::Call>>)
-        requires { (seat.old.table_id ≡ self.now.table.shared.table_id)
-            × (seat.old.me.0.spent ≡ false) }
-        ensures { (seat.new.table_id ≡ seat.old.table_id) × (seat.new.id ≡ seat.old.id)
-            × (seat.new.me ≡ (owing true seat.old.me.0, seat.old.me.1)) }
+    // Says that one waits, and sleeps while the word says so. Whoever is woken owes others a wake: they may sleep still.
+    fn sleep<R: Wait>(&self, rt: &R, mark: &mut Mark<View<S, S::Call>>)
+        requires { (mark.old.slot ≡ self.now.slot.name) × (mark.old.view.spent ≡ false)
+            × (mark.old.view.out ≡ []) }
+        ensures { (mark.new.slot ≡ mark.old.slot) × (mark.new.id ≡ mark.old.id)
+            × (mark.new.view ≡ owing true mark.old.view) }
     {
-        self.table.shared.park(rt, 0, AWAITED as u32);
-        self.table.shared.load::<Sleep>(seat, 0);
+        let (_, claim) = self.slot.claim().exchange::<Await>(mark, TAKEN, AWAITED);
+        claim.done();
+        self.slot.park(rt, AWAITED as u32);
     }
 
     /// Gives the state back, after the call that `K` picks of its answer and of who made it.
@@ -126,91 +126,130 @@ impl<S: Steps> Traced<S> {
     #[inline(always)]
     pub fn give_back<K: Made<S::Call>, A, M>(
         &self,
-        seat: &mut Seat<S, View<S, S::Call>>,
+        claim: Claim<'_, Rule, S>,
+        mark: &mut Mark<View<S, S::Call>>,
         answer: &A,
         maker: &M,
     )
-        requires seat { seat.old.table_id ≡ self.now.table.shared.table_id }
-        requires step { (c : S.Call) × (q : S) × (r : S) × K.made c × (seat.old.me.0.out ≡ q ∷ [])
-            × (seat.old.me.1 ≡ (0, r) ∷ []) × S.goes q c r × (seat.old.me.0.spent ≡ false)
-            × AreAmong (S.rests c) seat.old.me.0.mine }
-        requires marked { seat.old.me.0.owes ≡ false }
-        ensures seat { (seat.new.table_id ≡ seat.old.table_id) × (seat.new.id ≡ seat.old.id)
-            × (seat.new.me.1 ≡ []) }
+        requires claim { IsClaimOf self.now.slot.name self.now.slot.key claim }
+        requires mark { mark.old.slot ≡ self.now.slot.name }
+        requires step { (c : S.Call) × (q : S) × (r : S) × K.made c
+            × (mark.old.view.out ≡ q ∷ []) × (claim.state ≡ Some r) × S.goes q c r
+            × (mark.old.view.spent ≡ false) × AreAmong (S.rests c) mark.old.view.mine }
+        requires owes { mark.old.view.owes ≡ false }
+        ensures mark { (mark.new.slot ≡ mark.old.slot) × (mark.new.id ≡ mark.old.id) }
         ensures extends { (c : S.Call) × K.made c
-            × Returns (machine_of S.Steps self.now.table.shared.key) seat.old.me c
-            seat.new.me.0 }
+            × Returns (machine_of S.Steps self.now.slot.key) mark.old.view claim.entry.state c
+            mark.new.view }
     {
-        if self.put_back::<Brand, K>(seat) == AWAITED {
-            self.wake_one(seat);
+        if let Some(claim) = self.put_back::<Brand, K>(claim, mark) {
+            self.put_awaited::<Brand, K>(claim, mark);
+            self.wake_one(mark);
         }
     }
 
-    // The swap of `give_back`, which answers what the word was.
+    // Gives the state back, unless others may sleep.
     #[inline(always)]
-    fn put_back<B: Begins<S>, K: Made<S::Call>>(&self, seat: &mut Seat<S, View<S, S::Call>>) -> u64
-        requires begins { (q : S) → S.starts self.now.table.shared.key q → B.begins q }
-        requires seat { seat.old.table_id ≡ self.now.table.shared.table_id }
-        requires step { (c : S.Call) × (q : S) × (r : S) × K.made c × (seat.old.me.0.out ≡ q ∷ [])
-            × (seat.old.me.1 ≡ (0, r) ∷ []) × S.goes q c r × (seat.old.me.0.spent ≡ false)
-            × AreAmong (S.rests c) seat.old.me.0.mine }
-        ensures seat { (seat.new.table_id ≡ seat.old.table_id) × (seat.new.id ≡ seat.old.id) }
-        ensures extended { PutsBack (machine_from S.Steps B.begins) K.made seat.old.me result seat.new.me }
+    fn put_back<'a, B: Begins<S>, K: Made<S::Call>>(
+        &self,
+        claim: Claim<'a, Rule, S>,
+        mark: &mut Mark<View<S, S::Call>>,
+    ) -> Option<Claim<'a, Rule, S>>
+        requires begins { (q : S) → S.starts self.now.slot.key q → B.begins q }
+        requires claim { IsClaimOf self.now.slot.name self.now.slot.key claim }
+        requires mark { mark.old.slot ≡ self.now.slot.name }
+        requires step { (c : S.Call) × (q : S) × (r : S) × K.made c
+            × (mark.old.view.out ≡ q ∷ []) × (claim.state ≡ Some r) × S.goes q c r
+            × (mark.old.view.spent ≡ false) × AreAmong (S.rests c) mark.old.view.mine }
+        ensures mark { (mark.new.slot ≡ mark.old.slot) × (mark.new.id ≡ mark.old.id) }
+        ensures puts { result ≡ None
+            → PutsBack (machine_from S.Steps B.begins) K.made mark.old.view claim.entry.state
+            mark.new.view None }
+        ensures awaited { IfSome result (λ left. IsClaimOf self.now.slot.name self.now.slot.key left
+            × (left.state ≡ claim.entry.state) × (mark.new.view ≡ owing true mark.old.view)) }
     {
-        self.table.shared.swap::<GiveBack<S, B, K>>(seat, 0, FREE)
+        let (found, claim) = claim.exchange::<PutBack<S, B, K>>(mark, TAKEN, FREE);
+        if found == TAKEN {
+            claim.done();
+            None
+        } else {
+            Some(claim)
+        }
     }
 
-    // Wakes one that sleeps, which owes the mark in place of this hand.
+    // Gives the state back where others may sleep, as the hand knows, which still owes one of them a wake then.
     #[cold]
     #[inline(never)]
-    fn wake_one(&self, seat: &mut Seat<S, View<S, S::Call>>)
-        requires { (seat.old.table_id ≡ self.now.table.shared.table_id)
-            × (seat.old.me.0.spent ≡ false) }
-        ensures { (seat.new.table_id ≡ seat.old.table_id) × (seat.new.id ≡ seat.old.id)
-            × (seat.new.me ≡ (owing false seat.old.me.0, seat.old.me.1)) }
+    fn put_awaited<B: Begins<S>, K: Made<S::Call>>(
+        &self,
+        claim: Claim<'_, Rule, S>,
+        mark: &mut Mark<View<S, S::Call>>,
+    )
+        requires begins { (q : S) → S.starts self.now.slot.key q → B.begins q }
+        requires claim { IsClaimOf self.now.slot.name self.now.slot.key claim }
+        requires mark { mark.old.slot ≡ self.now.slot.name }
+        requires owes { mark.old.view.owes ≡ true }
+        requires step { (c : S.Call) × (q : S) × (r : S) × K.made c
+            × (mark.old.view.out ≡ q ∷ []) × (claim.state ≡ Some r) × S.goes q c r
+            × (mark.old.view.spent ≡ false) × AreAmong (S.rests c) mark.old.view.mine }
+        ensures mark { (mark.new.slot ≡ mark.old.slot) × (mark.new.id ≡ mark.old.id) }
+        ensures puts { (u : View S S.Call) × (mark.new.view ≡ owing true u)
+            × PutsBack (machine_from S.Steps B.begins) K.made (owing false mark.old.view)
+            claim.entry.state u None }
     {
-        self.table.shared.wake_one(0);
-        self.table.shared.load::<Wake>(seat, 0);
+        let (_, claim) = claim.exchange::<PutAwaited<S, B, K>>(mark, AWAITED, FREE);
+        claim.done();
+    }
+
+    // Wakes one that sleeps, to whom the hand owed that.
+    #[cold]
+    #[inline(never)]
+    fn wake_one(&self, mark: &mut Mark<View<S, S::Call>>)
+        requires { (mark.old.slot ≡ self.now.slot.name) × (mark.old.view.spent ≡ false)
+            × (mark.old.view.out ≡ []) }
+        ensures { (mark.new.slot ≡ mark.old.slot) × (mark.new.id ≡ mark.old.id)
+            × (mark.new.view ≡ owing false mark.old.view) }
+    {
+        self.slot.wake_one();
+        self.slot.load::<Wake>(mark);
     }
 
     /// A new hand, which has seen as much as this one. It is one load.
     pub fn fork(&self, hand: &mut Hand<S, S::Call>) -> Hand<S, S::Call>
-        requires { IsOf self.now.table.shared.table_id hand.old }
+        requires { IsOf self.now.slot.name hand.old }
         ensures hand { SameTable hand.old hand.new
             × (known_by hand.new ≡ known_by hand.old) }
         ensures told { SameTable hand.old result
             × (known_by result ≡ newcomer (known_by hand.old).seen) }
     {
-        Hand::of(self.table.shared.split_seat::<Tell>(&mut hand.seat))
+        Hand::of(self.slot.split::<Tell>(&mut hand.mark))
     }
 
     /// Has a hand learn what another one saw and did, which is no more. From here on it speaks of one history that has the
     /// calls of both. It is two loads.
     pub fn join(&self, hand: &mut Hand<S, S::Call>, other: Hand<S, S::Call>)
-        requires here { IsOf self.now.table.shared.table_id hand.old }
-        requires there { IsOf self.now.table.shared.table_id other }
+        requires here { IsOf self.now.slot.name hand.old }
+        requires there { IsOf self.now.slot.name other }
         requires ends { S.may_end (known_by other).mine }
         ensures hand { SameTable hand.old hand.new }
-        ensures looks { Looks (machine_of S.Steps self.now.table.shared.key)
+        ensures looks { Looks (machine_of S.Steps self.now.slot.key)
             (both_views (known_by hand.old) (known_by other)) (known_by hand.new) }
     {
-        let seat = &mut hand.seat;
-        let other = other.into_seat();
-        self.table.shared.join_seat::<Absorb>(seat, other);
-        self.look::<Brand>(seat);
+        let mark = &mut hand.mark;
+        let other = other.into_mark();
+        self.slot.join::<Absorb>(mark, other);
+        self.look::<Brand>(mark);
     }
 
     // Has a hand see the history so far.
     #[inline(always)]
-    fn look<B: Begins<S>>(&self, seat: &mut Seat<S, View<S, S::Call>>)
-        requires begins { (q : S) → S.starts self.now.table.shared.key q → B.begins q }
-        requires seat { (seat.old.table_id ≡ self.now.table.shared.table_id)
-            × (seat.old.me.0.spent ≡ false) }
-        ensures seat { (seat.new.table_id ≡ seat.old.table_id) × (seat.new.id ≡ seat.old.id)
-            × (seat.new.me.1 ≡ seat.old.me.1) }
-        ensures looks { Looks (machine_from S.Steps B.begins) seat.old.me.0 seat.new.me.0 }
+    fn look<B: Begins<S>>(&self, mark: &mut Mark<View<S, S::Call>>)
+        requires begins { (q : S) → S.starts self.now.slot.key q → B.begins q }
+        requires mark { (mark.old.slot ≡ self.now.slot.name) × (mark.old.view.spent ≡ false) }
+        ensures mark { (mark.new.slot ≡ mark.old.slot) × (mark.new.id ≡ mark.old.id) }
+        ensures looks { Looks (machine_from S.Steps B.begins) mark.old.view mark.new.view }
     {
-        self.table.shared.load::<Look<S, B>>(seat, 0);
+        self.slot.load::<Look<S, B>>(mark);
     }
 }
 
@@ -222,29 +261,30 @@ impl<S: Steps> Traced<S> {
 /// It is a function of its own, so that [`take_out!`](crate::take_out) is a few instructions where the state is at home.
 #[cold]
 #[inline(never)]
-pub fn wait_to_take<S: Steps, R: Wait>(
-    traced: &Traced<S>,
+pub fn wait_to_take<'a, S: Steps, R: Wait>(
+    traced: &'a Traced<S>,
     rt: &R,
-    seat: &mut Seat<S, View<S, S::Call>>,
-)
-    requires seat { (seat.old.table_id ≡ traced.now.table.shared.table_id) × (seat.old.me.1 ≡ [])
-        × (seat.old.me.0.out ≡ []) × (seat.old.me.0.spent ≡ false) }
-    requires marked { seat.old.me.0.owes ≡ false }
-    ensures { (seat.new.table_id ≡ seat.old.table_id) × (seat.new.id ≡ seat.old.id)
-        × Holds seat.old.me.0 seat.new.me }
+    mark: &mut Mark<View<S, S::Call>>,
+) -> Claim<'a, Rule, S>
+    requires mark { (mark.old.slot ≡ traced.now.slot.name) × (mark.old.view.out ≡ [])
+        × (mark.old.view.spent ≡ false) × (mark.old.view.owes ≡ false) }
+    ensures mark { (mark.new.slot ≡ mark.old.slot) × (mark.new.id ≡ mark.old.id) }
+    ensures takes { IsClaimOf traced.now.slot.name traced.now.slot.key result
+        × Holds mark.old.view mark.new.view result.state }
 {
-    let shared = &traced.table.shared;
     for pauses in PAUSES {
         pause(pauses);
-        if shared.peek(0) == FREE && traced.try_take(seat) {
-            return;
+        if traced.slot.peek() == FREE {
+            if let Some(claim) = traced.try_take(mark) {
+                return claim;
+            }
         }
     }
     for _ in rt.forever() {
-        if traced.take_awaited(seat) {
-            return;
+        if let Some(claim) = traced.take_awaited(mark) {
+            return claim;
         }
-        traced.sleep(rt, seat);
+        traced.sleep(rt, mark);
     }
     unreachable!()
 }
@@ -254,7 +294,7 @@ impl<S: Steps + Drop> Drop for Traced<S> {
     #[cold]
     #[inline(never)]
     fn drop(self) {
-        let Traced { table } = self;
-        drop(table);
+        let Traced { slot } = self;
+        drop(slot);
     }
 }

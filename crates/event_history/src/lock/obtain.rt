@@ -54,11 +54,11 @@ impl<S: Steps> Lock<S> {
     {
         let mut waking = DeferredWake::new();
         let traced = &self.traced;
-        let seat = &mut hand.seat;
-        take_out!(traced, rt, seat);
-        let state = seat.slot_mut(&traced.table.shared, 0);
+        let mark = &mut hand.mark;
+        let mut claim = take_out!(traced, rt, mark);
+        let state = claim.state_mut();
         let answer = request.attempt(state, &mut waking);
-        traced.give_back::<Brand, _, _>(seat, &answer, &*request);
+        traced.give_back::<Brand, _, _>(claim, mark, &answer, &*request);
         waking.finish_seldom();
         answer
     }
@@ -102,11 +102,11 @@ impl<S: Steps> Lock<S> {
     {
         let mut waking = DeferredWake::new();
         let traced = &self.traced;
-        let seat = &mut hand.seat;
-        take_out!(traced, rt, seat);
-        let state = seat.slot_mut(&traced.table.shared, 0);
+        let mark = &mut hand.mark;
+        let mut claim = take_out!(traced, rt, mark);
+        let state = claim.state_mut();
         request.give_up(state, &mut waking);
-        traced.give_back::<Brand, _, _>(seat, &(), &*request);
+        traced.give_back::<Brand, _, _>(claim, mark, &(), &*request);
         waking.finish_seldom();
     }
 }

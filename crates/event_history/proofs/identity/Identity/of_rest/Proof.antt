@@ -2,7 +2,7 @@
 use Rattle.atomic_table.proofs.Names.{◌≡◌, [], ◌∷◌, List, refl, a_type, named, Val, vptr, vstruct, vnil, inst_fn, SProp, emp, ‵, raw, ◌⊛◌, ◌$◌, ◌∵◌, !, qed, by, keep, split, fjoin, fpack, use0, feq_i, no_more, returns, enter, alloc_all, pass_all, free_all, look_at, sets, agg, tables, yes, RattleType, owns, Valss, types_at, plain, nothing, param, layouts, alive, Stays, stay_dropped, walk_of, Goes-dropped, fact, fact_i, RefOf, shr_vals, shr_Tells, length}
 use denote.Struct.Struct.{within}
 use Rattle.atomic_table.proofs.Walks.{proved, leaves}
-use Rattle.event_history.specs.contracts.rest.Rest as rest
+use Rattle.event_slot.specs.contracts.rest.Rest as rest
 use Rattle.event_history.specs.contracts.identity.Identity as Identity
 use Rattle.event_history.specs.contracts.identity.Identity.of_rest.{ended, clauses}
 use Rattle.event_history.specs.contracts.identity.Identity.of_rest.Key.{name as #self}
@@ -19,7 +19,7 @@ of_rest_spec 𝓤 𝓛 𝓜 𝓡 wired Y _ =
     let arg = RefOf (0 ∷ []) tt (plain (λ _. R)) (λ _. tt) in let hs : Stays En.signature.params En.kept = (stay_dropped arg yes, tt) in
     proved 𝓛 En hs c 𝓜 𝓡 (Goes-dropped 𝓛 2 arg yes (λ κs x f. refl), tt) (#self inst) fn (code.unfolded 𝓤 H 𝓜 𝓡 wired (Y, tt))
     (λ κs. (shr_vals, tt)) (λ κs. (shr_Tells (named 0) κs.0 R, tt)) (λ κs qs bounds a gh are.
-    let p : Val = vptr a.0.ref_ptr.0 a.0.ref_ptr.1 in let of = a.0.now in let r : (Identity.the_row).Denot = record { table_id = of.badge.table_id; id = of.badge.id; hands = length of.badge.views } in let Told : Type 0 = (of.badge.table_id ≡ of.badge.table_id) × (of.badge.id ≡ of.badge.id) × (length of.badge.views ≡ length of.badge.views) in
+    let p : Val = vptr a.0.ref_ptr.0 a.0.ref_ptr.1 in let of = a.0.now in let r : (Identity.the_row).Denot = record { slot = of.slot; id = of.id; hands = length of.views } in let Told : Type 0 = (of.slot ≡ of.slot) × (of.id ≡ of.id) × (length of.views ≡ length of.views) in
     let y : (walk_of 𝓛 En hs c).Ghost = ((κs, qs, bounds, a, (p ∷ [], tt)), gh) in let Post : Val → SProp 𝓤 = (walk_of 𝓛 En hs c).post y in
     qed 𝓛 ((raw (alive 𝓛 En.signature κs qs) ⊛ ‵ (owns (types_at En.signature.params κs) a y.0.4)) ∷ raw ((c κs a).requires gh) ∷ []) ∵ split ! $ keep ! (0 ∷ []) $
     enter ! 𝓣.C 𝓣.Λ fn (p ∷ []) Post $ alloc_all ! (λ l. pass_all ! refl ((tt, tt), tt) $ sets ! (agg ! (no_more !)) refl (tt, tt) $

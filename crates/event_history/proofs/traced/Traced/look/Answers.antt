@@ -3,4 +3,4 @@ use Rattle.event_history.proofs.Keeps.{looks}
 use Rattle.event_history.proofs.traced.Traced.look.Goals as goal
 
 pub load-requires : goal.load-requires
-load-requires g c = (search rules, search rules, looks _ _ c.requires.begins _ _ _ (search rules))
+load-requires g c = (search rules, looks _ _ c.requires.begins _ _ (search rules))

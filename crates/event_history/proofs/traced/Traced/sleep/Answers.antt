@@ -1,6 +1,6 @@
-use Rattle.std.proofs.Common.{rules, true}
-use Rattle.event_history.proofs.Keeps.{turns}
+use Rattle.std.proofs.Common.{rules}
+use Rattle.event_history.proofs.Keeps.{waits}
 use Rattle.event_history.proofs.traced.Traced.sleep.Goals as goal
 
-pub load-requires : goal.load-requires
-load-requires g c = (search rules, search rules, turns _ true _ _ _ (search rules))
+pub exchange-claim-requires-clause-keeps : goal.exchange-claim-requires-clause-keeps
+exchange-claim-requires-clause-keeps g c = (search rules, waits _ _ _ _ (search rules) (search rules))
