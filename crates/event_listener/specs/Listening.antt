@@ -1,6 +1,5 @@
 -- What a contract sees of a listener.
 use Rattle.std.specs.Prelude.{◌≡◌, ℕ, Bool, true, false, List, [], ◌∷◌}
-use Rattle.atomic_table.specs.Seated.{TableId}
 use Rattle.event_queue.specs.declared.key.Key.{Key}
 use Rattle.event_queue.specs.Queue.{Queue}
 use Rattle.event_wait.specs.declared.lock.task.Task.{Task}
@@ -30,13 +29,13 @@ Known T = View (Queue T Task) (QueueCall T Task)
 -- a listener: its standing, the table of its event's queue, and what its hand knows of the history there
 pub record Listening (T : Type 0) : Type 0 where
   pub standing : Standing
-  pub table : TableId
+  pub table : ℕ
   pub knows : Known T
 
 -- a hand of an event: the event's number, the table of its queue, and what the hand knows of the history there
 pub record Caller (T : Type 0) : Type 0 where
   pub event_number : ℕ
-  pub table : TableId
+  pub table : ℕ
   pub knows : Known T
 
 -- what the hand knows that is kept there

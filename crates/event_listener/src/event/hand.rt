@@ -45,11 +45,11 @@ impl<T> Model for EventHand<T> {
     ghost view = { λ caller. record {
       event_number = (arc_value caller.shared).event_number;
       table = (arc_value caller.shared).lock.table;
-      knows = caller.hand.seat.me.0;
+      knows = caller.hand.mark.view;
     } };
 
-    ghost invariant = { λ caller. (caller.hand.seat.table_id ≡ (arc_value caller.shared).lock.table)
-        × NoneLeft caller.hand.seat.me.0.mine };
+    ghost invariant = { λ caller. (caller.hand.mark.slot ≡ (arc_value caller.shared).lock.table)
+        × NoneLeft caller.hand.mark.view.mine };
 }
 
 impl<T> Event<T> {

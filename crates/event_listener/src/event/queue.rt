@@ -44,7 +44,7 @@ impl<T> Shared<T> {
         ensures { IfOk result (λ shared. (arc_value shared).event_number ≡ event_number) }
     {
         let queue = List::starting_at(alloc, first_serial);
-        let (lock, first) = Lock::new(alloc, queue, &())?;
+        let (lock, first) = Lock::new(queue, &());
         first.end();
         Ok(Arc::new(alloc, Shared { lock, event_number })?)
     }

@@ -74,12 +74,12 @@ impl<T, H: Hold<T>, R: Wait + Clock + Clone> Model for QueueListener<T, H, R> {
         source = (H.lock listener.held).source;
       };
       table = (H.lock listener.held).table;
-      knows = known_of listener.hand.rest.badge.views;
+      knows = known_of listener.hand.rest.views;
     } };
 
-    ghost invariant = { λ listener. (listener.hand.rest.badge.table_id
+    ghost invariant = { λ listener. (listener.hand.rest.slot
         ≡ (H.lock listener.held).table)
-        × ((knows : Known T) × (listener.hand.rest.badge.views ≡ knows ∷ [])
+        × ((knows : Known T) × (listener.hand.rest.views ≡ knows ∷ [])
         × (listener.membership.is_finished ≡ false
         → OwnsListener listener.membership.key knows.mine)
         × LeavesNone listener.membership knows.mine) };

@@ -8,4 +8,4 @@ returns g c =
 
 pub perform_first-end-requires-clause-made : goal.perform_first-end-requires-clause-made
 perform_first-end-requires-clause-made g c =
-    rw c.perform_first-of.ensures (rw c.perform_first-of-2.ensures (c.perform_first-slot_mut-queue.result.now, c.notify_uncounted-told.new.self, search rules, search rules, search rules, search rules, search rules, search rules))
+    rw c.perform_first-of.ensures (rw c.perform_first-of-2.ensures (c.perform_first-state_mut-queue.result.now, c.notify_uncounted-told.new.self, search rules, search rules, search rules, search rules, search rules, search rules))

@@ -6,7 +6,7 @@ use Rattle.event_listener.proofs.event.hand.EventHand.notify.Goals as goal
 
 pub perform-end-requires-clause-made : goal.perform-end-requires-clause-made
 perform-end-requires-clause-made g c =
-    rw c.perform-of.ensures (rw c.perform-of-2.ensures (c.perform-slot_mut-queue.result.now, c.notify_uncounted-told.new.self, search rules, search rules, search rules, search rules, search rules, search rules))
+    rw c.perform-of.ensures (rw c.perform-of-2.ensures (c.perform-state_mut-queue.result.now, c.notify_uncounted-told.new.self, search rules, search rules, search rules, search rules, search rules, search rules))
 
 pub returns-clause-tells : goal.returns-clause-tells
 returns-clause-tells g c =
@@ -14,6 +14,6 @@ returns-clause-tells g c =
 
 pub invariant_of-self : goal.invariant_of-self
 invariant_of-self g c =
-    let here : NoneLeft c.self.inside.hand.seat.me.0.mine = c.self.invariant.1 in
+    let here : NoneLeft c.self.inside.hand.mark.view.mine = c.self.invariant.1 in
     let called = c.perform-end.ensures.call in
     (Prim.search (rules), none_kept _ _ _ _ _ called.2 tt (Prim.search (rules)))

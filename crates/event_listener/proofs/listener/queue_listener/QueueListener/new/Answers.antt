@@ -6,9 +6,9 @@ pub invariant_of-result : goal.invariant_of-result
 invariant_of-result g c = (
   Prim.search (rules),
   (
-    c.args.hand.seat.me.0,
+    c.args.hand.mark.view,
     c.rest.ensures.1,
-    (λ _. owns_first c.args.key c.new.result.key c.args.hand.seat.me.0.mine c.new.ensures.key c.requires.joined),
-    leaves_first c.args.key c.new.result c.args.hand.seat.me.0.mine c.new.ensures.key c.new.ensures.unfinished c.requires.joined,
+    (λ _. owns_first c.args.key c.new.result.key c.args.hand.mark.view.mine c.new.ensures.key c.requires.joined),
+    leaves_first c.args.key c.new.result c.args.hand.mark.view.mine c.new.ensures.key c.new.ensures.unfinished c.requires.joined,
   ),
 )

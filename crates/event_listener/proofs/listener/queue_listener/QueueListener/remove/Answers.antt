@@ -3,4 +3,4 @@ use Rattle.event_listener.proofs.listener.queue_listener.QueueListener.remove.Go
 pub returns-clause-removed : goal.returns-clause-removed
 returns-clause-removed g c unfinished =
     let left = c.leave-told.ensures.removed unfinished in
-    (left.0, c.leave-told.result.1.seat.me.0, left.1, left.2)
+    (left.0, c.leave-told.result.1.mark.view, left.1, left.2)
