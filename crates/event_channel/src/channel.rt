@@ -95,7 +95,7 @@ impl<T: Drop> Channel<T> {
         ensures capacity { IfOk result (λ channel. channel.lock.start ≡ capacity) }
     {
         let messages = Messages::new(alloc, capacity)?;
-        let (lock, hand) = Lock::new(alloc, messages, &capacity)?;
+        let (lock, hand) = Lock::new(messages, &capacity);
         hand.end();
         Ok(Channel {
             lock,

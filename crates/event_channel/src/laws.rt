@@ -1,12 +1,14 @@
 //! What follows of one history of a channel.
 ghost use Rattle.std.specs.Prelude.{◌≡◌, ◌⊎◌, ◌≤◌, ◌+◌, ◌++◌, ℕ, Option, Result, Err, IfErr, IfOk, [], ◌∷◌, length, true};
 ghost use Rattle.event_channel.specs.Calls.{answer_of, calls, channel_machine};
+ghost use Rattle.event_channel.specs.Hands.{ReceivesBlocking, SendsBlocking};
 ghost use Rattle.event_channel.specs.Messages.{AreDue, PlacesAreDue, State, limit_of};
 ghost use Rattle.event_channel.specs.Served.{LosesByThose, NoMoreInVain, NoMoreSendersInVain, SenderLosesByThose};
 ghost use Rattle.event_queue.specs.declared.key.Key.{Key};
 ghost use Rattle.event_channel.specs.Sent.{ChannelLog, all_of, forced_out_by, out_by, received_by, sent_by};
 ghost use Rattle.event_channel.specs.declared.call.ChannelCall.{ChannelCall};
 ghost use Rattle.event_channel.specs.declared.call.ChannelCall.TheVariants as call;
+ghost use Rattle.event_channel.specs.declared.error.RecvError.{RecvError};
 ghost use Rattle.event_channel.specs.declared.error.SendError.{SendError};
 ghost use Rattle.event_channel.specs.declared.error.SendReason.TheVariants.{Closed, Full};
 ghost use Rattle.event_channel.specs.declared.error.TryRecvError.{TryRecvError};
@@ -59,6 +61,9 @@ pub fn no_message_is_lost<T, W>()
         (reply : Result T TryRecvError)
         → Extends (channel_machine capacity) v (call.Receive reply) w
         → IfOk reply (λ message. IsAmong message (all_of sent_by w.seen)) }
+    ensures received_blocking { (capacity : Option ℕ) (v w : View (State T W) (ChannelCall T))
+        (reply : Result T RecvError) → ReceivesBlocking capacity v reply w
+        → IfOk reply (λ message. IsAmong message (all_of sent_by w.seen)) }
     ensures sent { (capacity : Option ℕ) (u v w x y : View (State T W) (ChannelCall T))
         (message : T) (sent : Result (Unit {0}) (SendError T)) (reply : Result T TryRecvError)
         → Extends (channel_machine capacity) u (call.Send message (answer_of sent)) v
@@ -69,14 +74,27 @@ pub fn no_message_is_lost<T, W>()
 {}
 
 /// A hand knows what it sent by its own call, and what another hand knew to be sent that it takes in. What it knew to be sent
-/// before a call, or before it takes another hand in, it knows afterwards.
+/// before a call, before one that blocks, or before it takes another hand in, it knows afterwards.
 pub fn sent_is_known<T, W>()
     ensures by_a_call { (capacity : Option ℕ) (v w : View (State T W) (ChannelCall T))
         (call : ChannelCall T) → Extends (channel_machine capacity) v call w
         → (message : T) → IsAmong message (sent_by call)
         → IsAmong message (all_of sent_by w.seen) }
+    ensures by_sending { (capacity : Option ℕ) (v w : View (State T W) (ChannelCall T))
+        (message : T) (reply : Result (Unit {0}) (SendError T))
+        → SendsBlocking capacity message v reply w
+        → IfOk reply (λ _. IsAmong message (all_of sent_by w.seen)) }
     ensures before_a_call { (capacity : Option ℕ) (v w : View (State T W) (ChannelCall T))
         (call : ChannelCall T) → Extends (channel_machine capacity) v call w
+        → (message : T) → IsAmong message (all_of sent_by v.seen)
+        → IsAmong message (all_of sent_by w.seen) }
+    ensures before_receiving { (capacity : Option ℕ) (v w : View (State T W) (ChannelCall T))
+        (reply : Result T RecvError) → ReceivesBlocking capacity v reply w
+        → (message : T) → IsAmong message (all_of sent_by v.seen)
+        → IsAmong message (all_of sent_by w.seen) }
+    ensures before_sending { (capacity : Option ℕ) (v w : View (State T W) (ChannelCall T))
+        (other : T) (reply : Result (Unit {0}) (SendError T))
+        → SendsBlocking capacity other v reply w
         → (message : T) → IsAmong message (all_of sent_by v.seen)
         → IsAmong message (all_of sent_by w.seen) }
     ensures joined { (capacity : Option ℕ) (v other w : View (State T W) (ChannelCall T))

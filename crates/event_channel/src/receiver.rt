@@ -45,7 +45,7 @@ impl<T: Drop, R: Wait + Clock + Clone> Model for Receiver<T, R> {
     ghost view = { λ receiver. receiver.link };
 
     ghost invariant = { λ receiver. IsOneHand receiver.link.channel.table
-        receiver.hand.rest.badge.table_id receiver.hand.rest.badge.views };
+        receiver.hand.rest.slot receiver.hand.rest.views };
 }
 
 // What a wait with a limit received.

@@ -67,8 +67,8 @@ impl<'a, T: Drop, R: Wait + Clock + Clone> Model for Recv<'a, T, R> {
 
     ghost view = { λ recv. recv.channel.now.lock };
 
-    ghost invariant = { λ recv. IsOneHand recv.channel.now.lock.table recv.hand.rest.badge.table_id
-        recv.hand.rest.badge.views };
+    ghost invariant = { λ recv. IsOneHand recv.channel.now.lock.table recv.hand.rest.slot
+        recv.hand.rest.views };
 }
 
 impl<'a, T: Drop, R: Wait + Clock + Clone> Recv<'a, T, R> {

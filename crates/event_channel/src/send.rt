@@ -41,8 +41,8 @@ impl<'a, T: Drop, R: Wait + Clock + Clone> Model for Send<'a, T, R> {
       channel = send.channel.now.lock;
     } };
 
-    ghost invariant = { λ send. IsOneHand send.channel.now.lock.table send.hand.rest.badge.table_id
-        send.hand.rest.badge.views };
+    ghost invariant = { λ send. IsOneHand send.channel.now.lock.table send.hand.rest.slot
+        send.hand.rest.views };
 }
 
 impl<'a, T: Drop, R: Wait + Clock + Clone> Send<'a, T, R> {
