@@ -1,8 +1,7 @@
 -- What others leave while the state is out with one: as much for those that starve and are notified, and one more.
-use Rattle.std.proofs.Common.{◌≡◌, ℕ, ◌+◌, ◌<◌, Bool, true, false, Some, ◌||◌, zero, suc, List, [], ◌∷◌, ◌++◌, length, refl, sym, ap, ◌∙◌, subst, arith}
+use Rattle.std.proofs.Common.{◌≡◌, ℕ, ◌+◌, ◌<◌, Bool, true, false, Some, ◌||◌, zero, suc, List, [], ◌∷◌, length, refl, sym, ◌∙◌, subst, arith}
 use Rattle.std.specs.List.{list_any}
 use Rattle.std.specs.Map.{keys_of}
-use Rattle.atomic_table.specs.Table.{rest}
 use Rattle.event_queue.specs.declared.key.Key.{Key}
 use Rattle.event_queue.specs.Key.{is_key}
 use Rattle.event_queue.specs.declared.notice.Notice.{Notice}
@@ -11,9 +10,9 @@ use Rattle.event_word.specs.Competing.{rules_of}
 use Rattle.event_word.specs.Free.{free_of, IsOpen, ServesTheStarving, ServesWith}
 use Rattle.event_word.proofs.FreeLemmas.{serves-fewer, serves-less, serves-taken_told}
 use Rattle.event_wait.specs.FairQueue.{State, is_among}
-use Rattle.event_word.specs.Word.{Eases, EasesFrom, HasState, Sat, count, number_of, numbered}
-use Rattle.event_word.specs.declared.word.rule.Shelf.{Shelf}
-use Rattle.event_word.specs.declared.word.rule.Shelf.TheVariants as shelf
+use Rattle.event_word.specs.Held.{HasState}
+use Rattle.event_word.specs.Word.{Eases, EasesFrom, count, number_of}
+use Rattle.event_word.specs.declared.word.held.Held.{Held}
 
 or_true : (a b : Bool) → b ≡ true → (a || b) ≡ true
 or_true true b h = refl
@@ -46,8 +45,8 @@ module _ {A : Type 0} where
   told-again n x l [] h = h
   told-again n x l (k ∷ ks) h = or_both (is_among (keys_of l) k) (list_any (is_among (keys_of l)) ks) (is_among (keys_of (again n x l)) k) (list_any (is_among (keys_of (again n x l))) ks) (among-again n x l k) (told-again n x l ks) h
 
-module _ {C : Type 0} (fits lends : ℕ → Type 0) where
-  eases_at : (more b r : ℕ) (q : Competing C) (told : List (Key × Notice (Unit {0}))) → told ≡ q.line.queue.told → Eases (rules_of {C = C} fits lends) b r → ServesWith more b q.line → ServesWith more r q.line
+module _ {C : Type 0} (fits : ℕ → Type 0) (taken : ℕ → Bool) (closes : Bool) where
+  eases_at : (more b r : ℕ) (q : Competing C) (told : List (Key × Notice (Unit {0}))) → told ≡ q.line.queue.told → Eases (rules_of {C = C} fits taken closes) b r → ServesWith more b q.line → ServesWith more r q.line
   eases_at more b r q [] is eases serves = λ some. absurd (nobody q.line.starving (subst (λ (l : List (Key × Notice (Unit {0}))). list_any (is_among (keys_of l)) q.line.starving ≡ true) (sym is) some))
   eases_at more b r q (x ∷ xs) is eases serves = λ some.
       let padded : Competing C = record q { line = record q.line { queue = record q.line.queue { told = again more x q.line.queue.told } } } in
@@ -57,15 +56,14 @@ module _ {C : Type 0} (fits lends : ℕ → Type 0) where
       (left.0, omega (arith, size, left.1))
 
   -- what was left for one more is so still
-  pub eases-serves : (more b r : ℕ) (q : Competing C) → Eases (rules_of {C = C} fits lends) b r → ServesWith more b q.line → ServesWith more r q.line
+  pub eases-serves : (more b r : ℕ) (q : Competing C) → Eases (rules_of {C = C} fits taken closes) b r → ServesWith more b q.line → ServesWith more r q.line
   eases-serves more b r q eases serves = eases_at more b r q q.line.queue.told refl eases serves
 
   -- whoever has the state out looks at the number again
-  pub serves-on : {V : Type 0} (more r : ℕ) (m n : Sat (Competing C) V) → HasState (λ b q. ServesWith more b q.line) m → n ≡ (numbered r m.0, m.1) → EasesFrom (rules_of {C = C} fits lends) m.0.number r → HasState (λ b q. (b ≡ r) × ServesWith more b q.line) n
-  serves-on more r m n t is eases =
-      let from : Eases (rules_of {C = C} fits lends) t.0 r = subst (λ x. EasesFrom (rules_of {C = C} fits lends) x r) t.2 eases in
-      let out = ap (λ x. x.1) is in
-      (r, t.1, ap (λ x. x.0.number) is, out ∙ (t.3 ∙ ap (λ l. (0, shelf.State t.1) ∷ rest l) (sym out)), (refl, eases-serves more t.0 r t.1 from t.4))
+  pub serves-on : {V : Type 0} (more r : ℕ) (m n : Held (Competing C) V) → HasState (λ b q. ServesWith more b q.line) m → n.claim.state ≡ m.claim.state → n.seat.view.number ≡ Some r → EasesFrom (rules_of {C = C} fits taken closes) m.seat.view.number r → HasState (λ b q. (b ≡ r) × ServesWith more b q.line) n
+  serves-on more r m n t same is eases =
+      let from : Eases (rules_of {C = C} fits taken closes) t.0 r = subst (λ x. EasesFrom (rules_of {C = C} fits taken closes) x r) t.2 eases in
+      (r, t.1, is, same ∙ t.3, (refl, eases-serves more t.0 r t.1 from t.4))
 
 -- one that was notified takes one, or a newcomer where the word is open
 pub serves-taken_by : {W : Type 0} (notified : Bool) (old new : ℕ) (s : State W) → new + 1 ≡ old → 0 < free_of old → (notified ≡ false → IsOpen old) → ServesWith (count notified) old s → ServesTheStarving new s
@@ -76,26 +74,14 @@ pub serves-unless : {W : Type 0} (notified : Bool) (n : ℕ) (s : State W) → S
 serves-unless true n s h = serves-less 0 n s h
 serves-unless false n s h = h
 
-module _ {S V : Type 0} where
-  -- the state is out as before
-  pub still_out : (m n : Sat S V) (q : S) → n.1 ≡ m.1 → m.1 ≡ (0, shelf.State q) ∷ rest m.1 → n.1 ≡ (0, shelf.State q) ∷ rest n.1
-  still_out m n q is has = is ∙ (has ∙ ap (λ l. (0, shelf.State q) ∷ rest l) (sym is))
+-- the state is out as before, and the number is this
+pub numbered-on : {S V : Type 0} (P : ℕ → Type 0) (Q : ℕ → S → Type 0) (v : ℕ) (m n : Held S V) → HasState Q m → n.claim.state ≡ m.claim.state → n.seat.view.number ≡ Some v → P v → HasState (λ b _. P b) n
+numbered-on P Q v m n t same is h = (v, t.1, is, same ∙ t.3, h)
 
-  -- and the number is this
-  pub numbered-on : (P : ℕ → Type 0) (Q : ℕ → S → Type 0) (v : ℕ) (m n : Sat S V) → HasState Q m → n ≡ (numbered v m.0, m.1) → P v → HasState (λ b _. P b) n
-  numbered-on P Q v m n t is h = (v, t.1, ap (λ x. x.0.number) is, still_out m n t.1 (ap (λ x. x.1) is) t.3, h)
-
-  -- and the value is out with it
-  pub out_with : (m n : Sat S V) (q : S) (more : List (ℕ × Shelf S V)) → n.1 ≡ m.1 ++ more → m.1 ≡ (0, shelf.State q) ∷ rest m.1 → n.1 ≡ (0, shelf.State q) ∷ rest n.1
-  out_with m n q more is has =
-      let longer : n.1 ≡ (0, shelf.State q) ∷ (rest m.1 ++ more) = is ∙ ap (λ l. l ++ more) has in
-      longer ∙ ap (λ l. (0, shelf.State q) ∷ rest l) (sym longer)
-
-module _ {C V : Type 0} where
-  -- one was taken by whoever has the state out
-  pub taken-on : (notified : Bool) (old new : ℕ) (m n : Sat (Competing C) V) → HasState (λ b q. (b ≡ number_of old) × ServesWith (count notified) b q.line) m → n.0.number ≡ Some (number_of new) → ((q : Competing C) → m.1 ≡ (0, shelf.State q) ∷ rest m.1 → n.1 ≡ (0, shelf.State q) ∷ rest n.1)
-      → new + 4 ≡ old → 0 < free_of (number_of old) → (notified ≡ false → IsOpen (number_of old)) → HasState (λ b q. ServesTheStarving b q.line) n
-  taken-on notified old new m n t is keeps one some may =
-      let h = t.4 in
-      let serves : ServesWith (count notified) (number_of old) t.1.line = subst (λ (b : ℕ). ServesWith (count notified) b t.1.line) h.0 h.1 in
-      (number_of new, t.1, is, keeps t.1 t.3, serves-taken_by notified (number_of old) (number_of new) t.1.line (omega (arith, one)) some may serves)
+-- one was taken by whoever has the state out
+pub taken-on : {C V : Type 0} (notified : Bool) (old new : ℕ) (m n : Held (Competing C) V) → HasState (λ b q. (b ≡ number_of old) × ServesWith (count notified) b q.line) m → n.claim.state ≡ m.claim.state → n.seat.view.number ≡ Some (number_of new)
+    → new + 4 ≡ old → 0 < free_of (number_of old) → (notified ≡ false → IsOpen (number_of old)) → HasState (λ b q. ServesTheStarving b q.line) n
+taken-on notified old new m n t same is one some may =
+    let h = t.4 in
+    let serves : ServesWith (count notified) (number_of old) t.1.line = subst (λ (b : ℕ). ServesWith (count notified) b t.1.line) h.0 h.1 in
+    (number_of new, t.1, is, same ∙ t.3, serves-taken_by notified (number_of old) (number_of new) t.1.line (omega (arith, one)) some may serves)

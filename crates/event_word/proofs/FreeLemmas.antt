@@ -10,7 +10,7 @@ use Rattle.event_queue.proofs.OrderLemmas.{length-remove_entry}
 use Rattle.event_queue.specs.Queue.{Queue}
 use Rattle.event_wait.specs.Line.{HasLeft, TellsUpTo, told_anew}
 use Rattle.event_wait.specs.FairQueue.{State, Comes, Joins, WaitsOn, is_among}
-use Rattle.event_word.specs.Free.{free_of, IsClosed, IsOpen, IsShut, one_starving_is_told, ServesWith, ServesTheStarving, NobodyIsThere, NobodyWaits, ShutsForTheStarving, Stands}
+use Rattle.event_word.specs.Free.{free_of, Closes, IsClosed, IsOpen, IsShut, one_starving_is_told, ServesWith, ServesTheStarving, NobodyIsThere, NobodyWaits, ShutsForTheStarving, StandsIf}
 use Rattle.event_wait.specs.declared.fair_queue.Queued.{Queued}
 
 le_or_more : (m n : ℕ) → (m ≤ n) ⊎ (n < m)
@@ -96,20 +96,20 @@ module _ {W : Type 0} where
   serves-nobody n s none told = absurd (omega (arith, any-some (is_among (keys_of s.queue.told)) s.starving told, ap (λ (keys : List Key). length keys) none))
 
   -- nobody is in the queue
-  pub stands-new : (n : ℕ) (s : State W) → s.queue.waiting ≡ [] → s.starving ≡ [] → IsOpen n → Stands n s
-  stands-new n s nobody none may = record {
+  pub stands-new : (closes : Bool) (n : ℕ) (s : State W) → s.queue.waiting ≡ [] → s.starving ≡ [] → IsOpen n → StandsIf closes n s
+  stands-new closes n s nobody none may = record {
     nobody = λ _. rw nobody refl;
     shuts = record {
       only_then = λ shut. absurd (omega (arith, shut, may));
       shut = λ some. absurd (omega (arith, some, ap (λ (keys : List Key). length keys) none));
     };
     serves = serves-nobody n s none;
-    closed = λ closed. absurd (omega (arith, closed.0, may));
+    closed = λ closed. absurd (omega (arith, closed.1.0, may));
   }
 
   -- it is closed, and nobody is in the queue
-  pub stands-closed : (n : ℕ) (s : State W) → IsClosed n → NobodyIsThere s → Stands n s
-  stands-closed n s closed there = record {
+  pub stands-closed : (closes : Bool) (n : ℕ) (s : State W) → IsClosed n → NobodyIsThere s → StandsIf closes n s
+  stands-closed closes n s closed there = record {
     nobody = λ _. rw there.1 refl;
     shuts = record {
       only_then = λ shut. absurd (omega (arith, shut, closed.1));
@@ -122,15 +122,15 @@ module _ {W : Type 0} where
   -- the moves of a number
 
   -- newcomers take some, where they may
-  pub stands-fewer : (n old new : ℕ) (s : State W) → new + n ≡ old → n ≤ free_of old → IsOpen old → Stands old s → Stands new s
-  stands-fewer n old new s is has may h = record {
+  pub stands-fewer : (closes : Bool) (n old new : ℕ) (s : State W) → new + n ≡ old → n ≤ free_of old → IsOpen old → StandsIf closes old s → StandsIf closes new s
+  stands-fewer closes n old new s is has may h = record {
     nobody = λ less. h.nobody (omega (arith, less, is, may));
     shuts = record {
       only_then = λ shut. absurd (omega (arith, shut, is, may));
       shut = λ some. absurd (omega (arith, h.shuts.shut some, may));
     };
     serves = λ told. absurd (omega (arith, (h.serves told).0, may));
-    closed = λ closed. absurd (omega (arith, closed.0, is, may));
+    closed = λ closed. absurd (omega (arith, closed.1.0, is, may));
   }
 
   pub serves-fewer : (more old new : ℕ) (s : State W) → IsOpen old → ServesWith more old s → ServesWith more new s
@@ -141,27 +141,39 @@ module _ {W : Type 0} where
   serves-given more n old new s is room h told = (omega (arith, (h told).0, is), omega (arith, (h told).1, is, room))
 
   -- some are given back, where nobody waits
-  pub stands-given : (n old new : ℕ) (s : State W) → new ≡ old + n → free_of old + n < 2 ^ 60 → Stands old s → NobodyWaits s → Stands new s
-  stands-given n old new s is room h nobody = record {
+  pub stands-given : (closes : Bool) (n old new : ℕ) (s : State W) → new ≡ old + n → free_of old + n < 2 ^ 60 → StandsIf closes old s → NobodyWaits s → StandsIf closes new s
+  stands-given closes n old new s is room h nobody = record {
     nobody = λ _. nobody;
     shuts = record {
       only_then = λ shut. h.shuts.only_then (omega (arith, shut, is, room));
       shut = λ some. omega (arith, h.shuts.shut some, is);
     };
     serves = serves-given 0 n old new s is room h.serves;
-    closed = λ closed. h.closed (omega (arith, closed.0, is, room), omega (arith, closed.1, is));
+    closed = λ closed. h.closed (closed.0, (omega (arith, closed.1.0, is, room), omega (arith, closed.1.1, is)));
   }
+
+  pub serves-beside : (more old new : ℕ) (s : State W) → free_of new ≡ free_of old → (IsShut old → IsShut new) → ServesWith more old s → ServesWith more new s
+  serves-beside more old new s is shut h told = (shut (h told).0, omega (arith, (h told).1, is))
 
   -- whoever has the queue takes one for a notified one that has come
   pub serves-taken_told : (more old new : ℕ) (s : State W) → new + 1 ≡ old → 0 < free_of old → ServesWith (more + 1) old s → ServesWith more new s
   serves-taken_told more old new s is some h told = (omega (arith, (h told).0, is, some), omega (arith, (h told).1, is, some))
+
+  -- the number says of as many that they are free, and of newcomers the same
+  pub stands-beside : (closes : Bool) (old new : ℕ) (s : State W) → free_of new ≡ free_of old → (IsShut new → IsShut old) → (IsShut old → IsShut new) → (Closes closes new → ⊥) → StandsIf closes old s → StandsIf closes new s
+  stands-beside closes old new s is only shut stays h = record {
+    nobody = λ less. h.nobody (omega (arith, less, is));
+    shuts = record { only_then = λ now. h.shuts.only_then (only now); shut = λ some. shut (h.shuts.shut some) };
+    serves = serves-beside 0 old new s is shut h.serves;
+    closed = λ closed. absurd (stays closed);
+  }
 
   -- it needs no more than it has
   pub serves-less : (more n : ℕ) (s : State W) → ServesWith (more + 1) n s → ServesWith more n s
   serves-less more n s h told = ((h told).0, omega (arith, (h told).1))
 
   -- one that starves and is notified finds one
-  pub finds_one : (n : ℕ) (s : State W) → Stands n s → one_starving_is_told s ≡ true → 0 < free_of n
+  pub finds_one : {closes : Bool} (n : ℕ) (s : State W) → StandsIf closes n s → one_starving_is_told s ≡ true → 0 < free_of n
   finds_one n s h told =
       let some : 0 < length s.queue.told = told-some s.queue.told s.starving told in
       omega (arith, (h.serves told).1, some)
@@ -224,8 +236,8 @@ module _ {W : Type 0} where
   serves-numbered more old new s is shut h told =
       (shut (any-some (is_among (keys_of s.queue.told)) s.starving told), omega (arith, (h told).1, is))
 
-  pub stands-settled : (n : ℕ) (old new : State W) → TellsUpTo (free_of n) old.queue new.queue → new ≡ record old { queue = new.queue } → ShutsForTheStarving n old → ServesTheStarving n old → (IsClosed n → ⊥) → Stands n new
-  stands-settled n old new step kept shuts serves stays = record {
+  pub stands-settled : (closes : Bool) (n : ℕ) (old new : State W) → TellsUpTo (free_of n) old.queue new.queue → new ≡ record old { queue = new.queue } → ShutsForTheStarving n old → ServesTheStarving n old → (Closes closes n → ⊥) → StandsIf closes n new
+  stands-settled closes n old new step kept shuts serves stays = record {
     nobody = λ less. omega (arith, less, step.told, left);
     shuts = record {
       only_then = λ shut. rw starving (shuts.only_then shut);

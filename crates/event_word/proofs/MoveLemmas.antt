@@ -1,49 +1,113 @@
 -- The moves that a semaphore and a mutex make on their word, each by whole steps of 4 of the word.
-use Rattle.std.proofs.Common.{◌≡◌, ℕ, ◌+◌, ◌*◌, ◌/◌, ◌%◌, ◌^◌, ◌<◌, ◌≤◌, arith}
+use Rattle.std.proofs.Common.{◌≡◌, ℕ, Bool, ◌+◌, ◌*◌, ◌/◌, ◌%◌, ◌^◌, ◌<◌, ◌≤◌, arith, true, false, inl, ap}
+use Rattle.std.specs.Prelude.{◌==◌}
+use mathlib.Core.Logic.{dite}
+use native.Mathlib.Decide.{ℕ_discrete}
 use Rattle.event_word.specs.Competing.{rules_of}
-use Rattle.event_word.specs.Free.{free_of, unshut_of, ServesTheStarving, Stands}
+use Rattle.event_word.specs.Free.{free_of, unshut_of, IsClosed, IsShut, NoneFor, ServesTheStarving, StandsIf}
+use Rattle.event_word.specs.Rules.{Rules}
+use Rattle.event_word.specs.declared.competing.Competing.{Competing}
 use Rattle.event_wait.specs.FairQueue.{State}
-use Rattle.event_word.specs.Word.{Changes, GivesBack, Lends, Stays, number_of}
-use Rattle.event_word.proofs.FreeLemmas.{serves-fewer, serves-given, stands-fewer, stands-given}
+use Rattle.event_word.specs.Word.{Changes, GivesBack, Lends, Takes, number_of}
+use Rattle.event_word.proofs.FreeLemmas.{serves-beside, serves-fewer, serves-given, stands-beside, stands-fewer, stands-given}
 
-module _ {C : Type 0} (fits lends : ℕ → Type 0) where
+module _ {C : Type 0} (fits : ℕ → Type 0) (taken : ℕ → Bool) (closes : Bool) where
   -- newcomers take some, where the word is open
-  pub changes-fewer : (n old new : ℕ) → new + 4 * n ≡ old → old < 2 ^ 62 → fits (unshut_of (number_of new)) → Changes (rules_of {C = C} fits lends) old new
+  pub changes-fewer : (n old new : ℕ) → new + 4 * n ≡ old → old < 2 ^ 62 → fits (unshut_of (number_of new)) → Changes (rules_of {C = C} fits taken closes) old new
   changes-fewer n old new is may fit = record {
     code = omega (arith, is);
     fits = fit;
-    quiet = λ _ s h _. stands-fewer n (old / 4) (new / 4) s.line (omega (arith, is)) (omega (arith, is, may)) (omega (arith, may)) h;
-    crowded = λ _ s h. stands-fewer n (old / 4) (new / 4) s.line (omega (arith, is)) (omega (arith, is, may)) (omega (arith, may)) h;
+    quiet = λ _ s h _. stands-fewer closes n (old / 4) (new / 4) s.line (omega (arith, is)) (omega (arith, is, may)) (omega (arith, may)) h;
+    crowded = λ _ s h. stands-fewer closes n (old / 4) (new / 4) s.line (omega (arith, is)) (omega (arith, is, may)) (omega (arith, may)) h;
     out = λ _ s h. serves-fewer 0 (old / 4) (new / 4) s.line (omega (arith, may)) h;
   }
 
   -- one is taken, by a newcomer or for one that was notified
-  pub changes-taken : (old new : ℕ) → new + 4 ≡ old → old < 2 ^ 62 → fits (unshut_of (number_of new)) → Changes (rules_of {C = C} fits lends) old new
+  pub changes-taken : (old new : ℕ) → new + 4 ≡ old → old < 2 ^ 62 → fits (unshut_of (number_of new)) → Changes (rules_of {C = C} fits taken closes) old new
   changes-taken old new is may fit = changes-fewer 1 old new (omega (arith, is)) may fit
 
   -- some are given back, where nobody waits or the state is out
-  pub changes-given : (n old new : ℕ) → new ≡ old + 4 * n → free_of (number_of old) + n < 2 ^ 60 → (old % 4 ≡ 2 → ⊥) → fits (unshut_of (number_of new)) → Changes (rules_of {C = C} fits lends) old new
+  pub changes-given : (n old new : ℕ) → new ≡ old + 4 * n → free_of (number_of old) + n < 2 ^ 60 → (old % 4 ≡ 2 → ⊥) → fits (unshut_of (number_of new)) → Changes (rules_of {C = C} fits taken closes) old new
   changes-given n old new is room home fit = record {
     code = omega (arith, is);
     fits = fit;
-    quiet = λ _ s h nobody. stands-given n (old / 4) (new / 4) s.line (omega (arith, is)) room h nobody;
+    quiet = λ _ s h nobody. stands-given closes n (old / 4) (new / 4) s.line (omega (arith, is)) room h nobody;
     crowded = λ is_home. absurd (home is_home);
     out = λ _ s h. serves-given 0 n (old / 4) (new / 4) s.line (omega (arith, is)) room h;
   }
 
 -- some are given back and the state is taken out, in one step
-pub promised-given : {W : Type 0} (n old new : ℕ) (s : State W) → old % 4 ≡ 2 → new + 1 ≡ old + 4 * n → free_of (number_of old) + n < 2 ^ 60 → Stands (number_of old) s → ServesTheStarving (number_of new) s
+pub promised-given : {W : Type 0} {closes : Bool} (n old new : ℕ) (s : State W) → old % 4 ≡ 2 → new + 1 ≡ old + 4 * n → free_of (number_of old) + n < 2 ^ 60 → StandsIf closes (number_of old) s → ServesTheStarving (number_of new) s
 promised-given n old new s home is room h = serves-given 0 n (old / 4) (new / 4) s (omega (arith, is, home)) room h.serves
 
+-- The moves of a mutex, whose number is 1 while nobody has its value, 0 while one has the right to it, and 2 ^ 60 while it is parked.
+abbrev pub FitsOne : ℕ → Type 0
+FitsOne n = (free_of n ≤ 1) × (n ≤ 2 ^ 60)
+
+abbrev pub taken_one : ℕ → Bool
+taken_one n = n == 0
+
+is_taken : (w : ℕ) → unshut_of (number_of w) ≡ 0 → taken_one (unshut_of (number_of w)) ≡ true
+is_taken w is = ap taken_one is
+
+is_kept : (w : ℕ) → unshut_of (number_of w) ≡ 1 → taken_one (unshut_of (number_of w)) ≡ false
+is_kept w is = ap taken_one is
+
+is_parked : (w : ℕ) → unshut_of (number_of w) ≡ 2 ^ 60 → taken_one (unshut_of (number_of w)) ≡ false
+is_parked w is = ap taken_one is
+
 module _ {C : Type 0} where
-  -- nothing is lent
-  pub stays-put : (fits : ℕ → Type 0) (old new : ℕ) → Stays (rules_of {C = C} fits (λ _. ⊥)) old new
-  stays-put fits old new = record { on = λ no. no; off = λ no. no }
+  abbrev one : Rules (Competing C)
+  one = rules_of FitsOne taken_one false
 
-  -- the one value is taken, by a newcomer or by one that was notified
-  pub lends-taken : (old new : ℕ) → new + 4 ≡ old → 0 < free_of (number_of old) → free_of (number_of old) ≤ 1 → Lends (rules_of {C = C} (λ free. free ≤ 1) (λ free. free ≡ 0)) old new
-  lends-taken old new is some one = record { was = λ none. omega (arith, none, some); is = omega (arith, is, some, one) }
+  -- it is taken by a newcomer
+  pub lends-newcomer : (old new : ℕ) → new + 4 ≡ old → old < 2 ^ 62 → FitsOne (unshut_of (number_of old)) → Changes one old new × Lends one old new
+  lends-newcomer old new is may fit = (
+    changes-taken FitsOne taken_one false old new is may (omega (arith, is, may, fit.0), omega (arith, is, may)),
+    record { was = is_kept old (omega (arith, is, may, fit.0)); is = is_taken new (omega (arith, is, may, fit.0)) },
+  )
 
-  -- it is given back, and the state is taken out or not
-  pub gives_back-given : (old new : ℕ) → number_of new ≡ number_of old + 1 → free_of (number_of old) ≡ 0 → GivesBack (rules_of {C = C} (λ free. free ≤ 1) (λ free. free ≡ 0)) old new
-  gives_back-given old new is none = record { was = none; is = λ no. omega (arith, is, none, no) }
+  -- it is taken by whoever has the state out
+  pub lends-held : (old new : ℕ) → new + 4 ≡ old → new % 2 ≡ 1 → 0 < free_of (number_of old) → FitsOne (unshut_of (number_of old)) → Takes one old new × Lends one old new
+  lends-held old new is out some fit =
+      let was : unshut_of (number_of old) ≡ 1 = omega (arith, some, fit.0, fit.1) in
+      let now : unshut_of (number_of new) ≡ 0 = omega (arith, is, was) in
+      (record { out = out; fits = (omega (arith, now), omega (arith, now)) }, record { was = is_kept old was; is = is_taken new now })
+
+  -- it is given back, where nobody waits or the state is out
+  pub gives-value : (old new : ℕ) → new ≡ old + 4 → unshut_of (number_of old) ≡ 0 → (old % 4 ≡ 2 → ⊥) → Changes one old new × GivesBack one new
+  gives-value old new is none home =
+      let now : unshut_of (number_of new) ≡ 1 = omega (arith, is, none) in
+      (changes-given FitsOne taken_one false 1 old new is (omega (arith, none)) home (omega (arith, now), omega (arith, now)), is_kept new now)
+
+  -- it is given back, and the state is taken out
+  pub swaps-value : (old new : ℕ) → new + 1 ≡ old + 4 → old % 4 ≡ 2 → unshut_of (number_of old) ≡ 0 → Takes one old new × GivesBack one new
+  swaps-value old new is home none =
+      let now : unshut_of (number_of new) ≡ 1 = omega (arith, is, home, none) in
+      (record { out = omega (arith, is, home); fits = (omega (arith, now), omega (arith, now)) }, is_kept new now)
+
+  changes-beside : (old new : ℕ) → new % 4 ≡ old % 4 → free_of (number_of new) ≡ free_of (number_of old) → (IsShut (number_of new) → IsShut (number_of old)) → (IsShut (number_of old) → IsShut (number_of new)) → FitsOne (unshut_of (number_of new)) → Changes one old new
+  changes-beside old new code free only shut fit = record {
+    code = code;
+    fits = fit;
+    quiet = λ _ s h _. stands-beside false (old / 4) (new / 4) s.line free only shut (λ closed. let no : false ≡ true = closed.0 in cc) h;
+    crowded = λ _ s h. stands-beside false (old / 4) (new / 4) s.line free only shut (λ closed. let no : false ≡ true = closed.0 in cc) h;
+    out = λ _ s h. serves-beside 0 (old / 4) (new / 4) s.line free shut h;
+  }
+
+  -- it is parked, and taken again
+  pub parks : (old new : ℕ) → new ≡ old + 2 ^ 62 → unshut_of (number_of old) ≡ 0 → Changes one old new × GivesBack one new
+  parks old new is none =
+      let now : unshut_of (number_of new) ≡ 2 ^ 60 = omega (arith, is, none) in
+      (changes-beside old new (omega (arith, is)) (omega (arith, now, none)) (λ shut. omega (arith, is, none, shut)) (λ shut. omega (arith, is, shut)) (omega (arith, now), omega (arith, now)), is_parked new now)
+
+  pub unparks : (old new : ℕ) → new + 2 ^ 62 ≡ old → unshut_of (number_of old) ≡ 2 ^ 60 → Changes one old new × Lends one old new
+  unparks old new is parked =
+      let now : unshut_of (number_of new) ≡ 0 = omega (arith, is, parked) in (
+        changes-beside old new (omega (arith, is)) (omega (arith, now, parked)) (λ shut. omega (arith, is, shut)) (λ shut. omega (arith, is, parked, shut)) (omega (arith, now), omega (arith, now)),
+        record { was = is_parked old parked; is = is_taken new now },
+      )
+
+-- one finds none where the value is parked, too
+pub none-parked : (notified : Bool) (n : ℕ) → FitsOne (unshut_of n) → ((IsClosed n → ⊥) → NoneFor notified n) → NoneFor notified n
+none-parked notified n fit none = dite (ℕ_discrete (free_of n) 0) (λ is. inl is) (λ some. none (λ closed. some (omega (arith, closed.0, closed.1, fit.1))))

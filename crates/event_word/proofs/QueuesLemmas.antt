@@ -1,15 +1,15 @@
 -- What whoever has the queues of a read-write lock needs to change the number.
-use Rattle.std.proofs.Common.{◌≡◌, ℕ, ◌+◌, ◌%◌, ◌<◌, ◌^◌, Option, None, Some, ◌∷◌, length, false, refl, sym, ap, subst, ◌∙◌, arith}
-use Rattle.atomic_table.specs.Table.{rest}
+use Rattle.std.proofs.Common.{◌≡◌, ℕ, ◌+◌, ◌%◌, ◌<◌, ◌^◌, Option, None, Some, length, false, refl, sym, ap, subst, ◌∙◌, arith}
 use Rattle.event_queue.specs.declared.key.Key.{Key}
 use Rattle.event_queue.specs.declared.notice.Notice.{Notice}
 use Rattle.event_wait.specs.declared.lock.task.Task.{Task}
 use Rattle.event_word.specs.declared.shares.queues.Queues.{Queues}
-use Rattle.event_word.specs.declared.word.rule.Shelf.TheVariants as shelf
+use Rattle.event_word.specs.declared.word.held.Held.{Held}
 use Rattle.event_word.specs.declared.word.rule.View.{View}
 use Rattle.event_word.specs.Count.{IsCount, readers_of, writers_of}
 use Rattle.event_word.specs.Queues.{Admits, CountsMore, IsExclusive, Renumbers, lock_rules, reading}
-use Rattle.event_word.specs.Word.{Eases, EasesFrom, HasState, Sat, Stays, Takes, number_of, numbered}
+use Rattle.event_word.specs.Held.{HasState}
+use Rattle.event_word.specs.Word.{Eases, EasesFrom, Stays, Takes, number_of}
 use Rattle.event_word.proofs.EasesLemmas.{again, length-again}
 
 -- where who writes is alone, the number says so
@@ -21,7 +21,7 @@ is_count {W} {n} {q} alone = record {
 
 -- whoever has the queues may make the number one with which they are exclusive
 pub takes : {q : Queues Task} (old new : ℕ) → new % 2 ≡ 1 → IsExclusive (number_of new) q → Takes (lock_rules {W = Task}) old new × Stays (lock_rules {W = Task}) old new
-takes old new away alone = (record { out = away; fits = is_count alone }, record { on = λ lent. lent; off = λ lent. lent })
+takes old new away alone = (record { out = away; fits = is_count alone }, refl)
 
 -- one that was let in
 let_in : Key × Notice (Unit {0})
@@ -57,11 +57,10 @@ eases-admits more b r q eases admits =
     )
 
 -- whoever has the queues looks at the number again
-pub admits-on : (more r : ℕ) (m n : Sat (Queues Task) (Unit {0})) → HasState (Admits more) m → n ≡ (numbered r m.0, m.1) → EasesFrom (lock_rules {W = Task}) m.0.number r → HasState (λ b q. (b ≡ r) × Admits more r q) n
-admits-on more r m n t is eases =
+pub admits-on : (more r : ℕ) (m n : Held (Queues Task) (Unit {0})) → HasState (Admits more) m → n.claim.state ≡ m.claim.state → n.seat.view.number ≡ Some r → EasesFrom (lock_rules {W = Task}) m.seat.view.number r → HasState (λ b q. (b ≡ r) × Admits more r q) n
+admits-on more r m n t same is eases =
     let from : Eases (lock_rules {W = Task}) t.0 r = subst (λ x. EasesFrom (lock_rules {W = Task}) x r) t.2 eases in
-    let out = ap (λ x. x.1) is in
-    (r, t.1, ap (λ x. x.0.number) is, out ∙ (t.3 ∙ ap (λ l. (0, shelf.State t.1) ∷ rest l) (sym out)), (refl, eases-admits more t.0 r t.1 from t.4))
+    (r, t.1, is, same ∙ t.3, (refl, eases-admits more t.0 r t.1 from t.4))
 
 -- nobody has changed the number
 pub unchanged : {a : View} {n : ℕ} → a.number ≡ Some n → CountsMore 0 a a

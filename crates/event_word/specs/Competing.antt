@@ -1,16 +1,16 @@
 -- The rules of a lock whose number counts what is free for those that compete.
-use Rattle.std.specs.Prelude.{ℕ}
-use Rattle.event_word.specs.Free.{free_of, unshut_of, NobodyWaits, ServesTheStarving, Stands, TellsNewcomers}
+use Rattle.std.specs.Prelude.{ℕ, Bool}
+use Rattle.event_word.specs.Free.{unshut_of, NobodyWaits, ServesTheStarving, StandsIf, TellsNewcomers}
 use Rattle.event_word.specs.Rules.{Rules}
 use Rattle.event_word.specs.declared.competing.Competing.{Competing}
 
--- of the number, without what shuts newcomers out, the first holds at any time; the second says at how many free the value is out
-abbrev pub rules_of : {C : Type 0} → (ℕ → Type 0) → (ℕ → Type 0) → Rules (Competing C)
-rules_of fits lends = record {
+-- Of the number, without what shuts newcomers out, the first holds at any time, and the second says whether one has the right to the value. The third says whether it may be closed.
+abbrev pub rules_of : {C : Type 0} → (ℕ → Type 0) → (ℕ → Bool) → Bool → Rules (Competing C)
+rules_of fits taken closes = record {
   fits = λ number. fits (unshut_of number);
-  stands = λ number state. Stands number state.line;
+  stands = λ number state. StandsIf closes number state.line;
   quiet = λ state. NobodyWaits state.line;
   promised = λ number state. ServesTheStarving number state.line;
-  tells = λ number state. TellsNewcomers number state.line;
-  lends = λ number. lends (free_of number);
+  tells = λ number state. TellsNewcomers closes number state.line;
+  taken = λ number. taken (unshut_of number);
 }

@@ -23,6 +23,10 @@ IsShut n = 2 ^ 61 ≤ n
 abbrev pub IsClosed : ℕ → Type 0
 IsClosed n = (2 ^ 60 ≤ n) × (n < 2 ^ 61)
 
+-- of a lock that may be closed
+abbrev pub Closes : Bool → ℕ → Type 0
+Closes closes n = (closes ≡ true) × IsClosed n
+
 -- none is free, or one that was not notified may take none
 abbrev pub NoneFor : Bool → ℕ → Type 0
 NoneFor notified n = (free_of n ≡ 0) ⊎ (notified ≡ false × IsShut n)
@@ -60,12 +64,15 @@ module _ {W : Type 0} where
     pub shut : 0 < length s.starving → IsShut n
 
   -- the number of one that is not closed shows newcomers whether they are shut out
-  abbrev pub TellsNewcomers : ℕ → State W → Type 0
-  TellsNewcomers n s = (IsClosed n → ⊥) → ShutsForTheStarving n s
+  abbrev pub TellsNewcomers : Bool → ℕ → State W → Type 0
+  TellsNewcomers closes n s = (Closes closes n → ⊥) → ShutsForTheStarving n s
 
-  -- what holds of the number and of the queue between any two steps
-  pub record Stands (n : ℕ) (s : State W) : Type 0 where
+  -- what holds of the number and of the queue between any two steps, of a lock that is closed some day or never is
+  pub record StandsIf (closes : Bool) (n : ℕ) (s : State W) : Type 0 where
     pub nobody : NobodyWaitsInVain n s
     pub shuts : ShutsForTheStarving n s
     pub serves : ServesTheStarving n s
-    pub closed : IsClosed n → NobodyIsThere s
+    pub closed : Closes closes n → NobodyIsThere s
+
+  abbrev pub Stands : ℕ → State W → Type 0
+  Stands n s = StandsIf true n s

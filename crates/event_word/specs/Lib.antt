@@ -4,6 +4,7 @@ pub mod Competing
 pub mod Contender
 pub mod Permit
 pub mod Word
+pub mod Held
 pub mod Count
 pub mod Queues
 pub mod Leaving

@@ -1,5 +1,5 @@
 -- The queues of a read-write lock, and what holds of them and of the number that counts who has the value.
-use Rattle.std.specs.Prelude.{◌≡◌, ℕ, zero, suc, ◌+◌, ◌%◌, ◌<◌, ◌≤◌, ◌^◌, ◌⊎◌, ◌↔◌, IsTrue, IsFalse, Option, Some, None, Result, Ok, Err, length}
+use Rattle.std.specs.Prelude.{◌≡◌, ℕ, zero, suc, ◌+◌, ◌%◌, ◌<◌, ◌≤◌, ◌^◌, ◌⊎◌, ◌↔◌, false, IsTrue, IsFalse, Option, Some, None, Result, Ok, Err, length}
 use Rattle.event_queue.specs.declared.key.Key.{Key}
 use Rattle.event_queue.specs.declared.reply.ListenError.{ListenError}
 use Rattle.event_queue.specs.Insert.{Inserts}
@@ -110,7 +110,7 @@ module _ {W : Type 0} where
     quiet = IsQuiet;
     promised = IsExclusive;
     tells = λ _ _. Unit {0};
-    lends = λ _. ⊥;
+    taken = λ _. false;
   }
 
   module _ {S : Type 0} (woke : S → W → S → Type 0) where

@@ -1,9 +1,9 @@
 //! Those that compete for what a lock's number counts.
-ghost use Rattle.std.specs.Prelude.{◌≡◌, ℕ, ◌<◌, ◌≤◌, false, true, Some, None, IfOk, OnErr};
+ghost use Rattle.std.specs.Prelude.{◌≡◌, ◌==◌, ◌^◌, ℕ, ◌<◌, ◌≤◌, Bool, false, true, Some, None, IfOk, OnErr};
 ghost use Rattle.std.specs.List.{FoldsTo};
 ghost use Rattle.event_wait.specs.Attempted.{Stores};
 ghost use Rattle.event_word.specs.Contender.{Comes, Loses, NobodyIsBy, coming_of, count_of, losses_after};
-ghost use Rattle.event_word.specs.Free.{IsClosed, IsOpen, NobodyIsThere, NobodyWaits, ServesTheStarving, ServesWith, Stands, all_tasks, free_of, one_starving_is_told};
+ghost use Rattle.event_word.specs.Free.{Closes, IsClosed, IsOpen, NobodyIsThere, NobodyWaits, ServesTheStarving, ServesWith, Stands, StandsIf, all_tasks, free_of, one_starving_is_told};
 ghost use Rattle.event_word.specs.Competing.{rules_of};
 ghost use Rattle.event_wait.specs.FairQueue.{State};
 
@@ -35,13 +35,26 @@ pub fn is_closed(number: u64) -> bool
     CLOSED <= number && number < SHUT
 }
 
-/// What they compete for: how many of it there may be, and whether it is a value that is out.
+/// What they compete for: how many of it there may be, and whether one has the right to a value.
 pub trait Counted {
     // What holds of the number, without the bit that shuts newcomers out.
     ghost fits: { ℕ → Type 0 };
 
-    // Whether the value is out where so many are free.
-    ghost lends: { ℕ → Type 0 };
+    // Whether one has the right to the value, by the same number.
+    ghost taken: { ℕ → Bool };
+
+    /// Whether it may be closed.
+    const CLOSES: bool;
+
+    ghost CLOSES: { Bool };
+}
+
+/// Whether it is closed, if it is a lock that may be.
+pub(crate) fn is_closed_for<C: Counted>(number: u64) -> bool
+    ensures closed { result ≡ true → Closes C.CLOSES number }
+    ensures open { result ≡ false → Closes C.CLOSES number → ⊥ }
+{
+    C::CLOSES && is_closed(number)
 }
 
 /// Any number of permits.
@@ -50,16 +63,25 @@ pub struct Permits {}
 impl Counted for Permits {
     ghost fits = { λ _. Unit {0} };
 
-    ghost lends = { λ _. ⊥ };
+    ghost taken = { λ _. false };
+
+    const CLOSES: bool = true;
+
+    ghost CLOSES = { true };
 }
 
-/// One value, which is free while it is not out.
+/// One value. The number is 1 while nobody has it, 0 while one has the right to it, and [`CLOSED`] while it is parked: then one has
+/// the value, and not the right to where it lies.
 pub struct OneValue {}
 
 impl Counted for OneValue {
-    ghost fits = { λ free. free ≤ 1 };
+    ghost fits = { λ number. (free_of number ≤ 1) × (number ≤ 2 ^ 60) };
 
-    ghost lends = { λ free. free ≡ 0 };
+    ghost taken = { λ number. number == 0 };
+
+    const CLOSES: bool = false;
+
+    ghost CLOSES = { false };
 }
 
 /// The queue of those that compete for what `C` says.
@@ -73,7 +95,8 @@ pub struct Competing<C> {
 impl<C> Competing<C> {
     /// A queue in which nobody is, for a lock whose word is open. It takes no memory.
     pub fn new(alloc: Global) -> Self
-        ensures stands { (number : ℕ) → IsOpen number → Stands number result.line }
+        ensures stands { (closes : Bool) (number : ℕ) → IsOpen number
+            → StandsIf closes number result.line }
         ensures quiet { NobodyWaits result.line }
     {
         Competing {
@@ -179,10 +202,10 @@ impl<C> Competing<C> {
 }
 
 impl<C: Counted> Kept for Competing<C> {
-    ghost rules = { rules_of C.fits C.lends };
+    ghost rules = { rules_of C.fits C.taken C.CLOSES };
 
     fn number(&self, number: u64) -> u64 {
-        if is_closed(number) {
+        if is_closed_for::<C>(number) {
             return number;
         }
         let unshut = number % SHUT;
@@ -194,7 +217,7 @@ impl<C: Counted> Kept for Competing<C> {
     }
 
     fn settle<K: WakeSink<Task>>(&mut self, number: u64, sink: &mut K) -> bool {
-        if is_closed(number) {
+        if is_closed_for::<C>(number) {
             self.close(sink);
             return false;
         }

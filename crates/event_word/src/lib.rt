@@ -3,15 +3,16 @@
 //! [`Word`] keeps a *state*, the queues of those that wait, behind an atomic word. The word has a *number*, of what is free or
 //! who has the value, and a *code*, which says whether the state is there and whether somebody may wait. One compare-exchange
 //! takes what is free, and one gives it back where nobody waits. Else a thread takes the state out, notifies, and puts it back
-//! by a compare-exchange that fails where the word has changed: then it notifies again. What is out can't be dropped.
+//! by a compare-exchange that fails where the word has changed: then it notifies again. What is out can't be dropped. Word, state and
+//! value lie in place, in a [`Slot`](event_slot::Slot), so making a lock takes no memory.
 //!
 //! What a lock says of its number and its state is its [`Kept::rules`]. [`Competing`] is the state of a semaphore and a mutex,
 //! whose queue is a fair one; [`Queues`] is that of a read-write lock, to which one comes by a [`Right`]. Nobody needs this crate
 //! to use a lock: [`event_locks`](../../event_locks/README.md) has them.
 //!
-//! Read `word.rt` and `word/rule.rt` first, then `word/take.rt`; for a semaphore and a mutex `competing.rt` and
-//! `word/competing.rt`; for a read-write lock `shares/queues.rt`, `shares/right.rt`, `shares/steps.rt` and
-//! `shares/requests.rt`.
+//! Read `word.rt` and `word/rule.rt` first, then `word/take.rt`; for a semaphore and a mutex `competing.rt`,
+//! `word/competing.rt`, `word/permits.rt` and `word/value.rt`; for a read-write lock `shares/queues.rt`, `shares/right.rt`,
+//! `shares/steps.rt` and `shares/requests.rt`.
 #![tactic(auto)]
 
 mod competing;
@@ -32,4 +33,4 @@ pub use shares::reading::Reading;
 pub use shares::right::Right;
 pub use shares::share::{Out, ReadShare, Share, WriteShare};
 pub use shares::writing::Writing;
-pub use word::{Held, Kept, Permit, Seat, Shelf, Step, View, Word};
+pub use word::{Held, Kept, Lent, Parked, Permit, Place, Seat, Step, View, Word, put_in, take_out};

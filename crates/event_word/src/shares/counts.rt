@@ -1,13 +1,11 @@
 //! How a read-write lock stands.
 ghost use Rattle.std.specs.Prelude.{◌≡◌, ◌+◌, ◌<◌, ◌≤◌};
-ghost use Rattle.atomic_table.specs.Table.{rest};
 ghost use Rattle.event_word.specs.Queues.{IsExclusive, NobodyWaitsInVain};
-ghost use Rattle.event_word.specs.Word.{HasState};
+ghost use Rattle.event_word.specs.Held.{HasState, IsOf};
 
 use super::queues::Queues;
 use super::share::Out;
 use crate::word::Word;
-use crate::word::held::state;
 use event_wait::Task;
 
 /// Who has the value of a read-write lock, and who waits for it, at one moment.
@@ -29,12 +27,13 @@ pub struct RwLockCounts {
 
 impl Word<Queues<Task>, ()> {
     /// How it stands, with the queues out, which stay as they are.
-    pub fn counted(&self, held: &mut Out, number: u64) -> RwLockCounts
-        requires seat { held.old.seat.table_id ≡ self.now.table.shared.table_id }
-        requires stands { HasState (λ n q. (n ≡ number) × NobodyWaitsInVain n q) held.old.seat.me }
-        ensures seat { (held.new.seat.table_id ≡ held.old.seat.table_id)
-            × (held.new.seat.me ≡ held.old.seat.me) }
-        ensures alone { HasState IsExclusive held.new.seat.me }
+    pub fn counted(&self, held: &mut Out<'_>, number: u64) -> RwLockCounts
+        requires seat { IsOf self.now.slot.name held.old }
+        requires stands { HasState (λ n q. (n ≡ number) × NobodyWaitsInVain n q) held.old }
+        ensures seat { IsOf self.now.slot.name held.new }
+        ensures same { (held.new.claim.state ≡ held.old.claim.state)
+            × (held.new.seat.view ≡ held.old.seat.view) }
+        ensures alone { HasState IsExclusive held.new }
         ensures reader_waits { 0 < result.readers_waiting
             → 0 < result.writers + result.writers_let_in + result.writers_waiting }
         ensures writer_waits { 0 < result.writers_waiting
@@ -43,6 +42,6 @@ impl Word<Queues<Task>, ()> {
             → result.writers + result.writers_let_in ≡ 0 }
         ensures one { result.writers + result.writers_let_in ≤ 1 }
     {
-        state!(held.seat, self).counts(number)
+        held.claim.state_mut().counts(number)
     }
 }

@@ -46,7 +46,7 @@ fn waiting<W>(line: &List<(), W>) -> usize
 }
 
 impl<W> Queues<W> {
-    /// Nobody waits.
+    /// Nobody waits. It takes no memory.
     pub fn new(alloc: Global) -> Self
         ensures quiet { IsQuiet result }
         ensures stands { NobodyWaitsInVain 0 result }

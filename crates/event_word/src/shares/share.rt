@@ -2,7 +2,8 @@
 ghost use Rattle.std.specs.Prelude.{◌≡◌, ◌+◌, ◌%◌, Some, IfSome, MatchOption, MatchResult};
 ghost use Rattle.event_word.specs.Count.{writers_of};
 ghost use Rattle.event_word.specs.Queues.{IsExclusive, Recounts};
-ghost use Rattle.event_word.specs.Word.{HasState, number_of};
+ghost use Rattle.event_word.specs.Held.{HasState, IsOf};
+ghost use Rattle.event_word.specs.Word.{number_of};
 
 use super::queues::Queues;
 use super::reading::Reading;
@@ -25,23 +26,20 @@ pub type ReadShare = Share<Reading>;
 pub type WriteShare = Share<Writing>;
 
 impl<K> Model for Share<K> {
-    ghost use Rattle.atomic_table.specs.Seated.{TableId};
+    ghost use Rattle.std.specs.Prelude.{ℕ};
 
-    ghost Value = { TableId };
+    ghost Value = { ℕ };
 
-    ghost view = { λ share. share.origin.table_id };
+    ghost view = { λ share. share.origin.name };
 }
 
-/// A seat that has not the queues out.
-pub type At = Seat<Queues<Task>, ()>;
-
 /// The queues, out with one thread.
-pub type Out = Held<Queues<Task>, ()>;
+pub type Out<'a> = Held<'a, Queues<Task>, ()>;
 
 impl<K> Share<K> {
     #[inline(always)]
     fn new(origin: Origin) -> Self
-        ensures { result ≡ origin.table_id }
+        ensures { result ≡ origin.name }
     {
         Share {
             origin,
@@ -55,7 +53,7 @@ impl<K: Right<Task>> Share<K> {
     #[inline(always)]
     pub(crate) fn counted(step: Step) -> Self
         requires { number_of step.to ≡ number_of step.from + K.COUNTS }
-        ensures { result ≡ step.origin.table_id }
+        ensures { result ≡ step.origin.name }
     {
         Share::new(step.into_origin())
     }
@@ -63,7 +61,7 @@ impl<K: Right<Task>> Share<K> {
     /// One goes: this step, of its word, counts one less, if it counts one, as it does for each right.
     #[inline(always)]
     pub(crate) fn end(self, step: Step)
-        requires own { step.origin.table_id ≡ self }
+        requires own { step.origin.name ≡ self }
         requires ends { K.ends (number_of step.from) (number_of step.to) }
     {
         let Share { origin: _, of: _ } = self;
@@ -75,7 +73,7 @@ impl Share<Reading> {
     /// The reader writes from here on: this step, of its word, counts a writer in its place.
     #[inline(always)]
     pub(crate) fn upgraded(self, step: Step) -> WriteShare
-        requires own { step.origin.table_id ≡ self }
+        requires own { step.origin.name ≡ self }
         requires counts { (number_of step.from ≡ 2) × (number_of step.to ≡ 1) }
         ensures { result ≡ self }
     {
@@ -89,8 +87,8 @@ impl Share<Writing> {
     /// so for no right.
     #[inline(always)]
     pub(crate) fn downgraded(self, step: Result<Step, Step>) -> ReadShare
-        requires own { MatchResult step (λ made. made.origin.table_id ≡ self)
-            (λ made. made.origin.table_id ≡ self) }
+        requires own { MatchResult step (λ made. made.origin.name ≡ self)
+            (λ made. made.origin.name ≡ self) }
         requires counts { MatchResult step
             (λ made. (number_of made.from ≡ 1) × (number_of made.to ≡ 2))
             (λ made. writers_of (number_of made.to) ≡ 0) }
@@ -105,27 +103,27 @@ impl Share<Writing> {
 impl Word<Queues<Task>, ()> {
     /// Makes the word another that counts others, if it is as it was seen, and nobody is to be let in by that.
     #[inline(always)]
-    pub(crate) fn make(&self, seat: &mut At, seen: u64, new: u64) -> Option<Step>
-        requires seat { seat.old.table_id ≡ self.now.table.shared.table_id }
+    pub(crate) fn make(&self, seat: &mut Seat, seen: u64, new: u64) -> Option<Step>
+        requires seat { seat.old.slot ≡ self.now.slot.name }
         requires counts { Recounts seen new }
-        ensures seat { (seat.new.table_id ≡ seat.old.table_id) × (seat.new.me ≡ seat.old.me) }
+        ensures seat { (seat.new.slot ≡ seat.old.slot) × (seat.new.view ≡ seat.old.view) }
         ensures step { IfSome result (λ made. (made.from ≡ seen) × (made.to ≡ new)
-            × (made.origin.table_id ≡ self.now.table.shared.table_id)) }
+            × (made.origin.name ≡ self.now.slot.name)) }
     {
         self.change(seat, seen, new)
     }
 
     /// The same with the queues out: makes the number another with which who writes is alone.
-    pub(crate) fn recount(&self, held: &mut Out, seen: u64, new: u64) -> Option<Step>
-        requires seat { held.old.seat.table_id ≡ self.now.table.shared.table_id }
+    pub(crate) fn recount(&self, held: &mut Out<'_>, seen: u64, new: u64) -> Option<Step>
+        requires seat { IsOf self.now.slot.name held.old }
         requires out { new % 2 ≡ 1 }
-        requires alone { HasState (λ n q. IsExclusive (number_of new) q) held.old.seat.me }
-        ensures seat { (held.new.seat.table_id ≡ held.old.seat.table_id)
-            × (held.new.seat.me.1 ≡ held.old.seat.me.1) }
-        ensures counts { MatchOption result (held.new.seat.me.0 ≡ held.old.seat.me.0)
-            (λ made. held.new.seat.me.0.number ≡ Some (number_of new)) }
+        requires alone { HasState (λ n q. IsExclusive (number_of new) q) held.old }
+        ensures seat { IsOf self.now.slot.name held.new }
+        ensures state { held.new.claim.state ≡ held.old.claim.state }
+        ensures counts { MatchOption result (held.new.seat.view ≡ held.old.seat.view)
+            (λ made. held.new.seat.view.number ≡ Some (number_of new)) }
         ensures step { IfSome result (λ made. (made.from ≡ seen) × (made.to ≡ new)
-            × (made.origin.table_id ≡ self.now.table.shared.table_id)) }
+            × (made.origin.name ≡ self.now.slot.name)) }
     {
         held.change(self, seen, new)
     }

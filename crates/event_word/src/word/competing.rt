@@ -1,17 +1,15 @@
 //! What those that compete for a lock do with its state out.
 ghost use Rattle.std.specs.Prelude.{◌≡◌, ◌+◌, ◌<◌, ◌≤◌, true, Some, None, IfOk, OnErr};
-ghost use Rattle.atomic_table.specs.Table.{rest};
 ghost use Rattle.event_word.specs.Contender.{Comes, NobodyIsBy, coming_of, count_of, losses_after};
-ghost use Rattle.event_word.specs.Free.{ServesTheStarving, ServesWith, Stands, free_of, IsClosed, IsShut};
-ghost use Rattle.event_word.specs.Word.{HasState};
+ghost use Rattle.event_word.specs.Free.{ServesTheStarving, ServesWith, StandsIf, free_of, IsClosed, IsShut};
+ghost use Rattle.event_word.specs.Held.{HasState, IsOf};
 ghost use Rattle.event_wait.specs.Attempted.{Stores};
 
 use super::Word;
 use super::held::Held;
-use crate::competing::{Competing, Counted, SHUT, free, is_closed};
+use crate::competing::{Competing, Counted, SHUT, free, is_closed_for};
 use crate::contender::Arrival;
 use crate::counts::Counts;
-use crate::word::held::state;
 use event_queue::{Key, TaskExchange};
 use event_wait::{LockError, Task};
 use std::sync::Wait;
@@ -33,90 +31,88 @@ impl<C: Counted, V> Word<Competing<C>, V> {
     {
         let (number, mut held) = self.take(rt);
         let counts = self.counted(&mut held, number);
-        drop(self.put_back(rt, held));
+        self.put_back(rt, held);
         counts
     }
 
-    fn counted(&self, held: &mut Held<Competing<C>, V>, number: u64) -> Counts
-        requires seat { held.old.seat.table_id ≡ self.now.table.shared.table_id }
-        requires stands { HasState (λ n q. (n ≡ number) × Stands n q.line) held.old.seat.me }
-        ensures seat { (held.new.seat.table_id ≡ held.old.seat.table_id)
-            × (rest held.new.seat.me.1 ≡ rest held.old.seat.me.1) }
-        ensures serves { HasState (λ n q. ServesTheStarving n q.line) held.new.seat.me }
+    fn counted(&self, held: &mut Held<'_, Competing<C>, V>, number: u64) -> Counts
+        requires seat { IsOf self.now.slot.name held.old }
+        requires stands { HasState (λ n q. (n ≡ number) × StandsIf C.CLOSES n q.line) held.old }
+        ensures seat { IsOf self.now.slot.name held.new }
+        ensures serves { HasState (λ n q. ServesTheStarving n q.line) held.new }
         ensures nobody { result.notified < result.free → result.waiting ≡ 0 }
         ensures shuts { (0 < result.starving → result.is_shut ≡ true)
             × (result.is_shut ≡ true → 0 < result.starving) }
         ensures closed { result.is_closed ≡ true
             → result.notified + result.waiting + result.starving ≡ 0 }
     {
-        let line = &state!(held.seat, self).line;
+        let line = &held.claim.state_mut().line;
         Counts {
             free: free(number),
             notified: line.told(),
             waiting: line.waiting(),
             starving: line.starving(),
             is_shut: number >= SHUT,
-            is_closed: is_closed(number),
+            is_closed: is_closed_for::<C>(number),
         }
     }
 
     /// One that competes comes to attempt, by its place in the queue if it has one.
     pub fn come<O, X: TaskExchange<Task, O>>(
         &self,
-        held: &mut Held<Competing<C>, V>,
+        held: &mut Held<'_, Competing<C>, V>,
         place: &mut Option<Key>,
         exchange: &X,
         on: &mut O,
     ) -> Arrival
-        requires seat { held.old.seat.table_id ≡ self.now.table.shared.table_id }
-        requires stands { HasState (λ n q. Stands n q.line) held.old.seat.me }
-        ensures seat { (held.new.seat.table_id ≡ held.old.seat.table_id)
-            × (rest held.new.seat.me.1 ≡ rest held.old.seat.me.1) }
-        ensures serves { HasState (λ n q. ServesWith (count_of result) n q.line) held.new.seat.me }
-        ensures number { held.new.seat.me.0 ≡ held.old.seat.me.0 }
-        ensures came { HasState (λ _ q. result ≡ coming_of place.old q.line) held.old.seat.me }
+        requires seat { IsOf self.now.slot.name held.old }
+        requires stands { HasState (λ n q. StandsIf C.CLOSES n q.line) held.old }
+        ensures seat { IsOf self.now.slot.name held.new }
+        ensures serves { HasState (λ n q. ServesWith (count_of result) n q.line) held.new }
+        ensures number { held.new.seat.view.number ≡ held.old.seat.view.number }
+        ensures came { HasState (λ _ q. result ≡ coming_of place.old q.line) held.old }
         ensures comes { HasState (λ _ q.
             Comes (X.exchanged exchange.now) place.old on.old result q.line place.new on.new)
-            held.new.seat.me }
+            held.new }
     {
-        Arrival::new(state!(held.seat, self).come(place, exchange, on))
+        Arrival::new(held.claim.state_mut().come(place, exchange, on))
     }
 
     /// One whose attempt found nothing waits at the end of the queue. It has lost so often then.
     pub fn lose<O, X: TaskExchange<Task, O>>(
         &self,
-        held: &mut Held<Competing<C>, V>,
+        held: &mut Held<'_, Competing<C>, V>,
         place: &mut Option<Key>,
         losses: &mut u32,
         arrival: Arrival,
         exchange: &X,
         on: &mut O,
     ) -> Result<Key, LockError>
-        requires seat { held.old.seat.table_id ≡ self.now.table.shared.table_id }
-        requires serves { HasState (λ n q. ServesTheStarving n q.line) held.old.seat.me }
-        ensures seat { (held.new.seat.table_id ≡ held.old.seat.table_id)
-            × (rest held.new.seat.me.1 ≡ rest held.old.seat.me.1) }
-        ensures serves { HasState (λ n q. ServesTheStarving n q.line) held.new.seat.me }
-        ensures number { held.new.seat.me.0 ≡ held.old.seat.me.0 }
+        requires seat { IsOf self.now.slot.name held.old }
+        requires serves { HasState (λ n q. ServesTheStarving n q.line) held.old }
+        ensures seat { IsOf self.now.slot.name held.new }
+        ensures serves { HasState (λ n q. ServesTheStarving n q.line) held.new }
+        ensures number { held.new.seat.view.number ≡ held.old.seat.view.number }
         ensures place { IfOk result (λ key. place.new ≡ Some key) }
         ensures losses { IfOk result (λ _. losses.new ≡ losses_after losses.old arrival) }
         ensures waits { IfOk result (λ _. Stores (X.exchanged exchange.now) on.old on.new) }
         ensures refused { OnErr result ((place.new ≡ place.old) × (losses.new ≡ losses.old)
             × (on.new ≡ on.old)) }
     {
-        state!(held.seat, self).lose(place, losses, arrival.coming(), exchange, on)
+        held.claim
+            .state_mut()
+            .lose(place, losses, arrival.coming(), exchange, on)
     }
 
     /// One that competes leaves the queue, if it is there. Returns how it would have come.
-    pub fn leave(&self, held: &mut Held<Competing<C>, V>, place: &mut Option<Key>) -> Arrival
-        requires seat { held.old.seat.table_id ≡ self.now.table.shared.table_id }
-        requires stands { HasState (λ n q. Stands n q.line) held.old.seat.me }
-        ensures seat { (held.new.seat.table_id ≡ held.old.seat.table_id)
-            × (rest held.new.seat.me.1 ≡ rest held.old.seat.me.1) }
-        ensures serves { HasState (λ n q. ServesWith (count_of result) n q.line) held.new.seat.me }
-        ensures left { HasState (λ _ q. NobodyIsBy place.old q.line) held.new.seat.me }
+    pub fn leave(&self, held: &mut Held<'_, Competing<C>, V>, place: &mut Option<Key>) -> Arrival
+        requires seat { IsOf self.now.slot.name held.old }
+        requires stands { HasState (λ n q. StandsIf C.CLOSES n q.line) held.old }
+        ensures seat { IsOf self.now.slot.name held.new }
+        ensures serves { HasState (λ n q. ServesWith (count_of result) n q.line) held.new }
+        ensures left { HasState (λ _ q. NobodyIsBy place.old q.line) held.new }
         ensures place { place.new ≡ None }
     {
-        Arrival::new(state!(held.seat, self).leave(place))
+        Arrival::new(held.claim.state_mut().leave(place))
     }
 }

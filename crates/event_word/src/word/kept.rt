@@ -1,5 +1,5 @@
 //! What a lock keeps behind its word.
-ghost use Rattle.std.specs.Prelude.{◌≡◌, ◌↔◌, ◌^◌, ◌<◌, ℕ, false};
+ghost use Rattle.std.specs.Prelude.{◌≡◌, ◌^◌, ◌<◌, ℕ, false};
 ghost use Rattle.event_word.specs.Rules.{Rules};
 
 use event_queue::WakeSink;
@@ -18,7 +18,7 @@ pub trait Kept: Sized {
         ensures fits { rules.fits result }
         ensures promised { rules.promised result self.now }
         ensures tells { rules.tells result self.now }
-        ensures lends { rules.lends number ↔ rules.lends result };
+        ensures taken { rules.taken result ≡ rules.taken number };
 
     /// Notifies those that wait of what is free by this number. Returns whether somebody waits still.
     fn settle<K: WakeSink<Task>>(&mut self, number: u64, sink: &mut K) -> bool

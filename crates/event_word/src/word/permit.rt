@@ -20,7 +20,7 @@ impl Model for Permit {
 
     ghost Value = { Taken };
 
-    ghost view = { λ permit. record { origin = permit.origin.table_id; count = permit.count } };
+    ghost view = { λ permit. record { origin = permit.origin.name; count = permit.count } };
 }
 
 impl Permit {
@@ -29,7 +29,7 @@ impl Permit {
     pub(crate) fn taken(step: Step, count: u64) -> Self
         requires open { IsClosed (number_of step.from) → ⊥ }
         requires fewer { free_of (number_of step.from) ≡ free_of (number_of step.to) + count }
-        ensures origin { result.origin ≡ step.origin.table_id }
+        ensures origin { result.origin ≡ step.origin.name }
         ensures count { result.count ≡ count }
     {
         Permit {
@@ -50,7 +50,7 @@ impl Permit {
     /// They are given back by this step, of their word: as many more are free, if the number has room for them.
     #[inline(always)]
     pub(crate) fn given(self, step: Step)
-        requires own { step.origin.table_id ≡ self.origin }
+        requires own { step.origin.name ≡ self.origin }
         requires more { free_of (number_of step.to)
             ≡ min (free_of (number_of step.from) + self.count) (2 ^ 60 - 1) }
         requires closed { IsClosed (number_of step.from) → IsClosed (number_of step.to) }

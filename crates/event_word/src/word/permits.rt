@@ -1,9 +1,9 @@
 //! The steps of a semaphore on its word.
 ghost use Rattle.std.specs.Prelude.{◌≡◌, ◌+◌, ◌-◌, ◌≤◌, ◌^◌, [], Err, min, IfOk, IfSome};
-ghost use Rattle.atomic_table.specs.Table.{rest};
 ghost use Rattle.event_word.specs.declared.error.TryAcquireError.TheVariants.{Closed, NoPermits};
 ghost use Rattle.event_word.specs.Free.{IsClosed, NoneFor, ServesTheStarving, ServesWith, free_of};
-ghost use Rattle.event_word.specs.Word.{HasState, count, number_of};
+ghost use Rattle.event_word.specs.Held.{HasState, IsOf};
+ghost use Rattle.event_word.specs.Word.{count, number_of};
 
 use super::held::Held;
 use super::permit::Permit;
@@ -11,7 +11,6 @@ use super::serving::may_take;
 use super::{CROWDED, ONE, Step, Word};
 use crate::competing::{CLOSED, Competing, Permits, free, is_closed};
 use crate::error::TryAcquireError;
-use crate::word::held::state;
 use event_wait::DeferredWake;
 use std::sync::Wait;
 
@@ -40,7 +39,7 @@ impl Word<Competing<Permits>, ()> {
     /// Takes a permit, if one is free for newcomers. It is one load and one compare-exchange where no other thread comes between.
     #[inline(always)]
     pub fn try_permit(&self) -> Result<Permit, TryAcquireError>
-        ensures own { IfOk result (λ permit. permit.origin ≡ self.now.table.shared.table_id) }
+        ensures own { IfOk result (λ permit. permit.origin ≡ self.now.slot.name) }
         ensures one { IfOk result (λ permit. permit.count ≡ 1) }
     {
         let (seen, mut seat) = self.look();
@@ -57,7 +56,7 @@ impl Word<Competing<Permits>, ()> {
     #[cold]
     #[inline(never)]
     pub fn try_permits(&self, count: u64) -> Result<Permit, TryAcquireError>
-        ensures own { IfOk result (λ permit. permit.origin ≡ self.now.table.shared.table_id) }
+        ensures own { IfOk result (λ permit. permit.origin ≡ self.now.slot.name) }
         ensures all { IfOk result (λ permit. permit.count ≡ count) }
     {
         let (mut seen, mut seat) = self.look();
@@ -76,7 +75,7 @@ impl Word<Competing<Permits>, ()> {
     /// Takes so many permits by one step, or all that are free for newcomers if those are fewer. `None` says that newcomers are
     /// shut out, or that it is closed.
     pub fn try_up_to(&self, most: u64) -> Option<Permit>
-        ensures own { IfSome result (λ permit. permit.origin ≡ self.now.table.shared.table_id) }
+        ensures own { IfSome result (λ permit. permit.origin ≡ self.now.slot.name) }
         ensures up_to { IfSome result (λ permit. permit.count ≤ most) }
     {
         let (mut seen, mut seat) = self.look();
@@ -97,7 +96,7 @@ impl Word<Competing<Permits>, ()> {
     /// notifies. It is one load and one compare-exchange where nobody waits.
     #[inline(always)]
     pub fn give_permit<R: Wait>(&self, rt: &R, permit: Permit)
-        requires { permit.origin ≡ self.now.table.shared.table_id }
+        requires { permit.origin ≡ self.now.slot.name }
     {
         let (seen, mut seat) = self.look();
         let count = permit.count();
@@ -119,7 +118,7 @@ impl Word<Competing<Permits>, ()> {
     #[cold]
     #[inline(never)]
     fn added<R: Wait>(&self, rt: &R, permits: u64) -> Step
-        ensures own { result.origin.table_id ≡ self.now.table.shared.table_id }
+        ensures own { result.origin.name ≡ self.now.slot.name }
         ensures more { free_of (number_of result.to)
             ≡ min (free_of (number_of result.from) + permits) (2 ^ 60 - 1) }
         ensures closed { IsClosed (number_of result.from) → IsClosed (number_of result.to) }
@@ -130,7 +129,7 @@ impl Word<Competing<Permits>, ()> {
             if seen % 4 == CROWDED {
                 match self.try_take(seat, seen, seen + more * ONE - 1) {
                     Ok((step, held)) => {
-                        drop(self.put_back(rt, held));
+                        self.put_back(rt, held);
                         return step;
                     }
                     Err(again) => seat = again,
@@ -148,18 +147,19 @@ impl Word<Competing<Permits>, ()> {
     pub fn take_permit<R: Wait>(
         &self,
         rt: &R,
-        held: &mut Held<Competing<Permits>, ()>,
+        held: &mut Held<'_, Competing<Permits>, ()>,
         notified: bool,
     ) -> Result<Permit, TryAcquireError>
-        requires seat { held.old.seat.table_id ≡ self.now.table.shared.table_id }
-        requires serves { HasState (λ n q. ServesWith (count notified) n q.line) held.old.seat.me }
-        ensures seat { (held.new.seat.table_id ≡ held.old.seat.table_id)
-            × (held.new.seat.me.1 ≡ held.old.seat.me.1) }
-        ensures serves { HasState (λ n q. ServesTheStarving n q.line) held.new.seat.me }
-        ensures own { IfOk result (λ permit. permit.origin ≡ self.now.table.shared.table_id) }
+        requires seat { IsOf self.now.slot.name held.old }
+        requires serves { HasState (λ n q. ServesWith (count notified) n q.line) held.old }
+        ensures seat { IsOf self.now.slot.name held.new }
+        ensures state { held.new.claim.state ≡ held.old.claim.state }
+        ensures serves { HasState (λ n q. ServesTheStarving n q.line) held.new }
+        ensures own { IfOk result (λ permit. permit.origin ≡ self.now.slot.name) }
+        ensures one { IfOk result (λ permit. permit.count ≡ 1) }
         ensures none { result ≡ Err NoPermits
-            → HasState (λ n _. NoneFor notified n) held.new.seat.me }
-        ensures closed { result ≡ Err Closed → HasState (λ n _. IsClosed n) held.new.seat.me }
+            → HasState (λ n _. NoneFor notified n) held.new }
+        ensures closed { result ≡ Err Closed → HasState (λ n _. IsClosed n) held.new }
     {
         for _ in rt.forever() {
             let seen = self.look_serving(held, notified);
@@ -182,17 +182,17 @@ impl Word<Competing<Permits>, ()> {
         let (_, mut held) = self.take(rt);
         let mut waking = DeferredWake::new();
         self.mark_closed(rt, &mut held);
-        state!(held.seat, self).close(&mut waking);
-        drop(self.put_back(rt, held));
+        held.claim.state_mut().close(&mut waking);
+        self.put_back(rt, held);
         waking.finish();
     }
 
     // Sets the bit, and clears that which shuts newcomers out.
-    fn mark_closed<R: Wait>(&self, rt: &R, held: &mut Held<Competing<Permits>, ()>)
-        requires seat { held.old.seat.table_id ≡ self.now.table.shared.table_id }
-        requires serves { HasState (λ n q. ServesTheStarving n q.line) held.old.seat.me }
-        ensures seat { held.new.seat.table_id ≡ held.old.seat.table_id }
-        ensures closed { HasState (λ n _. IsClosed n) held.new.seat.me }
+    fn mark_closed<R: Wait>(&self, rt: &R, held: &mut Held<'_, Competing<Permits>, ()>)
+        requires seat { IsOf self.now.slot.name held.old }
+        requires serves { HasState (λ n q. ServesTheStarving n q.line) held.old }
+        ensures seat { IsOf self.now.slot.name held.new }
+        ensures closed { HasState (λ n _. IsClosed n) held.new }
     {
         for _ in rt.forever() {
             let seen = self.look_serving(held, false);

@@ -1,7 +1,8 @@
 //! Looking at the number of a lock for which threads compete, with its state out.
 ghost use Rattle.std.specs.Prelude.{◌≡◌, ◌%◌, ◌<◌, ◌≤◌, false, true};
 ghost use Rattle.event_word.specs.Free.{IsClosed, IsOpen, NoneFor, ServesWith, free_of, unshut_of};
-ghost use Rattle.event_word.specs.Word.{HasState, count, number_of};
+ghost use Rattle.event_word.specs.Held.{HasState, IsOf};
+ghost use Rattle.event_word.specs.Word.{count, number_of};
 
 use super::held::Held;
 use super::{ONE, Word};
@@ -22,14 +23,14 @@ impl<C: Counted, V> Word<Competing<C>, V> {
     /// Looks at the word while the state is out. What is left for those that starve and are notified, and for one more that was
     /// notified and came, is left still.
     #[inline(always)]
-    pub(crate) fn look_serving(&self, held: &mut Held<Competing<C>, V>, notified: bool) -> u64
-        requires seat { held.old.seat.table_id ≡ self.now.table.shared.table_id }
-        requires serves { HasState (λ n q. ServesWith (count notified) n q.line) held.old.seat.me }
-        ensures seat { (held.new.seat.table_id ≡ held.old.seat.table_id)
-            × (held.new.seat.me.1 ≡ held.old.seat.me.1) }
+    pub(crate) fn look_serving(&self, held: &mut Held<'_, Competing<C>, V>, notified: bool) -> u64
+        requires seat { IsOf self.now.slot.name held.old }
+        requires serves { HasState (λ n q. ServesWith (count notified) n q.line) held.old }
+        ensures seat { IsOf self.now.slot.name held.new }
+        ensures state { held.new.claim.state ≡ held.old.claim.state }
         ensures word { (result % 2 ≡ 1) × C.fits (unshut_of (number_of result)) }
         ensures serves { HasState (λ n q. (n ≡ number_of result)
-            × ServesWith (count notified) n q.line) held.new.seat.me }
+            × ServesWith (count notified) n q.line) held.new }
     {
         held.look(self)
     }

@@ -1,7 +1,7 @@
 //! Steps on the number of a word.
-ghost use Rattle.std.specs.Prelude.{◌≡◌, ◌%◌, ℕ, [], None, Some, IfErr, IfOk, IfSome, MatchOption};
-ghost use Rattle.atomic_table.specs.Table.{rest};
-ghost use Rattle.event_word.specs.Word.{Changes, HasNothing, HasState, Stays, Takes, number_of, numbered};
+ghost use Rattle.std.specs.Prelude.{◌≡◌, ◌%◌, ⊤, None, Some, IfErr, IfOk, IfSome, MatchOption};
+ghost use Rattle.event_word.specs.Held.{HasState, IsOf};
+ghost use Rattle.event_word.specs.Word.{Changes, Stays, Takes, number_of};
 
 use super::held::Held;
 use super::kept::Kept;
@@ -34,17 +34,16 @@ impl Step {
 impl<S: Kept, V> Word<S, V> {
     /// Changes the number where nobody has to be notified, if the word is as it was seen.
     #[inline(always)]
-    pub fn change(&self, seat: &mut Seat<S, V>, seen: u64, new: u64) -> Option<Step>
-        requires seat { seat.old.table_id ≡ self.now.table.shared.table_id }
+    #[tactic(auto, using(crate::proofs::WordKeeps::changes))]
+    pub fn change(&self, seat: &mut Seat, seen: u64, new: u64) -> Option<Step>
+        requires seat { seat.old.slot ≡ self.now.slot.name }
         requires changes { Changes S.rules seen new × Stays S.rules seen new }
-        ensures seat { (seat.new.table_id ≡ seat.old.table_id) × (seat.new.me ≡ seat.old.me) }
+        ensures seat { (seat.new.slot ≡ seat.old.slot) × (seat.new.view ≡ seat.old.view) }
         ensures step { IfSome result (λ made. (made.from ≡ seen) × (made.to ≡ new)
-            × (made.origin.table_id ≡ self.now.table.shared.table_id)) }
+            × (made.origin.name ≡ self.now.slot.name)) }
     {
-        let found = self
-            .table
-            .shared
-            .compare_exchange::<Change>(seat, 0, seen, new);
+        let (found, claim) = self.slot.claim().exchange::<Change>(seat, seen, new);
+        claim.done();
         if found != seen {
             return None;
         }
@@ -57,53 +56,45 @@ impl<S: Kept, V> Word<S, V> {
 
     /// Takes the state out where it is at home, and changes the number by the same step. An error has the seat where the word
     /// was another.
-    pub fn try_take(
-        &self,
-        mut seat: Seat<S, V>,
-        seen: u64,
-        new: u64,
-    ) -> Result<(Step, Held<S, V>), Seat<S, V>>
-        requires seat { (seat.table_id ≡ self.now.table.shared.table_id) × HasNothing seat.me }
+    pub fn try_take(&self, seat: Seat, seen: u64, new: u64) -> Result<(Step, Held<'_, S, V>), Seat>
+        requires seat { (seat.slot ≡ self.now.slot.name) × (seat.view.number ≡ None) }
         requires home { seen % 2 ≡ 0 }
         requires takes { Takes S.rules seen new × Stays S.rules seen new }
-        ensures ok { IfOk result (λ taken. (taken.1.seat.table_id ≡ self.now.table.shared.table_id)
-            × HasState (λ n q. (n ≡ number_of new) × S.rules.stands (number_of seen) q)
-            taken.1.seat.me × (rest taken.1.seat.me.1 ≡ [])) }
+        ensures ok { IfOk result (λ taken. IsOf self.now.slot.name taken.1
+            × HasState (λ n q. (n ≡ number_of new) × S.rules.stands (number_of seen) q) taken.1) }
         ensures step { IfOk result (λ taken. (taken.0.from ≡ seen) × (taken.0.to ≡ new)
-            × (taken.0.origin.table_id ≡ self.now.table.shared.table_id)) }
-        ensures err { IfErr result (λ again. (again.table_id ≡ seat.table_id)
-            × (again.me ≡ seat.me)) }
+            × (taken.0.origin.name ≡ self.now.slot.name)) }
+        ensures err { IfErr result (λ again. (again.slot ≡ seat.slot) × (again.view ≡ seat.view)) }
     {
-        if !self.take_step(&mut seat, seen, new) {
-            return Err(seat);
-        }
+        let held = self.take_step(seat, seen, new)?;
         let step = Step {
             from: seen,
             to: new,
-            origin: Origin::of(&seat),
+            origin: Origin::of(&held.seat),
         };
-        Ok((step, Held { seat }))
+        Ok((step, held))
     }
 }
 
-impl<S: Kept, V> Held<S, V> {
+impl<S: Kept, V> Held<'_, S, V> {
     /// Changes the number while the state is out, if the word is as it was seen. Whoever has the state out notifies of it later.
     #[inline(always)]
     pub fn change(&mut self, word: &Word<S, V>, seen: u64, new: u64) -> Option<Step>
-        requires seat { (self.old.seat.table_id ≡ word.now.table.shared.table_id) × (n : ℕ)
-            × (self.old.seat.me.0.number ≡ Some n) }
+        requires seat { IsOf word.now.slot.name self.old }
+        requires state { HasState (λ _ _. ⊤) self.old }
         requires takes { Takes S.rules seen new × Stays S.rules seen new }
-        ensures seat { self.new.seat.table_id ≡ self.old.seat.table_id }
-        ensures changes { MatchOption result (self.new.seat.me ≡ self.old.seat.me)
-            (λ made. self.new.seat.me
-            ≡ (numbered (number_of new) self.old.seat.me.0, self.old.seat.me.1)) }
+        ensures seat { IsOf word.now.slot.name self.new }
+        ensures state { self.new.claim.state ≡ self.old.claim.state }
+        ensures changes { MatchOption result (self.new.seat.view ≡ self.old.seat.view)
+            (λ made. self.new.seat.view.number ≡ Some (number_of new)) }
         ensures step { IfSome result (λ made. (made.from ≡ seen) × (made.to ≡ new)
-            × (made.origin.table_id ≡ word.now.table.shared.table_id)) }
+            × (made.origin.name ≡ word.now.slot.name)) }
     {
-        let found = word
-            .table
-            .shared
-            .compare_exchange::<Move>(&mut self.seat, 0, seen, new);
+        let (found, claim) = word
+            .slot
+            .claim()
+            .exchange::<Move>(&mut self.seat, seen, new);
+        claim.done();
         if found != seen {
             return None;
         }

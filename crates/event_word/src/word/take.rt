@@ -1,13 +1,12 @@
 //! Taking the state out from behind its word, and putting it back.
-ghost use Rattle.std.specs.Prelude.{◌≡◌, ◌*◌, ◌%◌, ◌^◌, ◌<◌, [], false, IfErr, IfOk, MatchBool};
-ghost use Rattle.atomic_table.specs.Table.{rest};
-ghost use Rattle.event_word.specs.Word.{GivesBack, HasNothing, HasState, HasValue, Stays, Takes, beside, number_of};
+ghost use Rattle.std.specs.Prelude.{◌≡◌, ◌*◌, ◌%◌, ◌^◌, ◌<◌, None, false, IfErr, IfOk};
+ghost use Rattle.event_word.specs.Held.{HasState, IsOf};
+ghost use Rattle.event_word.specs.Word.{Stays, Takes, number_of};
 
 use super::held::Held;
 use super::kept::Kept;
-use super::rule::{Change, LookAgain, Move, Put, Swap, Take};
+use super::rule::{Change, Put, Take};
 use super::{AWAITED, CROWDED, ONE, OUT, Seat, Word};
-use crate::word::held::state;
 use event_wait::{DeferredWake, PAUSES, pause};
 use std::sync::Wait;
 
@@ -15,76 +14,40 @@ use std::sync::Wait;
 const PARKED_BITS: u64 = 0x1_0000_0000;
 
 impl<S: Kept, V> Word<S, V> {
-    pub(super) fn take_step(&self, seat: &mut Seat<S, V>, seen: u64, new: u64) -> bool
-        requires seat { (seat.old.table_id ≡ self.now.table.shared.table_id)
-            × HasNothing seat.old.me }
+    #[tactic(auto, using(crate::proofs::WordKeeps::takes_out))]
+    pub(super) fn take_step(&self, seat: Seat, seen: u64, new: u64) -> Result<Held<'_, S, V>, Seat>
+        requires seat { (seat.slot ≡ self.now.slot.name) × (seat.view.number ≡ None) }
         requires home { seen % 2 ≡ 0 }
         requires takes { Takes S.rules seen new × Stays S.rules seen new }
-        ensures seat { seat.new.table_id ≡ seat.old.table_id }
-        ensures taken { MatchBool result (HasState (λ n q. (n ≡ number_of new)
-            × S.rules.stands (number_of seen) q) seat.new.me
-            × (rest seat.new.me.1 ≡ [])) (seat.new.me ≡ seat.old.me) }
+        ensures ok { IfOk result (λ held. IsOf self.now.slot.name held
+            × HasState (λ n q. (n ≡ number_of new) × S.rules.stands (number_of seen) q) held) }
+        ensures err { IfErr result (λ again. (again.slot ≡ seat.slot) × (again.view ≡ seat.view)) }
     {
-        self.table
-            .shared
-            .compare_exchange::<Take<S>>(seat, 0, seen, new)
-            == seen
-    }
-
-    fn swap_step(&self, seat: &mut Seat<S, V>, seen: u64, new: u64) -> bool
-        requires seat { (seat.old.table_id ≡ self.now.table.shared.table_id)
-            × HasValue seat.old.me }
-        requires home { seen % 2 ≡ 0 }
-        requires takes { Takes S.rules seen new × GivesBack S.rules seen new }
-        ensures seat { seat.new.table_id ≡ seat.old.table_id }
-        ensures taken { MatchBool result (HasState (λ n q. (n ≡ number_of new)
-            × S.rules.stands (number_of seen) q) seat.new.me
-            × (rest seat.new.me.1 ≡ [])) (seat.new.me ≡ seat.old.me) }
-    {
-        self.table
-            .shared
-            .compare_exchange::<Swap<S>>(seat, 0, seen, new)
-            == seen
-    }
-
-    /// Takes the state out where it is at home, gives the value back, and changes the number by the same step. An error has the
-    /// seat where the word was another.
-    pub fn try_swap(
-        &self,
-        mut seat: Seat<S, V>,
-        seen: u64,
-        new: u64,
-    ) -> Result<Held<S, V>, Seat<S, V>>
-        requires seat { (seat.table_id ≡ self.now.table.shared.table_id) × HasValue seat.me }
-        requires home { seen % 2 ≡ 0 }
-        requires takes { Takes S.rules seen new × GivesBack S.rules seen new }
-        ensures ok { IfOk result (λ held. (held.seat.table_id ≡ self.now.table.shared.table_id)
-            × HasState (λ n q. (n ≡ number_of new) × S.rules.stands (number_of seen) q) held.seat.me
-            × (rest held.seat.me.1 ≡ [])) }
-        ensures err { IfErr result (λ again. (again.table_id ≡ seat.table_id)
-            × (again.me ≡ seat.me)) }
-    {
-        if self.swap_step(&mut seat, seen, new) {
-            Ok(Held { seat })
-        } else {
-            Err(seat)
+        let mut seat = seat;
+        let (found, claim) = self.slot.claim().exchange::<Take>(&mut seat, seen, new);
+        if found == seen {
+            return Ok(Held { claim, seat });
         }
+        claim.done();
+        Err(seat)
     }
 
     /// Takes the state out, once nobody else has it, with the number at that moment. While another thread has it, the thread looks
     /// ever more seldom, and sleeps at last. It does not allocate.
     #[cold]
     #[inline(never)]
-    pub fn take<R: Wait>(&self, rt: &R) -> (u64, Held<S, V>)
-        ensures held { (result.1.seat.table_id ≡ self.now.table.shared.table_id)
-            × (rest result.1.seat.me.1 ≡ []) }
+    pub fn take<R: Wait>(&self, rt: &R) -> (u64, Held<'_, S, V>)
+        ensures held { IsOf self.now.slot.name result.1 }
         ensures stands { S.rules.fits result.0
-            × HasState (λ n q. (n ≡ result.0) × S.rules.stands n q) result.1.seat.me }
+            × HasState (λ n q. (n ≡ result.0) × S.rules.stands n q) result.1 }
     {
         let (mut seen, mut seat) = self.look();
         for pauses in PAUSES {
-            if seen % 2 == 0 && self.take_step(&mut seat, seen, seen - seen % 4 + OUT) {
-                return (seen / ONE, Held { seat });
+            if seen % 2 == 0 {
+                match self.take_step(seat, seen, seen - seen % 4 + OUT) {
+                    Ok(held) => return (seen / ONE, held),
+                    Err(again) => seat = again,
+                }
             }
             pause(pauses);
             seen = self.look_again(&mut seat);
@@ -93,133 +56,145 @@ impl<S: Kept, V> Word<S, V> {
     }
 
     // Whoever slept can't know whether others sleep still.
-    fn sleep_to_take<R: Wait>(&self, rt: &R, mut seat: Seat<S, V>) -> (u64, Held<S, V>)
-        requires seat { (seat.table_id ≡ self.now.table.shared.table_id) × HasNothing seat.me }
-        ensures held { (result.1.seat.table_id ≡ self.now.table.shared.table_id)
-            × (rest result.1.seat.me.1 ≡ []) }
+    fn sleep_to_take<R: Wait>(&self, rt: &R, seat: Seat) -> (u64, Held<'_, S, V>)
+        requires seat { (seat.slot ≡ self.now.slot.name) × (seat.view.number ≡ None) }
+        ensures held { IsOf self.now.slot.name result.1 }
         ensures stands { S.rules.fits result.0
-            × HasState (λ n q. (n ≡ result.0) × S.rules.stands n q) result.1.seat.me }
+            × HasState (λ n q. (n ≡ result.0) × S.rules.stands n q) result.1 }
     {
+        let mut seat = seat;
         for _ in rt.forever() {
             let seen = self.look_again(&mut seat);
             let awaited = seen - seen % 4 + AWAITED;
-            if seen % 2 == 0 {
-                if self.take_step(&mut seat, seen, awaited) {
-                    return (seen / ONE, Held { seat });
+            if seen % 2 == 1 {
+                if seen == awaited || self.await_step(&mut seat, seen, awaited) {
+                    self.slot.park(rt, (awaited % PARKED_BITS) as u32);
                 }
-            } else if seen == awaited || self.await_step(&mut seat, seen, awaited) {
-                self.table
-                    .shared
-                    .park(rt, 0, (awaited % PARKED_BITS) as u32);
+                continue;
+            }
+            match self.take_step(seat, seen, awaited) {
+                Ok(held) => return (seen / ONE, held),
+                Err(again) => seat = again,
             }
         }
         unreachable!()
     }
 
     // Marks the word, so that whoever puts the state back wakes one that sleeps.
-    fn await_step(&self, seat: &mut Seat<S, V>, seen: u64, awaited: u64) -> bool
-        requires seat { seat.old.table_id ≡ self.now.table.shared.table_id }
+    #[tactic(auto, using(crate::proofs::WordKeeps::awaits))]
+    fn await_step(&self, seat: &mut Seat, seen: u64, awaited: u64) -> bool
+        requires seat { seat.old.slot ≡ self.now.slot.name }
         requires away { (seen % 2 ≡ 1) × (awaited % 2 ≡ 1) × (number_of awaited ≡ number_of seen) }
-        ensures { (seat.new.table_id ≡ seat.old.table_id) × (seat.new.me ≡ seat.old.me) }
+        ensures { (seat.new.slot ≡ seat.old.slot) × (seat.new.view ≡ seat.old.view) }
     {
-        self.table
-            .shared
-            .compare_exchange::<Change>(seat, 0, seen, awaited)
-            == seen
+        let (found, claim) = self.slot.claim().exchange::<Change>(seat, seen, awaited);
+        claim.done();
+        found == seen
     }
 
     /// Puts the state back, once those that wait were notified of what is free by the number then. Whom it notifies last is
     /// woken after that. The number may change meanwhile: then it notifies again.
     #[cold]
     #[inline(never)]
-    pub fn put_back<R: Wait>(&self, rt: &R, held: Held<S, V>) -> Seat<S, V>
-        requires seat { held.seat.table_id ≡ self.now.table.shared.table_id }
-        requires promised { HasState S.rules.promised held.seat.me }
-        ensures { (result.table_id ≡ held.seat.table_id)
-            × (result.me ≡ beside held.seat.me) }
+    pub fn put_back<R: Wait>(&self, rt: &R, held: Held<'_, S, V>)
+        requires seat { IsOf self.now.slot.name held }
+        requires promised { HasState S.rules.promised held }
     {
-        let Held { mut seat } = held;
+        let mut held = held;
         let mut waking = DeferredWake::new();
         for _ in rt.forever() {
-            if self.try_to_put_back(&mut seat, &mut waking) {
-                waking.finish();
-                return seat;
+            match self.try_to_put_back(held, &mut waking) {
+                Ok(()) => {
+                    waking.finish();
+                    return;
+                }
+                Err(again) => held = again,
             }
         }
         unreachable!()
     }
 
-    fn try_to_put_back(&self, seat: &mut Seat<S, V>, waking: &mut DeferredWake) -> bool
-        requires seat { seat.old.table_id ≡ self.now.table.shared.table_id }
-        requires promised { HasState S.rules.promised seat.old.me }
-        ensures seat { seat.new.table_id ≡ seat.old.table_id }
-        ensures put { MatchBool result (seat.new.me ≡ beside seat.old.me)
-            (HasState S.rules.promised seat.new.me × (beside seat.new.me ≡ beside seat.old.me)) }
+    // An error has the state where the number changed meanwhile.
+    fn try_to_put_back<'a>(
+        &self,
+        held: Held<'a, S, V>,
+        waking: &mut DeferredWake,
+    ) -> Result<(), Held<'a, S, V>>
+        requires seat { IsOf self.now.slot.name held }
+        requires promised { HasState S.rules.promised held }
+        ensures again { IfErr result (λ again. IsOf self.now.slot.name again
+            × HasState S.rules.promised again) }
     {
-        let seen = self.see(seat);
+        let mut held = held;
+        let seen = self.see(&mut held);
         let number = seen / ONE;
-        let marked = self.marked(seat, number);
+        let marked = self.marked(&mut held, number);
         if marked != number {
-            self.table
-                .shared
-                .compare_exchange::<Move>(seat, 0, seen, marked * ONE + seen % 4);
-            return false;
+            self.renumber(&mut held, seen, marked * ONE + seen % 4);
+            return Err(held);
         }
-        let waits = self.settle(seat, number, waking);
+        let waits = self.settle(&mut held, number, waking);
         let code = if waits { CROWDED } else { 0 };
-        if self
-            .table
-            .shared
-            .compare_exchange::<Put>(seat, 0, seen, number * ONE + code)
-            != seen
-        {
-            return false;
+        let Held { claim, mut seat } = held;
+        let (found, claim) = claim.exchange::<Put>(&mut seat, seen, number * ONE + code);
+        if found != seen {
+            return Err(Held { claim, seat });
         }
+        claim.done();
         if seen % 4 == AWAITED {
-            self.table.shared.wake_one(0);
+            self.slot.wake_one();
         }
-        true
+        Ok(())
     }
 
     // Whoever has the state out looks at the word, and remembers its number.
-    fn see(&self, seat: &mut Seat<S, V>) -> u64
-        requires seat { seat.old.table_id ≡ self.now.table.shared.table_id }
-        requires promised { HasState S.rules.promised seat.old.me }
-        ensures seat { (seat.new.table_id ≡ seat.old.table_id)
-            × (beside seat.new.me ≡ beside seat.old.me) }
+    fn see(&self, held: &mut Held<'_, S, V>) -> u64
+        requires seat { IsOf self.now.slot.name held.old }
+        requires promised { HasState S.rules.promised held.old }
+        ensures seat { IsOf self.now.slot.name held.new }
         ensures word { (result % 2 ≡ 1) × S.rules.fits (number_of result) }
-        ensures promised { HasState (λ n q. (n ≡ number_of result)
-            × S.rules.promised n q) seat.new.me }
+        ensures promised { HasState (λ n q. (n ≡ number_of result) × S.rules.promised n q) held.new }
     {
-        self.table.shared.load::<LookAgain<S>>(seat, 0)
+        held.look(self)
     }
 
     // The number that the word is to have before anybody is notified.
-    fn marked(&self, seat: &mut Seat<S, V>, number: u64) -> u64
-        requires seat { seat.old.table_id ≡ self.now.table.shared.table_id }
+    fn marked(&self, held: &mut Held<'_, S, V>, number: u64) -> u64
+        requires seat { IsOf self.now.slot.name held.old }
         requires number { (number < 2 ^ 62) × S.rules.fits number }
-        requires promised { HasState (λ n q. (n ≡ number) × S.rules.promised n q) seat.old.me }
-        ensures seat { (seat.new.table_id ≡ seat.old.table_id)
-            × (beside seat.new.me ≡ beside seat.old.me) }
+        requires promised { HasState (λ n q. (n ≡ number) × S.rules.promised n q) held.old }
+        ensures seat { IsOf self.now.slot.name held.new }
         ensures number { (result < 2 ^ 62) × S.rules.fits result
             × Stays S.rules (number * 4) (result * 4) }
         ensures promised { HasState (λ n q. (n ≡ number) × S.rules.promised number q
-            × S.rules.promised result q × S.rules.tells result q) seat.new.me }
+            × S.rules.promised result q × S.rules.tells result q) held.new }
     {
-        state!(seat, self).number(number)
+        held.claim.state_mut().number(number)
+    }
+
+    // The word gets this number, if it is as it was seen.
+    fn renumber(&self, held: &mut Held<'_, S, V>, seen: u64, new: u64)
+        requires seat { IsOf self.now.slot.name held.old }
+        requires takes { Takes S.rules seen new × Stays S.rules seen new }
+        requires promised { HasState (λ _ q. S.rules.promised (number_of seen) q
+            × S.rules.promised (number_of new) q) held.old }
+        requires number { HasState (λ n _. n ≡ number_of seen) held.old }
+        ensures seat { IsOf self.now.slot.name held.new }
+        ensures promised { HasState S.rules.promised held.new }
+    {
+        drop(held.change(self, seen, new));
     }
 
     // Notifies those that wait. Returns whether somebody waits still.
-    fn settle(&self, seat: &mut Seat<S, V>, number: u64, waking: &mut DeferredWake) -> bool
-        requires seat { seat.old.table_id ≡ self.now.table.shared.table_id }
+    fn settle(&self, held: &mut Held<'_, S, V>, number: u64, waking: &mut DeferredWake) -> bool
+        requires seat { IsOf self.now.slot.name held.old }
         requires number { (number < 2 ^ 62) × S.rules.fits number }
         requires promised { HasState (λ n q. (n ≡ number) × S.rules.promised number q
-            × S.rules.tells number q) seat.old.me }
-        ensures seat { (seat.new.table_id ≡ seat.old.table_id)
-            × (beside seat.new.me ≡ beside seat.old.me) }
+            × S.rules.tells number q) held.old }
+        ensures seat { IsOf self.now.slot.name held.new }
         ensures stands { HasState (λ n q. (n ≡ number) × S.rules.stands number q
-            × (result ≡ false → S.rules.quiet q)) seat.new.me }
+            × (result ≡ false → S.rules.quiet q)) held.new }
     {
-        state!(seat, self).settle(number, waking)
+        held.claim.state_mut().settle(number, waking)
     }
 }

@@ -1,134 +1,300 @@
 //! The steps of a mutex on its word.
-ghost use Rattle.std.specs.Prelude.{◌≡◌, ◌∷◌, [], false, None, Some, ℕ, IfSome, MatchBool};
-ghost use Rattle.atomic_table.specs.Table.{rest};
-ghost use Rattle.event_word.specs.declared.word.rule.Shelf.TheVariants.{Value};
-ghost use Rattle.event_word.specs.Free.{NoneFor, ServesTheStarving, ServesWith};
-ghost use Rattle.event_word.specs.Word.{HasState, HasValue, HasValueToo, count, number_of};
+ghost use Rattle.std.specs.Prelude.{◌≡◌, ◌%◌, ⊤, true, None, Some, IfErr, IfOk, IfSome, MatchOption};
+ghost use Rattle.event_word.specs.Free.{NoneFor, ServesTheStarving, ServesWith, unshut_of};
+ghost use Rattle.event_word.specs.Held.{HasState, IsOf};
+ghost use Rattle.event_word.specs.Word.{Changes, GivesBack, Lends, Takes, count, number_of};
 
 use super::held::Held;
+use super::kept::Kept;
+use super::rule::{Change, Move, Place, Take};
 use super::serving::may_take;
-use super::{CROWDED, ONE, Seat, Shelf, Word};
-use crate::competing::{CLOSED, Competing, OneValue};
+use super::{CROWDED, ONE, Parked, Seat, Word};
+use crate::competing::{CLOSED, Competing, OneValue, SHUT};
+use event_slot::Writing;
 use std::sync::Wait;
 
-impl<V> Word<Competing<OneValue>, V> {
-    /// Takes the value out, if it is there for newcomers. It is one load and one compare-exchange where no other thread comes
-    /// between.
+/// The right to the value of a lock, and to where it lies.
+pub type Lent<'a, S, V> = Writing<'a, Place<V>, S>;
+
+/// Whether one has the right to the value by this word.
+#[inline(always)]
+fn is_taken(seen: u64) -> bool
+    ensures { result ≡ true → unshut_of (number_of seen) ≡ 0 }
+{
+    seen / ONE % SHUT == 0
+}
+
+impl<S: Kept, V> Word<S, V> {
+    // Changes the number where nobody has to be notified, and takes the right to the value, if the word is as it was seen.
     #[inline(always)]
-    pub fn try_value(&self) -> Option<Seat<Competing<OneValue>, V>>
-        ensures { IfSome result (λ seat. (seat.table_id ≡ self.now.table.shared.table_id)
-            × HasValue seat.me) }
+    #[tactic(auto, using(crate::proofs::WordKeeps::changes))]
+    fn lend(&self, seat: &mut Seat, seen: u64, new: u64) -> Option<Lent<'_, S, V>>
+        requires seat { seat.old.slot ≡ self.now.slot.name }
+        requires changes { Changes S.rules seen new × Lends S.rules seen new }
+        ensures seat { (seat.new.slot ≡ seat.old.slot) × (seat.new.view ≡ seat.old.view) }
+        ensures lends { IfSome result (λ lent. lent.name ≡ self.now.slot.name) }
+    {
+        let (found, claim) = self.slot.claim().exchange::<Change>(seat, seen, new);
+        if found == seen {
+            return Some(claim.write());
+        }
+        claim.done();
+        None
+    }
+
+    // The same, and gives it back. An error has it where the word is another.
+    #[inline(always)]
+    #[tactic(auto, using(crate::proofs::WordKeeps::changes))]
+    fn give_back<'a>(
+        &self,
+        lent: Lent<'a, S, V>,
+        seat: &mut Seat,
+        seen: u64,
+        new: u64,
+    ) -> Result<(), Lent<'a, S, V>>
+        requires own { (lent.name ≡ self.now.slot.name) × (seat.old.slot ≡ self.now.slot.name) }
+        requires changes { Changes S.rules seen new × GivesBack S.rules new }
+        ensures seat { (seat.new.slot ≡ seat.old.slot) × (seat.new.view ≡ seat.old.view) }
+        ensures own { IfErr result (λ again. again.name ≡ self.now.slot.name) }
+    {
+        let (found, claim) = lent.claim().exchange::<Change>(seat, seen, new);
+        if found == seen {
+            claim.done();
+            return Ok(());
+        }
+        Err(claim.write())
+    }
+
+    // Takes the state out where it is at home, gives the right back, and changes the number by the same step. An error has the
+    // right and the seat where the word was another.
+    #[tactic(auto, using(crate::proofs::WordKeeps::takes_out))]
+    fn try_swap<'a>(
+        &self,
+        lent: Lent<'a, S, V>,
+        seat: Seat,
+        seen: u64,
+        new: u64,
+    ) -> Result<Held<'a, S, V>, (Lent<'a, S, V>, Seat)>
+        requires own { lent.name ≡ self.now.slot.name }
+        requires seat { (seat.slot ≡ self.now.slot.name) × (seat.view.number ≡ None) }
+        requires home { seen % 2 ≡ 0 }
+        requires takes { Takes S.rules seen new × GivesBack S.rules new }
+        ensures ok { IfOk result (λ held. IsOf self.now.slot.name held
+            × HasState (λ n q. (n ≡ number_of new) × S.rules.stands (number_of seen) q) held) }
+        ensures err { IfErr result (λ again. (again.0.name ≡ self.now.slot.name)
+            × (again.1.slot ≡ seat.slot) × (again.1.view ≡ seat.view)) }
+    {
+        let mut seat = seat;
+        let (found, claim) = lent.claim().exchange::<Take>(&mut seat, seen, new);
+        if found == seen {
+            return Ok(Held { claim, seat });
+        }
+        Err((claim.write(), seat))
+    }
+}
+
+impl<S: Kept, V> Held<'_, S, V> {
+    // Changes the number with the state out, and takes the right to the value, if the word is as it was seen.
+    fn lend<'b>(&mut self, word: &'b Word<S, V>, seen: u64, new: u64) -> Option<Lent<'b, S, V>>
+        requires seat { IsOf word.now.slot.name self.old }
+        requires state { HasState (λ _ _. ⊤) self.old }
+        requires takes { Takes S.rules seen new × Lends S.rules seen new }
+        ensures seat { IsOf word.now.slot.name self.new }
+        ensures state { self.new.claim.state ≡ self.old.claim.state }
+        ensures changes { MatchOption result (self.new.seat.view ≡ self.old.seat.view)
+            (λ _. self.new.seat.view.number ≡ Some (number_of new)) }
+        ensures lends { IfSome result (λ lent. lent.name ≡ word.now.slot.name) }
+    {
+        let (found, claim) = word
+            .slot
+            .claim()
+            .exchange::<Move>(&mut self.seat, seen, new);
+        if found == seen {
+            return Some(claim.write());
+        }
+        claim.done();
+        None
+    }
+}
+
+impl<V> Word<Competing<OneValue>, V> {
+    /// Takes the right to the value, if nobody has it and newcomers may. It is one load and one compare-exchange where no other
+    /// thread comes between.
+    #[inline(always)]
+    pub fn try_value(&self) -> Option<Lent<'_, Competing<OneValue>, V>>
+        ensures { IfSome result (λ lent. lent.name ≡ self.now.slot.name) }
     {
         let (seen, mut seat) = self.look();
         if seen < ONE || seen >= CLOSED * ONE {
             return None;
         }
-        if self.lend(&mut seat, seen, seen - ONE) {
-            return Some(seat);
+        if let Some(lent) = self.lend(&mut seat, seen, seen - ONE) {
+            return Some(lent);
         }
         self.try_value_again()
     }
 
     #[cold]
     #[inline(never)]
-    fn try_value_again(&self) -> Option<Seat<Competing<OneValue>, V>>
-        ensures { IfSome result (λ seat. (seat.table_id ≡ self.now.table.shared.table_id)
-            × HasValue seat.me) }
+    fn try_value_again(&self) -> Option<Lent<'_, Competing<OneValue>, V>>
+        ensures { IfSome result (λ lent. lent.name ≡ self.now.slot.name) }
     {
         let (mut seen, mut seat) = self.look();
         for _ in 0..u64::MAX {
             if seen >= CLOSED * ONE || seen < ONE {
                 return None;
             }
-            if self.lend(&mut seat, seen, seen - ONE) {
-                return Some(seat);
+            if let Some(lent) = self.lend(&mut seat, seen, seen - ONE) {
+                return Some(lent);
             }
             seen = self.look_again(&mut seat);
         }
         None
     }
 
-    /// Gives the value back, and notifies the first that waits, if one does. It does not wait for the state: whoever has that out
+    /// Gives the right back, and notifies the first that waits, if one does. It does not wait for the state: whoever has that out
     /// notifies. It is one load and one compare-exchange where nobody waits.
     #[inline(always)]
-    pub fn give_value<R: Wait>(&self, rt: &R, mut seat: Seat<Competing<OneValue>, V>)
-        requires { (seat.table_id ≡ self.now.table.shared.table_id) × HasValue seat.me }
+    pub fn give_value<R: Wait>(&self, rt: &R, lent: Lent<'_, Competing<OneValue>, V>)
+        requires { lent.name ≡ self.now.slot.name }
     {
-        let seen = self.look_again(&mut seat);
-        if seen < CROWDED && self.give_back(&mut seat, seen, seen + ONE) {
+        let (seen, mut seat) = self.look();
+        if seen < CROWDED {
+            match self.give_back(lent, &mut seat, seen, seen + ONE) {
+                Ok(()) => {}
+                Err(again) => self.give_value_slowly(rt, again),
+            }
             return;
         }
-        self.give_value_slowly(rt, seat);
+        self.give_value_slowly(rt, lent);
     }
 
+    // The word says that one has the right, as long as one has.
     #[cold]
     #[inline(never)]
-    fn give_value_slowly<R: Wait>(&self, rt: &R, mut seat: Seat<Competing<OneValue>, V>)
-        requires { (seat.table_id ≡ self.now.table.shared.table_id) × HasValue seat.me }
+    fn give_value_slowly<R: Wait>(&self, rt: &R, lent: Lent<'_, Competing<OneValue>, V>)
+        requires { lent.name ≡ self.now.slot.name }
     {
+        let mut lent = lent;
+        let (mut seen, mut seat) = self.look();
         for _ in rt.forever() {
-            let seen = self.look_again(&mut seat);
+            if !is_taken(seen) {
+                seen = self.look_again(&mut seat);
+                continue;
+            }
             if seen % 4 == CROWDED {
-                match self.try_swap(seat, seen, seen + ONE - 1) {
+                match self.try_swap(lent, seat, seen, seen + ONE - 1) {
                     Ok(held) => {
-                        drop(self.put_back(rt, held));
+                        self.put_back(rt, held);
                         return;
                     }
-                    Err(again) => seat = again,
+                    Err((again, at)) => {
+                        lent = again;
+                        seat = at;
+                    }
                 }
-            } else if self.give_back(&mut seat, seen, seen + ONE) {
-                return;
+            } else {
+                match self.give_back(lent, &mut seat, seen, seen + ONE) {
+                    Ok(()) => return,
+                    Err(again) => lent = again,
+                }
             }
+            seen = self.look_again(&mut seat);
         }
         unreachable!()
     }
 
-    /// Takes the value out with the state at hand, if it is there: for one that was notified, and came, also where newcomers may
-    /// not. The seat has it once the state is put back, which stays as it is.
+    /// Takes the right to the value with the state at hand, if nobody has it: for one that was notified, and came, also where
+    /// newcomers may not. The state stays as it is.
     pub fn take_value<R: Wait>(
         &self,
         rt: &R,
-        held: &mut Held<Competing<OneValue>, V>,
+        held: &mut Held<'_, Competing<OneValue>, V>,
         notified: bool,
-    ) -> bool
-        requires seat { (held.old.seat.table_id ≡ self.now.table.shared.table_id)
-            × (rest held.old.seat.me.1 ≡ []) }
-        requires serves { HasState (λ n q. ServesWith (count notified) n q.line) held.old.seat.me }
-        ensures seat { held.new.seat.table_id ≡ held.old.seat.table_id }
-        ensures value { MatchBool result (HasValueToo held.new.seat.me)
-            (rest held.new.seat.me.1 ≡ []) }
-        ensures serves { HasState (λ n q. ServesTheStarving n q.line) held.new.seat.me }
-        ensures none { result ≡ false → HasState (λ n _. NoneFor notified n) held.new.seat.me }
+    ) -> Option<Lent<'_, Competing<OneValue>, V>>
+        requires seat { IsOf self.now.slot.name held.old }
+        requires serves { HasState (λ n q. ServesWith (count notified) n q.line) held.old }
+        ensures seat { IsOf self.now.slot.name held.new }
+        ensures value { IfSome result (λ lent. lent.name ≡ self.now.slot.name) }
+        ensures serves { HasState (λ n q. ServesTheStarving n q.line) held.new }
+        ensures none { result ≡ None → HasState (λ n _. NoneFor notified n) held.new }
     {
         for _ in rt.forever() {
             let seen = self.look_serving(held, notified);
             if !may_take(seen, notified) {
-                return false;
+                return None;
             }
-            if held.lend(self, seen, seen - ONE) {
-                return true;
+            if let Some(lent) = held.lend(self, seen, seen - ONE) {
+                return Some(lent);
             }
         }
         unreachable!()
     }
 
-    /// The value. `None` says that it is out with a seat that was forgotten.
-    pub fn into_value(self) -> Option<V>
-    where
-        V: Drop,
+    /// Gives up the right to where the value lies, and keeps the value.
+    pub fn park<R: Wait>(&self, rt: &R, lent: Lent<'_, Competing<OneValue>, V>) -> Parked
+        requires { lent.name ≡ self.now.slot.name }
+        ensures { result ≡ self.now.slot.name }
     {
-        let Word { table } = self;
-        let mut closed = table.close();
-        let state = closed.take(0);
-        let value = closed.take(1);
-        closed.free();
-        drop(state);
-        match value {
-            Shelf::Value(value) => value,
-            Shelf::State(state) => {
-                drop(state);
-                None
+        let mut lent = lent;
+        let (mut seen, mut seat) = self.look();
+        for _ in rt.forever() {
+            if is_taken(seen) {
+                match self.give_back(lent, &mut seat, seen, seen + CLOSED * ONE) {
+                    Ok(()) => return Parked::new(&seat),
+                    Err(again) => lent = again,
+                }
             }
+            seen = self.look_again(&mut seat);
         }
+        unreachable!()
     }
+
+    /// Takes the right again, to put the value back.
+    pub fn unpark<R: Wait>(&self, rt: &R, parked: Parked) -> Lent<'_, Competing<OneValue>, V>
+        requires { parked ≡ self.now.slot.name }
+        ensures { result.name ≡ self.now.slot.name }
+    {
+        parked.end();
+        let (mut seen, mut seat) = self.look();
+        for _ in rt.forever() {
+            if seen / ONE % SHUT == CLOSED {
+                if let Some(lent) = self.lend(&mut seat, seen, seen - CLOSED * ONE) {
+                    return lent;
+                }
+            }
+            seen = self.look_again(&mut seat);
+        }
+        unreachable!()
+    }
+
+    /// The value, to be changed where it lies, once nobody shares the lock. `None` says that it is with a guard that was forgotten.
+    pub fn get_mut(&mut self) -> Option<&mut V> {
+        self.slot.get_mut().value.get_mut().as_mut()
+    }
+
+    /// The value. `None` says that it is with a guard that was forgotten.
+    pub fn into_value(self) -> Option<V> {
+        let Word { slot } = self;
+        let (place, line) = slot.into_inner();
+        drop(line);
+        place.value.into_inner()
+    }
+}
+
+/// Moves the value out of its place. Whoever had it put it back before the right, so it is there; but a slot says nothing of the
+/// value that a writer finds, so `None` is not proved to be impossible.
+#[inline(always)]
+pub fn take_out<S: Kept, V>(lent: &mut Lent<'_, S, V>) -> Option<V>
+    ensures { lent.new.name ≡ lent.old.name }
+{
+    lent.get_mut().value.get_mut().take()
+}
+
+/// Moves a value into the place.
+#[inline(always)]
+pub fn put_in<S: Kept, V: Drop>(lent: &mut Lent<'_, S, V>, value: V)
+    ensures { lent.new.name ≡ lent.old.name }
+{
+    *lent.get_mut().value.get_mut() = Some(value);
 }

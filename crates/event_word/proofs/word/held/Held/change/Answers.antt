@@ -2,5 +2,5 @@ use Rattle.std.proofs.Common.{rules}
 use Rattle.event_word.proofs.WordKeeps.{moves}
 use Rattle.event_word.proofs.word.held.Held.change.Goals as goal
 
-pub compare_exchange-found-requires : goal.compare_exchange-found-requires
-compare_exchange-found-requires g c = let t = c.requires.takes in (search rules, search rules, moves _ _ _ _ _ _ _ _ c.requires.seat.2 t.0 t.1)
+pub exchange-found-requires-clause-keeps : goal.exchange-found-requires-clause-keeps
+exchange-found-requires-clause-keeps g c = (search rules, moves g.S.Kept.rules _ _ _ _ _ _ c.requires.state.2 c.requires.takes.0)

@@ -1,8 +1,8 @@
--- `of` makes the empty struct, with the table of the seat behind the `&`.
+-- `of` makes the empty struct, with the slot of the seat behind the `&`.
 use Rattle.atomic_table.proofs.Names.{◌≡◌, [], ◌∷◌, List, refl, a_type, named, Val, vptr, vstruct, vnil, inst_fn, SProp, emp, ‵, raw, ◌⊛◌, ◌$◌, ◌∵◌, !, qed, by, keep, split, fjoin, fpack, use0, feq_i, no_more, returns, enter, alloc_all, pass_all, free_all, look_at, sets, agg, tables, yes, RattleType, owns, Valss, types_at, plain, nothing, param, layouts, alive, Stays, stay_dropped, walk_of, Goes-dropped, fact, fact_i, RefOf, shr_vals, shr_Tells}
 use denote.Struct.Struct.{within}
 use Rattle.atomic_table.proofs.Walks.{proved, leaves}
-use Rattle.atomic_table.specs.contracts.shared.Seat as seat
+use Rattle.event_slot.specs.contracts.rule.Mark as mark
 use Rattle.event_word.specs.contracts.word.origin.Origin as Origin
 use Rattle.event_word.specs.contracts.word.origin.Origin.of.{ended, clauses}
 use Rattle.event_word.specs.contracts.word.origin.Origin.of.Key.{name as #self}
@@ -13,13 +13,13 @@ abbrev empty : Val
 empty = vstruct vnil
 
 pub of_spec : {M : Type 1} → statement M
-of_spec 𝓤 𝓛 𝓜 𝓡 wired Y Z _ _ =
-    let H = 𝓛.H in let 𝓣 = tables 𝓤 H 𝓜 𝓡 𝓡.env in let R : RattleType = seat.the_row (param 0 Y) (param 1 Z) in let En = ended Y Z in let c = clauses Y Z 𝓛 𝓜.mem 𝓡.returns in
-    let inst = layouts (a_type ∷ a_type ∷ []) (Y, (Z, tt)) in let fn = inst_fn inst code.function in
+of_spec 𝓤 𝓛 𝓜 𝓡 wired Y _ =
+    let H = 𝓛.H in let 𝓣 = tables 𝓤 H 𝓜 𝓡 𝓡.env in let R : RattleType = mark.the_row (param 0 Y) in let En = ended Y in let c = clauses Y 𝓛 𝓜.mem 𝓡.returns in
+    let inst = layouts (a_type ∷ []) (Y, tt) in let fn = inst_fn inst code.function in
     let arg = RefOf (0 ∷ []) tt (plain (λ _. R)) (λ _. tt) in let hs : Stays En.signature.params En.kept = (stay_dropped arg yes, tt) in
-    proved 𝓛 En hs c 𝓜 𝓡 (Goes-dropped 𝓛 3 arg yes (λ κs x f. refl), tt) (#self inst) fn (code.unfolded 𝓤 H 𝓜 𝓡 wired (Y, (Z, tt)))
+    proved 𝓛 En hs c 𝓜 𝓡 (Goes-dropped 𝓛 2 arg yes (λ κs x f. refl), tt) (#self inst) fn (code.unfolded 𝓤 H 𝓜 𝓡 wired (Y, tt))
     (λ κs. (shr_vals, tt)) (λ κs. (shr_Tells (named 0) κs.0 R, tt)) (λ κs qs bounds a gh are.
-    let p : Val = vptr a.0.ref_ptr.0 a.0.ref_ptr.1 in let of = a.0.now in let r : (Origin.the_row).Denot = record { table_id = of.table_id } in let Told : Type 0 = of.table_id ≡ of.table_id in
+    let p : Val = vptr a.0.ref_ptr.0 a.0.ref_ptr.1 in let of = a.0.now in let r : (Origin.the_row).Denot = record { name = of.slot } in let Told : Type 0 = of.slot ≡ of.slot in
     let y : (walk_of 𝓛 En hs c).Ghost = ((κs, qs, bounds, a, (p ∷ [], tt)), gh) in let Post : Val → SProp 𝓤 = (walk_of 𝓛 En hs c).post y in
     qed 𝓛 ((raw (alive 𝓛 En.signature κs qs) ⊛ ‵ (owns (types_at En.signature.params κs) a y.0.4)) ∷ raw ((c κs a).requires gh) ∷ []) ∵ split ! $ keep ! (0 ∷ []) $
     enter ! 𝓣.C 𝓣.Λ fn (p ∷ []) Post $ alloc_all ! (λ l. pass_all ! refl ((tt, tt), tt) $ sets ! (agg ! (no_more !)) refl (tt, tt) $

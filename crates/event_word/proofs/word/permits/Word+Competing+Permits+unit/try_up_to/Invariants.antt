@@ -2,4 +2,4 @@ use Rattle.std.specs.Prelude.{◌≡◌}
 use Rattle.event_word.proofs.word.permits.Word+Competing+Permits+unit.try_up_to.Given as goal
 
 abbrev pub invariant-loop : goal.invariant-loop
-invariant-loop l = l.seat.table_id ≡ l.initial.seat.table_id
+invariant-loop l = l.seat.slot ≡ l.initial.seat.slot

@@ -1,0 +1,12 @@
+-- The state of a lock, out with one thread.
+use Rattle.std.specs.Prelude.{◌≡◌, ℕ, Some}
+use Rattle.event_word.specs.declared.word.held.Held.{Held}
+
+module _ {S V : Type 0} where
+  -- it is the state of the lock of that name
+  abbrev pub IsOf : ℕ → Held S V → Type 0
+  IsOf name held = (held.claim.name ≡ name) × (held.claim.right ≡ 0) × (held.seat.slot ≡ name)
+
+  -- of it and of the number that the thread saw or left last this holds
+  abbrev pub HasState : (ℕ → S → Type 0) → Held S V → Type 0
+  HasState P held = (n : ℕ) × (q : S) × (held.seat.view.number ≡ Some n) × (held.claim.state ≡ Some q) × P n q
