@@ -7,9 +7,10 @@ use Rattle.event_wait.specs.declared.request.Attempted.TheVariants.{Done, Waits,
 use Rattle.event_locks.specs.Losses.{LosesOnceAtMost}
 use Rattle.event_word.specs.Contender.{coming_of, losses_after}
 use Rattle.event_word.specs.declared.competing.Competing.{Competing}
-use Rattle.event_word.specs.Word.{HasState, Sat}
+use Rattle.event_word.specs.Held.{HasState}
+use Rattle.event_word.specs.declared.word.held.Held.{Held}
 
-module _ {C V G E : Type 0} (place : Option Key) (before after : ℕ) (m : Sat (Competing C) V) where
+module _ {C V G E : Type 0} (place : Option Key) (before after : ℕ) (m : Held (Competing C) V) where
   -- one that came as its queue said came in some way
   pub loses-undone : (attempted : Attempted G E) → OnUndone attempted (HasState (λ _ q. after ≡ losses_after before (coming_of place q.line)) m) → OnUndone attempted (LosesOnceAtMost before after)
   loses-undone (Done grant) h = h

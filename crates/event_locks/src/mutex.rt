@@ -1,26 +1,22 @@
 //! A mutex.
-ghost use Rattle.std.specs.Prelude.{◌≡◌, ◌<◌, [], IfSome, true};
-ghost use Rattle.atomic_table.specs.Table.{rest};
-ghost use Rattle.event_wait.specs.Rounds.{gives_what, tries_for};
+ghost use Rattle.std.specs.Prelude.{◌≡◌, ◌<◌, IfSome, false, true};
 ghost use Rattle.event_wait.specs.Attempted.{Attempts, OnDone, OnRefused, OnUndone, key_of};
-ghost use Rattle.event_locks.specs.Losses.{LosesOnceAtMost};
 ghost use Rattle.event_word.specs.Contender.{coming_of, losses_after};
 ghost use Rattle.event_word.specs.declared.contender.Coming.TheVariants.{Notified};
-ghost use Rattle.event_word.specs.Free.{ServesTheStarving, Stands, free_of};
-ghost use Rattle.event_word.specs.Word.{HasPlace, HasState, HasValue, HasValueToo};
+ghost use Rattle.event_word.specs.Free.{ServesTheStarving, StandsIf, free_of};
+ghost use Rattle.event_word.specs.Held.{HasState, IsOf};
 
 mod guard;
+mod lender;
 mod lock;
 
 pub use self::guard::{MutexGuard, MutexGuardArc};
+use self::lender::Lending;
 pub use self::lock::{Lock, LockArc};
 use crate::taker::Taker;
 use event_queue::{Key, TaskExchange};
-use event_wait::{
-    Attempted, Borrowed, LockError, Obtainable, Obtaining, Shared, TakesAny, Task, Waitable,
-    WakerSource,
-};
-use event_word::{Coming, Competing, Contender, Counts, Held, OneValue, Seat, Word};
+use event_wait::{Attempted, LockError, Obtaining, Shared, Task, WakerSource};
+use event_word::{Coming, Competing, Counts, Held, Lent, OneValue, Parked, Word, put_in, take_out};
 use std::alloc::{AllocError, Global};
 use std::fmt;
 use std::fmt::{Debug, Formatter};
@@ -44,18 +40,23 @@ pub struct Mutex<T> {
     source: WakerSource,
 }
 
-/// The right to the value, which a seat at the lock's table has out.
-pub(crate) type Lent<T> = Seat<Competing<OneValue>, T>;
+/// The right to the value of a mutex, and to where it lies.
+pub(crate) type Right<'a, T> = Lent<'a, Competing<OneValue>, T>;
+
+/// The value of a mutex, moved out, and that it is to be put back.
+pub(crate) struct Loan<T> {
+    value: T,
+    parked: Parked,
+}
 
 impl<T: Drop> Mutex<T> {
-    /// A mutex round this value, which nobody has. It allocates two small blocks; an error says that there is no memory, and
-    /// drops the value.
-    pub fn new(alloc: Global, value: T) -> Result<Self, AllocError> {
+    /// A mutex round this value, which nobody has. It takes no memory: its queue does from `alloc`, once one waits.
+    pub fn new(alloc: Global, value: T) -> Self {
         let line = Competing::new(alloc);
-        Ok(Mutex {
-            word: Word::new(alloc, 1, line, value)?,
+        Mutex {
+            word: Word::new(1, line, value),
             source: WakerSource::new(),
-        })
+        }
     }
 
     /// How it stands at some moment of this call: one is free while nobody has the value. It may wait for the queue.
@@ -72,7 +73,7 @@ impl<T: Drop> Mutex<T> {
     #[inline(always)]
     pub fn try_lock<'a, R: Wait + Clock>(&'a self, rt: &'a R) -> Option<MutexGuard<'a, T, R>> {
         let lent = self.word.try_value()?;
-        Some(MutexGuard::new(Borrowed { lock: self, rt }, lent))
+        MutexGuard::find(Lending::new(self, rt), lent)
     }
 
     /// The value by a guard that may go to another thread, if nobody has it and nobody starves. It returns an error if no share
@@ -83,14 +84,14 @@ impl<T: Drop> Mutex<T> {
         rt: R,
     ) -> Result<Option<MutexGuardArc<T, R>>, AllocError> {
         let lock = Arc::try_clone(this)?;
-        let lent = lock.word.try_value();
-        Ok(lent.map(|lent| MutexGuardArc::new(Shared { lock, rt }, lent)))
+        let loan = lock.try_borrow(&rt);
+        Ok(loan.map(|loan| MutexGuardArc::new(Shared { lock, rt }, loan)))
     }
 
     /// A wait for the value.
     #[inline(always)]
     pub fn lock<'a, R: Wait + Clock>(&'a self, rt: &'a R, alloc: Global) -> Lock<'a, T, R> {
-        Lock::new(Obtaining::new(Borrowed { lock: self, rt }, alloc, Taker::new()))
+        Lock::new(Obtaining::new(Lending::new(self, rt), alloc, Taker::new()))
     }
 
     /// A wait for the value by a guard that may go to another thread. It returns an error if no share of the mutex can be
@@ -104,6 +105,11 @@ impl<T: Drop> Mutex<T> {
         Ok(LockArc::new(Obtaining::new(Shared { lock, rt }, alloc, Taker::new())))
     }
 
+    /// The value, without a lock. `None` says that a guard was forgotten, and the value with it.
+    pub fn get_mut(&mut self) -> Option<&mut T> {
+        self.word.get_mut()
+    }
+
     /// The value. `None` says that a guard was forgotten, and the value with it.
     pub fn into_inner(self) -> Option<T> {
         let Mutex { word, source: _ } = self;
@@ -112,36 +118,73 @@ impl<T: Drop> Mutex<T> {
 
     // Puts the value into its place, and gives that back.
     #[inline(always)]
-    fn give_back<R: Wait>(&self, rt: &R, lent: Lent<T>, value: T)
-        requires { (lent.table_id ≡ self.now.word.table.shared.table_id) × HasPlace lent.me }
+    fn give_back<R: Wait>(&self, rt: &R, lent: Right<'_, T>, value: T)
+        requires { lent.name ≡ self.now.word.slot.name }
     {
         let mut lent = lent;
-        self.word.put_in(&mut lent, value);
+        put_in(&mut lent, value);
         self.word.give_value(rt, lent);
     }
 
-    fn attempt_held<C, X: TaskExchange<Task, C>, R: Wait>(
-        &self,
+    // Moves the value out, and gives up the right to its place.
+    fn lend_out<R: Wait>(&self, rt: &R, lent: Right<'_, T>) -> Loan<T>
+        requires { lent.name ≡ self.now.word.slot.name }
+        ensures { result.parked ≡ self.now.word.slot.name }
+    {
+        let mut lent = lent;
+        let value = found(rt, &mut lent);
+        Loan {
+            value,
+            parked: self.word.park(rt, lent),
+        }
+    }
+
+    fn try_borrow<R: Wait>(&self, rt: &R) -> Option<Loan<T>>
+        ensures { IfSome result (λ loan. loan.parked ≡ self.now.word.slot.name) }
+    {
+        let mut lent = self.word.try_value()?;
+        match take_out(&mut lent) {
+            Some(value) => Some(Loan {
+                value,
+                parked: self.word.park(rt, lent),
+            }),
+            None => {
+                self.word.give_value(rt, lent);
+                None
+            }
+        }
+    }
+
+    // Puts a value back that was moved out.
+    fn take_back<R: Wait>(&self, rt: &R, loan: Loan<T>)
+        requires { loan.parked ≡ self.now.word.slot.name }
+    {
+        let Loan { value, parked } = loan;
+        let lent = self.word.unpark(rt, parked);
+        self.give_back(rt, lent, value);
+    }
+
+    fn attempt_held<'a, C, X: TaskExchange<Task, C>, R: Wait>(
+        &'a self,
         rt: &R,
-        held: &mut Held<Competing<OneValue>, T>,
+        held: &mut Held<'_, Competing<OneValue>, T>,
         place: &mut Option<Key>,
         losses: &mut u32,
         exchange: &X,
         on: &mut C,
-    ) -> Attempted<(), LockError>
-        requires seat { (held.old.seat.table_id ≡ self.now.word.table.shared.table_id)
-            × (rest held.old.seat.me.1 ≡ []) }
-        requires stands { HasState (λ n q. Stands n q.line) held.old.seat.me }
-        ensures seat { held.new.seat.table_id ≡ held.old.seat.table_id }
-        ensures value { OnDone result (λ _. HasValueToo held.new.seat.me) }
-        ensures serves { HasState (λ n q. ServesTheStarving n q.line) held.new.seat.me }
+    ) -> Attempted<Right<'a, T>, LockError>
+        requires seat { IsOf self.now.word.slot.name held.old }
+        requires stands { HasState (λ n q. StandsIf false n q.line) held.old }
+        ensures seat { IsOf self.now.word.slot.name held.new }
+        ensures value { OnDone result (λ lent. lent.name ≡ self.now.word.slot.name) }
+        ensures serves { HasState (λ n q. ServesTheStarving n q.line) held.new }
         ensures place { place.new ≡ key_of result }
         ensures done { OnDone result (λ _. losses.new ≡ losses.old) }
         ensures loses { OnUndone result (HasState (λ _ q. losses.new
-            ≡ losses_after losses.old (coming_of place.old q.line)) held.old.seat.me) }
+            ≡ losses_after losses.old (coming_of place.old q.line)) held.old) }
         ensures none { OnUndone result
-            (HasState (λ _ q. coming_of place.old q.line ≡ Notified) held.old.seat.me
-            → HasState (λ n _. free_of n ≡ 0) held.new.seat.me) }
+            (HasState (λ _ q. coming_of place.old q.line ≡ Notified) held.old
+            → HasState (λ n _. free_of n ≡ 0) held.new) }
         ensures refused { OnRefused result (losses.new ≡ losses.old) }
         ensures exchanged { Attempts (X.exchanged exchange.now) on.old result on.new }
     {
@@ -150,8 +193,8 @@ impl<T: Drop> Mutex<T> {
         if let Coming::Waits(key) = coming {
             return Attempted::Waits(key);
         }
-        if self.word.take_value(rt, held, coming.is_notified()) {
-            return Attempted::Done(());
+        if let Some(lent) = self.word.take_value(rt, held, coming.is_notified()) {
+            return Attempted::Done(lent);
         }
         match self.word.lose(held, place, losses, arrival, exchange, on) {
             Ok(key) => Attempted::Waits(key),
@@ -160,79 +203,17 @@ impl<T: Drop> Mutex<T> {
     }
 }
 
-impl<T: Drop> Waitable<Taker> for Mutex<T> {
-    type Output = Lent<T>;
-
-    type Refusal = LockError;
-
-    ghost rules = { λ mutex.
-        gives_what (λ lent. (lent.table_id ≡ mutex.word.table.shared.table_id) × HasValue lent.me)
-        (λ before after. LosesOnceAtMost before.contender after.contender) };
-
-    ghost source = { λ mutex. mutex.source };
-
-    #[inline(always)]
-    fn waker_source(&self) -> &WakerSource {
-        &self.source
-    }
-
-    fn attempt_or_wait<C, X: TaskExchange<Task, C>, R: Wait>(
-        &self,
-        rt: &R,
-        request: &mut Taker,
-        exchange: &X,
-        on: &mut C,
-    ) -> Attempted<Lent<T>, LockError> {
-        let (_, mut held) = self.word.take(rt);
-        let Contender { place, losses } = &mut request.contender;
-        let attempted = self.attempt_held(rt, &mut held, place, losses, exchange, on);
-        let lent = self.word.put_back(rt, held);
-        match attempted {
-            Attempted::Done(()) => Attempted::Done(lent),
-            Attempted::Waits(key) => Attempted::Waits(key),
-            Attempted::Absent => Attempted::Absent,
-            Attempted::Refused(error) => Attempted::Refused(error),
+// Moves the value out for one that waits.
+#[inline(always)]
+fn found<T, R: Wait>(rt: &R, lent: &mut Right<'_, T>) -> T
+    ensures { lent.new.name ≡ lent.old.name }
+{
+    for _ in rt.forever() {
+        if let Some(value) = take_out(lent) {
+            return value;
         }
     }
-
-    fn leave<R: Wait>(&self, rt: &R, request: &mut Taker) -> Result<Option<Lent<T>>, LockError> {
-        let (_, mut held) = self.word.take(rt);
-        let coming = self
-            .word
-            .leave(&mut held, &mut request.contender.place)
-            .coming();
-        let took = self.word.take_value(rt, &mut held, coming.is_notified());
-        let lent = self.word.put_back(rt, held);
-        Ok(if took { Some(lent) } else { None })
-    }
-}
-
-impl<T: Drop> Obtainable<Taker> for Mutex<T> {
-    ghost trying = { λ mutex.
-        tries_for (λ lent. (lent.table_id ≡ mutex.word.table.shared.table_id)
-        × HasValue lent.me) };
-
-    #[inline(always)]
-    fn is_waiting(&self, request: &Taker) -> bool {
-        request.is_waiting()
-    }
-
-    #[inline(always)]
-    fn attempt<R: Wait>(&self, _rt: &R, _request: &mut Taker) -> Option<Lent<T>> {
-        self.word.try_value()
-    }
-
-    fn give_up<R: Wait>(&self, rt: &R, request: &mut Taker) {
-        if request.is_waiting() {
-            let (_, mut held) = self.word.take(rt);
-            self.word.leave(&mut held, &mut request.contender.place);
-            drop(self.word.put_back(rt, held));
-        }
-    }
-}
-
-impl<T: Drop> TakesAny<Taker> for Mutex<T> {
-    ghost all_fit = { λ _ _. tt };
+    unreachable!()
 }
 
 impl<T: Drop> Debug for Mutex<T> {

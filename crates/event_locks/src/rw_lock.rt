@@ -30,19 +30,16 @@ pub struct RwLock<T> {
     value: sync::RwLock<T>,
 }
 
-impl<T: Drop> RwLock<T> {
-    /// A lock round this value, which nobody has. It allocates two small blocks; an error says that there is no memory, and drops
-    /// the value.
-    pub fn new(alloc: Global, value: T) -> Result<Self, AllocError> {
-        Ok(RwLock {
-            word: Word::new(alloc, 0, Queues::new(alloc), ())?,
+impl<T> RwLock<T> {
+    /// A lock round this value, which nobody has. It takes no memory: its queues do from `alloc`, once one waits.
+    pub fn new(alloc: Global, value: T) -> Self {
+        RwLock {
+            word: Word::new(0, Queues::new(alloc), ()),
             source: WakerSource::new(),
             value: sync::RwLock::new(value),
-        })
+        }
     }
-}
 
-impl<T> RwLock<T> {
     /// The value to be read, if no writer has it or waits for it. It takes no memory. It does not wait for the value; where others
     /// wait it may wait for the queues.
     #[must_use = "a guard that is dropped at once gives back what it holds"]
@@ -147,7 +144,7 @@ impl<T> RwLock<T> {
     {
         let (number, mut held) = self.word.take(rt);
         let counts = self.word.counted(&mut held, number);
-        drop(self.word.put_back(rt, held));
+        self.word.put_back(rt, held);
         counts
     }
 

@@ -6,7 +6,8 @@ ghost use Rattle.event_locks.specs.Losses.{LosesOnceAtMost};
 ghost use Rattle.event_word.specs.Contender.{coming_of, losses_after};
 ghost use Rattle.event_word.specs.declared.contender.Coming.TheVariants.{Notified};
 ghost use Rattle.event_word.specs.Free.{IsClosed, ServesTheStarving, Stands, free_of};
-ghost use Rattle.event_word.specs.Word.{HasState};
+ghost use Rattle.event_word.specs.Held.{HasState, IsOf};
+ghost use Rattle.event_word.specs.Permit.{IsOne};
 
 mod acquire;
 mod error;
@@ -48,14 +49,14 @@ impl Semaphore {
     /// As many permits are free at most.
     pub const MAX_PERMITS: usize = 0x0fff_ffff_ffff_ffff;
 
-    /// A semaphore with `permits` permits, all free; with [`MAX_PERMITS`](Semaphore::MAX_PERMITS) if that is less. It allocates
-    /// two small blocks, and returns an error if there is no memory.
-    pub fn new(alloc: Global, permits: usize) -> Result<Self, AllocError> {
+    /// A semaphore with `permits` permits, all free; with [`MAX_PERMITS`](Semaphore::MAX_PERMITS) if that is less. It takes no
+    /// memory: its queue does from `alloc`, once one waits.
+    pub fn new(alloc: Global, permits: usize) -> Self {
         let line = Competing::new(alloc);
-        Ok(Semaphore {
-            word: Word::new(alloc, permits.min(Self::MAX_PERMITS) as u64, line, ())?,
+        Semaphore {
+            word: Word::new(permits.min(Self::MAX_PERMITS) as u64, line, ()),
             source: WakerSource::new(),
-        })
+        }
     }
 
     /// How many permits are free. Another thread may take one at once. Of one that is closed nobody gets them, but those that come
@@ -93,7 +94,9 @@ impl Semaphore {
     pub fn try_acquire<'a, R: Wait + Clock>(
         &'a self,
         rt: &'a R,
-    ) -> Result<SemaphoreGuard<'a, R>, TryAcquireError> {
+    ) -> Result<SemaphoreGuard<'a, R>, TryAcquireError>
+        ensures one { IfOk result (λ guard. guard ≡ 1) }
+    {
         let permit = self.word.try_permit()?;
         Ok(SemaphoreGuard::new(Borrowed { lock: self, rt }, permit))
     }
@@ -104,10 +107,14 @@ impl Semaphore {
     pub fn try_acquire_arc<R: Wait + Clock + Drop>(
         this: &Arc<Self, Global>,
         rt: R,
-    ) -> Result<Result<SemaphoreGuardArc<R>, TryAcquireError>, AllocError> {
+    ) -> Result<Result<SemaphoreGuardArc<R>, TryAcquireError>, AllocError>
+        ensures one { IfOk result (λ answer. IfOk answer (λ guard. guard ≡ 1)) }
+    {
         let lock = Arc::try_clone(this)?;
-        let permit = lock.word.try_permit();
-        Ok(permit.map(|permit| SemaphoreGuardArc::new(Shared { lock, rt }, permit)))
+        match lock.word.try_permit() {
+            Ok(permit) => Ok(Ok(SemaphoreGuardArc::new(Shared { lock, rt }, permit))),
+            Err(error) => Ok(Err(error)),
+        }
     }
 
     /// So many permits, all at once and by one guard, if it is not closed, as many are free and nobody starves; else none. It takes
@@ -179,7 +186,7 @@ impl Semaphore {
 
     #[inline(always)]
     fn give_back<R: Wait>(&self, rt: &R, permit: Permit)
-        requires { permit.origin ≡ self.now.word.table.shared.table_id }
+        requires { permit.origin ≡ self.now.word.slot.name }
     {
         self.word.give_permit(rt, permit);
     }
@@ -187,27 +194,26 @@ impl Semaphore {
     fn attempt_held<C, X: TaskExchange<Task, C>, R: Wait>(
         &self,
         rt: &R,
-        held: &mut Held<Competing<Permits>, ()>,
+        held: &mut Held<'_, Competing<Permits>, ()>,
         place: &mut Option<Key>,
         losses: &mut u32,
         exchange: &X,
         on: &mut C,
     ) -> Attempted<Result<Permit, AcquireError>, LockError>
-        requires seat { held.old.seat.table_id ≡ self.now.word.table.shared.table_id }
-        requires stands { HasState (λ n q. Stands n q.line) held.old.seat.me }
-        ensures seat { held.new.seat.table_id ≡ held.old.seat.table_id }
-        ensures own { OnDone result (λ granted. IfOk granted (λ permit. permit.origin
-            ≡ self.now.word.table.shared.table_id)) }
+        requires seat { IsOf self.now.word.slot.name held.old }
+        requires stands { HasState (λ n q. Stands n q.line) held.old }
+        ensures seat { IsOf self.now.word.slot.name held.new }
+        ensures own { OnDone result (λ granted. IfOk granted (IsOne self.now.word.slot.name)) }
         ensures closed { OnDone result (λ granted. IfErr granted (λ error. (error ≡ AcquireError.Closed)
-            × HasState (λ n _. IsClosed n) held.new.seat.me)) }
-        ensures serves { HasState (λ n q. ServesTheStarving n q.line) held.new.seat.me }
+            × HasState (λ n _. IsClosed n) held.new)) }
+        ensures serves { HasState (λ n q. ServesTheStarving n q.line) held.new }
         ensures place { place.new ≡ key_of result }
         ensures done { OnDone result (λ _. losses.new ≡ losses.old) }
         ensures loses { OnUndone result (HasState (λ _ q. losses.new
-            ≡ losses_after losses.old (coming_of place.old q.line)) held.old.seat.me) }
+            ≡ losses_after losses.old (coming_of place.old q.line)) held.old) }
         ensures none { OnUndone result
-            (HasState (λ _ q. coming_of place.old q.line ≡ Notified) held.old.seat.me
-            → HasState (λ n _. free_of n ≡ 0) held.new.seat.me) }
+            (HasState (λ _ q. coming_of place.old q.line ≡ Notified) held.old
+            → HasState (λ n _. free_of n ≡ 0) held.new) }
         ensures refused { OnRefused result (losses.new ≡ losses.old) }
         ensures exchanged { Attempts (X.exchanged exchange.now) on.old result on.new }
     {
@@ -236,8 +242,7 @@ impl Waitable<Taker> for Semaphore {
     type Refusal = LockError;
 
     ghost rules = { λ semaphore.
-        gives_what (λ granted. IfOk granted (λ permit. permit.origin
-        ≡ semaphore.word.table.shared.table_id))
+        gives_what (λ granted. IfOk granted (IsOne semaphore.word.slot.name))
         (λ before after. LosesOnceAtMost before.contender after.contender) };
 
     ghost source = { λ semaphore. semaphore.source };
@@ -257,7 +262,7 @@ impl Waitable<Taker> for Semaphore {
         let (_, mut held) = self.word.take(rt);
         let Contender { place, losses } = &mut request.contender;
         let attempted = self.attempt_held(rt, &mut held, place, losses, exchange, on);
-        drop(self.word.put_back(rt, held));
+        self.word.put_back(rt, held);
         attempted
     }
 
@@ -272,15 +277,14 @@ impl Waitable<Taker> for Semaphore {
             .leave(&mut held, &mut request.contender.place)
             .coming();
         let permit = self.word.take_permit(rt, &mut held, coming.is_notified());
-        drop(self.word.put_back(rt, held));
+        self.word.put_back(rt, held);
         Ok(granted(permit))
     }
 }
 
 impl Obtainable<Taker> for Semaphore {
     ghost trying = { λ semaphore.
-        tries_for (λ granted. IfOk granted (λ permit. permit.origin
-        ≡ semaphore.word.table.shared.table_id)) };
+        tries_for (λ granted. IfOk granted (IsOne semaphore.word.slot.name)) };
 
     #[inline(always)]
     fn is_waiting(&self, request: &Taker) -> bool {
@@ -300,7 +304,7 @@ impl Obtainable<Taker> for Semaphore {
         if request.is_waiting() {
             let (_, mut held) = self.word.take(rt);
             self.word.leave(&mut held, &mut request.contender.place);
-            drop(self.word.put_back(rt, held));
+            self.word.put_back(rt, held);
         }
     }
 }

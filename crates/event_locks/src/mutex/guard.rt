@@ -1,11 +1,12 @@
 //! The value of a mutex, with one that has it.
 ghost use Rattle.std.specs.Prelude.{◌≡◌, []};
 ghost use mir.Syntax.{named};
-ghost use Rattle.event_word.specs.Word.{HasPlace, HasValue};
 ghost use Rattle.std.specs.Arc.{arc_value};
 
-use super::{Lent, Mutex};
-use event_wait::{Borrowed, Shared};
+use super::lender::Lending;
+use super::{Loan, Mutex, Right, found};
+use event_wait::Shared;
+use event_word::{Parked, take_out};
 use std::alloc::Global;
 use std::fmt;
 use std::fmt::{Debug, Formatter};
@@ -16,18 +17,16 @@ use std::time::Clock;
 
 // Where the value goes back.
 struct Place<'a, T, R> {
-    hold: Borrowed<'a, Mutex<T>, R>,
-    lent: Lent<T>,
-    ghost seated: { lent.table_id ≡ hold.lock.now.word.table.shared.table_id },
-    ghost has: { HasPlace lent.me },
+    hold: Lending<'a, T, R>,
+    lent: Right<'a, T>,
+    ghost own: { lent.name ≡ hold.lender.mutex.now.word.slot.name },
 }
 
-// The same, with a share of the mutex.
+// The same, with a share of the mutex, by which it is found again.
 struct PlaceArc<T, R> {
     hold: Shared<Mutex<T>, R>,
-    lent: Lent<T>,
-    ghost seated: { lent.table_id ≡ (arc_value hold.lock).word.table.shared.table_id },
-    ghost has: { HasPlace lent.me },
+    parked: Parked,
+    ghost own: { parked ≡ (arc_value hold.lock).word.slot.name },
 }
 
 /// The value of a mutex. Dropping the guard gives it back. A contract sees the value.
@@ -59,32 +58,48 @@ impl<T: Drop, R: Wait + Clock + Drop> Model for MutexGuardArc<T, R> {
 
 impl<'a, T: Drop, R: Wait + Clock> MutexGuard<'a, T, R> {
     #[inline(always)]
-    pub(crate) fn new(hold: Borrowed<'a, Mutex<T>, R>, lent: Lent<T>) -> Self
-        requires { (lent.table_id ≡ hold.lock.now.word.table.shared.table_id) × HasValue lent.me }
+    pub(crate) fn new(hold: Lending<'a, T, R>, lent: Right<'a, T>) -> Self
+        requires { lent.name ≡ hold.lender.mutex.now.word.slot.name }
     {
         let mut lent = lent;
-        let value = hold.lock.word.take_out(&mut lent);
+        let value = found(hold.rt, &mut lent);
         MutexGuard {
             place: Place { hold, lent },
             value,
         }
     }
 
+    /// The same, for one that waits for nothing: where the value does not lie in its place, the right goes back.
+    #[inline(always)]
+    pub(crate) fn find(hold: Lending<'a, T, R>, lent: Right<'a, T>) -> Option<Self>
+        requires { lent.name ≡ hold.lender.mutex.now.word.slot.name }
+    {
+        let mut lent = lent;
+        match take_out(&mut lent) {
+            Some(value) => Some(MutexGuard {
+                place: Place { hold, lent },
+                value,
+            }),
+            None => {
+                hold.lender.mutex.word.give_value(hold.rt, lent);
+                None
+            }
+        }
+    }
+
     /// The mutex.
     pub fn source(&self) -> &'a Mutex<T> {
-        self.place.hold.lock
+        self.place.hold.lender.mutex
     }
 }
 
 impl<T: Drop, R: Wait + Clock + Drop> MutexGuardArc<T, R> {
-    pub(crate) fn new(hold: Shared<Mutex<T>, R>, lent: Lent<T>) -> Self
-        requires { (lent.table_id ≡ (arc_value hold.lock).word.table.shared.table_id)
-            × HasValue lent.me }
+    pub(crate) fn new(hold: Shared<Mutex<T>, R>, loan: Loan<T>) -> Self
+        requires { loan.parked ≡ (arc_value hold.lock).word.slot.name }
     {
-        let mut lent = lent;
-        let value = hold.lock.word.take_out(&mut lent);
+        let Loan { value, parked } = loan;
         MutexGuardArc {
-            place: PlaceArc { hold, lent },
+            place: PlaceArc { hold, parked },
             value,
         }
     }
@@ -155,15 +170,15 @@ impl<T: Drop, R: Wait + Clock> Drop for MutexGuard<'_, T, R> {
     fn drop(self) {
         let MutexGuard { place, value } = self;
         let Place { hold, lent } = place;
-        hold.lock.give_back(hold.rt, lent, value);
+        hold.lender.mutex.give_back(hold.rt, lent, value);
     }
 }
 
 impl<T: Drop, R: Wait + Clock + Drop> Drop for MutexGuardArc<T, R> {
     fn drop(self) {
         let MutexGuardArc { place, value } = self;
-        let PlaceArc { hold, lent } = place;
-        hold.lock.give_back(&hold.rt, lent, value);
+        let PlaceArc { hold, parked } = place;
+        hold.lock.take_back(&hold.rt, Loan { value, parked });
     }
 }
 

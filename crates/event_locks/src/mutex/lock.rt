@@ -4,9 +4,10 @@ ghost use Rattle.std.specs.Arc.{arc_value};
 
 use super::Mutex;
 use super::guard::{MutexGuard, MutexGuardArc};
+use super::lender::{Lender, Lending};
 use crate::polled::guarded;
 use crate::taker::Taker;
-use event_wait::{Borrowed, LockError, Obtaining, Shared};
+use event_wait::{LockError, Obtaining, Shared};
 use futures::Future;
 use futures::task::{Context, Poll};
 use std::sync::Wait;
@@ -21,7 +22,7 @@ use std::time::{Clock, Duration, Instant};
 #[must_use = "nothing is asked for until it is waited on or polled"]
 #[derive(Drop)]
 pub struct Lock<'a, T: Drop, R: Wait + Clock> {
-    obtaining: Obtaining<Mutex<T>, Taker, Borrowed<'a, Mutex<T>, R>>,
+    obtaining: Obtaining<Lender<'a, T>, Taker, Lending<'a, T, R>>,
 }
 
 /// A wait for the value of a mutex that shares the mutex, and so may go to another thread; else as [`Lock`].
@@ -33,7 +34,7 @@ pub struct LockArc<T: Drop, R: Wait + Clock + Drop> {
 
 impl<'a, T: Drop, R: Wait + Clock> Lock<'a, T, R> {
     #[inline(always)]
-    pub(crate) fn new(obtaining: Obtaining<Mutex<T>, Taker, Borrowed<'a, Mutex<T>, R>>) -> Self {
+    pub(crate) fn new(obtaining: Obtaining<Lender<'a, T>, Taker, Lending<'a, T, R>>) -> Self {
         Lock { obtaining }
     }
 
@@ -52,8 +53,10 @@ impl<'a, T: Drop, R: Wait + Clock> Lock<'a, T, R> {
         self,
         timeout: Duration,
     ) -> Result<Option<MutexGuard<'a, T, R>>, LockError> {
-        let got = self.obtaining.wait_timeout(timeout)?;
-        Ok(got.map(|(hold, lent)| MutexGuard::new(hold, lent)))
+        let Some((hold, lent)) = self.obtaining.wait_timeout(timeout)? else {
+            return Ok(None);
+        };
+        Ok(Some(MutexGuard::new(hold, lent)))
     }
 
     /// Blocks the thread until it has the value, or until this moment. `None` says that it was in vain: then the thread is in no
@@ -62,8 +65,10 @@ impl<'a, T: Drop, R: Wait + Clock> Lock<'a, T, R> {
         self,
         deadline: Instant,
     ) -> Result<Option<MutexGuard<'a, T, R>>, LockError> {
-        let got = self.obtaining.wait_deadline(deadline)?;
-        Ok(got.map(|(hold, lent)| MutexGuard::new(hold, lent)))
+        let Some((hold, lent)) = self.obtaining.wait_deadline(deadline)? else {
+            return Ok(None);
+        };
+        Ok(Some(MutexGuard::new(hold, lent)))
     }
 }
 
@@ -74,14 +79,14 @@ impl<T: Drop, R: Wait + Clock + Drop> LockArc<T, R> {
 
     /// As [`Lock::wait`].
     pub fn wait(self) -> Result<MutexGuardArc<T, R>, LockError> {
-        let (hold, lent) = self.obtaining.wait()?;
-        Ok(MutexGuardArc::new(hold, lent))
+        let (hold, loan) = self.obtaining.wait()?;
+        Ok(MutexGuardArc::new(hold, loan))
     }
 
     /// As [`Lock::wait_timeout`].
     pub fn wait_timeout(self, timeout: Duration) -> Result<Option<MutexGuardArc<T, R>>, LockError> {
         let got = self.obtaining.wait_timeout(timeout)?;
-        Ok(got.map(|(hold, lent)| MutexGuardArc::new(hold, lent)))
+        Ok(got.map(|(hold, loan)| MutexGuardArc::new(hold, loan)))
     }
 
     /// As [`Lock::wait_deadline`].
@@ -90,14 +95,14 @@ impl<T: Drop, R: Wait + Clock + Drop> LockArc<T, R> {
         deadline: Instant,
     ) -> Result<Option<MutexGuardArc<T, R>>, LockError> {
         let got = self.obtaining.wait_deadline(deadline)?;
-        Ok(got.map(|(hold, lent)| MutexGuardArc::new(hold, lent)))
+        Ok(got.map(|(hold, loan)| MutexGuardArc::new(hold, loan)))
     }
 }
 
 impl<'a, T: Drop, R: Wait + Clock> Future for Lock<'a, T, R> {
     type Output = Result<MutexGuard<'a, T, R>, LockError>;
 
-    ghost needs = { λ lock s. IsSomeAnd lock.obtaining.hold (λ hold. s ≡ hold.lock.now.source) };
+    ghost needs = { λ lock s. IsSomeAnd lock.obtaining.hold (λ hold. s ≡ hold.lender.mutex.now.source) };
 
     fn poll(&mut self, cx: &mut Context<'_>) -> Poll<Result<MutexGuard<'a, T, R>, LockError>> {
         guarded(self.obtaining.poll(cx), MutexGuard::new)

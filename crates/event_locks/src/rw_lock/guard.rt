@@ -19,14 +19,14 @@ use std::time::Clock;
 struct Held<'a, T, R, K> {
     hold: Borrowed<'a, RwLock<T>, R>,
     share: Share<K>,
-    ghost own: { share ≡ hold.lock.now.word.table.shared.table_id },
+    ghost own: { share ≡ hold.lock.now.word.slot.name },
 }
 
 // The same, with a share of the lock.
 struct HeldArc<T, R, K> {
     hold: Shared<RwLock<T>, R>,
     share: Share<K>,
-    ghost own: { share ≡ (arc_value hold.lock).word.table.shared.table_id },
+    ghost own: { share ≡ (arc_value hold.lock).word.slot.name },
 }
 
 /// The value of a read-write lock, to be read. Dropping the guard ends the reading. A contract sees the value.
@@ -76,7 +76,7 @@ impl<'a, T, R: Wait + Clock> Model for RwLockWriteGuard<'a, T, R> {
 impl<'a, T, R: Wait + Clock> RwLockReadGuard<'a, T, R> {
     #[inline(always)]
     pub(crate) fn new(hold: Borrowed<'a, RwLock<T>, R>, share: Share<Reading>) -> Self
-        requires { share ≡ hold.lock.now.word.table.shared.table_id }
+        requires { share ≡ hold.lock.now.word.slot.name }
     {
         let value = match hold.lock.value.try_read() {
             Some(value) => value,
@@ -104,7 +104,7 @@ impl<'a, T, R: Wait + Clock> RwLockReadGuard<'a, T, R> {
 impl<'a, T, R: Wait + Clock> RwLockWriteGuard<'a, T, R> {
     #[inline(always)]
     pub(crate) fn new(hold: Borrowed<'a, RwLock<T>, R>, share: Share<Writing>) -> Self
-        requires { share ≡ hold.lock.now.word.table.shared.table_id }
+        requires { share ≡ hold.lock.now.word.slot.name }
     {
         let value = match hold.lock.value.try_write() {
             Some(value) => value,
@@ -129,7 +129,7 @@ impl<'a, T, R: Wait + Clock> RwLockWriteGuard<'a, T, R> {
 
 impl<T: Drop, R: Wait + Clock + Drop> RwLockReadGuardArc<T, R> {
     pub(crate) fn new(hold: Shared<RwLock<T>, R>, share: Share<Reading>) -> Self
-        requires { share ≡ (arc_value hold.lock).word.table.shared.table_id }
+        requires { share ≡ (arc_value hold.lock).word.slot.name }
     {
         RwLockReadGuardArc {
             held: HeldArc { hold, share },
@@ -162,7 +162,7 @@ impl<T: Drop, R: Wait + Clock + Drop> RwLockReadGuardArc<T, R> {
 
 impl<T: Drop, R: Wait + Clock + Drop> RwLockWriteGuardArc<T, R> {
     pub(crate) fn new(hold: Shared<RwLock<T>, R>, share: Share<Writing>) -> Self
-        requires { share ≡ (arc_value hold.lock).word.table.shared.table_id }
+        requires { share ≡ (arc_value hold.lock).word.slot.name }
     {
         RwLockWriteGuardArc {
             held: HeldArc { hold, share },

@@ -38,7 +38,7 @@ impl<T, K: Right<Task>> Waitable<Place<K>> for RwLock<T> {
     type Refusal = LockError;
 
     ghost rules = { λ lock.
-        gives_what (λ share. share ≡ lock.word.table.shared.table_id)
+        gives_what (λ share. share ≡ lock.word.slot.name)
         (λ before after. after ≡ before) };
 
     ghost source = { λ lock. lock.source };
@@ -61,7 +61,7 @@ impl<T, K: Right<Task>> Waitable<Place<K>> for RwLock<T> {
             None => self.word.come_newly(rt, &mut held, exchange, on),
         };
         request.key = attempted.key();
-        drop(self.word.put_back(rt, held));
+        self.word.put_back(rt, held);
         attempted
     }
 
@@ -75,13 +75,13 @@ impl<T, K: Right<Task>> Waitable<Place<K>> for RwLock<T> {
             Some(key) => self.word.come_or_leave(rt, &mut held, key),
             None => self.word.count_newcomer(rt, &mut held),
         };
-        drop(self.word.put_back(rt, held));
+        self.word.put_back(rt, held);
         Ok(share)
     }
 }
 
 impl<T, K: Right<Task>> Obtainable<Place<K>> for RwLock<T> {
-    ghost trying = { λ lock. tries_for (λ share. share ≡ lock.word.table.shared.table_id) };
+    ghost trying = { λ lock. tries_for (λ share. share ≡ lock.word.slot.name) };
 
     #[inline(always)]
     fn is_waiting(&self, request: &Place<K>) -> bool {
@@ -98,7 +98,7 @@ impl<T, K: Right<Task>> Obtainable<Place<K>> for RwLock<T> {
         if let Some(key) = request.key.take() {
             let (_, mut held) = self.word.take(rt);
             self.word.leave::<K>(&mut held, key);
-            drop(self.word.put_back(rt, held));
+            self.word.put_back(rt, held);
         }
     }
 }

@@ -1,5 +1,5 @@
 //! Waits for a permit.
-ghost use Rattle.std.specs.Prelude.{◌≡◌, IfOk, IsSomeAnd};
+ghost use Rattle.std.specs.Prelude.{◌≡◌, IfOk, IfSome, IsSomeAnd};
 ghost use Rattle.std.specs.Arc.{arc_value};
 ghost use Rattle.futures.specs.Poll.{IfReady, OnPending};
 ghost use Rattle.futures.specs.declared.task.Poll.TheVariants.{Pending};
@@ -43,7 +43,9 @@ impl<'a, R: Wait + Clock> Acquire<'a, R> {
     /// Blocks the thread until it has a permit. It allocates what the thread parks on and a place in the queue, if it has to
     /// wait. An error says that it could not, or that the semaphore is closed: then it is in no queue.
     #[inline(always)]
-    pub fn wait(self) -> Result<SemaphoreGuard<'a, R>, AcquireError> {
+    pub fn wait(self) -> Result<SemaphoreGuard<'a, R>, AcquireError>
+        ensures one { IfOk result (λ guard. guard ≡ 1) }
+    {
         let (hold, permit) = self.obtaining.wait()?;
         let permit = permit?;
         Ok(SemaphoreGuard::new(hold, permit))
@@ -55,7 +57,9 @@ impl<'a, R: Wait + Clock> Acquire<'a, R> {
     pub fn wait_timeout(
         self,
         timeout: Duration,
-    ) -> Result<Option<SemaphoreGuard<'a, R>>, AcquireError> {
+    ) -> Result<Option<SemaphoreGuard<'a, R>>, AcquireError>
+        ensures one { IfOk result (λ answer. IfSome answer (λ guard. guard ≡ 1)) }
+    {
         let Some((hold, permit)) = self.obtaining.wait_timeout(timeout)? else {
             return Ok(None);
         };
@@ -68,7 +72,9 @@ impl<'a, R: Wait + Clock> Acquire<'a, R> {
     pub fn wait_deadline(
         self,
         deadline: Instant,
-    ) -> Result<Option<SemaphoreGuard<'a, R>>, AcquireError> {
+    ) -> Result<Option<SemaphoreGuard<'a, R>>, AcquireError>
+        ensures one { IfOk result (λ answer. IfSome answer (λ guard. guard ≡ 1)) }
+    {
         let Some((hold, permit)) = self.obtaining.wait_deadline(deadline)? else {
             return Ok(None);
         };
@@ -83,7 +89,9 @@ impl<R: Wait + Clock + Drop> AcquireArc<R> {
     }
 
     /// As [`Acquire::wait`].
-    pub fn wait(self) -> Result<SemaphoreGuardArc<R>, AcquireError> {
+    pub fn wait(self) -> Result<SemaphoreGuardArc<R>, AcquireError>
+        ensures one { IfOk result (λ guard. guard ≡ 1) }
+    {
         let (hold, permit) = self.obtaining.wait()?;
         let permit = permit?;
         Ok(SemaphoreGuardArc::new(hold, permit))
@@ -93,7 +101,9 @@ impl<R: Wait + Clock + Drop> AcquireArc<R> {
     pub fn wait_timeout(
         self,
         timeout: Duration,
-    ) -> Result<Option<SemaphoreGuardArc<R>>, AcquireError> {
+    ) -> Result<Option<SemaphoreGuardArc<R>>, AcquireError>
+        ensures one { IfOk result (λ answer. IfSome answer (λ guard. guard ≡ 1)) }
+    {
         let Some((hold, permit)) = self.obtaining.wait_timeout(timeout)? else {
             return Ok(None);
         };
@@ -105,7 +115,9 @@ impl<R: Wait + Clock + Drop> AcquireArc<R> {
     pub fn wait_deadline(
         self,
         deadline: Instant,
-    ) -> Result<Option<SemaphoreGuardArc<R>>, AcquireError> {
+    ) -> Result<Option<SemaphoreGuardArc<R>>, AcquireError>
+        ensures one { IfOk result (λ answer. IfSome answer (λ guard. guard ≡ 1)) }
+    {
         let Some((hold, permit)) = self.obtaining.wait_deadline(deadline)? else {
             return Ok(None);
         };

@@ -17,7 +17,7 @@ use std::time::Clock;
 pub struct SemaphoreGuard<'a, R: Wait + Clock> {
     hold: Borrowed<'a, Semaphore, R>,
     permit: Permit,
-    ghost own: { permit.origin ≡ hold.lock.now.word.table.shared.table_id },
+    ghost own: { permit.origin ≡ hold.lock.now.word.slot.name },
 }
 
 /// The same, but it shares its semaphore, and so may go to another thread.
@@ -25,7 +25,7 @@ pub struct SemaphoreGuard<'a, R: Wait + Clock> {
 pub struct SemaphoreGuardArc<R: Wait + Clock + Drop> {
     hold: Shared<Semaphore, R>,
     permit: Permit,
-    ghost own: { permit.origin ≡ (arc_value hold.lock).word.table.shared.table_id },
+    ghost own: { permit.origin ≡ (arc_value hold.lock).word.slot.name },
 }
 
 impl<'a, R: Wait + Clock> Model for SemaphoreGuard<'a, R> {
@@ -47,7 +47,7 @@ impl<R: Wait + Clock + Drop> Model for SemaphoreGuardArc<R> {
 impl<'a, R: Wait + Clock> SemaphoreGuard<'a, R> {
     #[inline(always)]
     pub(crate) fn new(hold: Borrowed<'a, Semaphore, R>, permit: Permit) -> Self
-        requires { permit.origin ≡ hold.lock.now.word.table.shared.table_id }
+        requires { permit.origin ≡ hold.lock.now.word.slot.name }
         ensures { result ≡ permit.count }
     {
         SemaphoreGuard { hold, permit }
@@ -69,7 +69,7 @@ impl<'a, R: Wait + Clock> SemaphoreGuard<'a, R> {
 
 impl<R: Wait + Clock + Drop> SemaphoreGuardArc<R> {
     pub(crate) fn new(hold: Shared<Semaphore, R>, permit: Permit) -> Self
-        requires { permit.origin ≡ (arc_value hold.lock).word.table.shared.table_id }
+        requires { permit.origin ≡ (arc_value hold.lock).word.slot.name }
         ensures { result ≡ permit.count }
     {
         SemaphoreGuardArc { hold, permit }

@@ -3,4 +3,4 @@ use Rattle.event_locks.proofs.semaphore.SemaphoreWaitableTaker.attempt_or_wait.G
 
 pub returns-clause-waited : goal.returns-clause-waited
 returns-clause-waited g c =
-    rw (← c.request.view_is) (loses-undone c.request.inside.place _ _ c.take-held.result.1.seat.me c.attempt_held-attempted.result c.attempt_held-attempted.ensures.loses)
+    rw (← c.request.view_is) (loses-undone c.request.inside.place _ _ c.take-held.result.1 c.attempt_held-attempted.result c.attempt_held-attempted.ensures.loses)
