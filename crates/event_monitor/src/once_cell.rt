@@ -1,5 +1,5 @@
 //! A cell that is set once.
-ghost use Rattle.std.specs.Prelude.{◌≡◌, ◌⊎◌, false, None, Err, IfErr, IfOk, IfSome, IsSome};
+ghost use Rattle.std.specs.Prelude.{◌≡◌, ◌⊎◌, false, None, Some, Err, IfErr, IfOk, IfSome, IsSome};
 ghost use Rattle.std.specs.Fn.{FnOnceReturns};
 ghost use Rattle.event_wait.specs.declared.lock.limit.Limit.TheVariants.{Never};
 ghost use Rattle.event_monitor.specs.Queued.{IsMadeOf};
@@ -256,8 +256,9 @@ impl<T> OnceCell<T> {
     ) -> Initializing<'a, T, R, Surely<M>>
         ensures maker { result.maker.maker ≡ maker }
         ensures turn { result.has_turn ≡ false }
+        ensures source { result.source ≡ Some self.now.source }
     {
-        Initializing::new(self.claim(rt, alloc), Surely { maker })
+        Initializing::new(self, rt, alloc, Surely { maker })
     }
 
     /// The same, by a future that may fail: then the next has its turn.
@@ -269,8 +270,9 @@ impl<T> OnceCell<T> {
     ) -> Initializing<'a, T, R, M>
         ensures maker { result.maker ≡ maker }
         ensures turn { result.has_turn ≡ false }
+        ensures source { result.source ≡ Some self.now.source }
     {
-        Initializing::new(self.claim(rt, alloc), maker)
+        Initializing::new(self, rt, alloc, maker)
     }
 
     /// The value, if it is set, to be changed.

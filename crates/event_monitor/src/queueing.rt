@@ -1,5 +1,5 @@
 //! A wait for what a state hands out, blocking or awaited.
-ghost use Rattle.std.specs.Prelude.{◌≡◌, None, Err, IfOk, IsSome, IsSomeAnd};
+ghost use Rattle.std.specs.Prelude.{◌≡◌, None, Some, Err, IfOk, IsSome, IsSomeAnd};
 ghost use Rattle.futures.specs.Poll.{IfReady, OnPending};
 ghost use Rattle.futures.specs.Task.{Covers, Keeps};
 ghost use Rattle.futures.specs.declared.task.Poll.TheVariants.{Ready};
@@ -25,7 +25,9 @@ pub(crate) struct Queueing<L: TakesAny<Q>, Q, H: Hold<L>> {
 
 impl<L: TakesAny<Q>, Q, H: Hold<L>> Queueing<L, Q, H> {
     #[inline(always)]
-    pub(crate) fn new(hold: H, alloc: Global, request: Q) -> Self {
+    pub(crate) fn new(hold: H, alloc: Global, request: Q) -> Self
+        ensures { result.hold ≡ Some hold }
+    {
         Queueing {
             hold: Some(hold),
             alloc,

@@ -1,14 +1,15 @@
 //! A value that a task makes.
-ghost use Rattle.std.specs.Prelude.{◌≡◌, false, IfErr, IsSomeAnd};
+ghost use Rattle.std.specs.Prelude.{◌≡◌, false, Some, IfErr, IsSomeAnd};
 ghost use Rattle.futures.specs.Poll.{IfReady, OnPending};
 ghost use Rattle.futures.specs.Task.{Covers, Keeps};
 ghost use Rattle.event_monitor.specs.Making.{FailsBy, GivesSurely, GoesOn, WaitsFor};
 
 use super::waits::Claiming;
-use super::{Claim, Vacant};
+use super::{Claim, OnceCell, Vacant};
 use crate::error::PollError;
 use futures::Future;
 use futures::task::{Context, Poll};
+use std::alloc::Global;
 use std::marker::Model;
 use std::sync::Wait;
 use std::time::Clock;
@@ -49,14 +50,15 @@ impl<'a, T, R: Wait + Clock, M> Model for Initializing<'a, T, R, M> {
 }
 
 impl<'a, T, R: Wait + Clock, M> Initializing<'a, T, R, M> {
-    pub(super) fn new(claiming: Claiming<'a, T, R>, maker: M) -> Self
+    pub(super) fn new(cell: &'a OnceCell<T>, rt: &'a R, alloc: Global, maker: M) -> Self
         ensures maker { result.maker ≡ maker }
         ensures turn { result.has_turn ≡ false }
+        ensures source { result.source ≡ Some cell.now.source }
     {
         Initializing {
             maker,
             turn: None,
-            claiming,
+            claiming: Claiming::new(cell, rt, alloc),
         }
     }
 

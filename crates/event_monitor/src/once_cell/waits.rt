@@ -38,7 +38,10 @@ pub struct Seeing<'a, T, R: Wait + Clock> {
 }
 
 impl<'a, T, R: Wait + Clock> Claiming<'a, T, R> {
-    pub(super) fn new(cell: &'a OnceCell<T>, rt: &'a R, alloc: Global) -> Self {
+    pub(super) fn new(cell: &'a OnceCell<T>, rt: &'a R, alloc: Global) -> Self
+        ensures { IsSomeAnd result.queueing.hold
+            (λ asking. asking.cell.now.source ≡ cell.now.source) }
+    {
         Claiming {
             queueing: Queueing::new(Asking { cell, rt }, alloc, Ticket::new()),
         }
