@@ -66,7 +66,7 @@ where
     R: Threads + Wait + Clock + AllocGlobal + Print + Copy + Send + Sync + 'static,
 {
     let alloc = rt.alloc();
-    let permits = Arc::new(alloc, Semaphore::new(alloc, 2)?)?;
+    let permits = Arc::new(alloc, Semaphore::new(alloc, 2))?;
     let load = Arc::new(alloc, Load::new())?;
     run_all(rt, alloc, &permits, &load, 6)?;
     println!(rt;
@@ -97,7 +97,7 @@ where
     R: Wait + Clock + RandomSource + AllocGlobal + Print,
 {
     let alloc = rt.alloc();
-    let cache = RwLock::new(alloc, Squares::new(alloc))?;
+    let cache = RwLock::new(alloc, Squares::new(alloc));
     let first = square(rt, alloc, &cache, 7)?;
     let again = square(rt, alloc, &cache, 7)?;
     let other = square(rt, alloc, &cache, 9)?;
@@ -134,7 +134,7 @@ where
     R: Wait + Clock + Clone + RandomSource + AllocGlobal + Print,
 {
     let alloc = rt.alloc();
-    let balance = Mutex::new(alloc, 10u64)?;
+    let balance = Mutex::new(alloc, 10u64);
     print!(rt; "selects: {}", deposit(rt, alloc, &balance, 5)?)?;
     let (sender, receiver) = unbounded(rt, alloc)?;
     print!(rt; " {:?}", first_of(rt, alloc, &receiver, &balance)?)?;
@@ -155,7 +155,7 @@ where
     R: Threads + Wait + Clock + RandomSource + AllocGlobal + Print + Copy + Send + Sync + 'static,
 {
     let alloc = rt.alloc();
-    let permits = Arc::new(alloc, Semaphore::new(alloc, 1)?)?;
+    let permits = Arc::new(alloc, Semaphore::new(alloc, 1))?;
     let shared = Arc::try_clone(&permits)?;
     let other = thread::spawn(&rt, move || {
         thread::sleep(&rt, Duration::from_millis(20));
@@ -164,7 +164,7 @@ where
     let free = take_two(&rt, alloc, &permits)?;
     other.join(&rt);
     let one_leads = meet(&rt, alloc, &Barrier::new(alloc, 2))?;
-    let doubled = read_after_write(&rt, alloc, &RwLock::new(alloc, 1)?)?;
+    let doubled = read_after_write(&rt, alloc, &RwLock::new(alloc, 1))?;
     println!(rt; "joins: {free} free, {one_leads}; {doubled}")?;
     Ok(())
 }
@@ -174,7 +174,7 @@ fn run_jobs<R>(rt: &R) -> anyhow::Result<()>
 where
     R: Threads + Wait + Clock + AllocGlobal + Print + Sync,
 {
-    let permits = Semaphore::new(rt.alloc(), 2)?;
+    let permits = Semaphore::new(rt.alloc(), 2);
     let squares = square_each(rt, rt.alloc(), &permits, &[1, 2, 3])?;
     println!(rt; "jobs: {squares:?}, {} free", permits.available())?;
     Ok(())
