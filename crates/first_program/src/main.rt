@@ -20,7 +20,7 @@ fn pay_in<R>(rt: R, alloc: Global) -> anyhow::Result<u64>
 where
     R: Threads + Wait + Clock + Copy + Send + Sync + 'static,
 {
-    let balance = Arc::new(alloc, Mutex::new(alloc, 0u64)?)?;
+    let balance = Arc::new(alloc, Mutex::new(alloc, 0u64))?;
     let mut threads = Vec::new(alloc);
     for amount in 1..=4 {
         let balance = Arc::try_clone(&balance)?;
