@@ -30,7 +30,7 @@ impl<'a, R: Wait + Clock> Future for Deposit<'a, R> {
 
     // A pending poll waits for what that of the lock does.
     ghost needs = { λ deposit s.
-        IsSomeAnd deposit.lock.obtaining.hold (λ hold. s ≡ hold.lock.now.source) };
+        IsSomeAnd deposit.lock.obtaining.hold (λ hold. s ≡ hold.lender.mutex.now.source) };
 
     fn poll(&mut self, cx: &mut Context<'_>) -> Poll<()> {
         if let Ok(mut balance) = ready!(self.lock.poll(cx)) {
@@ -45,7 +45,7 @@ fn deposit_all<R>(rt: &R, alloc: Global, tasks: u64) -> anyhow::Result<u64>
 where
     R: Wait + Clock + RandomSource + AllocGlobal,
 {
-    let balance = Mutex::new(alloc, 0u64)?;
+    let balance = Mutex::new(alloc, 0u64);
     let mut pool: LocalPool<Deposit<'_, R>> = LocalPool::new(rt)?;
     let spawner = pool.spawner()?;
     for amount in 1..=tasks {
