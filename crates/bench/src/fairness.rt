@@ -53,7 +53,7 @@ fn of_fair(least: u64, all: u64, n: usize) -> u128 {
 // and lets it go at once.
 fn shares<R: Runtime>(run: &Run<'_, R>) -> Result<Vec<Result<Share>>> {
     let (rt, alloc) = (run.rt, run.rt.alloc());
-    let mutex = &Mutex::new(alloc, 0u64)?;
+    let mutex = &Mutex::new(alloc, 0u64);
     let Some(ends) = Instant::now(rt)?.checked_add(Duration::from_millis(run.rounds)) else {
         return Err(OtherAnswer.into());
     };

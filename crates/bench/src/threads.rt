@@ -7,7 +7,7 @@ use std::sync::atomic::{AtomicU64, Ordering};
 
 pub fn lock_mutex<R: Runtime>(run: &mut Run<'_, R>) -> Result<()> {
     let (rt, alloc, n) = (run.rt, run.rt.alloc(), run.n);
-    let mutex = &Mutex::new(alloc, 0u64)?;
+    let mutex = &Mutex::new(alloc, 0u64);
     let work = |_: usize| {
         let Ok(mut count) = mutex.lock(rt, alloc).wait() else {
             return false;
@@ -21,7 +21,7 @@ pub fn lock_mutex<R: Runtime>(run: &mut Run<'_, R>) -> Result<()> {
 /// One thread takes a free mutex that it tries.
 pub fn try_mutex<R: Runtime>(run: &mut Run<'_, R>) -> Result<()> {
     let (rt, rounds) = (run.rt, run.rounds);
-    let mutex = &Mutex::new(rt.alloc(), 0u64)?;
+    let mutex = &Mutex::new(rt.alloc(), 0u64);
     run.alone(rounds, 1, || {
         let Some(mut count) = mutex.try_lock(rt) else {
             return false;
@@ -33,19 +33,19 @@ pub fn try_mutex<R: Runtime>(run: &mut Run<'_, R>) -> Result<()> {
 
 pub fn acquire<R: Runtime>(run: &mut Run<'_, R>, permits: usize) -> Result<()> {
     let (rt, alloc, n) = (run.rt, run.rt.alloc(), run.n);
-    let semaphore = &Semaphore::new(alloc, permits)?;
+    let semaphore = &Semaphore::new(alloc, permits);
     run.together(n, n, &|_| semaphore.acquire(rt, alloc).wait().is_ok())
 }
 
 pub fn read<R: Runtime>(run: &mut Run<'_, R>) -> Result<()> {
     let (rt, alloc, n) = (run.rt, run.rt.alloc(), run.n);
-    let lock = &RwLock::new(alloc, 0u64)?;
+    let lock = &RwLock::new(alloc, 0u64);
     run.together(n, n, &|_| lock.read(rt, alloc).wait().is_ok())
 }
 
 pub fn write<R: Runtime>(run: &mut Run<'_, R>) -> Result<()> {
     let (rt, alloc, n) = (run.rt, run.rt.alloc(), run.n);
-    let lock = &RwLock::new(alloc, 0u64)?;
+    let lock = &RwLock::new(alloc, 0u64);
     let work = |_: usize| {
         let Ok(mut count) = lock.write(rt, alloc).wait() else {
             return false;
@@ -65,7 +65,7 @@ pub fn meet<R: Runtime>(run: &mut Run<'_, R>) -> Result<()> {
 /// Two threads wait for each other in turn, by semaphores. An operation is a round trip, as below.
 pub fn hand_over<R: Runtime>(run: &mut Run<'_, R>) -> Result<()> {
     let (rt, alloc) = (run.rt, run.rt.alloc());
-    let (here, there) = (&Semaphore::new(alloc, 0)?, &Semaphore::new(alloc, 0)?);
+    let (here, there) = (&Semaphore::new(alloc, 0), &Semaphore::new(alloc, 0));
     let work = |index: usize| {
         let (mine, other) = if index == 0 {
             (here, there)
