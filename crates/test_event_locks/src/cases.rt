@@ -39,9 +39,9 @@ where
     W: Wait + Clock + Clone + Sync,
 {
     let alloc = rt.alloc();
-    let semaphore = Semaphore::new(alloc, 1)?;
+    let semaphore = Semaphore::new(alloc, 1);
     case.run(rt, &Of::<_, _, ()>::new(&semaphore, own, alloc));
-    let semaphore = Arc::new(alloc, Semaphore::new(alloc, 1)?)?;
+    let semaphore = Arc::new(alloc, Semaphore::new(alloc, 1))?;
     case.run(rt, &Of::<_, _, ()>::new(&semaphore, own, alloc));
     Ok(())
 }
@@ -53,9 +53,9 @@ where
     W: Wait + Clock + Clone + Sync,
 {
     let alloc = rt.alloc();
-    let mutex = Mutex::new(alloc, 7u64)?;
+    let mutex = Mutex::new(alloc, 7u64);
     case.run(rt, &Of::<_, _, ()>::new(&mutex, own, alloc));
-    let mutex = Arc::new(alloc, Mutex::new(alloc, 7u64)?)?;
+    let mutex = Arc::new(alloc, Mutex::new(alloc, 7u64))?;
     case.run(rt, &Of::<_, _, ()>::new(&mutex, own, alloc));
     Ok(())
 }
@@ -67,9 +67,9 @@ where
     W: Wait + Clock + Clone + Sync,
 {
     let alloc = rt.alloc();
-    let shared = RwLock::new(alloc, 7u64)?;
+    let shared = RwLock::new(alloc, 7u64);
     case.run(rt, &Of::<_, _, Read>::new(&shared, own, alloc));
-    let shared = Arc::new(alloc, RwLock::new(alloc, 7u64)?)?;
+    let shared = Arc::new(alloc, RwLock::new(alloc, 7u64))?;
     case.run(rt, &Of::<_, _, Read>::new(&shared, own, alloc));
     Ok(())
 }
@@ -81,9 +81,9 @@ where
     W: Wait + Clock + Clone + Sync,
 {
     let alloc = rt.alloc();
-    let shared = RwLock::new(alloc, 7u64)?;
+    let shared = RwLock::new(alloc, 7u64);
     case.run(rt, &Of::<_, _, Write>::new(&shared, own, alloc));
-    let shared = Arc::new(alloc, RwLock::new(alloc, 7u64)?)?;
+    let shared = Arc::new(alloc, RwLock::new(alloc, 7u64))?;
     case.run(rt, &Of::<_, _, Write>::new(&shared, own, alloc));
     Ok(())
 }

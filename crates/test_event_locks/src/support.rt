@@ -21,18 +21,18 @@ where
 }
 
 /// A semaphore with so many permits.
-pub fn new_semaphore<R: Abort + AllocGlobal>(rt: &R, permits: usize) -> Semaphore {
-    Semaphore::new(rt.alloc(), permits).expect(rt, "a semaphore")
+pub fn new_semaphore<R: AllocGlobal>(rt: &R, permits: usize) -> Semaphore {
+    Semaphore::new(rt.alloc(), permits)
 }
 
 /// A mutex round this value.
-pub fn new_mutex<T: Drop, R: Abort + AllocGlobal>(rt: &R, value: T) -> Mutex<T> {
-    Mutex::new(rt.alloc(), value).expect(rt, "a mutex")
+pub fn new_mutex<T: Drop, R: AllocGlobal>(rt: &R, value: T) -> Mutex<T> {
+    Mutex::new(rt.alloc(), value)
 }
 
 /// A read-write lock round this value.
-pub fn new_lock<T: Drop, R: Abort + AllocGlobal>(rt: &R, value: T) -> RwLock<T> {
-    RwLock::new(rt.alloc(), value).expect(rt, "a lock")
+pub fn new_lock<T, R: AllocGlobal>(rt: &R, value: T) -> RwLock<T> {
+    RwLock::new(rt.alloc(), value)
 }
 
 /// A task that is not woken.
