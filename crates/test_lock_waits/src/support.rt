@@ -18,13 +18,13 @@ where
 }
 
 /// A semaphore with so many permits.
-pub fn new_semaphore<R: Abort + AllocGlobal>(rt: &R, permits: usize) -> Semaphore {
-    Semaphore::new(rt.alloc(), permits).expect(rt, "a semaphore")
+pub fn new_semaphore<R: AllocGlobal>(rt: &R, permits: usize) -> Semaphore {
+    Semaphore::new(rt.alloc(), permits)
 }
 
 /// A read-write lock round this value.
-pub fn new_lock<R: Abort + AllocGlobal>(rt: &R, value: u64) -> RwLock<u64> {
-    RwLock::new(rt.alloc(), value).expect(rt, "a lock")
+pub fn new_lock<R: AllocGlobal>(rt: &R, value: u64) -> RwLock<u64> {
+    RwLock::new(rt.alloc(), value)
 }
 
 /// A task that is not woken.

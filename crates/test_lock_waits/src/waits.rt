@@ -323,7 +323,7 @@ fn readers_come_in_once_no_writer_waits(rt: HostRuntime) {
 fn a_value_is_dropped_with_the_last_one_that_was_told(rt: HostRuntime) {
     let value = Arc::new(rt.alloc(), 7u64).expect(&rt, "memory");
     let kept = Arc::try_clone(&value).expect(&rt, "a share");
-    let mutex = Mutex::new(rt.alloc(), kept).expect(&rt, "a mutex");
+    let mutex = Mutex::new(rt.alloc(), kept);
     let mutex = Arc::new(rt.alloc(), mutex).expect(&rt, "memory");
     let held = Mutex::try_lock_arc(&mutex, rt).expect(&rt, "a share");
     let told = Mutex::lock_arc(&mutex, rt, rt.alloc()).expect(&rt, "a share");

@@ -1,9 +1,11 @@
 //! What no clause sees of a word: that a thread which sleeps for the state is woken, and that threads which meet all get it.
+ghost use Rattle.std.specs.Prelude.{false};
 ghost use Rattle.event_word.specs.Rules.{Rules};
 
 use event_queue::WakeSink;
 use event_wait::Task;
 use event_word::{Kept, Word};
+use std::sync::atomic::{AtomicU64, Ordering};
 use std::sync::{Barrier, Wait};
 use std::test::Fail;
 use std::thread;
@@ -11,11 +13,9 @@ use std::time::{Clock, CpuClock, Duration};
 
 const THREADS: usize = 4;
 
-/// What has been added up, with nobody who waits.
+/// A state with nobody who waits. Whoever has it out adds to a sum beside it, by two steps that no other may come between.
 #[derive(Drop)]
-struct Tally {
-    sum: u64,
-}
+struct Tally;
 
 impl Kept for Tally {
     ghost rules = { record {
@@ -24,7 +24,7 @@ impl Kept for Tally {
       quiet = λ _. Unit {0};
       promised = λ _ _. Unit {0};
       tells = λ _ _. Unit {0};
-      lends = λ _. ⊥;
+      taken = λ _. false;
     } };
 
     fn number(&self, number: u64) -> u64 {
@@ -38,38 +38,46 @@ impl Kept for Tally {
     ghost promises = { λ _ _ _. tt };
 }
 
-// Adds so much with the state out for so long, and answers what there was before.
-fn add<R: Wait + Clock>(rt: &R, tally: &Word<Tally, ()>, much: u64, long: Duration) -> u64 {
-    let (_, mut held) = tally.take(rt);
+// Adds so much to the sum with the state out for so long.
+fn add<R: Wait + Clock>(
+    rt: &R,
+    tally: &Word<Tally, ()>,
+    sum: &AtomicU64,
+    much: u64,
+    long: Duration,
+) {
+    let (_, held) = tally.take(rt);
     if long > Duration::ZERO {
         thread::sleep(rt, long);
     }
-    let Tally { sum } = held.replace(tally, Tally { sum: 0 });
-    let added = Tally {
-        sum: sum.wrapping_add(much),
-    };
-    drop(held.replace(tally, added));
-    drop(tally.put_back(rt, held));
-    sum
+    let before = sum.load(Ordering::SeqCst);
+    sum.store(before.wrapping_add(much), Ordering::SeqCst);
+    tally.put_back(rt, held);
 }
 
 // Where a round takes long, each thread but the first finds the state out for far longer than it pauses, so it sleeps, and has
 // to be woken.
-fn add_in_rounds<R: Wait + Clock>(rt: &R, tally: &Word<Tally, ()>, rounds: u64, long: Duration) {
+fn add_in_rounds<R: Wait + Clock>(
+    rt: &R,
+    tally: &Word<Tally, ()>,
+    sum: &AtomicU64,
+    rounds: u64,
+    long: Duration,
+) {
     for _ in 0..rounds {
-        let _ = add(rt, tally, 1, long);
+        add(rt, tally, sum, 1, long);
     }
 }
 
 #[test]
 fn threads_that_meet_all_get_the_state(rt: HostRuntime) -> Result<(), Fail> {
     for (rounds, long) in [(20_000u64, 0u64), (1, 20)] {
-        let tally = Word::new(rt.alloc(), 0, Tally { sum: 0 }, ())?;
+        let tally = Word::new(0, Tally, ());
+        let sum = AtomicU64::new(0);
         let long = Duration::from_millis(long);
-        let adds = |_| add_in_rounds(&rt, &tally, rounds, long);
+        let adds = |_| add_in_rounds(&rt, &tally, &sum, rounds, long);
         let _ = thread::map_indices(&rt, rt.alloc(), THREADS, &adds)?;
-        let sum = add(&rt, &tally, 0, Duration::ZERO);
-        assert!(rt; sum == rounds.saturating_mul(THREADS as u64));
+        assert!(rt; sum.load(Ordering::SeqCst) == rounds.saturating_mul(THREADS as u64));
     }
     Ok(())
 }
@@ -78,18 +86,19 @@ fn threads_that_meet_all_get_the_state(rt: HostRuntime) -> Result<(), Fail> {
 // would use far more than ten of them, on a busy machine too.
 #[test]
 fn a_thread_that_waits_for_the_state_uses_no_processor_time(rt: HostRuntime) -> Result<(), Fail> {
-    let tally = &Word::new(rt.alloc(), 0, Tally { sum: 0 }, ())?;
+    let tally = &Word::new(0, Tally, ());
+    let sum = &AtomicU64::new(0);
     let meeting = &Barrier::new(2);
     let holds = || {
         let (_, held) = tally.take(&rt);
         meeting.wait(&rt);
         thread::sleep(&rt, Duration::from_millis(300));
-        drop(tally.put_back(&rt, held));
+        tally.put_back(&rt, held);
     };
     let adds = || {
         meeting.wait(&rt);
         let before = rt.thread_cpu_time();
-        add(&rt, tally, 1, Duration::ZERO);
+        add(&rt, tally, sum, 1, Duration::ZERO);
         (before, rt.thread_cpu_time())
     };
     let ((), (before, after)) = thread::join(&rt, holds, adds);
