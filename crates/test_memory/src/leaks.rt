@@ -69,7 +69,7 @@ fn is_told<R: Runtime, W: Waits, G: Drop>(rt: &R, waits: W, held: G, is_given: b
 }
 
 fn of_a_semaphore<R: Runtime + Copy>(rt: &R, is_given: bool) {
-    let permits = Semaphore::new(rt.alloc(), 1).expect(rt, "a semaphore");
+    let permits = Semaphore::new(rt.alloc(), 1);
     let permits = Arc::new(rt.alloc(), permits).expect(rt, "a share");
     let held = Semaphore::try_acquire_arc(&permits, *rt).expect(rt, "a share");
     let another = Semaphore::try_acquire_arc(&permits, *rt)
@@ -84,7 +84,7 @@ fn of_a_semaphore<R: Runtime + Copy>(rt: &R, is_given: bool) {
 }
 
 fn of_a_mutex<R: Runtime + Copy>(rt: &R, is_given: bool) {
-    let mutex = Mutex::new(rt.alloc(), 7u64).expect(rt, "a mutex");
+    let mutex = Mutex::new(rt.alloc(), 7u64);
     let mutex = Arc::new(rt.alloc(), mutex).expect(rt, "a share");
     let held = Mutex::try_lock_arc(&mutex, *rt).expect(rt, "a share");
     let another = Mutex::try_lock_arc(&mutex, *rt)
@@ -99,7 +99,7 @@ fn of_a_mutex<R: Runtime + Copy>(rt: &R, is_given: bool) {
 }
 
 fn of_a_read_write_lock<R: Runtime + Copy>(rt: &R, is_given: bool) {
-    let lock = RwLock::new(rt.alloc(), 7u64).expect(rt, "a lock");
+    let lock = RwLock::new(rt.alloc(), 7u64);
     let lock = Arc::new(rt.alloc(), lock).expect(rt, "a share");
     let held = RwLock::try_read_arc(&lock, *rt).expect(rt, "a share");
     let another = RwLock::try_write_arc(&lock, *rt)
@@ -123,7 +123,7 @@ fn a_lock_is_given_back_by_the_last_one_that_was_told(rt: HostRuntime) {
 }
 
 fn of_a_forgotten_permit<R: Runtime + Copy>(rt: &R) {
-    let permits = Semaphore::new(rt.alloc(), 1).expect(rt, "a semaphore");
+    let permits = Semaphore::new(rt.alloc(), 1);
     let permits = Arc::new(rt.alloc(), permits).expect(rt, "a share");
     let held = Semaphore::try_acquire_arc(&permits, *rt).expect(rt, "a share");
     held.expect(rt, "a permit").forget();
@@ -136,7 +136,7 @@ fn a_permit_that_is_forgotten_keeps_no_share(rt: HostRuntime) {
 
 #[test]
 fn a_poll_that_is_refused_keeps_no_share(rt: HostRuntime) {
-    let permits = Semaphore::new(rt.alloc(), 0).expect(&rt, "a semaphore");
+    let permits = Semaphore::new(rt.alloc(), 0);
     let permits = Arc::new(rt.alloc(), permits).expect(&rt, "a share");
     let waits = Semaphore::acquire_arc(&permits, rt, rt.alloc());
     let (mut waits, task) = (waits.expect(&rt, "a share"), new_task(&rt));
@@ -211,7 +211,7 @@ fn parks_often<R: Runtime, C: Wait + Clock>(rt: &R, clock: &C, permits: &Semapho
 
 #[test]
 fn a_thread_that_waits_gives_back_what_it_parks_on(rt: HostRuntime) {
-    let permits = &Semaphore::new(rt.alloc(), 0).expect(&rt, "a semaphore");
+    let permits = &Semaphore::new(rt.alloc(), 0);
     let (rt, reads) = (&rt, Cell::new(0));
     let by = &Gives { rt, permits, reads };
     parks_often(rt, &Changed { rt, by }, permits);
