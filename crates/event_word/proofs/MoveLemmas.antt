@@ -1,6 +1,6 @@
 -- The moves that a semaphore and a mutex make on their word, each by whole steps of 4 of the word.
 use Rattle.std.proofs.Common.{◌≡◌, ℕ, Bool, ◌+◌, ◌*◌, ◌/◌, ◌%◌, ◌^◌, ◌<◌, ◌≤◌, arith, true, false, inl, ap}
-use Rattle.std.specs.Prelude.{◌==◌}
+use Rattle.std.specs.Prelude.{◌==◌, if◌then◌else◌}
 use mathlib.Core.Logic.{dite}
 use native.Mathlib.Decide.{ℕ_discrete}
 use Rattle.event_word.specs.Competing.{rules_of}
@@ -8,7 +8,7 @@ use Rattle.event_word.specs.Free.{free_of, unshut_of, IsClosed, IsShut, NoneFor,
 use Rattle.event_word.specs.Rules.{Rules}
 use Rattle.event_word.specs.declared.competing.Competing.{Competing}
 use Rattle.event_wait.specs.FairQueue.{State}
-use Rattle.event_word.specs.Word.{Changes, GivesBack, Lends, Takes, number_of}
+use Rattle.event_word.specs.Word.{Changes, Passes, Takes, counts_of, number_of}
 use Rattle.event_word.proofs.FreeLemmas.{serves-beside, serves-fewer, serves-given, stands-beside, stands-fewer, stands-given}
 
 module _ {C : Type 0} (fits : ℕ → Type 0) (taken : ℕ → Bool) (closes : Bool) where
@@ -47,44 +47,50 @@ FitsOne n = (free_of n ≤ 1) × (n ≤ 2 ^ 60)
 abbrev pub taken_one : ℕ → Bool
 taken_one n = n == 0
 
-is_taken : (w : ℕ) → unshut_of (number_of w) ≡ 0 → taken_one (unshut_of (number_of w)) ≡ true
-is_taken w is = ap taken_one is
-
-is_kept : (w : ℕ) → unshut_of (number_of w) ≡ 1 → taken_one (unshut_of (number_of w)) ≡ false
-is_kept w is = ap taken_one is
-
-is_parked : (w : ℕ) → unshut_of (number_of w) ≡ 2 ^ 60 → taken_one (unshut_of (number_of w)) ≡ false
-is_parked w is = ap taken_one is
+-- as a slot counts it
+abbrev counts_one : ℕ → ℕ
+counts_one n = if taken_one n then 3 else 0
 
 module _ {C : Type 0} where
   abbrev one : Rules (Competing C)
   one = rules_of FitsOne taken_one false
 
+  -- one comes where nobody has the value
+  comes : (old new : ℕ) → counts_of one old ≡ 0 → counts_of one new ≡ 3 → Passes one 0 2 old new
+  comes old new was is = record {
+    may = ((λ z. omega (arith, was, z)), (λ z. omega (arith, is, z)), (λ _ l. absurd (omega (arith, was, l))), (λ _ l. absurd (omega (arith, is, l))));
+    has = λ k g. g.0 (omega (arith, is)) (omega (arith, was));
+  }
+
+  -- one goes
+  goes : (old new : ℕ) → counts_of one new ≡ 0 → Passes one 2 0 old new
+  goes old new is = record { may = (omega (arith, is), (λ l. absurd (omega (arith, is, l)))); has = λ k g. g.0 (omega (arith, is)) }
+
   -- it is taken by a newcomer
-  pub lends-newcomer : (old new : ℕ) → new + 4 ≡ old → old < 2 ^ 62 → FitsOne (unshut_of (number_of old)) → Changes one old new × Lends one old new
+  pub lends-newcomer : (old new : ℕ) → new + 4 ≡ old → old < 2 ^ 62 → FitsOne (unshut_of (number_of old)) → Changes one old new × Passes one 0 2 old new
   lends-newcomer old new is may fit = (
     changes-taken FitsOne taken_one false old new is may (omega (arith, is, may, fit.0), omega (arith, is, may)),
-    record { was = is_kept old (omega (arith, is, may, fit.0)); is = is_taken new (omega (arith, is, may, fit.0)) },
+    comes old new (ap counts_one (let was : unshut_of (number_of old) ≡ 1 = omega (arith, is, may, fit.0) in was)) (ap counts_one (let now : unshut_of (number_of new) ≡ 0 = omega (arith, is, may, fit.0) in now)),
   )
 
   -- it is taken by whoever has the state out
-  pub lends-held : (old new : ℕ) → new + 4 ≡ old → new % 2 ≡ 1 → 0 < free_of (number_of old) → FitsOne (unshut_of (number_of old)) → Takes one old new × Lends one old new
+  pub lends-held : (old new : ℕ) → new + 4 ≡ old → new % 2 ≡ 1 → 0 < free_of (number_of old) → FitsOne (unshut_of (number_of old)) → Takes one old new × Passes one 0 2 old new
   lends-held old new is out some fit =
       let was : unshut_of (number_of old) ≡ 1 = omega (arith, some, fit.0, fit.1) in
       let now : unshut_of (number_of new) ≡ 0 = omega (arith, is, was) in
-      (record { out = out; fits = (omega (arith, now), omega (arith, now)) }, record { was = is_kept old was; is = is_taken new now })
+      (record { out = out; fits = (omega (arith, now), omega (arith, now)) }, comes old new (ap counts_one was) (ap counts_one now))
 
   -- it is given back, where nobody waits or the state is out
-  pub gives-value : (old new : ℕ) → new ≡ old + 4 → unshut_of (number_of old) ≡ 0 → (old % 4 ≡ 2 → ⊥) → Changes one old new × GivesBack one new
+  pub gives-value : (old new : ℕ) → new ≡ old + 4 → unshut_of (number_of old) ≡ 0 → (old % 4 ≡ 2 → ⊥) → Changes one old new × Passes one 2 0 old new
   gives-value old new is none home =
       let now : unshut_of (number_of new) ≡ 1 = omega (arith, is, none) in
-      (changes-given FitsOne taken_one false 1 old new is (omega (arith, none)) home (omega (arith, now), omega (arith, now)), is_kept new now)
+      (changes-given FitsOne taken_one false 1 old new is (omega (arith, none)) home (omega (arith, now), omega (arith, now)), goes old new (ap counts_one now))
 
   -- it is given back, and the state is taken out
-  pub swaps-value : (old new : ℕ) → new + 1 ≡ old + 4 → old % 4 ≡ 2 → unshut_of (number_of old) ≡ 0 → Takes one old new × GivesBack one new
+  pub swaps-value : (old new : ℕ) → new + 1 ≡ old + 4 → old % 4 ≡ 2 → unshut_of (number_of old) ≡ 0 → Takes one old new × Passes one 2 0 old new
   swaps-value old new is home none =
       let now : unshut_of (number_of new) ≡ 1 = omega (arith, is, home, none) in
-      (record { out = omega (arith, is, home); fits = (omega (arith, now), omega (arith, now)) }, is_kept new now)
+      (record { out = omega (arith, is, home); fits = (omega (arith, now), omega (arith, now)) }, goes old new (ap counts_one now))
 
   changes-beside : (old new : ℕ) → new % 4 ≡ old % 4 → free_of (number_of new) ≡ free_of (number_of old) → (IsShut (number_of new) → IsShut (number_of old)) → (IsShut (number_of old) → IsShut (number_of new)) → FitsOne (unshut_of (number_of new)) → Changes one old new
   changes-beside old new code free only shut fit = record {
@@ -96,16 +102,16 @@ module _ {C : Type 0} where
   }
 
   -- it is parked, and taken again
-  pub parks : (old new : ℕ) → new ≡ old + 2 ^ 62 → unshut_of (number_of old) ≡ 0 → Changes one old new × GivesBack one new
+  pub parks : (old new : ℕ) → new ≡ old + 2 ^ 62 → unshut_of (number_of old) ≡ 0 → Changes one old new × Passes one 2 0 old new
   parks old new is none =
       let now : unshut_of (number_of new) ≡ 2 ^ 60 = omega (arith, is, none) in
-      (changes-beside old new (omega (arith, is)) (omega (arith, now, none)) (λ shut. omega (arith, is, none, shut)) (λ shut. omega (arith, is, shut)) (omega (arith, now), omega (arith, now)), is_parked new now)
+      (changes-beside old new (omega (arith, is)) (omega (arith, now, none)) (λ shut. omega (arith, is, none, shut)) (λ shut. omega (arith, is, shut)) (omega (arith, now), omega (arith, now)), goes old new (ap counts_one now))
 
-  pub unparks : (old new : ℕ) → new + 2 ^ 62 ≡ old → unshut_of (number_of old) ≡ 2 ^ 60 → Changes one old new × Lends one old new
+  pub unparks : (old new : ℕ) → new + 2 ^ 62 ≡ old → unshut_of (number_of old) ≡ 2 ^ 60 → Changes one old new × Passes one 0 2 old new
   unparks old new is parked =
       let now : unshut_of (number_of new) ≡ 0 = omega (arith, is, parked) in (
         changes-beside old new (omega (arith, is)) (omega (arith, now, parked)) (λ shut. omega (arith, is, shut)) (λ shut. omega (arith, is, parked, shut)) (omega (arith, now), omega (arith, now)),
-        record { was = is_parked old parked; is = is_taken new now },
+        comes old new (ap counts_one parked) (ap counts_one now),
       )
 
 -- one finds none where the value is parked, too

@@ -1,5 +1,6 @@
 -- What whoever has the queues of a read-write lock needs to change the number.
-use Rattle.std.proofs.Common.{◌≡◌, ℕ, ◌+◌, ◌%◌, ◌<◌, ◌^◌, Option, None, Some, length, false, refl, sym, ap, subst, ◌∙◌, arith}
+use Rattle.std.proofs.Common.{◌≡◌, ℕ, ◌+◌, ◌%◌, ◌<◌, Option, None, Some, zero, suc, length, false, refl, sym, ap, subst, ◌∙◌, arith}
+use Rattle.std.proofs.lemmas.Option.{same_Some}
 use Rattle.event_queue.specs.declared.key.Key.{Key}
 use Rattle.event_queue.specs.declared.notice.Notice.{Notice}
 use Rattle.event_wait.specs.declared.lock.task.Task.{Task}
@@ -7,21 +8,30 @@ use Rattle.event_word.specs.declared.shares.queues.Queues.{Queues}
 use Rattle.event_word.specs.declared.word.held.Held.{Held}
 use Rattle.event_word.specs.declared.word.rule.View.{View}
 use Rattle.event_word.specs.Count.{IsCount, readers_of, writers_of}
-use Rattle.event_word.specs.Queues.{Admits, CountsMore, IsExclusive, Renumbers, lock_rules, reading}
+use Rattle.event_word.specs.Queues.{Admits, CountsMore, IsExclusive, Renumbers, lock_rules}
 use Rattle.event_word.specs.Held.{HasState}
-use Rattle.event_word.specs.Word.{Eases, EasesFrom, Stays, Takes, number_of}
+use Rattle.event_word.specs.Word.{Eases, EasesFrom, Takes, number_of}
 use Rattle.event_word.proofs.EasesLemmas.{again, length-again}
+
+alone_of : (r w tr tw : ℕ) → (0 < r + tr → w + tw ≡ 0) → 0 < w → r ≡ 0
+alone_of zero w tr tw only some = refl
+alone_of (suc r) w tr tw only some = absurd (omega (arith, only (omega arith), some))
 
 -- where who writes is alone, the number says so
 pub is_count : {W : Type 0} {n : ℕ} {q : Queues W} → IsExclusive n q → IsCount n
 is_count {W} {n} {q} alone = record {
-  alone = λ written. let none : reading n q ≡ 0 = grind (arith, alone.exclusive) in omega arith;
-  room = let fits : reading n q + length q.read_line.waiting < 2 ^ 60 = alone.fits in omega arith;
+  alone = alone_of (readers_of n) (writers_of n) (length q.read_line.told) (length q.write_line.told) alone.exclusive;
+  one = omega (arith, alone.one);
+  room = omega (arith, alone.fits);
 }
 
 -- whoever has the queues may make the number one with which they are exclusive
-pub takes : {q : Queues Task} (old new : ℕ) → new % 2 ≡ 1 → IsExclusive (number_of new) q → Takes (lock_rules {W = Task}) old new × Stays (lock_rules {W = Task}) old new
-takes old new away alone = (record { out = away; fits = is_count alone }, refl)
+pub takes : {q : Queues Task} (old new : ℕ) → new % 2 ≡ 1 → IsExclusive (number_of new) q → Takes (lock_rules {W = Task}) old new
+takes old new away alone = record { out = away; fits = is_count alone }
+
+-- whoever has the queues has changed them, and who writes is alone still
+pub still_alone : {V : Type 0} (m : Held (Queues Task) V) (was is : Queues Task) → HasState IsExclusive m → Some was ≡ m.claim.state → ((b : ℕ) → IsExclusive b was → IsExclusive b is) → (b : ℕ) × (m.seat.view.number ≡ Some b) × IsExclusive b is
+still_alone m was is t same keep = (t.0, t.2, keep t.0 (subst (IsExclusive t.0) (same_Some t.1 was (sym t.3 ∙ sym same)) t.4))
 
 -- one that was let in
 let_in : Key × Notice (Unit {0})
@@ -41,23 +51,21 @@ eases-admits more b r q eases admits =
     let rs = length-again (readers_of more) let_in q.read_line.told in
     let ws = length-again (writers_of more) let_in q.write_line.told in
     let alone : IsExclusive b (with_more more q) = record {
-      exclusive = λ some. let none = admits.1.exclusive (omega (arith, rs, admits.0, some)) in omega (arith, ws, admits.0, none);
-      one = omega (arith, ws, admits.0, admits.1.one);
-      fits = omega (arith, rs, admits.0, admits.1.fits);
-      spare = admits.1.spare;
+      exclusive = λ some. let none = admits.exclusive (omega (arith, rs, some)) in omega (arith, ws, none);
+      one = omega (arith, ws, admits.one);
+      fits = omega (arith, rs, admits.fits);
+      spare = admits.spare;
     } in
-    let left = eases (with_more more q) alone in (
-      omega (arith, ws, left.one),
-      record {
-        exclusive = λ some. let none = left.exclusive (omega (arith, rs, ws, left.one, some)) in omega (arith, ws, left.one, none);
-        one = omega (arith, ws, left.one);
-        fits = omega (arith, rs, ws, left.one, left.fits);
-        spare = left.spare;
-      },
-    )
+    let left = eases (with_more more q) alone in
+    record {
+      exclusive = λ some. let none = left.exclusive (omega (arith, rs, some)) in omega (arith, ws, none);
+      one = omega (arith, ws, left.one);
+      fits = omega (arith, rs, left.fits);
+      spare = left.spare;
+    }
 
 -- whoever has the queues looks at the number again
-pub admits-on : (more r : ℕ) (m n : Held (Queues Task) (Unit {0})) → HasState (Admits more) m → n.claim.state ≡ m.claim.state → n.seat.view.number ≡ Some r → EasesFrom (lock_rules {W = Task}) m.seat.view.number r → HasState (λ b q. (b ≡ r) × Admits more r q) n
+pub admits-on : {V : Type 0} (more r : ℕ) (m n : Held (Queues Task) V) → HasState (Admits more) m → n.claim.state ≡ m.claim.state → n.seat.view.number ≡ Some r → EasesFrom (lock_rules {W = Task}) m.seat.view.number r → HasState (λ b q. (b ≡ r) × Admits more r q) n
 admits-on more r m n t same is eases =
     let from : Eases (lock_rules {W = Task}) t.0 r = subst (λ x. EasesFrom (lock_rules {W = Task}) x r) t.2 eases in
     (r, t.1, is, same ∙ t.3, (refl, eases-admits more t.0 r t.1 from t.4))

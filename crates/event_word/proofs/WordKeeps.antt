@@ -3,12 +3,14 @@ use Rattle.std.proofs.Common.{◌≡◌, ◌≢◌, ℕ, ◌+◌, ◌*◌, ◌%�
 use mathlib.Core.Bool.{cond}
 use mathlib.Core.Option.{some, some-ne-none}
 use lib.ListN.{get_elem?}
+use mathlib.Core.Logic.{dite}
+use native.Mathlib.Decide.{ℕ_discrete}
 use prog.Atomic.{either}
 use Rattle.atomic_table.proofs.Lists.{exchanged, at_set, set_again, set_here, at_longer, at_snoc}
-use Rattle.event_slot.specs.Ruling.{Keeps, Trades, Enters}
+use Rattle.event_slot.specs.Ruling.{Keeps, Trades, Enters, Becomes, MayTurn}
 use Rattle.event_word.specs.declared.word.rule.View.{View}
 use Rattle.event_word.specs.Rules.{Rules}
-use Rattle.event_word.specs.Word.{number_of, IsOut, Eases, EasesFrom, AtHome, IsAway, StateIn, Holds, Changes, Takes, Stays, entered, looked, seen_again, took, changed, moved, put, nothing, numbered}
+use Rattle.event_word.specs.Word.{number_of, IsOut, Eases, EasesFrom, AtHome, IsAway, StateIn, Holds, Changes, Passes, Takes, Stays, counts_of, entered, looked, seen_again, took, changed, moved, put, nothing, numbered}
 
 -- of each view after one was set
 all_set : (K : ℕ → View → Type 0) (vs : List View) (i : ℕ) (a : View) → K i a → ((j : ℕ) (b : View) → j ≢ i → get_elem? vs j ≡ some b → K j b) → (j : ℕ) (b : View) → get_elem? (set vs i a) j ≡ some b → K j b
@@ -48,11 +50,22 @@ module _ {S : Type 0} (rules : Rules S) where
 
   -- the right to the value depends on the numbers alone
   pub stays_as : (a b c d : ℕ) → number_of a ≡ number_of c → number_of b ≡ number_of d → Stays rules a b → Stays rules c d
-  stays_as a b c d is is' h = ap rules.taken (sym is') ∙ (h ∙ ap rules.taken is)
+  stays_as a b c d is is' h = ap rules.counts (sym is') ∙ (h ∙ ap rules.counts is)
+
+  -- who has no right may make such a step, and has none then
+  pub stays_may : (a b : ℕ) → Stays rules a b → MayTurn 0 (counts_of rules a) (counts_of rules b)
+  stays_may a b h = ((λ z. omega (arith, h, z)), (λ z. omega (arith, h, z)), (λ z _ l. absurd (omega (arith, h, z, l))), (λ up low. (omega (arith, h, up), omega (arith, h), omega (arith, h))))
+
+  pub stays_none : (a b k : ℕ) → Stays rules a b → Becomes 0 (counts_of rules a) (counts_of rules b) k → k ≡ 0
+  stays_none a b k h g = dite (ℕ_discrete (counts_of rules b % 4) 3) (λ z. g.4 (omega (arith, h, z))) (λ z. g.2 (omega (arith, z)) (omega (arith, h)))
+
+  -- the right that one has after a step
+  pub passed : (right left a b q k : ℕ) → Passes rules right left a b → q ≡ right → Becomes q (counts_of rules a) (counts_of rules b) k → k ≡ left
+  passed right left a b q k h is g = h.has k (subst (λ (r : ℕ). Becomes r (counts_of rules a) (counts_of rules b) k) is g)
 
   -- the number stays
   pub stays_put : (a b : ℕ) → number_of a ≡ number_of b → Stays rules a b
-  stays_put a b is = ap rules.taken (sym is)
+  stays_put a b is = ap rules.counts (sym is)
 
   -- the state may go home with this code
   pub home_with : (m code : ℕ) (q : S) → (code ≡ 2) ⊎ ((code ≡ 0) × rules.quiet q) → rules.stands m q → AtHome rules (m * 4 + code) q

@@ -1,5 +1,5 @@
 -- The rules of a lock whose number counts what is free for those that compete.
-use Rattle.std.specs.Prelude.{ℕ, Bool}
+use Rattle.std.specs.Prelude.{ℕ, Bool, if◌then◌else◌}
 use Rattle.event_word.specs.Free.{unshut_of, NobodyWaits, ServesTheStarving, StandsIf, TellsNewcomers}
 use Rattle.event_word.specs.Rules.{Rules}
 use Rattle.event_word.specs.declared.competing.Competing.{Competing}
@@ -12,5 +12,5 @@ rules_of fits taken closes = record {
   quiet = λ state. NobodyWaits state.line;
   promised = λ number state. ServesTheStarving number state.line;
   tells = λ number state. TellsNewcomers closes number state.line;
-  taken = λ number. taken (unshut_of number);
+  counts = λ number. if taken (unshut_of number) then 3 else 0;
 }

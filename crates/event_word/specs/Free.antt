@@ -1,4 +1,4 @@
--- What is free for those that compete, and what holds of it and of their queue. The number of a lock is what is free, 2 ^ 60 more once it is closed, and 2 ^ 61 more while newcomers are shut out.
+-- What is free for those that compete, and what holds of it and of their queue. The number of a lock is what is free, 2 ^ 60 more once it is closed, or of a mutex while its value is parked, and 2 ^ 61 more while newcomers are shut out.
 use Rattle.std.specs.Prelude.{◌≡◌, ◌⊎◌, ℕ, ◌+◌, ◌%◌, ◌^◌, ◌<◌, ◌≤◌, ◌-◌, Bool, true, false, List, [], length}
 use Rattle.std.specs.List.{list_any}
 use Rattle.std.specs.Map.{keys_of}
@@ -19,7 +19,7 @@ IsOpen n = n < 2 ^ 60
 abbrev pub IsShut : ℕ → Type 0
 IsShut n = 2 ^ 61 ≤ n
 
--- nobody may take anything any more
+-- nobody may take anything any more, if it is of a lock that may be closed
 abbrev pub IsClosed : ℕ → Type 0
 IsClosed n = (2 ^ 60 ≤ n) × (n < 2 ^ 61)
 

@@ -1,6 +1,7 @@
 -- The state of a lock, out with one thread.
-use Rattle.std.specs.Prelude.{◌≡◌, ℕ, Some}
+use Rattle.std.specs.Prelude.{◌≡◌, ℕ, Option, Some, None}
 use Rattle.event_word.specs.declared.word.held.Held.{Held}
+use Rattle.event_word.specs.declared.word.rule.Place.{Place}
 
 module _ {S V : Type 0} where
   -- it is the state of the lock of that name
@@ -10,3 +11,8 @@ module _ {S V : Type 0} where
   -- of it and of the number that the thread saw or left last this holds
   abbrev pub HasState : (ℕ → S → Type 0) → Held S V → Type 0
   HasState P held = (n : ℕ) × (q : S) × (held.seat.view.number ≡ Some n) × (held.claim.state ≡ Some q) × P n q
+
+-- the value that lies there
+abbrev pub placed : {V : Type 0} → Option (Place V) → Option V
+placed (Some place) = Some place.value
+placed None = None

@@ -1,15 +1,15 @@
 -- The queues of a read-write lock, and what holds of them and of the number that counts who has the value.
-use Rattle.std.specs.Prelude.{◌≡◌, ℕ, zero, suc, ◌+◌, ◌%◌, ◌<◌, ◌≤◌, ◌^◌, ◌⊎◌, ◌↔◌, false, IsTrue, IsFalse, Option, Some, None, Result, Ok, Err, length}
+use Rattle.std.specs.Prelude.{◌≡◌, ℕ, zero, suc, ◌+◌, ◌%◌, ◌<◌, ◌≤◌, ◌^◌, ◌⊎◌, ◌↔◌, IsTrue, IsFalse, Option, Some, None, Result, Ok, Err, length}
 use Rattle.event_queue.specs.declared.key.Key.{Key}
 use Rattle.event_queue.specs.declared.reply.ListenError.{ListenError}
 use Rattle.event_queue.specs.Insert.{Inserts}
 use Rattle.event_queue.specs.Queue.{listeners_of}
 use Rattle.event_wait.specs.declared.lock.task.Task.{Task}
-use Rattle.event_word.specs.Count.{IsCount, readers_of, writers_of}
+use Rattle.event_word.specs.Count.{IsCount, counted, readers_of, writers_of}
 use Rattle.event_wait.specs.Line.{HandsOut}
 use Rattle.event_word.specs.Rules.{Rules}
 use Rattle.event_word.specs.declared.word.rule.View.{View}
-use Rattle.event_word.specs.Word.{Changes, EasesFrom, Stays, Takes}
+use Rattle.event_word.specs.Word.{Changes, EasesFrom, Passes, Takes, number_of}
 use Rattle.event_wait.specs.declared.error.LockError.{LockError}
 use Rattle.event_wait.specs.declared.error.LockError.TheVariants.{Listen, Memory, TooManyReaders, Finished}
 use Rattle.event_word.specs.declared.shares.queues.Queues.{Queues}
@@ -56,7 +56,7 @@ module _ {W : Type 0} where
 
   -- all that read or wait to read are as many as can be counted, with one more and a writer
   abbrev pub HasNoRoom : ℕ → Queues W → Type 0
-  HasNoRoom n q = 2 ^ 60 ≤ reading n q + length q.read_line.waiting + 2
+  HasNoRoom n q = 2 ^ 29 ≤ reading n q + length q.read_line.waiting + 2
 
   -- why a reader was refused: it could not be put into the queue, or no reader more can be counted
   abbrev pub RefusesReader : LockError → ℕ → Queues W → Queues W → Type 0
@@ -65,14 +65,17 @@ module _ {W : Type 0} where
   RefusesReader TooManyReaders n old new = HasNoRoom n old
   RefusesReader Finished n old new = ⊥
 
-  -- who writes is alone
-  pub record IsExclusive (n : ℕ) (q : Queues W) : Type 0 where
+  -- who writes is alone, where so many have come to read and so many to write
+  pub record AreExclusive (readers writers : ℕ) (q : Queues W) : Type 0 where
     -- one writer, or readers
-    pub exclusive : 0 < reading n q → writing n q ≡ 0
-    pub one : writing n q ≤ 1
+    pub exclusive : 0 < readers + length q.read_line.told → writers + length q.write_line.told ≡ 0
+    pub one : writers + length q.write_line.told ≤ 1
     -- all that read or wait to read can be counted, and all that wait to read beside a writer who reads from here on
-    pub fits : reading n q + length q.read_line.waiting < 2 ^ 60
-    pub spare : length q.read_line.waiting + 1 < 2 ^ 60
+    pub fits : readers + length q.read_line.told + length q.read_line.waiting < 2 ^ 29
+    pub spare : length q.read_line.waiting + 1 < 2 ^ 29
+
+  abbrev pub IsExclusive : ℕ → Queues W → Type 0
+  IsExclusive n q = AreExclusive (readers_of n) (writers_of n) q
 
   -- who writes is alone, and nobody waits for nothing
   pub record NobodyWaitsInVain (n : ℕ) (q : Queues W) : Type 0 where
@@ -85,7 +88,7 @@ module _ {W : Type 0} where
 
   -- so many more may be counted, readers or a writer: they were let in, and have left their queue
   abbrev pub Admits : ℕ → ℕ → Queues W → Type 0
-  Admits more n q = (writers_of n + writers_of more ≤ 1) × IsExclusive (n + more) q
+  Admits more n q = AreExclusive (readers_of n + readers_of more) (writers_of n + writers_of more) q
 
   -- readers and turn are as they were; writers and turn are
   abbrev pub ReadersStay : Queues W → Queues W → Type 0
@@ -110,7 +113,7 @@ module _ {W : Type 0} where
     quiet = IsQuiet;
     promised = IsExclusive;
     tells = λ _ _. Unit {0};
-    taken = λ _. false;
+    counts = counted;
   }
 
   module _ {S : Type 0} (woke : S → W → S → Type 0) where
@@ -140,16 +143,21 @@ module _ {W : Type 0} where
       pub after_readers : NobodyIsIn n old → IsFalse old.readers_first → 0 < length old.write_line.waiting → LetsAWriterIn old new sink sink'
       pub else_a_writer : NobodyIsIn n old → length old.read_line.waiting ≡ 0 → 0 < length old.write_line.waiting → LetsAWriterIn old new sink sink'
 
--- the word may become this one, which counts others, and nobody is to be let in by that
-abbrev pub Recounts : ℕ → ℕ → Type 0
-Recounts old new = Changes (lock_rules {W = Task}) old new × Stays (lock_rules {W = Task}) old new
+-- who has the value by this word, as a slot counts it
+abbrev pub counted_in : ℕ → ℕ
+counted_in w = counted (number_of w)
 
--- the word may become this one, which counts others, by a step that takes the queues out
-pub record RecountsAndTakes (old new : ℕ) : Type 0 where
+-- the word may become this one, which counts others, and nobody is to be let in by that; one who has this right has the other then
+pub record Recounts (right left : ℕ) (old new : ℕ) : Type 0 where
+  pub changes : Changes (lock_rules {W = Task}) old new
+  pub passes : Passes (lock_rules {W = Task}) right left old new
+
+-- the same by a step that takes the queues out
+pub record RecountsAndTakes (right left : ℕ) (old new : ℕ) : Type 0 where
   pub home : old % 2 ≡ 0
   pub away : new % 4 ≡ 1
   pub takes : Takes (lock_rules {W = Task}) old new
-  pub stays : Stays (lock_rules {W = Task}) old new
+  pub passes : Passes (lock_rules {W = Task}) right left old new
 
 -- whoever has the queues made this of the number to which others had brought it meanwhile
 pub record Renumbers (by : ℕ → ℕ) (before after : View) : Type 0 where

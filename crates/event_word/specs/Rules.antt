@@ -1,5 +1,5 @@
 -- What a lock on one word says of its number and of the state behind it.
-use Rattle.std.specs.Prelude.{ℕ, Bool}
+use Rattle.std.specs.Prelude.{ℕ}
 
 pub record Rules (S : Type 0) : Type 1 where
   -- what holds of the number at any time
@@ -12,5 +12,6 @@ pub record Rules (S : Type 0) : Type 1 where
   pub promised : ℕ → S → Type 0
   -- the number shows newcomers what it has to of the state
   pub tells : ℕ → S → Type 0
-  -- whether one has the right to the value
-  pub taken : ℕ → Bool
+  -- who has the value by the number, as a slot counts it: 3 is one who may write it, 1 and four times so many are readers, and 0
+  -- is nobody
+  pub counts : ℕ → ℕ

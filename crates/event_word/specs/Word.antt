@@ -1,7 +1,8 @@
 -- A lock on one word. The word is four times the lock's number, and a code: 0 while the state is at home and nobody waits, 2 while it is at home and somebody may wait, 1 while a thread has it out, and 3 while one has it out and others may sleep until it is back.
-use Rattle.std.specs.Prelude.{◌≡◌, ◌≢◌, ℕ, ◌/◌, ◌%◌, Bool, true, false, if◌then◌else◌, Option, Some, None, List}
+use Rattle.std.specs.Prelude.{◌≡◌, ◌≢◌, ℕ, ◌/◌, ◌%◌, Bool, true, false, Option, Some, None, List}
 use mathlib.Core.Option.{some}
 use lib.ListN.{get_elem?}
+use Rattle.event_slot.specs.Ruling.{MayTurn, Becomes}
 use Rattle.event_word.specs.declared.word.rule.View.{View}
 use Rattle.event_word.specs.Rules.{Rules}
 
@@ -27,9 +28,9 @@ IsOut owner number by None = Unit {0}
 IsOut owner number by (Some n) = (by ≡ owner) × (n ≡ number)
 
 module _ {S : Type 0} (rules : Rules S) where
-  -- how the word counts who has the right to the value: 3 is one, who may write it, and 0 is nobody
+  -- who has the value by the word, as a slot counts it
   abbrev pub counts_of : ℕ → ℕ
-  counts_of w = if rules.taken (number_of w) then 3 else 0
+  counts_of w = rules.counts (number_of w)
 
   -- what was promised of a state at the number b is so at n
   abbrev pub Eases : ℕ → ℕ → Type 0
@@ -68,18 +69,14 @@ module _ {S : Type 0} (rules : Rules S) where
     pub out : new % 2 ≡ 1
     pub fits : rules.fits (number_of new)
 
-  -- the right to the value stays where it is
+  -- those have the value that had it
   abbrev pub Stays : ℕ → ℕ → Type 0
-  Stays old new = rules.taken (number_of new) ≡ rules.taken (number_of old)
+  Stays old new = counts_of new ≡ counts_of old
 
-  -- it is taken
-  pub record Lends (old new : ℕ) : Type 0 where
-    pub was : rules.taken (number_of old) ≡ false
-    pub is : rules.taken (number_of new) ≡ true
-
-  -- it is given back
-  abbrev pub GivesBack : ℕ → Type 0
-  GivesBack new = rules.taken (number_of new) ≡ false
+  -- one who has this right to the value may make this step, and has the other then: 0 is none, 1 to read and 2 to write
+  pub record Passes (right left : ℕ) (old new : ℕ) : Type 0 where
+    pub may : MayTurn right (counts_of old) (counts_of new)
+    pub has : (k : ℕ) → Becomes right (counts_of old) (counts_of new) k → k ≡ left
 
   abbrev pub StateIn : ℕ → Option S → List View → Type 0
   StateIn w None views = IsAway w views
@@ -90,6 +87,7 @@ module _ {S : Type 0} (rules : Rules S) where
     pub fits : rules.fits (number_of w)
     pub state : StateIn w home views
 
+  -- What a step tells: v is what the seat knew and out what was out with it before, r the word found, u and out' both afterwards.
   -- a new seat has nothing out
   abbrev pub entered : View → ℕ → View → Type 0
   entered v r u = (u ≡ nothing) × rules.fits (number_of r)

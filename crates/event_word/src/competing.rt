@@ -17,7 +17,8 @@ use std::marker::PhantomData;
 /// The bit of a lock's number that shuts newcomers out.
 pub const SHUT: u64 = 0x2000_0000_0000_0000;
 
-/// The bit of a lock's number that says that it is closed. A number below it is open to newcomers.
+/// The bit of a lock's number that says that it is closed, or of a mutex that its value is parked. A number below it is open to
+/// newcomers.
 pub const CLOSED: u64 = 0x1000_0000_0000_0000;
 
 /// How many of what they compete for are free.

@@ -31,6 +31,8 @@ pub use shares::number::{is_written, readers};
 pub use shares::queues::Queues;
 pub use shares::reading::Reading;
 pub use shares::right::Right;
-pub use shares::share::{Out, ReadShare, Share, WriteShare};
+pub use shares::share::{Grant, Out, Share};
 pub use shares::writing::Writing;
-pub use word::{Held, Kept, Lent, Parked, Permit, Place, Seat, Step, View, Word, put_in, take_out};
+pub use word::{
+    Held, Kept, Lent, Lodging, Parked, Permit, Place, Seat, Step, View, Word, put_in, take_out,
+};

@@ -1,5 +1,5 @@
 //! A lock on one word.
-ghost use Rattle.std.specs.Prelude.{◌≡◌, ◌^◌, ◌<◌, false};
+ghost use Rattle.std.specs.Prelude.{◌≡◌, ◌^◌, ◌<◌};
 ghost use Rattle.event_word.specs.Word.{nothing, number_of};
 
 mod competing;
@@ -13,6 +13,7 @@ mod rule;
 mod serving;
 mod step;
 mod take;
+mod turn;
 mod value;
 
 pub use self::held::Held;
@@ -23,9 +24,8 @@ pub use self::permit::Permit;
 pub use self::rule::{Place, View};
 use self::rule::{Enter, Look};
 pub use self::step::Step;
-pub use self::value::{Lent, put_in, take_out};
+pub use self::value::{Lent, Lodging, put_in, take_out};
 use event_slot::{Mark, Slot};
-use std::sync::Mutex;
 
 /// What one knows who makes steps on a lock's word. It has no bytes.
 pub type Seat = Mark<View>;
@@ -52,13 +52,25 @@ impl<S: Kept, V> Word<S, V> {
     pub fn new(number: u64, state: S, value: V) -> Self
         requires number { (number < 2 ^ 62) × S.rules.fits number }
         requires state { S.rules.stands number state × S.rules.quiet state }
-        requires value { S.rules.taken number ≡ false }
     {
-        let place = Place {
-            value: Mutex::new(Some(value)),
-        };
-        let (slot, _seat) = Slot::new(place, state, number * ONE, &());
+        let (slot, _seat) = Slot::new(Place { value }, state, number * ONE, &());
         Word { slot }
+    }
+
+    /// The value, to be changed where it lies, once nobody shares the lock.
+    pub fn value_mut(&mut self) -> &mut V {
+        &mut self.slot.get_mut().value
+    }
+
+    /// The value, once nobody shares the lock.
+    pub fn into_inner(self) -> V
+    where
+        S: Drop,
+    {
+        let Word { slot } = self;
+        let (place, state) = slot.into_inner();
+        drop(state);
+        place.value
     }
 
     /// The number, a moment ago.

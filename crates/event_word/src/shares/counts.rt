@@ -25,9 +25,9 @@ pub struct RwLockCounts {
     pub writers_waiting: usize,
 }
 
-impl Word<Queues<Task>, ()> {
+impl<V> Word<Queues<Task>, V> {
     /// How it stands, with the queues out, which stay as they are.
-    pub fn counted(&self, held: &mut Out<'_>, number: u64) -> RwLockCounts
+    pub fn counted(&self, held: &mut Out<'_, V>, number: u64) -> RwLockCounts
         requires seat { IsOf self.now.slot.name held.old }
         requires stands { HasState (λ n q. (n ≡ number) × NobodyWaitsInVain n q) held.old }
         ensures seat { IsOf self.now.slot.name held.new }

@@ -4,7 +4,7 @@ ghost use Rattle.event_queue.specs.Exchange.{JoinsWithTask, RegistersWith};
 ghost use Rattle.event_wait.specs.Joining.{CannotJoin};
 ghost use Rattle.event_word.specs.Count.{readers_of, writers_of};
 ghost use Rattle.event_wait.specs.Line.{HasLeft, IsNotIn, IsNotInUnlessWaits, Looked, left_by};
-ghost use Rattle.event_word.specs.Queues.{HasNoRoom, IsAWriterThere, IsExclusive, IsNext, IsQuiet, LetsNextIn, LetsReadersIn, MayUpgrade, NoWriterIsThere, NobodyWaitsInVain, ReadersStay, RefusesReader, WritersStay, joined_by, reading, writing};
+ghost use Rattle.event_word.specs.Queues.{Admits, HasNoRoom, IsAWriterThere, IsExclusive, IsNext, IsQuiet, LetsNextIn, LetsReadersIn, MayUpgrade, NoWriterIsThere, NobodyWaitsInVain, ReadersStay, RefusesReader, WritersStay, joined_by, reading, writing};
 
 use super::counts::RwLockCounts;
 use super::number;
@@ -76,7 +76,7 @@ impl<W> Queues<W> {
     {
         RwLockCounts {
             readers: number::readers(number),
-            writers: number % 2,
+            writers: number::writers(number),
             readers_let_in: self.read_line.listeners_notified(),
             writers_let_in: self.write_line.listeners_notified(),
             readers_waiting: waiting(&self.read_line),
@@ -87,7 +87,7 @@ impl<W> Queues<W> {
     // Whether one reader more can be counted.
     pub(super) fn has_room(&self, number: u64) -> bool
         ensures room { IsTrue result
-            → reading number self.now + length self.now.read_line.waiting + 2 < 2 ^ 60 }
+            → reading number self.now + length self.now.read_line.waiting + 2 < 2 ^ 29 }
         ensures none { IsFalse result → HasNoRoom number self.now }
     {
         let waiting = self.read_line.total_listeners() as u64;
@@ -123,6 +123,13 @@ impl<W> Queues<W> {
             return true;
         }
         self.write_line.total_listeners() > 0
+    }
+
+    // Whether one reader more can be counted beside those that read, and nobody writes or was let in to.
+    pub(super) fn may_read_again(&self, number: u64) -> bool
+        ensures { IsTrue result → IsExclusive number self.now → Admits 2 number self.now }
+    {
+        self.has_room(number) && !self.is_written(number)
     }
 
     /// Whether the reader that asks may write from here on: it is the only one, no other one was let in, and no writer waits.

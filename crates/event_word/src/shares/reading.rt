@@ -4,16 +4,13 @@ ghost use Rattle.event_word.specs.Count.{readers_of, writers_of};
 ghost use Rattle.event_word.specs.Queues.{HasNoRoom, NoWriterIsThere, Recounts, RefusesReader, WritersStay};
 ghost use Rattle.event_word.specs.Word.{number_of};
 
-use super::number::{self, Leaving, READER, TOO_MANY};
+use super::number::{self, Leaving, PARKED_READER, READER, TOO_MANY};
 use super::queues::Queues;
 use super::right::{Right, joined};
-use crate::word::CROWDED;
+use crate::word::{CROWDED, ONE};
 use event_queue::{Key, RegisterResult, TaskExchange};
 use event_wait::LockError;
 use event_wait::waiters::{join_line, leave_line, look_for};
-
-// From this word on no reader more can be counted.
-const FULL: u64 = (TOO_MANY - 1) * READER;
 
 /// To read. A newcomer may where no writer writes, was let in or waits, and one reader more can be counted.
 pub struct Reading {}
@@ -36,29 +33,50 @@ impl<W> Right<W> for Reading {
 
     ghost COUNTS = { 2 };
 
+    ghost RIGHT = { 1 };
+
     #[inline(always)]
     fn word_in(word: u64) -> Option<u64>
-        ensures step { IfSome result (Recounts word) }
+        ensures step { IfSome result (Recounts 0 1 word) }
         ensures counts { IfSome result (λ new. number_of new ≡ number_of word + 2) }
         ensures open { IfSome result (λ _. (word % 4 ≡ 0) × (writers_of (number_of word) ≡ 0)) }
         ensures refused { result ≡ None → word % 4 ≡ 0 → writers_of (number_of word) ≡ 0
-            → 2 ^ 60 ≤ readers_of (number_of word) + 1 }
+            → 2 ^ 29 ≤ readers_of (number_of word) + 1 }
     {
-        if word % READER > 0 || word >= FULL {
+        let number = word / ONE;
+        if word % 4 > 0 || number::is_written(number) || number::readers(number) >= TOO_MANY - 1 {
             return None;
         }
         Some(word + READER)
     }
 
+    fn word_with(word: u64) -> u64 {
+        word + READER
+    }
+
     #[inline(always)]
-    fn word_out(word: u64) -> Leaving {
-        if word < READER {
-            return Leaving::Going(word);
+    fn word_out(word: u64) -> Option<Leaving> {
+        if number::active_readers(word / ONE) == 0 {
+            return None;
         }
         if word < 2 * READER && word % 4 == CROWDED {
-            return Leaving::Taking(word - READER - 1);
+            return Some(Leaving::Taking(word - READER - 1));
         }
-        Leaving::Going(word - READER)
+        Some(Leaving::Going(word - READER))
+    }
+
+    fn word_parked(word: u64) -> Option<u64> {
+        if number::active_readers(word / ONE) == 0 {
+            return None;
+        }
+        Some(word - READER + PARKED_READER)
+    }
+
+    fn word_unparked(word: u64) -> Option<u64> {
+        if word < PARKED_READER {
+            return None;
+        }
+        Some(word - PARKED_READER + READER)
     }
 
     fn is_barred(number: u64) -> bool {

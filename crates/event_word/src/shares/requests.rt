@@ -9,17 +9,17 @@ ghost use Rattle.event_wait.specs.Attempted.{Attempts, OnDone, Stores};
 
 use super::queues::Queues;
 use super::right::Right;
-use super::share::{Out, Share};
+use super::share::{Grant, Out};
 use crate::word::{ONE, Word};
 use event_queue::{Key, RegisterResult, TaskExchange};
 use event_wait::{Attempted, LockError, Task};
 use std::sync::Wait;
 
-impl Word<Queues<Task>, ()> {
+impl<V> Word<Queues<Task>, V> {
     // Whether this one was let in; else it stores its task.
     fn look_waiting<K: Right<Task>, C, X: TaskExchange<Task, C>>(
         &self,
-        held: &mut Out<'_>,
+        held: &mut Out<'_, V>,
         key: Key,
         exchange: &X,
         on: &mut C,
@@ -42,16 +42,16 @@ impl Word<Queues<Task>, ()> {
     pub fn come_waiting<K: Right<Task>, C, X: TaskExchange<Task, C>, R: Wait>(
         &self,
         rt: &R,
-        held: &mut Out<'_>,
+        held: &mut Out<'_, V>,
         key: Key,
         exchange: &X,
         on: &mut C,
-    ) -> Attempted<Share<K>, LockError>
+    ) -> Attempted<Grant<'_, K, V>, LockError>
         requires seat { IsOf self.now.slot.name held.old }
         requires alone { HasState IsExclusive held.old }
         ensures seat { IsOf self.now.slot.name held.new }
         ensures alone { HasState IsExclusive held.new }
-        ensures own { OnDone result (λ share. share ≡ self.now.slot.name) }
+        ensures own { OnDone result (λ grant. grant.claim.name ≡ self.now.slot.name) }
         ensures counts { CountsMore (if_any (gained result) K.COUNTS) held.old.seat.view
             held.new.seat.view }
         ensures exchanged { Attempts (X.exchanged exchange.now) on.old result on.new }
@@ -70,23 +70,23 @@ impl Word<Queues<Task>, ()> {
     pub fn come_newly<K: Right<Task>, C, X: TaskExchange<Task, C>, R: Wait>(
         &self,
         rt: &R,
-        held: &mut Out<'_>,
+        held: &mut Out<'_, V>,
         exchange: &X,
         on: &mut C,
-    ) -> Attempted<Share<K>, LockError>
+    ) -> Attempted<Grant<'_, K, V>, LockError>
         requires seat { IsOf self.now.slot.name held.old }
         requires alone { HasState IsExclusive held.old }
         ensures seat { IsOf self.now.slot.name held.new }
         ensures alone { HasState IsExclusive held.new }
-        ensures own { OnDone result (λ share. share ≡ self.now.slot.name) }
+        ensures own { OnDone result (λ grant. grant.claim.name ≡ self.now.slot.name) }
         ensures counts { CountsMore (if_any (gained result) K.COUNTS) held.old.seat.view
             held.new.seat.view }
         ensures exchanged { Attempts (X.exchanged exchange.now) on.old result on.new }
         ensures settled { IsSettled result }
         ensures stays { UnlessWaits result (held.new.claim.state ≡ held.old.claim.state) }
     {
-        if let Some(share) = self.count_newcomer(rt, held) {
-            return Attempted::Done(share);
+        if let Some(grant) = self.count_newcomer(rt, held) {
+            return Attempted::Done(grant);
         }
         match self.wait_newly::<K, C, X>(held, exchange, on) {
             Ok(key) => Attempted::Waits(key),
@@ -96,7 +96,7 @@ impl Word<Queues<Task>, ()> {
 
     fn wait_newly<K: Right<Task>, C, X: TaskExchange<Task, C>>(
         &self,
-        held: &mut Out<'_>,
+        held: &mut Out<'_, V>,
         exchange: &X,
         on: &mut C,
     ) -> Result<Key, LockError>
@@ -116,7 +116,7 @@ impl Word<Queues<Task>, ()> {
     // One waits in its queue, if it can be counted later.
     fn wait_seeing<K: Right<Task>, C, X: TaskExchange<Task, C>>(
         &self,
-        held: &mut Out<'_>,
+        held: &mut Out<'_, V>,
         seen: u64,
         exchange: &X,
         on: &mut C,
@@ -134,7 +134,7 @@ impl Word<Queues<Task>, ()> {
     }
 
     /// Takes one out of its queue. Returns whether it was let in.
-    pub fn leave<K: Right<Task>>(&self, held: &mut Out<'_>, key: Key) -> bool
+    pub fn leave<K: Right<Task>>(&self, held: &mut Out<'_, V>, key: Key) -> bool
         requires seat { IsOf self.now.slot.name held.old }
         requires alone { HasState IsExclusive held.old }
         ensures seat { IsOf self.now.slot.name held.new }
@@ -150,14 +150,14 @@ impl Word<Queues<Task>, ()> {
     pub fn come_or_leave<K: Right<Task>, R: Wait>(
         &self,
         rt: &R,
-        held: &mut Out<'_>,
+        held: &mut Out<'_, V>,
         key: Key,
-    ) -> Option<Share<K>>
+    ) -> Option<Grant<'_, K, V>>
         requires seat { IsOf self.now.slot.name held.old }
         requires alone { HasState IsExclusive held.old }
         ensures seat { IsOf self.now.slot.name held.new }
         ensures alone { HasState IsExclusive held.new }
-        ensures own { IfSome result (λ share. share ≡ self.now.slot.name) }
+        ensures own { IfSome result (λ grant. grant.claim.name ≡ self.now.slot.name) }
         ensures counts { CountsMore (if_any (given result) K.COUNTS) held.old.seat.view
             held.new.seat.view }
         ensures gone { HasState (λ _ q. IsNotIn key (K.line q)) held.new }

@@ -1,13 +1,14 @@
 //! What readers and writers have in common.
-ghost use Rattle.std.specs.Prelude.{◌≡◌, ℕ, ◌+◌, ◌≤◌, length, IfErr, IfOk, IfSome, IsFalse, IsTrue, OnErr};
+ghost use Rattle.std.specs.Prelude.{◌≡◌, ℕ, ◌%◌, ◌+◌, ◌≤◌, length, IfErr, IfOk, IfSome, IsFalse, IsTrue, OnErr};
 ghost use Rattle.event_queue.specs.Exchange.{JoinsWithTask, RegistersWith};
 ghost use Rattle.event_queue.specs.Queue.{Queue};
 ghost use Rattle.event_wait.specs.declared.error.LockError.{LockError};
 ghost use Rattle.event_wait.specs.Line.{HasLeft, IsNotIn, IsNotInUnlessWaits, Looked, left_by};
 ghost use Rattle.event_word.specs.declared.shares.queues.Queues.{Queues};
-ghost use Rattle.event_word.specs.Count.{IsCount};
+ghost use Rattle.event_word.specs.Count.{IsCount, readers_of, writers_of};
 ghost use Rattle.event_word.specs.Leaving.{IfGoing, IfTaking, becomes};
-ghost use Rattle.event_word.specs.Queues.{Admits, IsExclusive, Recounts, RecountsAndTakes, joined_by};
+ghost use Rattle.event_word.specs.Queues.{Admits, IsExclusive, Recounts, RecountsAndTakes, counted_in, joined_by};
+ghost use Rattle.event_slot.specs.Ruling.{Becomes, MayTurn};
 ghost use Rattle.event_word.specs.Word.{number_of};
 
 use super::number::Leaving;
@@ -41,18 +42,49 @@ pub trait Right<W> {
 
     ghost COUNTS: { ℕ };
 
+    // What one may do then, as a slot counts it: 1 is to read, 2 to write.
+    ghost RIGHT: { ℕ };
+
     /// The word with one more, if nobody waits and a newcomer may come.
     fn word_in(word: u64) -> Option<u64>
-        ensures step { IfSome result (Recounts word) }
+        requires { IsCount (number_of word) }
+        ensures step { IfSome result (Recounts 0 RIGHT word) }
         ensures counts { IfSome result (λ new. number_of new ≡ number_of word + COUNTS) };
 
-    /// The word with one less. The queues are taken out where somebody may be next.
-    fn word_out(word: u64) -> Leaving
+    /// The word with one more, for whoever has the queues and found that one more may come.
+    fn word_with(word: u64) -> u64
         requires { IsCount (number_of word) }
-        ensures going { IfGoing result (Recounts word) }
-        ensures taking { IfTaking result (RecountsAndTakes word) }
-        ensures last { IfTaking result (λ new. (number_of word ≡ COUNTS) × (number_of new ≡ 0)) }
-        ensures ends { ends (number_of word) (number_of (becomes result)) };
+        ensures code { result % 4 ≡ word % 4 }
+        ensures counts { number_of result ≡ number_of word + COUNTS }
+        ensures alone { (q : Queues W) → Admits COUNTS (number_of word) q
+            → IsExclusive (number_of result) q }
+        ensures may { (q : Queues W) → Admits COUNTS (number_of word) q
+            → MayTurn 0 (counted_in word) (counted_in result) }
+        ensures has { (k : ℕ) → Becomes 0 (counted_in word) (counted_in result) k
+            → (q : Queues W) → Admits COUNTS (number_of word) q → k ≡ RIGHT };
+
+    /// The word with one less, if it counts one that is not parked. The queues are taken out where somebody may be next.
+    fn word_out(word: u64) -> Option<Leaving>
+        requires { IsCount (number_of word) }
+        ensures going { IfSome result (λ leaving. IfGoing leaving (Recounts RIGHT 0 word)) }
+        ensures taking { IfSome result (λ leaving. IfTaking leaving (RecountsAndTakes RIGHT 0 word)) }
+        ensures last { IfSome result (λ leaving. IfTaking leaving (λ new. (number_of word ≡ COUNTS)
+            × (number_of new ≡ 0))) }
+        ensures ends { IfSome result (λ leaving. ends (number_of word) (number_of (becomes leaving))) };
+
+    /// The word once one is parked, if it counts one that is not.
+    fn word_parked(word: u64) -> Option<u64>
+        requires { IsCount (number_of word) }
+        ensures step { IfSome result (Recounts RIGHT 0 word) }
+        ensures same { IfSome result (λ new. (readers_of (number_of new) ≡ readers_of (number_of word))
+            × (writers_of (number_of new) ≡ writers_of (number_of word))) };
+
+    /// The word once one is parked no more, if it counts one that is.
+    fn word_unparked(word: u64) -> Option<u64>
+        requires { IsCount (number_of word) }
+        ensures step { IfSome result (Recounts 0 RIGHT word) }
+        ensures same { IfSome result (λ new. (readers_of (number_of new) ≡ readers_of (number_of word))
+            × (writers_of (number_of new) ≡ writers_of (number_of word))) };
 
     /// Whether the number alone shows that somebody is in the way of a newcomer.
     fn is_barred(number: u64) -> bool
@@ -62,7 +94,7 @@ pub trait Right<W> {
     fn may_come(queues: &Queues<W>, number: u64) -> bool
         ensures yes { IsTrue result → is_open number queues.now }
         ensures counted { IsTrue result → IsExclusive number queues.now
-            → IsExclusive (number + COUNTS) queues.now }
+            → Admits COUNTS number queues.now }
         ensures no { IsFalse result → is_open number queues.now → is_full number queues.now };
 
     /// A newcomer waits in its queue, with the task that the exchange makes. It may allocate. An error leaves all as it was.

@@ -1,6 +1,6 @@
 //! How rights to read and to write are got and given back: the steps on the word.
 ghost use Rattle.std.specs.Prelude.{◌≡◌, ◌+◌, ◌-◌, ◌*◌, ◌<◌, ◌≤◌, ◌%◌, None, Some, IfSome, IfErr, IfOk, IsTrue, IsFalse, MatchResult, length};
-ghost use Rattle.event_word.specs.Count.{writers_of};
+ghost use Rattle.event_word.specs.Count.{IsCount, readers_of, writers_of};
 ghost use Rattle.event_wait.specs.declared.lock.task.Task.{Task};
 ghost use Rattle.event_word.specs.Leaving.{IfGoing, IfTaking, becomes};
 ghost use Rattle.event_word.specs.Queues.{Admits, CountsAsReader, CountsAsWriter, CountsMore, IsExclusive, MayUpgrade, Recounts, RecountsAndTakes, given, if_any, lock_rules};
@@ -9,23 +9,25 @@ ghost use Rattle.event_word.specs.Word.{EasesFrom, number_of};
 
 use super::number::{self, Leaving, READER, WRITER};
 use super::queues::Queues;
+use super::reading::Reading;
 use super::right::Right;
-use super::share::{Out, ReadShare, Share, WriteShare};
-use crate::word::{ONE, Seat, Step, Word};
+use super::share::{Grant, Out, Share};
+use super::writing::Writing;
+use crate::word::{ONE, Seat, Word};
 use event_wait::{DeferredWake, Task};
 use std::sync::Wait;
 
-impl Word<Queues<Task>, ()> {
+impl<V> Word<Queues<Task>, V> {
     /// A right for a newcomer, if it may come. It is one load and one compare-exchange where nobody waits and no other thread
     /// comes between, and no compare-exchange where the number shows that somebody is in the way. Else it may wait for the queues.
     #[inline(always)]
-    pub fn attempt<K: Right<Task>, R: Wait>(&self, rt: &R) -> Option<Share<K>>
-        ensures { IfSome result (λ share. share ≡ self.now.slot.name) }
+    pub fn attempt<K: Right<Task>, R: Wait>(&self, rt: &R) -> Option<Grant<'_, K, V>>
+        ensures { IfSome result (λ grant. grant.claim.name ≡ self.now.slot.name) }
     {
         let (seen, mut seat) = self.look();
         if let Some(new) = K::word_in(seen) {
-            if let Some(step) = self.make(&mut seat, seen, new) {
-                return Some(Share::counted(step));
+            if let Some(grant) = self.admit(&mut seat, seen, new) {
+                return Some(grant);
             }
         }
         self.attempt_again(rt)
@@ -33,8 +35,8 @@ impl Word<Queues<Task>, ()> {
 
     #[cold]
     #[inline(never)]
-    fn attempt_again<K: Right<Task>, R: Wait>(&self, rt: &R) -> Option<Share<K>>
-        ensures { IfSome result (λ share. share ≡ self.now.slot.name) }
+    fn attempt_again<K: Right<Task>, R: Wait>(&self, rt: &R) -> Option<Grant<'_, K, V>>
+        ensures { IfSome result (λ grant. grant.claim.name ≡ self.now.slot.name) }
     {
         let (mut seen, mut seat) = self.look();
         for _ in rt.forever() {
@@ -44,8 +46,8 @@ impl Word<Queues<Task>, ()> {
             let Some(new) = K::word_in(seen) else {
                 return self.attempt_slowly(rt);
             };
-            if let Some(step) = self.make(&mut seat, seen, new) {
-                return Some(Share::counted(step));
+            if let Some(grant) = self.admit(&mut seat, seen, new) {
+                return Some(grant);
             }
             seen = self.look_again(&mut seat);
         }
@@ -53,81 +55,267 @@ impl Word<Queues<Task>, ()> {
     }
 
     // Where somebody may wait, the queues show whether a newcomer may come.
-    fn attempt_slowly<K: Right<Task>, R: Wait>(&self, rt: &R) -> Option<Share<K>>
-        ensures { IfSome result (λ share. share ≡ self.now.slot.name) }
+    fn attempt_slowly<K: Right<Task>, R: Wait>(&self, rt: &R) -> Option<Grant<'_, K, V>>
+        ensures { IfSome result (λ grant. grant.claim.name ≡ self.now.slot.name) }
     {
         let (_, mut held) = self.take(rt);
-        let share = self.count_newcomer(rt, &mut held);
+        let grant = self.count_newcomer(rt, &mut held);
         self.put_back(rt, held);
-        share
+        grant
+    }
+
+    // One comes by this step, if the word is as it was seen.
+    #[inline(always)]
+    fn admit<K: Right<Task>>(&self, seat: &mut Seat, seen: u64, new: u64) -> Option<Grant<'_, K, V>>
+        requires seat { seat.old.slot ≡ self.now.slot.name }
+        requires step { Recounts 0 K.RIGHT seen new }
+        ensures seat { (seat.new.slot ≡ seat.old.slot) × (seat.new.view ≡ seat.old.view) }
+        ensures own { IfSome result (λ grant. grant.claim.name ≡ self.now.slot.name) }
+    {
+        let (made, claim) = self.turn(self.slot.claim(), seat, seen, new);
+        if made {
+            return Some(Grant::new(claim));
+        }
+        claim.done();
+        None
     }
 
     /// One goes that has a right, and those are let in that are next: the first writer once the last reader goes, and once the
     /// writer goes all readers that wait, or else the first writer.
     #[inline(always)]
-    pub fn end<K: Right<Task>, R: Wait>(&self, rt: &R, share: Share<K>)
-        requires { share ≡ self.now.slot.name }
+    pub fn end<K: Right<Task>, R: Wait>(&self, rt: &R, grant: Grant<'_, K, V>)
+        requires { grant.claim.name ≡ self.now.slot.name }
     {
         let (seen, mut seat) = self.look();
-        if let Leaving::Going(new) = K::word_out(seen) {
-            if let Some(step) = self.make(&mut seat, seen, new) {
-                share.end(step);
-                return;
-            }
+        match K::word_out(seen) {
+            Some(Leaving::Going(new)) => match self.dismiss(grant, &mut seat, seen, new) {
+                Ok(()) => {}
+                Err(again) => self.end_slowly(rt, again),
+            },
+            _ => self.end_slowly(rt, grant),
         }
-        let step = self.count_out::<K, R>(rt);
-        share.end(step);
     }
 
+    // The word counts one as long as one has a right.
     #[cold]
     #[inline(never)]
-    fn count_out<K: Right<Task>, R: Wait>(&self, rt: &R) -> Step
-        ensures own { result.origin.name ≡ self.now.slot.name }
-        ensures ends { K.ends (number_of result.from) (number_of result.to) }
+    fn end_slowly<K: Right<Task>, R: Wait>(&self, rt: &R, grant: Grant<'_, K, V>)
+        requires { grant.claim.name ≡ self.now.slot.name }
     {
+        let mut grant = grant;
         let (mut seen, mut seat) = self.look();
         for _ in rt.forever() {
-            match self.go(rt, seat, seen, K::word_out(seen)) {
-                Ok(step) => return step,
-                Err(again) => seat = again,
+            if let Some(leaving) = K::word_out(seen) {
+                match self.go(rt, grant, seat, seen, leaving) {
+                    Ok(()) => return,
+                    Err((again, at)) => {
+                        grant = again;
+                        seat = at;
+                    }
+                }
             }
             seen = self.look_again(&mut seat);
         }
         unreachable!()
     }
 
-    // Makes this step, and lets in who is next if it takes the queues out. An error has the seat where the word is another.
-    fn go<R: Wait>(&self, rt: &R, mut seat: Seat, seen: u64, leaving: Leaving) -> Result<Step, Seat>
+    // One goes by this step, and whoever is next is let in if that takes the queues out. An error has the right and the seat where the
+    // word is another.
+    fn go<'a, K: Right<Task>, R: Wait>(
+        &self,
+        rt: &R,
+        grant: Grant<'a, K, V>,
+        mut seat: Seat,
+        seen: u64,
+        leaving: Leaving,
+    ) -> Result<(), (Grant<'a, K, V>, Seat)>
+        requires own { grant.claim.name ≡ self.now.slot.name }
         requires seat { (seat.slot ≡ self.now.slot.name) × (seat.view.number ≡ None) }
-        requires going { IfGoing leaving (Recounts seen) }
-        requires taking { IfTaking leaving (RecountsAndTakes seen) }
+        requires going { IfGoing leaving (Recounts K.RIGHT 0 seen) }
+        requires taking { IfTaking leaving (RecountsAndTakes K.RIGHT 0 seen) }
         requires last { IfTaking leaving (λ new. number_of new ≡ 0) }
-        ensures own { IfOk result (λ made. made.origin.name ≡ self.now.slot.name) }
-        ensures from { IfOk result (λ made. made.from ≡ seen) }
-        ensures to { IfOk result (λ made. made.to ≡ becomes leaving) }
-        ensures again { IfErr result (λ again. (again.slot ≡ seat.slot)
-            × (again.view.number ≡ None)) }
+        requires ends { K.ends (number_of seen) (number_of (becomes leaving)) }
+        ensures { IfErr result (λ again. (again.0.claim.name ≡ self.now.slot.name)
+            × (again.1.slot ≡ seat.slot) × (again.1.view.number ≡ None)) }
     {
         match leaving {
-            Leaving::Going(new) => match self.make(&mut seat, seen, new) {
-                Some(step) => Ok(step),
-                None => Err(seat),
+            Leaving::Going(new) => match self.dismiss(grant, &mut seat, seen, new) {
+                Ok(()) => Ok(()),
+                Err(again) => Err((again, seat)),
             },
-            Leaving::Taking(new) => {
-                let (step, held) = self.try_take(seat, seen, new)?;
-                self.put_back(rt, held);
-                Ok(step)
-            }
+            Leaving::Taking(new) => match self.turn_out(grant.into_claim(), seat, seen, new) {
+                Ok(held) => {
+                    self.put_back(rt, held);
+                    Ok(())
+                }
+                Err((claim, seat)) => Err((Grant::new(claim), seat)),
+            },
         }
     }
 
+    // One goes by this step, and lets nobody in. An error has the right where the word is another.
+    #[inline(always)]
+    fn dismiss<'a, K: Right<Task>>(
+        &self,
+        grant: Grant<'a, K, V>,
+        seat: &mut Seat,
+        seen: u64,
+        new: u64,
+    ) -> Result<(), Grant<'a, K, V>>
+        requires own { grant.claim.name ≡ self.now.slot.name }
+        requires seat { seat.old.slot ≡ self.now.slot.name }
+        requires step { Recounts K.RIGHT 0 seen new }
+        requires ends { K.ends (number_of seen) (number_of new) }
+        ensures seat { (seat.new.slot ≡ seat.old.slot) × (seat.new.view ≡ seat.old.view) }
+        ensures own { IfErr result (λ again. again.claim.name ≡ self.now.slot.name) }
+    {
+        let (made, claim) = self.turn(grant.into_claim(), seat, seen, new);
+        if made {
+            claim.done();
+            return Ok(());
+        }
+        Err(Grant::new(claim))
+    }
+
+    /// Parks: gives up the right to where the value lies. The number counts one still.
+    pub fn park<K: Right<Task>, R: Wait>(&self, rt: &R, grant: Grant<'_, K, V>) -> Share<K>
+        requires { grant.claim.name ≡ self.now.slot.name }
+        ensures { result ≡ self.now.slot.name }
+    {
+        let mut grant = grant;
+        let (mut seen, mut seat) = self.look();
+        for _ in rt.forever() {
+            if let Some(new) = K::word_parked(seen) {
+                match self.park_at(grant, &mut seat, seen, new) {
+                    Ok(share) => return share,
+                    Err(again) => grant = again,
+                }
+            }
+            seen = self.look_again(&mut seat);
+        }
+        unreachable!()
+    }
+
+    // The same, if the word is as it was seen. An error has the right where it is another.
+    fn park_at<'a, K: Right<Task>>(
+        &self,
+        grant: Grant<'a, K, V>,
+        seat: &mut Seat,
+        seen: u64,
+        new: u64,
+    ) -> Result<Share<K>, Grant<'a, K, V>>
+        requires own { grant.claim.name ≡ self.now.slot.name }
+        requires seat { seat.old.slot ≡ self.now.slot.name }
+        requires step { Recounts K.RIGHT 0 seen new }
+        requires same { (readers_of (number_of new) ≡ readers_of (number_of seen))
+            × (writers_of (number_of new) ≡ writers_of (number_of seen)) }
+        ensures seat { (seat.new.slot ≡ seat.old.slot) × (seat.new.view ≡ seat.old.view) }
+        ensures ok { IfOk result (λ share. share ≡ self.now.slot.name) }
+        ensures err { IfErr result (λ again. again.claim.name ≡ self.now.slot.name) }
+    {
+        let (made, claim) = self.turn(grant.into_claim(), seat, seen, new);
+        if made {
+            claim.done();
+            return Ok(Share::new(seat));
+        }
+        Err(Grant::new(claim))
+    }
+
+    /// Parks one whose share is there already.
+    pub fn park_again<K: Right<Task>, R: Wait>(&self, rt: &R, grant: Grant<'_, K, V>)
+        requires { grant.claim.name ≡ self.now.slot.name }
+    {
+        self.park(rt, grant).end();
+    }
+
+    /// Takes the right again of one that is parked. It waits for nobody: who has the value has been settled before.
+    pub fn unpark<K: Right<Task>, R: Wait>(&self, rt: &R, share: Share<K>) -> Grant<'_, K, V>
+        requires { share ≡ self.now.slot.name }
+        ensures { result.claim.name ≡ self.now.slot.name }
+    {
+        share.end();
+        self.take_parked(rt)
+    }
+
+    /// The same for a call, after which the writer is to be parked again.
+    pub fn write_again<R: Wait>(&self, rt: &R, _share: &Share<Writing>) -> Grant<'_, Writing, V>
+        requires { _share.now ≡ self.now.slot.name }
+        ensures { result.claim.name ≡ self.now.slot.name }
+    {
+        self.take_parked(rt)
+    }
+
+    // The word counts one that is parked as long as there is its share.
+    fn take_parked<K: Right<Task>, R: Wait>(&self, rt: &R) -> Grant<'_, K, V>
+        ensures { result.claim.name ≡ self.now.slot.name }
+    {
+        let (mut seen, mut seat) = self.look();
+        for _ in rt.forever() {
+            if let Some(new) = K::word_unparked(seen) {
+                if let Some(grant) = self.admit(&mut seat, seen, new) {
+                    return grant;
+                }
+            }
+            seen = self.look_again(&mut seat);
+        }
+        unreachable!()
+    }
+
+    /// One more right to read for a reader that is parked, for a call: also where writers wait, which its share keeps out. It is counted
+    /// beside the one that is parked.
+    pub fn read_again<R: Wait>(&self, rt: &R, _share: &Share<Reading>) -> Grant<'_, Reading, V>
+        requires { _share.now ≡ self.now.slot.name }
+        ensures { result.claim.name ≡ self.now.slot.name }
+    {
+        let (seen, mut seat) = self.look();
+        if let Some(new) = <Reading as Right<Task>>::word_in(seen) {
+            if let Some(grant) = self.admit(&mut seat, seen, new) {
+                return grant;
+            }
+        }
+        let (_, mut held) = self.take(rt);
+        let grant = self.count_again(rt, &mut held);
+        self.put_back(rt, held);
+        grant
+    }
+
+    // The same with the queues out, once one more can be counted.
+    fn count_again<R: Wait>(&self, rt: &R, held: &mut Out<'_, V>) -> Grant<'_, Reading, V>
+        requires seat { IsOf self.now.slot.name held.old }
+        requires alone { HasState IsExclusive held.old }
+        ensures seat { IsOf self.now.slot.name held.new }
+        ensures alone { HasState IsExclusive held.new }
+        ensures own { result.claim.name ≡ self.now.slot.name }
+    {
+        for _ in rt.forever() {
+            let seen = self.look_alone(held);
+            if self.may_read_again(held, seen) {
+                if let Some(grant) = self.admit_with(held, seen) {
+                    return grant;
+                }
+            }
+        }
+        unreachable!()
+    }
+
+    // Whether one reader more can be counted, and nobody writes or was let in to.
+    fn may_read_again(&self, held: &mut Out<'_, V>, seen: u64) -> bool
+        requires seat { IsOf self.now.slot.name held.old }
+        requires alone { HasState (λ n q. (n ≡ number_of seen) × IsExclusive n q) held.old }
+        ensures seat { IsOf self.now.slot.name held.new }
+        ensures alone { HasState (λ n q. (n ≡ number_of seen) × IsExclusive n q) held.new }
+        ensures yes { IsTrue result → HasState (λ n q. (n ≡ number_of seen) × Admits 2 n q) held.new }
+    {
+        held.claim.state_mut().may_read_again(seen / ONE)
+    }
+
     // Looks at the word with the queues out.
-    pub fn look_alone(&self, held: &mut Out<'_>) -> u64
+    pub fn look_alone(&self, held: &mut Out<'_, V>) -> u64
         requires seat { IsOf self.now.slot.name held.old }
         requires alone { HasState IsExclusive held.old }
         ensures seat { IsOf self.now.slot.name held.new }
         ensures state { held.new.claim.state ≡ held.old.claim.state }
-        ensures out { result % 2 ≡ 1 }
+        ensures word { (result % 2 ≡ 1) × IsCount (number_of result) }
         ensures number { held.new.seat.view.number ≡ Some (number_of result) }
         ensures alone { HasState (λ n q. (n ≡ number_of result)
             × IsExclusive n q) held.new }
@@ -137,14 +325,14 @@ impl Word<Queues<Task>, ()> {
     }
 
     // Whether a newcomer may come.
-    fn may_come<K: Right<Task>>(&self, held: &mut Out<'_>, seen: u64) -> bool
+    fn may_come<K: Right<Task>>(&self, held: &mut Out<'_, V>, seen: u64) -> bool
         requires seat { IsOf self.now.slot.name held.old }
         requires alone { HasState (λ n q. (n ≡ number_of seen) × IsExclusive n q) held.old }
         ensures seat { IsOf self.now.slot.name held.new }
         ensures same { (held.new.claim.state ≡ held.old.claim.state)
             × (held.new.seat.view ≡ held.old.seat.view) }
         ensures yes { IsTrue result → HasState (λ n q. K.is_open n q × IsExclusive n q
-            × IsExclusive (number_of seen + K.COUNTS) q) held.new }
+            × Admits K.COUNTS n q) held.new }
         ensures no { IsFalse result
             → HasState (λ n q. K.is_open n q → K.is_full n q) held.new }
     {
@@ -152,7 +340,7 @@ impl Word<Queues<Task>, ()> {
     }
 
     // Whether the reader that asks may write from here on.
-    fn may_upgrade(&self, held: &mut Out<'_>, seen: u64) -> bool
+    fn may_upgrade(&self, held: &mut Out<'_, V>, seen: u64) -> bool
         requires seat { IsOf self.now.slot.name held.old }
         requires alone { HasState (λ n q. (n ≡ number_of seen) × IsExclusive n q) held.old }
         ensures seat { IsOf self.now.slot.name held.new }
@@ -169,14 +357,14 @@ impl Word<Queues<Task>, ()> {
     pub fn count_newcomer<K: Right<Task>, R: Wait>(
         &self,
         rt: &R,
-        held: &mut Out<'_>,
-    ) -> Option<Share<K>>
+        held: &mut Out<'_, V>,
+    ) -> Option<Grant<'_, K, V>>
         requires seat { IsOf self.now.slot.name held.old }
         requires alone { HasState IsExclusive held.old }
         ensures seat { IsOf self.now.slot.name held.new }
         ensures state { held.new.claim.state ≡ held.old.claim.state }
         ensures alone { HasState IsExclusive held.new }
-        ensures own { IfSome result (λ share. share ≡ self.now.slot.name) }
+        ensures own { IfSome result (λ grant. grant.claim.name ≡ self.now.slot.name) }
         ensures counts { CountsMore (if_any (given result) K.COUNTS) held.old.seat.view
             held.new.seat.view }
         ensures refused { result ≡ None → HasState (λ n q. K.is_open n q
@@ -187,20 +375,46 @@ impl Word<Queues<Task>, ()> {
             if !self.may_come::<K>(held, seen) {
                 return None;
             }
-            if let Some(step) = self.recount(held, seen, seen + K::COUNTS * ONE) {
-                return Some(Share::counted(step));
+            if let Some(grant) = self.admit_with(held, seen) {
+                return Some(grant);
             }
         }
         unreachable!()
     }
 
+    // One comes with the queues out, if the word is as it was seen.
+    fn admit_with<K: Right<Task>>(
+        &self,
+        held: &mut Out<'_, V>,
+        seen: u64,
+    ) -> Option<Grant<'_, K, V>>
+        requires seat { IsOf self.now.slot.name held.old }
+        requires word { (seen % 2 ≡ 1) × IsCount (number_of seen) }
+        requires admits { HasState (λ n q. (n ≡ number_of seen) × Admits K.COUNTS n q) held.old }
+        ensures seat { IsOf self.now.slot.name held.new }
+        ensures state { held.new.claim.state ≡ held.old.claim.state }
+        ensures alone { IfSome result (λ _. HasState IsExclusive held.new) }
+        ensures own { IfSome result (λ grant. grant.claim.name ≡ self.now.slot.name) }
+        ensures counts { IfSome result (λ _. held.new.seat.view.number
+            ≡ Some (number_of seen + K.COUNTS)) }
+        ensures none { result ≡ None → held.new.seat.view ≡ held.old.seat.view }
+    {
+        let new = K::word_with(seen);
+        let (made, claim) = held.turn(self, self.slot.claim(), seen, new);
+        if made {
+            return Some(Grant::new(claim));
+        }
+        claim.done();
+        None
+    }
+
     // Looks at the word with the queues out, of which so many were let in, and have left.
-    fn look_letting_in(&self, held: &mut Out<'_>, more: u64) -> u64
+    fn look_letting_in(&self, held: &mut Out<'_, V>, more: u64) -> u64
         requires seat { IsOf self.now.slot.name held.old }
         requires admits { HasState (Admits more) held.old }
         ensures seat { IsOf self.now.slot.name held.new }
         ensures state { held.new.claim.state ≡ held.old.claim.state }
-        ensures out { result % 2 ≡ 1 }
+        ensures word { (result % 2 ≡ 1) × IsCount (number_of result) }
         ensures number { held.new.seat.view.number ≡ Some (number_of result) }
         ensures admits { HasState (λ n q. (n ≡ number_of result)
             × Admits more (number_of result) q) held.new }
@@ -211,55 +425,64 @@ impl Word<Queues<Task>, ()> {
     }
 
     /// The right of one that was let in, and has left its queue.
-    pub fn let_in<K: Right<Task>, R: Wait>(&self, rt: &R, held: &mut Out<'_>) -> Share<K>
+    pub fn let_in<K: Right<Task>, R: Wait>(&self, rt: &R, held: &mut Out<'_, V>) -> Grant<'_, K, V>
         requires seat { IsOf self.now.slot.name held.old }
         requires admits { HasState (Admits K.COUNTS) held.old }
         ensures seat { IsOf self.now.slot.name held.new }
         ensures state { held.new.claim.state ≡ held.old.claim.state }
         ensures alone { HasState IsExclusive held.new }
-        ensures own { result ≡ self.now.slot.name }
+        ensures own { result.claim.name ≡ self.now.slot.name }
         ensures counts { CountsMore K.COUNTS held.old.seat.view held.new.seat.view }
     {
         for _ in rt.forever() {
             let seen = self.look_letting_in(held, K::COUNTS);
-            if let Some(step) = self.recount(held, seen, seen + K::COUNTS * ONE) {
-                return Share::counted(step);
+            if let Some(grant) = self.admit_with(held, seen) {
+                return grant;
             }
         }
         unreachable!()
     }
 
     /// The reader writes from here on, if it is the only one, nobody was let in, and no writer waits.
-    pub fn try_upgrade<R: Wait>(&self, rt: &R, share: ReadShare) -> Result<WriteShare, ReadShare>
-        requires { share ≡ self.now.slot.name }
-        ensures { MatchResult result (λ writes. writes ≡ share) (λ reads. reads ≡ share) }
+    pub fn try_upgrade<'a, R: Wait>(
+        &self,
+        rt: &R,
+        grant: Grant<'a, Reading, V>,
+    ) -> Result<Grant<'a, Writing, V>, Grant<'a, Reading, V>>
+        requires { grant.claim.name ≡ self.now.slot.name }
+        ensures { MatchResult result (λ writes. writes.claim.name ≡ self.now.slot.name)
+            (λ reads. reads.claim.name ≡ self.now.slot.name) }
     {
+        let mut grant = grant;
         let (seen, mut seat) = self.look();
         if let Some(new) = number::reader_writes(seen) {
-            if let Some(step) = self.make(&mut seat, seen, new) {
-                return Ok(share.upgraded(step));
+            let (made, claim) = self.turn(grant.into_claim(), &mut seat, seen, new);
+            if made {
+                return Ok(Grant::new(claim));
             }
+            grant = Grant::new(claim);
         }
         let (_, mut held) = self.take(rt);
-        let upgraded = self.upgrade(rt, &mut held, share);
+        let upgraded = self.upgrade(rt, &mut held, grant);
         self.put_back(rt, held);
         upgraded
     }
 
     // The same with the queues out.
-    fn upgrade<R: Wait>(
+    fn upgrade<'a, R: Wait>(
         &self,
         rt: &R,
-        held: &mut Out<'_>,
-        share: ReadShare,
-    ) -> Result<WriteShare, ReadShare>
+        held: &mut Out<'_, V>,
+        grant: Grant<'a, Reading, V>,
+    ) -> Result<Grant<'a, Writing, V>, Grant<'a, Reading, V>>
         requires seat { IsOf self.now.slot.name held.old }
         requires alone { HasState IsExclusive held.old }
-        requires own { share ≡ self.now.slot.name }
+        requires own { grant.claim.name ≡ self.now.slot.name }
         ensures seat { IsOf self.now.slot.name held.new }
         ensures state { held.new.claim.state ≡ held.old.claim.state }
         ensures alone { HasState IsExclusive held.new }
-        ensures own { MatchResult result (λ writes. writes ≡ share) (λ reads. reads ≡ share) }
+        ensures own { MatchResult result (λ writes. writes.claim.name ≡ self.now.slot.name)
+            (λ reads. reads.claim.name ≡ self.now.slot.name) }
         ensures counts { MatchResult result
             (λ _. CountsAsWriter held.old.seat.view held.new.seat.view)
             (λ _. CountsMore 0 held.old.seat.view held.new.seat.view) }
@@ -268,95 +491,83 @@ impl Word<Queues<Task>, ()> {
         ensures refused { IfErr result (λ _. HasState (λ n q. MayUpgrade n q
             → ⊥) held.new) }
     {
+        let mut grant = grant;
         for _ in rt.forever() {
             let seen = self.look_alone(held);
             if !self.may_upgrade(held, seen) {
-                return Err(share);
+                return Err(grant);
             }
-            if let Some(step) = self.recount(held, seen, seen - READER + WRITER) {
-                return Ok(share.upgraded(step));
+            let new = seen - READER + WRITER;
+            let (made, claim) = held.turn(self, grant.into_claim(), seen, new);
+            if made {
+                return Ok(Grant::new(claim));
             }
+            grant = Grant::new(claim);
         }
         unreachable!()
     }
 
     /// The writer reads from here on, and all readers are let in that wait.
-    pub fn downgrade<R: Wait>(&self, rt: &R, share: WriteShare) -> ReadShare
-        requires { share ≡ self.now.slot.name }
-        ensures { result ≡ share }
+    pub fn downgrade<'a, R: Wait>(
+        &self,
+        rt: &R,
+        grant: Grant<'a, Writing, V>,
+    ) -> Grant<'a, Reading, V>
+        requires { grant.claim.name ≡ self.now.slot.name }
+        ensures { result.claim.name ≡ self.now.slot.name }
     {
+        let mut grant = grant;
         let (seen, mut seat) = self.look();
         if let Some(new) = number::writer_reads(seen) {
-            if let Some(step) = self.make(&mut seat, seen, new) {
-                return share.downgraded(Ok(step));
+            let (made, claim) = self.turn(grant.into_claim(), &mut seat, seen, new);
+            if made {
+                return Grant::new(claim);
             }
+            grant = Grant::new(claim);
         }
         let (_, mut held) = self.take(rt);
         let mut waking = DeferredWake::new();
-        let step = self.let_readers_in(rt, &mut held, &mut waking);
+        let reads = self.count_as_reader(rt, &mut held, grant);
+        self.hand_to_readers(&mut held, &mut waking);
         self.put_back(rt, held);
         waking.finish();
-        share.downgraded(step)
+        reads
     }
 
-    // The same with the queues out. An error is a step that changes nothing, at a word that counts no writer.
-    fn let_readers_in<R: Wait>(
+    // Counts the writer as a reader. The word counts it as long as it has its right.
+    fn count_as_reader<'a, R: Wait>(
         &self,
         rt: &R,
-        held: &mut Out<'_>,
-        waking: &mut DeferredWake,
-    ) -> Result<Step, Step>
+        held: &mut Out<'_, V>,
+        grant: Grant<'a, Writing, V>,
+    ) -> Grant<'a, Reading, V>
         requires seat { IsOf self.now.slot.name held.old }
         requires alone { HasState IsExclusive held.old }
-        ensures seat { IsOf self.now.slot.name held.new }
-        ensures alone { HasState IsExclusive held.new }
-        ensures counts { CountsAsReader held.old.seat.view held.new.seat.view }
-        ensures lets_in { IfOk result (λ _. HasState (λ n q. (n ≡ 2)
-            × (length q.read_line.waiting ≡ 0)) held.new) }
-        ensures own { MatchResult result
-            (λ made. made.origin.name ≡ self.now.slot.name)
-            (λ made. made.origin.name ≡ self.now.slot.name) }
-        ensures step { MatchResult result
-            (λ made. (number_of made.from ≡ 1) × (number_of made.to ≡ 2))
-            (λ made. writers_of (number_of made.to) ≡ 0) }
-    {
-        let step = self.count_as_reader(rt, held)?;
-        self.hand_to_readers(held, waking);
-        Ok(step)
-    }
-
-    // Counts the writer as a reader, if it is counted.
-    fn count_as_reader<R: Wait>(&self, rt: &R, held: &mut Out<'_>) -> Result<Step, Step>
-        requires seat { IsOf self.now.slot.name held.old }
-        requires alone { HasState IsExclusive held.old }
+        requires own { grant.claim.name ≡ self.now.slot.name }
         ensures seat { IsOf self.now.slot.name held.new }
         ensures state { held.new.claim.state ≡ held.old.claim.state }
-        ensures alone { HasState IsExclusive held.new }
         ensures counts { CountsAsReader held.old.seat.view held.new.seat.view }
-        ensures was { IfOk result (λ _. HasState (λ n q. (n ≡ 2)
-            × IsExclusive 1 q) held.new) }
-        ensures own { MatchResult result
-            (λ made. made.origin.name ≡ self.now.slot.name)
-            (λ made. made.origin.name ≡ self.now.slot.name) }
-        ensures step { MatchResult result
-            (λ made. (number_of made.from ≡ 1) × (number_of made.to ≡ 2))
-            (λ made. writers_of (number_of made.to) ≡ 0) }
+        ensures was { HasState (λ n q. (n ≡ 2) × IsExclusive 1 q) held.new }
+        ensures own { result.claim.name ≡ self.now.slot.name }
     {
+        let mut grant = grant;
         for _ in rt.forever() {
             let seen = self.look_alone(held);
             if seen % READER < WRITER {
-                if let Some(step) = self.recount(held, seen, seen) {
-                    return Err(step);
-                }
-            } else if let Some(step) = self.recount(held, seen, seen - WRITER + READER) {
-                return Ok(step);
+                continue;
             }
+            let new = seen - WRITER + READER;
+            let (made, claim) = held.turn(self, grant.into_claim(), seen, new);
+            if made {
+                return Grant::new(claim);
+            }
+            grant = Grant::new(claim);
         }
         unreachable!()
     }
 
     // Lets all readers in that wait, once the writer is counted as one.
-    fn hand_to_readers(&self, held: &mut Out<'_>, waking: &mut DeferredWake)
+    fn hand_to_readers(&self, held: &mut Out<'_, V>, waking: &mut DeferredWake)
         requires seat { IsOf self.now.slot.name held.old }
         requires reads { HasState (λ n q. (n ≡ 2) × IsExclusive 1 q) held.old }
         ensures seat { IsOf self.now.slot.name held.new }

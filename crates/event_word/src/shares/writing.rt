@@ -5,7 +5,7 @@ ghost use Rattle.event_word.specs.Count.{readers_of, writers_of};
 ghost use Rattle.event_word.specs.Queues.{IsQuiet, ReadersStay, Recounts};
 ghost use Rattle.event_word.specs.Word.{number_of};
 
-use super::number::{Leaving, READER, WRITER};
+use super::number::{Leaving, PARKED_READER, PARKED_WRITER, READER, WRITER};
 use super::queues::Queues;
 use super::right::{Right, joined};
 use crate::word::CROWDED;
@@ -33,9 +33,11 @@ impl<W> Right<W> for Writing {
 
     ghost COUNTS = { 1 };
 
+    ghost RIGHT = { 2 };
+
     #[inline(always)]
     fn word_in(word: u64) -> Option<u64>
-        ensures step { IfSome result (Recounts word) }
+        ensures step { IfSome result (Recounts 0 2 word) }
         ensures counts { IfSome result (λ new. (word ≡ 0) × (number_of new ≡ 1)) }
         ensures refused { result ≡ None → word ≢ 0 }
     {
@@ -45,15 +47,33 @@ impl<W> Right<W> for Writing {
         Some(WRITER)
     }
 
+    fn word_with(word: u64) -> u64 {
+        word + WRITER
+    }
+
     #[inline(always)]
-    fn word_out(word: u64) -> Leaving {
+    fn word_out(word: u64) -> Option<Leaving> {
         if word % READER < WRITER {
-            return Leaving::Going(word);
+            return None;
         }
         if word % 4 == CROWDED {
-            return Leaving::Taking(word - WRITER - 1);
+            return Some(Leaving::Taking(word - WRITER - 1));
         }
-        Leaving::Going(word - WRITER)
+        Some(Leaving::Going(word - WRITER))
+    }
+
+    fn word_parked(word: u64) -> Option<u64> {
+        if word % READER < WRITER {
+            return None;
+        }
+        Some(word - WRITER + PARKED_WRITER)
+    }
+
+    fn word_unparked(word: u64) -> Option<u64> {
+        if word % PARKED_READER < PARKED_WRITER {
+            return None;
+        }
+        Some(word - PARKED_WRITER + WRITER)
     }
 
     fn is_barred(number: u64) -> bool {

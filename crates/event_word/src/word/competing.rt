@@ -1,6 +1,6 @@
 //! What those that compete for a lock do with its state out.
 ghost use Rattle.std.specs.Prelude.{◌≡◌, ◌+◌, ◌<◌, ◌≤◌, true, Some, None, IfOk, OnErr};
-ghost use Rattle.event_word.specs.Contender.{Comes, NobodyIsBy, coming_of, count_of, losses_after};
+ghost use Rattle.event_word.specs.Contender.{Comes, Loses, NobodyIsBy, coming_of, count_of, losses_after};
 ghost use Rattle.event_word.specs.Free.{ServesTheStarving, ServesWith, StandsIf, free_of, IsClosed, IsShut};
 ghost use Rattle.event_word.specs.Held.{HasState, IsOf};
 ghost use Rattle.event_wait.specs.Attempted.{Stores};
@@ -28,6 +28,7 @@ impl<C: Counted, V> Word<Competing<C>, V> {
             × (result.is_shut ≡ true → 0 < result.starving) }
         ensures closed { result.is_closed ≡ true
             → result.notified + result.waiting + result.starving ≡ 0 }
+        ensures closes { result.is_closed ≡ true → C.CLOSES ≡ true }
     {
         let (number, mut held) = self.take(rt);
         let counts = self.counted(&mut held, number);
@@ -45,6 +46,7 @@ impl<C: Counted, V> Word<Competing<C>, V> {
             × (result.is_shut ≡ true → 0 < result.starving) }
         ensures closed { result.is_closed ≡ true
             → result.notified + result.waiting + result.starving ≡ 0 }
+        ensures closes { result.is_closed ≡ true → C.CLOSES ≡ true }
     {
         let line = &held.claim.state_mut().line;
         Counts {
@@ -95,6 +97,9 @@ impl<C: Counted, V> Word<Competing<C>, V> {
         ensures number { held.new.seat.view.number ≡ held.old.seat.view.number }
         ensures place { IfOk result (λ key. place.new ≡ Some key) }
         ensures losses { IfOk result (λ _. losses.new ≡ losses_after losses.old arrival) }
+        ensures loses { IfOk result (λ key. HasState (λ _ before. HasState (λ _ after.
+            Loses (X.exchanged exchange.now) losses.new key before.line on.old after.line on.new)
+            held.new) held.old) }
         ensures waits { IfOk result (λ _. Stores (X.exchanged exchange.now) on.old on.new) }
         ensures refused { OnErr result ((place.new ≡ place.old) × (losses.new ≡ losses.old)
             × (on.new ≡ on.old)) }

@@ -7,7 +7,6 @@ use super::kept::Kept;
 use super::rule::{LookAgain, Place};
 use super::{Seat, Word};
 use event_slot::Claim;
-use std::mem;
 
 /// The state, taken out from behind its word. It is no `Drop`: whoever has it puts it back.
 pub struct Held<'a, S: Kept, V> {
@@ -29,16 +28,5 @@ impl<S: Kept, V> Held<'_, S, V> {
         ensures eases { EasesFrom S.rules self.old.seat.view.number (number_of result) }
     {
         word.slot.load::<LookAgain<S>>(&mut self.seat)
-    }
-
-    /// Puts this state in the place of the one that is out, which it returns.
-    pub fn replace(&mut self, state: S) -> S
-        requires state { HasState (λ _ _. ⊤) self.old }
-        ensures own { (self.new.claim.name ≡ self.old.claim.name)
-            × (self.new.claim.right ≡ self.old.claim.right) × (self.new.seat ≡ self.old.seat) }
-        ensures was { Some result ≡ self.old.claim.state }
-        ensures is { Some state ≡ self.new.claim.state }
-    {
-        mem::replace(self.claim.state_mut(), state)
     }
 }

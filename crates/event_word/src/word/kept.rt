@@ -1,5 +1,5 @@
 //! What a lock keeps behind its word.
-ghost use Rattle.std.specs.Prelude.{◌≡◌, ◌^◌, ◌<◌, ℕ, false};
+ghost use Rattle.std.specs.Prelude.{◌≡◌, ◌^◌, ◌<◌, ℕ, false, true};
 ghost use Rattle.event_word.specs.Rules.{Rules};
 
 use event_queue::WakeSink;
@@ -18,14 +18,15 @@ pub trait Kept: Sized {
         ensures fits { rules.fits result }
         ensures promised { rules.promised result self.now }
         ensures tells { rules.tells result self.now }
-        ensures taken { rules.taken result ≡ rules.taken number };
+        ensures counts { rules.counts result ≡ rules.counts number };
 
     /// Notifies those that wait of what is free by this number. Returns whether somebody waits still.
     fn settle<K: WakeSink<Task>>(&mut self, number: u64, sink: &mut K) -> bool
         requires { (number < 2 ^ 62) × rules.fits number × rules.promised number self.old
             × rules.tells number self.old }
         ensures stands { rules.stands number self.new }
-        ensures quiet { result ≡ false → rules.quiet self.new };
+        ensures quiet { result ≡ false → rules.quiet self.new }
+        ensures crowded { result ≡ true → rules.quiet self.new → ⊥ };
 
     // What stands is promised.
     ghost promises: { (number : ℕ) (state : Self) → rules.stands number state → rules.promised number state };

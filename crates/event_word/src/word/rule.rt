@@ -4,18 +4,16 @@ ghost use Rattle.event_word.specs.Word.{Holds, changed, counts_of, entered, look
 use super::kept::Kept;
 use event_slot::{Ruled, Tells, Trades};
 use std::marker::PhantomData;
-use std::sync::Mutex;
 
 /// What a seat knows: the number that it saw or left last while it has the state out.
 pub struct View {
     pub number: Option<u64>,
 }
 
-/// Where a lock's value lies while nobody has it. A `&` to it lends nothing, so a lock may be shared whose value may not: its mutex
-/// is never locked.
+/// A lock's value, where it lies.
 #[derive(Drop)]
 pub struct Place<V> {
-    pub(crate) value: Mutex<Option<V>>,
+    pub value: V,
 }
 
 impl<S: Kept, V> Ruled<S> for Place<V> {

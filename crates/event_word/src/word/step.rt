@@ -34,7 +34,7 @@ impl Step {
 impl<S: Kept, V> Word<S, V> {
     /// Changes the number where nobody has to be notified, if the word is as it was seen.
     #[inline(always)]
-    #[tactic(auto, using(crate::proofs::WordKeeps::changes))]
+    #[tactic(auto, using(crate::proofs::WordKeeps::changes, crate::proofs::WordKeeps::stays_may, crate::proofs::WordKeeps::stays_none))]
     pub fn change(&self, seat: &mut Seat, seen: u64, new: u64) -> Option<Step>
         requires seat { seat.old.slot ≡ self.now.slot.name }
         requires changes { Changes S.rules seen new × Stays S.rules seen new }

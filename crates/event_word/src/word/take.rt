@@ -14,7 +14,7 @@ use std::sync::Wait;
 const PARKED_BITS: u64 = 0x1_0000_0000;
 
 impl<S: Kept, V> Word<S, V> {
-    #[tactic(auto, using(crate::proofs::WordKeeps::takes_out))]
+    #[tactic(auto, using(crate::proofs::WordKeeps::takes_out, crate::proofs::WordKeeps::stays_may, crate::proofs::WordKeeps::stays_none))]
     pub(super) fn take_step(&self, seat: Seat, seen: u64, new: u64) -> Result<Held<'_, S, V>, Seat>
         requires seat { (seat.slot ≡ self.now.slot.name) × (seat.view.number ≡ None) }
         requires home { seen % 2 ≡ 0 }
@@ -81,7 +81,7 @@ impl<S: Kept, V> Word<S, V> {
     }
 
     // Marks the word, so that whoever puts the state back wakes one that sleeps.
-    #[tactic(auto, using(crate::proofs::WordKeeps::awaits))]
+    #[tactic(auto, using(crate::proofs::WordKeeps::awaits, crate::proofs::WordKeeps::stays_put, crate::proofs::WordKeeps::stays_may, crate::proofs::WordKeeps::stays_none))]
     fn await_step(&self, seat: &mut Seat, seen: u64, awaited: u64) -> bool
         requires seat { seat.old.slot ≡ self.now.slot.name }
         requires away { (seen % 2 ≡ 1) × (awaited % 2 ≡ 1) × (number_of awaited ≡ number_of seen) }

@@ -2,19 +2,38 @@
 ghost use Rattle.std.specs.Prelude.{◌≡◌, ◌%◌, ⊤, true, None, Some, IfErr, IfOk, IfSome, MatchOption};
 ghost use Rattle.event_word.specs.Free.{NoneFor, ServesTheStarving, ServesWith, unshut_of};
 ghost use Rattle.event_word.specs.Held.{HasState, IsOf};
-ghost use Rattle.event_word.specs.Word.{Changes, GivesBack, Lends, Takes, count, number_of};
+ghost use Rattle.event_word.specs.Word.{Changes, Passes, Takes, count, number_of};
 
 use super::held::Held;
 use super::kept::Kept;
-use super::rule::{Change, Move, Place, Take};
+use super::rule::Place;
 use super::serving::may_take;
 use super::{CROWDED, ONE, Parked, Seat, Word};
 use crate::competing::{CLOSED, Competing, OneValue, SHUT};
 use event_slot::Writing;
-use std::sync::Wait;
+use std::sync::{Mutex, Wait};
 
 /// The right to the value of a lock, and to where it lies.
 pub type Lent<'a, S, V> = Writing<'a, Place<V>, S>;
+
+/// Where the value of a mutex lies while nobody has it. A `&` to it lends nothing, so a mutex may be shared whose value may not: the
+/// standard mutex in it is never locked.
+#[derive(Drop)]
+pub struct Lodging<V> {
+    value: Mutex<Option<V>>,
+}
+
+impl<V> Lodging<V> {
+    /// With this value.
+    pub fn new(value: V) -> Self {
+        Lodging {
+            value: Mutex::new(Some(value)),
+        }
+    }
+}
+
+/// The number while the value is parked.
+const PARKED: u64 = CLOSED;
 
 /// Whether one has the right to the value by this word.
 #[inline(always)]
@@ -27,15 +46,14 @@ fn is_taken(seen: u64) -> bool
 impl<S: Kept, V> Word<S, V> {
     // Changes the number where nobody has to be notified, and takes the right to the value, if the word is as it was seen.
     #[inline(always)]
-    #[tactic(auto, using(crate::proofs::WordKeeps::changes))]
     fn lend(&self, seat: &mut Seat, seen: u64, new: u64) -> Option<Lent<'_, S, V>>
         requires seat { seat.old.slot ≡ self.now.slot.name }
-        requires changes { Changes S.rules seen new × Lends S.rules seen new }
+        requires changes { Changes S.rules seen new × Passes S.rules 0 2 seen new }
         ensures seat { (seat.new.slot ≡ seat.old.slot) × (seat.new.view ≡ seat.old.view) }
         ensures lends { IfSome result (λ lent. lent.name ≡ self.now.slot.name) }
     {
-        let (found, claim) = self.slot.claim().exchange::<Change>(seat, seen, new);
-        if found == seen {
+        let (made, claim) = self.turn(self.slot.claim(), seat, seen, new);
+        if made {
             return Some(claim.write());
         }
         claim.done();
@@ -44,7 +62,6 @@ impl<S: Kept, V> Word<S, V> {
 
     // The same, and gives it back. An error has it where the word is another.
     #[inline(always)]
-    #[tactic(auto, using(crate::proofs::WordKeeps::changes))]
     fn give_back<'a>(
         &self,
         lent: Lent<'a, S, V>,
@@ -53,12 +70,12 @@ impl<S: Kept, V> Word<S, V> {
         new: u64,
     ) -> Result<(), Lent<'a, S, V>>
         requires own { (lent.name ≡ self.now.slot.name) × (seat.old.slot ≡ self.now.slot.name) }
-        requires changes { Changes S.rules seen new × GivesBack S.rules new }
+        requires changes { Changes S.rules seen new × Passes S.rules 2 0 seen new }
         ensures seat { (seat.new.slot ≡ seat.old.slot) × (seat.new.view ≡ seat.old.view) }
         ensures own { IfErr result (λ again. again.name ≡ self.now.slot.name) }
     {
-        let (found, claim) = lent.claim().exchange::<Change>(seat, seen, new);
-        if found == seen {
+        let (made, claim) = self.turn(lent.claim(), seat, seen, new);
+        if made {
             claim.done();
             return Ok(());
         }
@@ -67,7 +84,6 @@ impl<S: Kept, V> Word<S, V> {
 
     // Takes the state out where it is at home, gives the right back, and changes the number by the same step. An error has the
     // right and the seat where the word was another.
-    #[tactic(auto, using(crate::proofs::WordKeeps::takes_out))]
     fn try_swap<'a>(
         &self,
         lent: Lent<'a, S, V>,
@@ -78,18 +94,16 @@ impl<S: Kept, V> Word<S, V> {
         requires own { lent.name ≡ self.now.slot.name }
         requires seat { (seat.slot ≡ self.now.slot.name) × (seat.view.number ≡ None) }
         requires home { seen % 2 ≡ 0 }
-        requires takes { Takes S.rules seen new × GivesBack S.rules new }
+        requires takes { Takes S.rules seen new × Passes S.rules 2 0 seen new }
         ensures ok { IfOk result (λ held. IsOf self.now.slot.name held
             × HasState (λ n q. (n ≡ number_of new) × S.rules.stands (number_of seen) q) held) }
         ensures err { IfErr result (λ again. (again.0.name ≡ self.now.slot.name)
             × (again.1.slot ≡ seat.slot) × (again.1.view ≡ seat.view)) }
     {
-        let mut seat = seat;
-        let (found, claim) = lent.claim().exchange::<Take>(&mut seat, seen, new);
-        if found == seen {
-            return Ok(Held { claim, seat });
+        match self.turn_out(lent.claim(), seat, seen, new) {
+            Ok(held) => Ok(held),
+            Err((claim, seat)) => Err((claim.write(), seat)),
         }
-        Err((claim.write(), seat))
     }
 }
 
@@ -98,18 +112,15 @@ impl<S: Kept, V> Held<'_, S, V> {
     fn lend<'b>(&mut self, word: &'b Word<S, V>, seen: u64, new: u64) -> Option<Lent<'b, S, V>>
         requires seat { IsOf word.now.slot.name self.old }
         requires state { HasState (λ _ _. ⊤) self.old }
-        requires takes { Takes S.rules seen new × Lends S.rules seen new }
+        requires takes { Takes S.rules seen new × Passes S.rules 0 2 seen new }
         ensures seat { IsOf word.now.slot.name self.new }
         ensures state { self.new.claim.state ≡ self.old.claim.state }
         ensures changes { MatchOption result (self.new.seat.view ≡ self.old.seat.view)
             (λ _. self.new.seat.view.number ≡ Some (number_of new)) }
         ensures lends { IfSome result (λ lent. lent.name ≡ word.now.slot.name) }
     {
-        let (found, claim) = word
-            .slot
-            .claim()
-            .exchange::<Move>(&mut self.seat, seen, new);
-        if found == seen {
+        let (made, claim) = self.turn(word, word.slot.claim(), seen, new);
+        if made {
             return Some(claim.write());
         }
         claim.done();
@@ -117,11 +128,11 @@ impl<S: Kept, V> Held<'_, S, V> {
     }
 }
 
-impl<V> Word<Competing<OneValue>, V> {
+impl<V> Word<Competing<OneValue>, Lodging<V>> {
     /// Takes the right to the value, if nobody has it and newcomers may. It is one load and one compare-exchange where no other
     /// thread comes between.
     #[inline(always)]
-    pub fn try_value(&self) -> Option<Lent<'_, Competing<OneValue>, V>>
+    pub fn try_value(&self) -> Option<Lent<'_, Competing<OneValue>, Lodging<V>>>
         ensures { IfSome result (λ lent. lent.name ≡ self.now.slot.name) }
     {
         let (seen, mut seat) = self.look();
@@ -136,7 +147,7 @@ impl<V> Word<Competing<OneValue>, V> {
 
     #[cold]
     #[inline(never)]
-    fn try_value_again(&self) -> Option<Lent<'_, Competing<OneValue>, V>>
+    fn try_value_again(&self) -> Option<Lent<'_, Competing<OneValue>, Lodging<V>>>
         ensures { IfSome result (λ lent. lent.name ≡ self.now.slot.name) }
     {
         let (mut seen, mut seat) = self.look();
@@ -155,7 +166,7 @@ impl<V> Word<Competing<OneValue>, V> {
     /// Gives the right back, and notifies the first that waits, if one does. It does not wait for the state: whoever has that out
     /// notifies. It is one load and one compare-exchange where nobody waits.
     #[inline(always)]
-    pub fn give_value<R: Wait>(&self, rt: &R, lent: Lent<'_, Competing<OneValue>, V>)
+    pub fn give_value<R: Wait>(&self, rt: &R, lent: Lent<'_, Competing<OneValue>, Lodging<V>>)
         requires { lent.name ≡ self.now.slot.name }
     {
         let (seen, mut seat) = self.look();
@@ -172,7 +183,7 @@ impl<V> Word<Competing<OneValue>, V> {
     // The word says that one has the right, as long as one has.
     #[cold]
     #[inline(never)]
-    fn give_value_slowly<R: Wait>(&self, rt: &R, lent: Lent<'_, Competing<OneValue>, V>)
+    fn give_value_slowly<R: Wait>(&self, rt: &R, lent: Lent<'_, Competing<OneValue>, Lodging<V>>)
         requires { lent.name ≡ self.now.slot.name }
     {
         let mut lent = lent;
@@ -209,9 +220,9 @@ impl<V> Word<Competing<OneValue>, V> {
     pub fn take_value<R: Wait>(
         &self,
         rt: &R,
-        held: &mut Held<'_, Competing<OneValue>, V>,
+        held: &mut Held<'_, Competing<OneValue>, Lodging<V>>,
         notified: bool,
-    ) -> Option<Lent<'_, Competing<OneValue>, V>>
+    ) -> Option<Lent<'_, Competing<OneValue>, Lodging<V>>>
         requires seat { IsOf self.now.slot.name held.old }
         requires serves { HasState (λ n q. ServesWith (count notified) n q.line) held.old }
         ensures seat { IsOf self.now.slot.name held.new }
@@ -232,7 +243,7 @@ impl<V> Word<Competing<OneValue>, V> {
     }
 
     /// Gives up the right to where the value lies, and keeps the value.
-    pub fn park<R: Wait>(&self, rt: &R, lent: Lent<'_, Competing<OneValue>, V>) -> Parked
+    pub fn park<R: Wait>(&self, rt: &R, lent: Lent<'_, Competing<OneValue>, Lodging<V>>) -> Parked
         requires { lent.name ≡ self.now.slot.name }
         ensures { result ≡ self.now.slot.name }
     {
@@ -240,7 +251,7 @@ impl<V> Word<Competing<OneValue>, V> {
         let (mut seen, mut seat) = self.look();
         for _ in rt.forever() {
             if is_taken(seen) {
-                match self.give_back(lent, &mut seat, seen, seen + CLOSED * ONE) {
+                match self.give_back(lent, &mut seat, seen, seen + PARKED * ONE) {
                     Ok(()) => return Parked::new(&seat),
                     Err(again) => lent = again,
                 }
@@ -251,15 +262,19 @@ impl<V> Word<Competing<OneValue>, V> {
     }
 
     /// Takes the right again, to put the value back.
-    pub fn unpark<R: Wait>(&self, rt: &R, parked: Parked) -> Lent<'_, Competing<OneValue>, V>
+    pub fn unpark<R: Wait>(
+        &self,
+        rt: &R,
+        parked: Parked,
+    ) -> Lent<'_, Competing<OneValue>, Lodging<V>>
         requires { parked ≡ self.now.slot.name }
         ensures { result.name ≡ self.now.slot.name }
     {
         parked.end();
         let (mut seen, mut seat) = self.look();
         for _ in rt.forever() {
-            if seen / ONE % SHUT == CLOSED {
-                if let Some(lent) = self.lend(&mut seat, seen, seen - CLOSED * ONE) {
+            if seen / ONE % SHUT == PARKED {
+                if let Some(lent) = self.lend(&mut seat, seen, seen - PARKED * ONE) {
                     return lent;
                 }
             }
@@ -270,31 +285,28 @@ impl<V> Word<Competing<OneValue>, V> {
 
     /// The value, to be changed where it lies, once nobody shares the lock. `None` says that it is with a guard that was forgotten.
     pub fn get_mut(&mut self) -> Option<&mut V> {
-        self.slot.get_mut().value.get_mut().as_mut()
+        self.value_mut().value.get_mut().as_mut()
     }
 
     /// The value. `None` says that it is with a guard that was forgotten.
     pub fn into_value(self) -> Option<V> {
-        let Word { slot } = self;
-        let (place, line) = slot.into_inner();
-        drop(line);
-        place.value.into_inner()
+        self.into_inner().value.into_inner()
     }
 }
 
 /// Moves the value out of its place. Whoever had it put it back before the right, so it is there; but a slot says nothing of the
 /// value that a writer finds, so `None` is not proved to be impossible.
 #[inline(always)]
-pub fn take_out<S: Kept, V>(lent: &mut Lent<'_, S, V>) -> Option<V>
+pub fn take_out<S: Kept, V>(lent: &mut Lent<'_, S, Lodging<V>>) -> Option<V>
     ensures { lent.new.name ≡ lent.old.name }
 {
-    lent.get_mut().value.get_mut().take()
+    lent.get_mut().value.value.get_mut().take()
 }
 
 /// Moves a value into the place.
 #[inline(always)]
-pub fn put_in<S: Kept, V: Drop>(lent: &mut Lent<'_, S, V>, value: V)
+pub fn put_in<S: Kept, V: Drop>(lent: &mut Lent<'_, S, Lodging<V>>, value: V)
     ensures { lent.new.name ≡ lent.old.name }
 {
-    *lent.get_mut().value.get_mut() = Some(value);
+    *lent.get_mut().value.value.get_mut() = Some(value);
 }

@@ -1,6 +1,5 @@
-use Rattle.std.proofs.Common.{rules}
-use Rattle.event_word.proofs.WordKeeps.{moves}
+use Rattle.event_word.proofs.WordKeeps.{passed}
 use Rattle.event_word.proofs.word.held.Held.lend.Goals as goal
 
-pub exchange-found-requires-clause-keeps : goal.exchange-found-requires-clause-keeps
-exchange-found-requires-clause-keeps g c = (search rules, moves g.S.Kept.rules _ _ _ _ _ _ c.requires.state.2 c.requires.takes.0)
+pub write-requires : goal.write-requires
+write-requires g c = (passed g.S.Kept.rules 0 2 _ _ _ _ c.requires.takes.1 c.claim.ensures.2 (c.turn-made.ensures.made c.if-made.true).0, c.turn-made.ensures.own.1)

@@ -1,7 +1,0 @@
-use Rattle.std.specs.Prelude.{◌≡◌, None}
-use Rattle.event_word.specs.Count.{IsCount}
-use Rattle.event_word.specs.Word.{number_of}
-use Rattle.event_word.proofs.shares.steps.Word+Queues+Task+unit.count_out.Given as goal
-
-abbrev pub invariant-loop : goal.invariant-loop
-invariant-loop g l = (l.seat.slot ≡ l.initial.seat.slot) × (l.seat.view.number ≡ None) × IsCount (number_of l.seen)

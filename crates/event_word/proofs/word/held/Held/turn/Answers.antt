@@ -1,0 +1,6 @@
+use Rattle.std.proofs.Common.{rules}
+use Rattle.event_word.proofs.WordKeeps.{moves}
+use Rattle.event_word.proofs.word.held.Held.turn.Goals as goal
+
+pub exchange-found-requires-clause-keeps : goal.exchange-found-requires-clause-keeps
+exchange-found-requires-clause-keeps g c = (search rules, moves g.S.Kept.rules _ _ _ _ _ _ c.requires.state.2 c.requires.takes)

@@ -1,0 +1,93 @@
+//! Steps on the number of a word by one who has, gets or gives up a right to the value.
+ghost use Rattle.std.specs.Prelude.{◌≡◌, ◌%◌, ⊤, None, Some, false, true, IfErr, IfOk};
+ghost use Rattle.event_slot.specs.Ruling.{Becomes, MayTurn};
+ghost use Rattle.event_word.specs.Held.{HasState, IsOf};
+ghost use Rattle.event_word.specs.Word.{Changes, Passes, Takes, counts_of, number_of};
+
+use super::held::Held;
+use super::kept::Kept;
+use super::rule::{Change, Move, Place, Take};
+use super::{Seat, Word};
+use event_slot::Claim;
+
+impl<S: Kept, V> Word<S, V> {
+    // Makes the word another, if it is as it was seen, and nobody has to be notified. Returns whether it was, and what one has then.
+    #[inline(always)]
+    #[tactic(auto, using(crate::proofs::WordKeeps::changes))]
+    pub(crate) fn turn<'a>(
+        &self,
+        claim: Claim<'a, Place<V>, S>,
+        seat: &mut Seat,
+        seen: u64,
+        new: u64,
+    ) -> (bool, Claim<'a, Place<V>, S>)
+        requires own { (claim.name ≡ self.now.slot.name) × (claim.state ≡ None)
+            × (seat.old.slot ≡ self.now.slot.name) }
+        requires may { MayTurn claim.right (counts_of S.rules seen) (counts_of S.rules new) }
+        requires changes { Changes S.rules seen new }
+        ensures own { (result.1.name ≡ self.now.slot.name) × (result.1.state ≡ None) }
+        ensures seat { (seat.new.slot ≡ seat.old.slot) × (seat.new.view ≡ seat.old.view) }
+        ensures made { result.0 ≡ true → Becomes claim.entry.right (counts_of S.rules seen)
+            (counts_of S.rules new) result.1.right }
+        ensures stays { result.0 ≡ false → result.1.right ≡ claim.entry.right }
+    {
+        let (found, claim) = claim.exchange::<Change>(seat, seen, new);
+        (found == seen, claim)
+    }
+
+    // The same by a step that takes the state out where it is at home, and with which the right ends. An error has the claim and the
+    // seat where the word was another.
+    #[tactic(auto, using(crate::proofs::WordKeeps::takes_out))]
+    pub(crate) fn turn_out<'a>(
+        &self,
+        claim: Claim<'a, Place<V>, S>,
+        seat: Seat,
+        seen: u64,
+        new: u64,
+    ) -> Result<Held<'a, S, V>, (Claim<'a, Place<V>, S>, Seat)>
+        requires own { (claim.name ≡ self.now.slot.name) × (claim.state ≡ None) }
+        requires seat { (seat.slot ≡ self.now.slot.name) × (seat.view.number ≡ None) }
+        requires home { seen % 2 ≡ 0 }
+        requires takes { Takes S.rules seen new × Passes S.rules claim.right 0 seen new }
+        ensures ok { IfOk result (λ held. IsOf self.now.slot.name held
+            × HasState (λ n q. (n ≡ number_of new) × S.rules.stands (number_of seen) q) held) }
+        ensures err { IfErr result (λ again. (again.0.name ≡ self.now.slot.name)
+            × (again.0.right ≡ claim.entry.right) × (again.0.state ≡ None)
+            × (again.1.slot ≡ seat.slot) × (again.1.view ≡ seat.view)) }
+    {
+        let mut seat = seat;
+        let (found, claim) = claim.exchange::<Take>(&mut seat, seen, new);
+        if found == seen {
+            return Ok(Held { claim, seat });
+        }
+        Err((claim, seat))
+    }
+}
+
+impl<S: Kept, V> Held<'_, S, V> {
+    // The same while the state is out, and stays so.
+    pub(crate) fn turn<'b>(
+        &mut self,
+        word: &Word<S, V>,
+        claim: Claim<'b, Place<V>, S>,
+        seen: u64,
+        new: u64,
+    ) -> (bool, Claim<'b, Place<V>, S>)
+        requires seat { IsOf word.now.slot.name self.old }
+        requires state { HasState (λ _ _. ⊤) self.old }
+        requires takes { Takes S.rules seen new }
+        requires own { (claim.name ≡ word.now.slot.name) × (claim.state ≡ None) }
+        requires may { MayTurn claim.right (counts_of S.rules seen) (counts_of S.rules new) }
+        ensures seat { IsOf word.now.slot.name self.new }
+        ensures state { self.new.claim.state ≡ self.old.claim.state }
+        ensures own { (result.1.name ≡ word.now.slot.name) × (result.1.state ≡ None) }
+        ensures made { result.0 ≡ true → Becomes claim.entry.right (counts_of S.rules seen)
+            (counts_of S.rules new) result.1.right
+            × (self.new.seat.view.number ≡ Some (number_of new)) }
+        ensures stays { result.0 ≡ false → (result.1.right ≡ claim.entry.right)
+            × (self.new.seat.view ≡ self.old.seat.view) }
+    {
+        let (found, claim) = claim.exchange::<Move>(&mut self.seat, seen, new);
+        (found == seen, claim)
+    }
+}
