@@ -1,9 +1,10 @@
-//! Locks for threads and tasks, of which is proved in the code that runs that nobody waits in vain.
+//! Locks for threads and tasks, of which it is proved in the code that runs that nobody waits in vain.
 //!
 //! A semaphore, a mutex and a read-write lock are each a [`Word`](event_word::Word) of `event_word`, with its guards and waits.
 //! A barrier, a cell that is set once and a monitor are those of `event_monitor`. Read `semaphore.rt` first.
 #![tactic(auto)]
 
+mod lending;
 mod mutex;
 mod polled;
 mod rw_lock;

@@ -2,8 +2,8 @@
 ghost use Rattle.std.specs.Prelude.{◌≡◌, ◌<◌, IfSome, false, true};
 ghost use Rattle.event_wait.specs.Attempted.{Attempts, OnDone, OnRefused, OnUndone, key_of};
 ghost use Rattle.event_word.specs.Contender.{coming_of, losses_after};
-ghost use Rattle.event_word.specs.declared.contender.Coming.TheVariants.{Notified};
-ghost use Rattle.event_word.specs.Free.{ServesTheStarving, StandsIf, free_of};
+ghost use Rattle.event_word.specs.declared.contender.Coming.TheVariants.{New, Notified};
+ghost use Rattle.event_word.specs.Free.{NoneFor, ServesTheStarving, StandsIf, free_of};
 ghost use Rattle.event_word.specs.Held.{HasState, IsOf};
 
 mod guard;
@@ -11,12 +11,14 @@ mod lender;
 mod lock;
 
 pub use self::guard::{MutexGuard, MutexGuardArc};
-use self::lender::Lending;
 pub use self::lock::{Lock, LockArc};
+use crate::lending::Lending;
 use crate::taker::Taker;
 use event_queue::{Key, TaskExchange};
 use event_wait::{Attempted, LockError, Obtaining, Shared, Task, WakerSource};
-use event_word::{Coming, Competing, Counts, Held, Lent, OneValue, Parked, Word, put_in, take_out};
+use event_word::{
+    Coming, Competing, Counts, Held, Lent, Lodging, OneValue, Parked, Word, put_in, take_out,
+};
 use std::alloc::{AllocError, Global};
 use std::fmt;
 use std::fmt::{Debug, Formatter};
@@ -36,12 +38,12 @@ use std::time::Clock;
 /// The value is in the lock while nobody has it, and else in the guard of the one that has it: a large one is better boxed.
 #[derive(Drop)]
 pub struct Mutex<T> {
-    word: Word<Competing<OneValue>, T>,
+    word: Word<Competing<OneValue>, Lodging<T>>,
     source: WakerSource,
 }
 
 /// The right to the value of a mutex, and to where it lies.
-pub(crate) type Right<'a, T> = Lent<'a, Competing<OneValue>, T>;
+pub(crate) type Right<'a, T> = Lent<'a, Competing<OneValue>, Lodging<T>>;
 
 /// The value of a mutex, moved out, and that it is to be put back.
 pub(crate) struct Loan<T> {
@@ -54,7 +56,7 @@ impl<T: Drop> Mutex<T> {
     pub fn new(alloc: Global, value: T) -> Self {
         let line = Competing::new(alloc);
         Mutex {
-            word: Word::new(1, line, value),
+            word: Word::new(1, line, Lodging::new(value)),
             source: WakerSource::new(),
         }
     }
@@ -64,6 +66,7 @@ impl<T: Drop> Mutex<T> {
         ensures nobody_waits_in_vain { result.notified < result.free → result.waiting ≡ 0 }
         ensures shuts { (0 < result.starving → result.is_shut ≡ true)
             × (result.is_shut ≡ true → 0 < result.starving) }
+        ensures never_closed { result.is_closed ≡ false }
     {
         self.word.counts(rt)
     }
@@ -132,7 +135,7 @@ impl<T: Drop> Mutex<T> {
         ensures { result.parked ≡ self.now.word.slot.name }
     {
         let mut lent = lent;
-        let value = found(rt, &mut lent);
+        let value = wait_for_value(rt, &mut lent);
         Loan {
             value,
             parked: self.word.park(rt, lent),
@@ -167,7 +170,7 @@ impl<T: Drop> Mutex<T> {
     fn attempt_held<'a, C, X: TaskExchange<Task, C>, R: Wait>(
         &'a self,
         rt: &R,
-        held: &mut Held<'_, Competing<OneValue>, T>,
+        held: &mut Held<'_, Competing<OneValue>, Lodging<T>>,
         place: &mut Option<Key>,
         losses: &mut u32,
         exchange: &X,
@@ -185,6 +188,9 @@ impl<T: Drop> Mutex<T> {
         ensures none { OnUndone result
             (HasState (λ _ q. coming_of place.old q.line ≡ Notified) held.old
             → HasState (λ n _. free_of n ≡ 0) held.new) }
+        ensures waits { OnUndone result
+            (HasState (λ _ q. coming_of place.old q.line ≡ New) held.old
+            → HasState (λ n _. NoneFor false n) held.new) }
         ensures refused { OnRefused result (losses.new ≡ losses.old) }
         ensures exchanged { Attempts (X.exchanged exchange.now) on.old result on.new }
     {
@@ -205,7 +211,7 @@ impl<T: Drop> Mutex<T> {
 
 // Moves the value out for one that waits.
 #[inline(always)]
-fn found<T, R: Wait>(rt: &R, lent: &mut Right<'_, T>) -> T
+fn wait_for_value<T, R: Wait>(rt: &R, lent: &mut Right<'_, T>) -> T
     ensures { lent.new.name ≡ lent.old.name }
 {
     for _ in rt.forever() {

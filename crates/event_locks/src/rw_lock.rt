@@ -1,5 +1,5 @@
 //! A read-write lock.
-ghost use Rattle.std.specs.Prelude.{◌≡◌, ◌+◌, ◌<◌, ◌≤◌};
+ghost use Rattle.std.specs.Prelude.{◌≡◌, ◌+◌, ◌<◌, ◌≤◌, IfSome};
 
 mod guard;
 mod requests;
@@ -8,12 +8,13 @@ mod waits;
 pub use self::guard::{RwLockReadGuard, RwLockReadGuardArc, RwLockWriteGuard, RwLockWriteGuardArc};
 use self::requests::Place;
 pub use self::waits::{Read, ReadArc, Write, WriteArc};
-use event_wait::{Borrowed, Obtaining, Shared, Task, WakerSource};
-use event_word::{Queues, RwLockCounts, Word, is_written, readers};
+use crate::lending::Lending;
+use event_wait::{Obtaining, Shared, Task, WakerSource};
+use event_word::{Queues, Reading, Right, RwLockCounts, Share, Word, Writing, is_written, readers};
 use std::alloc::{AllocError, Global};
 use std::fmt;
 use std::fmt::{Debug, Formatter};
-use std::sync::{self, Arc, Wait};
+use std::sync::{Arc, Wait};
 use std::time::Clock;
 
 /// A value that one writer at a time can use, or several readers. One that comes in where nobody waits makes one atomic step, and
@@ -23,20 +24,16 @@ use std::time::Clock;
 /// that wait; after them it is a writer's turn. So neither is passed over.
 #[derive(Drop)]
 pub struct RwLock<T> {
-    word: Word<Queues<Task>, ()>,
+    word: Word<Queues<Task>, T>,
     source: WakerSource,
-    // Nobody waits for this lock. Who may read or write it has been settled before, and whoever forgets a guard of it forgets
-    // the right to it as well.
-    value: sync::RwLock<T>,
 }
 
 impl<T> RwLock<T> {
     /// A lock round this value, which nobody has. It takes no memory: its queues do from `alloc`, once one waits.
     pub fn new(alloc: Global, value: T) -> Self {
         RwLock {
-            word: Word::new(0, Queues::new(alloc), ()),
+            word: Word::new(0, Queues::new(alloc), value),
             source: WakerSource::new(),
-            value: sync::RwLock::new(value),
         }
     }
 
@@ -45,8 +42,8 @@ impl<T> RwLock<T> {
     #[must_use = "a guard that is dropped at once gives back what it holds"]
     #[inline(always)]
     pub fn try_read<'a, R: Wait + Clock>(&'a self, rt: &'a R) -> Option<RwLockReadGuard<'a, T, R>> {
-        let share = self.word.attempt(rt)?;
-        Some(RwLockReadGuard::new(Borrowed { lock: self, rt }, share))
+        let grant = self.word.attempt(rt)?;
+        Some(RwLockReadGuard::new(Lending::new(self, rt), grant))
     }
 
     /// The value to be written, if nobody has it or waits for it. It takes no memory. It does not wait for the value; where others
@@ -57,8 +54,8 @@ impl<T> RwLock<T> {
         &'a self,
         rt: &'a R,
     ) -> Option<RwLockWriteGuard<'a, T, R>> {
-        let share = self.word.attempt(rt)?;
-        Some(RwLockWriteGuard::new(Borrowed { lock: self, rt }, share))
+        let grant = self.word.attempt(rt)?;
+        Some(RwLockWriteGuard::new(Lending::new(self, rt), grant))
     }
 
     /// As [`try_read`](RwLock::try_read), by a guard that may go to another thread. It returns an error if no share of the lock
@@ -72,7 +69,7 @@ impl<T> RwLock<T> {
         T: Drop,
     {
         let lock = Arc::try_clone(this)?;
-        let share = lock.word.attempt(&rt);
+        let share = lock.try_share::<Reading, R>(&rt);
         Ok(share.map(|share| RwLockReadGuardArc::new(Shared { lock, rt }, share)))
     }
 
@@ -87,20 +84,20 @@ impl<T> RwLock<T> {
         T: Drop,
     {
         let lock = Arc::try_clone(this)?;
-        let share = lock.word.attempt(&rt);
+        let share = lock.try_share::<Writing, R>(&rt);
         Ok(share.map(|share| RwLockWriteGuardArc::new(Shared { lock, rt }, share)))
     }
 
     /// A wait for the value to be read, until no writer has it or has come before.
     #[inline(always)]
     pub fn read<'a, R: Wait + Clock>(&'a self, rt: &'a R, alloc: Global) -> Read<'a, T, R> {
-        Read::new(Obtaining::new(Borrowed { lock: self, rt }, alloc, Place::new()))
+        Read::new(Obtaining::new(Lending::new(self, rt), alloc, Place::new()))
     }
 
     /// A wait for the value to be written, until nobody else has it.
     #[inline(always)]
     pub fn write<'a, R: Wait + Clock>(&'a self, rt: &'a R, alloc: Global) -> Write<'a, T, R> {
-        Write::new(Obtaining::new(Borrowed { lock: self, rt }, alloc, Place::new()))
+        Write::new(Obtaining::new(Lending::new(self, rt), alloc, Place::new()))
     }
 
     /// A wait for the value to be read, by a guard that may go to another thread. It returns an error if no share of the
@@ -150,17 +147,21 @@ impl<T> RwLock<T> {
 
     /// The value, without a lock.
     pub fn get_mut(&mut self) -> &mut T {
-        self.value.get_mut()
+        self.word.value_mut()
     }
 
     /// The value.
     pub fn into_inner(self) -> T {
-        let RwLock {
-            word: _,
-            source: _,
-            value,
-        } = self;
-        value.into_inner()
+        let RwLock { word, source: _ } = self;
+        word.into_inner()
+    }
+
+    // A right that is parked, for a guard that shares the lock, if one may have it now.
+    fn try_share<K: Right<Task>, R: Wait>(&self, rt: &R) -> Option<Share<K>>
+        ensures { IfSome result (λ share. share ≡ self.now.word.slot.name) }
+    {
+        let grant = self.word.attempt(rt)?;
+        Some(self.word.park(rt, grant))
     }
 }
 

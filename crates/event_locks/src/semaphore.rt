@@ -1,11 +1,11 @@
 //! A semaphore.
-ghost use Rattle.std.specs.Prelude.{◌≡◌, ◌+◌, ◌<◌, ◌≤◌, true, Ok, IfErr, IfOk, IfSome};
+ghost use Rattle.std.specs.Prelude.{false, ◌≡◌, ◌+◌, ◌<◌, ◌≤◌, true, Ok, IfErr, IfOk, IfSome};
 ghost use Rattle.event_wait.specs.Rounds.{gives_what, tries_for};
 ghost use Rattle.event_wait.specs.Attempted.{Attempts, OnDone, OnRefused, OnUndone, key_of};
 ghost use Rattle.event_locks.specs.Losses.{LosesOnceAtMost};
 ghost use Rattle.event_word.specs.Contender.{coming_of, losses_after};
-ghost use Rattle.event_word.specs.declared.contender.Coming.TheVariants.{Notified};
-ghost use Rattle.event_word.specs.Free.{IsClosed, ServesTheStarving, Stands, free_of};
+ghost use Rattle.event_word.specs.declared.contender.Coming.TheVariants.{New, Notified};
+ghost use Rattle.event_word.specs.Free.{IsClosed, NoneFor, ServesTheStarving, Stands, free_of};
 ghost use Rattle.event_word.specs.Held.{HasState, IsOf};
 ghost use Rattle.event_word.specs.Permit.{IsOne};
 
@@ -214,6 +214,9 @@ impl Semaphore {
         ensures none { OnUndone result
             (HasState (λ _ q. coming_of place.old q.line ≡ Notified) held.old
             → HasState (λ n _. free_of n ≡ 0) held.new) }
+        ensures waits { OnUndone result
+            (HasState (λ _ q. coming_of place.old q.line ≡ New) held.old
+            → HasState (λ n _. NoneFor false n) held.new) }
         ensures refused { OnRefused result (losses.new ≡ losses.old) }
         ensures exchanged { Attempts (X.exchanged exchange.now) on.old result on.new }
     {

@@ -3,8 +3,8 @@ ghost use Rattle.std.specs.Prelude.{◌≡◌, []};
 ghost use mir.Syntax.{named};
 ghost use Rattle.std.specs.Arc.{arc_value};
 
-use super::lender::Lending;
-use super::{Loan, Mutex, Right, found};
+use super::{Loan, Mutex, Right, wait_for_value};
+use crate::lending::Lending;
 use event_wait::Shared;
 use event_word::{Parked, take_out};
 use std::alloc::Global;
@@ -17,9 +17,9 @@ use std::time::Clock;
 
 // Where the value goes back.
 struct Place<'a, T, R> {
-    hold: Lending<'a, T, R>,
+    hold: Lending<'a, Mutex<T>, R>,
     lent: Right<'a, T>,
-    ghost own: { lent.name ≡ hold.lender.mutex.now.word.slot.name },
+    ghost own: { lent.name ≡ hold.lender.lock.now.word.slot.name },
 }
 
 // The same, with a share of the mutex, by which it is found again.
@@ -58,11 +58,11 @@ impl<T: Drop, R: Wait + Clock + Drop> Model for MutexGuardArc<T, R> {
 
 impl<'a, T: Drop, R: Wait + Clock> MutexGuard<'a, T, R> {
     #[inline(always)]
-    pub(crate) fn new(hold: Lending<'a, T, R>, lent: Right<'a, T>) -> Self
-        requires { lent.name ≡ hold.lender.mutex.now.word.slot.name }
+    pub(crate) fn new(hold: Lending<'a, Mutex<T>, R>, lent: Right<'a, T>) -> Self
+        requires { lent.name ≡ hold.lender.lock.now.word.slot.name }
     {
         let mut lent = lent;
-        let value = found(hold.rt, &mut lent);
+        let value = wait_for_value(hold.rt, &mut lent);
         MutexGuard {
             place: Place { hold, lent },
             value,
@@ -71,8 +71,8 @@ impl<'a, T: Drop, R: Wait + Clock> MutexGuard<'a, T, R> {
 
     /// The same, for one that waits for nothing: where the value does not lie in its place, the right goes back.
     #[inline(always)]
-    pub(crate) fn find(hold: Lending<'a, T, R>, lent: Right<'a, T>) -> Option<Self>
-        requires { lent.name ≡ hold.lender.mutex.now.word.slot.name }
+    pub(crate) fn find(hold: Lending<'a, Mutex<T>, R>, lent: Right<'a, T>) -> Option<Self>
+        requires { lent.name ≡ hold.lender.lock.now.word.slot.name }
     {
         let mut lent = lent;
         match take_out(&mut lent) {
@@ -81,7 +81,7 @@ impl<'a, T: Drop, R: Wait + Clock> MutexGuard<'a, T, R> {
                 value,
             }),
             None => {
-                hold.lender.mutex.word.give_value(hold.rt, lent);
+                hold.lender.lock.word.give_value(hold.rt, lent);
                 None
             }
         }
@@ -89,7 +89,7 @@ impl<'a, T: Drop, R: Wait + Clock> MutexGuard<'a, T, R> {
 
     /// The mutex.
     pub fn source(&self) -> &'a Mutex<T> {
-        self.place.hold.lender.mutex
+        self.place.hold.lender.lock
     }
 }
 
@@ -170,7 +170,7 @@ impl<T: Drop, R: Wait + Clock> Drop for MutexGuard<'_, T, R> {
     fn drop(self) {
         let MutexGuard { place, value } = self;
         let Place { hold, lent } = place;
-        hold.lender.mutex.give_back(hold.rt, lent, value);
+        hold.lender.lock.give_back(hold.rt, lent, value);
     }
 }
 

@@ -4,68 +4,27 @@ ghost use Rattle.event_wait.specs.Rounds.{gives_what, tries_for};
 ghost use Rattle.event_locks.specs.Losses.{LosesOnceAtMost};
 
 use super::{Loan, Mutex, Right};
+use crate::lending::Lender;
 use crate::taker::Taker;
 use event_queue::TaskExchange;
-use event_wait::{Attempted, Hold, LockError, Obtainable, TakesAny, Task, Waitable, WakerSource};
+use event_wait::{Attempted, LockError, Obtainable, TakesAny, Task, Waitable, WakerSource};
 use event_word::Contender;
 use std::sync::Wait;
-use std::time::Clock;
 
-/// A mutex that lends the place of its value, to a guard that borrows it.
-#[derive(Drop)]
-pub(crate) struct Lender<'a, T> {
-    pub(crate) mutex: &'a Mutex<T>,
-}
-
-/// Borrows a mutex that lends, and the runtime.
-#[derive(Drop)]
-pub(crate) struct Lending<'a, T, R> {
-    pub(crate) lender: Lender<'a, T>,
-    pub(crate) rt: &'a R,
-}
-
-impl<'a, T, R> Lending<'a, T, R> {
-    #[inline(always)]
-    pub(crate) fn new(mutex: &'a Mutex<T>, rt: &'a R) -> Self
-        ensures { result.lender.mutex.now ≡ mutex.now }
-    {
-        Lending {
-            lender: Lender { mutex },
-            rt,
-        }
-    }
-}
-
-impl<'a, T, R: Wait + Clock> Hold<Lender<'a, T>> for Lending<'a, T, R> {
-    ghost held = { λ hold. hold.lender };
-
-    type Runtime = R;
-
-    #[inline(always)]
-    fn lock(&self) -> &Lender<'a, T> {
-        &self.lender
-    }
-
-    #[inline(always)]
-    fn rt(&self) -> &R {
-        self.rt
-    }
-}
-
-impl<'a, T: Drop> Waitable<Taker> for Lender<'a, T> {
+impl<'a, T: Drop> Waitable<Taker> for Lender<'a, Mutex<T>> {
     type Output = Right<'a, T>;
 
     type Refusal = LockError;
 
     ghost rules = { λ lender.
-        gives_what (λ lent. lent.name ≡ lender.mutex.now.word.slot.name)
+        gives_what (λ lent. lent.name ≡ lender.lock.now.word.slot.name)
         (λ before after. LosesOnceAtMost before.contender after.contender) };
 
-    ghost source = { λ lender. lender.mutex.now.source };
+    ghost source = { λ lender. lender.lock.now.source };
 
     #[inline(always)]
     fn waker_source(&self) -> &WakerSource {
-        &self.mutex.source
+        &self.lock.source
     }
 
     fn attempt_or_wait<C, X: TaskExchange<Task, C>, R: Wait>(
@@ -75,7 +34,7 @@ impl<'a, T: Drop> Waitable<Taker> for Lender<'a, T> {
         exchange: &X,
         on: &mut C,
     ) -> Attempted<Right<'a, T>, LockError> {
-        let mutex = self.mutex;
+        let mutex = self.lock;
         let (_, mut held) = mutex.word.take(rt);
         let Contender { place, losses } = &mut request.contender;
         let attempted = mutex.attempt_held(rt, &mut held, place, losses, exchange, on);
@@ -88,7 +47,7 @@ impl<'a, T: Drop> Waitable<Taker> for Lender<'a, T> {
         rt: &R,
         request: &mut Taker,
     ) -> Result<Option<Right<'a, T>>, LockError> {
-        let word = &self.mutex.word;
+        let word = &self.lock.word;
         let (_, mut held) = word.take(rt);
         let coming = word.leave(&mut held, &mut request.contender.place).coming();
         let lent = word.take_value(rt, &mut held, coming.is_notified());
@@ -97,8 +56,8 @@ impl<'a, T: Drop> Waitable<Taker> for Lender<'a, T> {
     }
 }
 
-impl<'a, T: Drop> Obtainable<Taker> for Lender<'a, T> {
-    ghost trying = { λ lender. tries_for (λ lent. lent.name ≡ lender.mutex.now.word.slot.name) };
+impl<'a, T: Drop> Obtainable<Taker> for Lender<'a, Mutex<T>> {
+    ghost trying = { λ lender. tries_for (λ lent. lent.name ≡ lender.lock.now.word.slot.name) };
 
     #[inline(always)]
     fn is_waiting(&self, request: &Taker) -> bool {
@@ -107,13 +66,13 @@ impl<'a, T: Drop> Obtainable<Taker> for Lender<'a, T> {
 
     #[inline(always)]
     fn attempt<R: Wait>(&self, _rt: &R, _request: &mut Taker) -> Option<Right<'a, T>> {
-        let mutex = self.mutex;
+        let mutex = self.lock;
         mutex.word.try_value()
     }
 
     fn give_up<R: Wait>(&self, rt: &R, request: &mut Taker) {
         if request.is_waiting() {
-            let word = &self.mutex.word;
+            let word = &self.lock.word;
             let (_, mut held) = word.take(rt);
             word.leave(&mut held, &mut request.contender.place);
             word.put_back(rt, held);
@@ -121,7 +80,7 @@ impl<'a, T: Drop> Obtainable<Taker> for Lender<'a, T> {
     }
 }
 
-impl<T: Drop> TakesAny<Taker> for Lender<'_, T> {
+impl<T: Drop> TakesAny<Taker> for Lender<'_, Mutex<T>> {
     ghost all_fit = { λ _ _. tt };
 }
 
@@ -149,7 +108,7 @@ impl<T: Drop> Waitable<Taker> for Mutex<T> {
         exchange: &X,
         on: &mut C,
     ) -> Attempted<Loan<T>, LockError> {
-        let lender = Lender { mutex: self };
+        let lender = Lender { lock: self };
         match lender.attempt_or_wait(rt, request, exchange, on) {
             Attempted::Done(lent) => Attempted::Done(self.lend_out(rt, lent)),
             Attempted::Waits(key) => Attempted::Waits(key),
@@ -159,7 +118,7 @@ impl<T: Drop> Waitable<Taker> for Mutex<T> {
     }
 
     fn leave<R: Wait>(&self, rt: &R, request: &mut Taker) -> Result<Option<Loan<T>>, LockError> {
-        let lender = Lender { mutex: self };
+        let lender = Lender { lock: self };
         match lender.leave(rt, request) {
             Ok(Some(lent)) => Ok(Some(self.lend_out(rt, lent))),
             Ok(None) => Ok(None),
@@ -182,7 +141,7 @@ impl<T: Drop> Obtainable<Taker> for Mutex<T> {
     }
 
     fn give_up<R: Wait>(&self, rt: &R, request: &mut Taker) {
-        let lender = Lender { mutex: self };
+        let lender = Lender { lock: self };
         lender.give_up(rt, request);
     }
 }

@@ -1,10 +1,9 @@
 //! Waits for the value of a mutex.
-ghost use Rattle.std.specs.Prelude.{◌≡◌, IsSomeAnd};
-ghost use Rattle.std.specs.Arc.{arc_value};
+ghost use Rattle.event_locks.specs.Awaited.{lock_arc_awaits, lock_awaits};
 
 use super::Mutex;
 use super::guard::{MutexGuard, MutexGuardArc};
-use super::lender::{Lender, Lending};
+use crate::lending::{Lender, Lending};
 use crate::polled::guarded;
 use crate::taker::Taker;
 use event_wait::{LockError, Obtaining, Shared};
@@ -22,7 +21,7 @@ use std::time::{Clock, Duration, Instant};
 #[must_use = "nothing is asked for until it is waited on or polled"]
 #[derive(Drop)]
 pub struct Lock<'a, T: Drop, R: Wait + Clock> {
-    obtaining: Obtaining<Lender<'a, T>, Taker, Lending<'a, T, R>>,
+    obtaining: Obtaining<Lender<'a, Mutex<T>>, Taker, Lending<'a, Mutex<T>, R>>,
 }
 
 /// A wait for the value of a mutex that shares the mutex, and so may go to another thread; else as [`Lock`].
@@ -34,7 +33,9 @@ pub struct LockArc<T: Drop, R: Wait + Clock + Drop> {
 
 impl<'a, T: Drop, R: Wait + Clock> Lock<'a, T, R> {
     #[inline(always)]
-    pub(crate) fn new(obtaining: Obtaining<Lender<'a, T>, Taker, Lending<'a, T, R>>) -> Self {
+    pub(crate) fn new(
+        obtaining: Obtaining<Lender<'a, Mutex<T>>, Taker, Lending<'a, Mutex<T>, R>>,
+    ) -> Self {
         Lock { obtaining }
     }
 
@@ -102,7 +103,7 @@ impl<T: Drop, R: Wait + Clock + Drop> LockArc<T, R> {
 impl<'a, T: Drop, R: Wait + Clock> Future for Lock<'a, T, R> {
     type Output = Result<MutexGuard<'a, T, R>, LockError>;
 
-    ghost needs = { λ lock s. IsSomeAnd lock.obtaining.hold (λ hold. s ≡ hold.lender.mutex.now.source) };
+    ghost needs = { lock_awaits };
 
     fn poll(&mut self, cx: &mut Context<'_>) -> Poll<Result<MutexGuard<'a, T, R>, LockError>> {
         guarded(self.obtaining.poll(cx), MutexGuard::new)
@@ -112,8 +113,7 @@ impl<'a, T: Drop, R: Wait + Clock> Future for Lock<'a, T, R> {
 impl<T: Drop, R: Wait + Clock + Drop> Future for LockArc<T, R> {
     type Output = Result<MutexGuardArc<T, R>, LockError>;
 
-    ghost needs = { λ lock s. IsSomeAnd lock.obtaining.hold
-        (λ hold. s ≡ (arc_value hold.lock).source) };
+    ghost needs = { lock_arc_awaits };
 
     fn poll(&mut self, cx: &mut Context<'_>) -> Poll<Result<MutexGuardArc<T, R>, LockError>> {
         guarded(self.obtaining.poll(cx), MutexGuardArc::new)

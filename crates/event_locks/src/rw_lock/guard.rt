@@ -1,46 +1,47 @@
 //! The value of a read-write lock, with those that have it.
-ghost use Rattle.std.specs.Prelude.{◌≡◌};
+ghost use Rattle.std.specs.Prelude.{◌≡◌, MatchResult, Option, Some};
 ghost use Rattle.std.specs.Arc.{arc_value};
 ghost use Rattle.std.specs.Fn.{FnOnceReturnsAt, FnOnceReturnsAtMut};
 ghost use Rattle.event_locks.specs.Reads.{Reads};
 ghost use Rattle.event_monitor.specs.Watched.{Changes};
+ghost use Rattle.event_word.specs.Held.{placed};
 
 use super::RwLock;
-use event_wait::{Borrowed, Shared};
-use event_word::{Reading, Share, Writing};
+use crate::lending::Lending;
+use event_slot::{Tied, Ties};
+use event_wait::{Shared, Task};
+use event_word::{Grant, Place, Queues, Reading, Right, Share, Writing};
 use std::fmt;
 use std::fmt::{Debug, Formatter};
 use std::marker::Model;
 use std::ops::{Deref, DerefMut};
-use std::sync::{self, Wait};
+use std::sync::Wait;
 use std::time::Clock;
 
-// Where a right goes back.
-struct Held<'a, T, R, K> {
-    hold: Borrowed<'a, RwLock<T>, R>,
-    share: Share<K>,
-    ghost own: { share ≡ hold.lock.now.word.slot.name },
+// Where a right to write goes back.
+impl<T, R> Ties for Lending<'_, RwLock<T>, R> {
+    ghost ties = { λ hold name. hold.lender.lock.now.word.slot.name ≡ name };
 }
 
-// The same, with a share of the lock.
+// The right of one that shares the lock, and where it goes back.
 struct HeldArc<T, R, K> {
     hold: Shared<RwLock<T>, R>,
     share: Share<K>,
     ghost own: { share ≡ (arc_value hold.lock).word.slot.name },
 }
 
-/// The value of a read-write lock, to be read. Dropping the guard ends the reading. A contract sees the value.
+/// The value of a read-write lock, to be read where it lies. Dropping the guard ends the reading. A contract sees the value as `Some`.
 #[must_use = "a guard that is dropped at once ends the reading"]
 pub struct RwLockReadGuard<'a, T, R: Wait + Clock> {
-    value: sync::RwLockReadGuard<'a, T>,
-    held: Held<'a, T, R, Reading>,
+    grant: Grant<'a, Reading, T>,
+    hold: Lending<'a, RwLock<T>, R>,
+    ghost own: { grant.claim.name ≡ hold.lender.lock.now.word.slot.name },
 }
 
-/// The value of a read-write lock, to be written. Dropping the guard ends the writing. A contract sees the value.
+/// The value of a read-write lock, to be written where it lies. Dropping the guard ends the writing. A contract sees the value.
 #[must_use = "a guard that is dropped at once ends the writing"]
 pub struct RwLockWriteGuard<'a, T, R: Wait + Clock> {
-    value: sync::RwLockWriteGuard<'a, T>,
-    held: Held<'a, T, R, Writing>,
+    tied: Tied<'a, Place<T>, Queues<Task>, Lending<'a, RwLock<T>, R>>,
 }
 
 /// The right to read the value of a read-write lock, which shares the lock and so may go to another thread. Dropping it ends the
@@ -58,72 +59,54 @@ pub struct RwLockWriteGuardArc<T: Drop, R: Wait + Clock + Drop> {
 }
 
 impl<'a, T, R: Wait + Clock> Model for RwLockReadGuard<'a, T, R> {
-    ghost use Rattle.std.specs.Sync.RwLock.{read_guard_value};
+    ghost Value = { Option T };
 
-    ghost Value = { T };
-
-    ghost view = { λ guard. read_guard_value guard.value };
+    ghost view = { λ guard. placed guard.grant.claim.value };
 }
 
 impl<'a, T, R: Wait + Clock> Model for RwLockWriteGuard<'a, T, R> {
-    ghost use Rattle.std.specs.Sync.RwLock.{write_guard_value};
-
     ghost Value = { T };
 
-    ghost view = { λ guard. write_guard_value guard.value };
+    ghost view = { λ guard. guard.tied.value.value };
 }
 
 impl<'a, T, R: Wait + Clock> RwLockReadGuard<'a, T, R> {
     #[inline(always)]
-    pub(crate) fn new(hold: Borrowed<'a, RwLock<T>, R>, share: Share<Reading>) -> Self
-        requires { share ≡ hold.lock.now.word.slot.name }
+    pub(crate) fn new(hold: Lending<'a, RwLock<T>, R>, grant: Grant<'a, Reading, T>) -> Self
+        requires { grant.claim.name ≡ hold.lender.lock.now.word.slot.name }
     {
-        let value = match hold.lock.value.try_read() {
-            Some(value) => value,
-            None => hold.lock.value.read(hold.rt),
-        };
-        RwLockReadGuard {
-            value,
-            held: Held { hold, share },
-        }
+        RwLockReadGuard { grant, hold }
     }
 
     /// Writes from here on, if nobody else reads and no writer waits; else the guard comes back. Where others wait it may wait
     /// for the queues. It takes no memory.
     pub fn try_upgrade(self) -> Result<RwLockWriteGuard<'a, T, R>, RwLockReadGuard<'a, T, R>> {
-        let RwLockReadGuard { value, held } = self;
-        let Held { hold, share } = held;
-        drop(value);
-        match hold.lock.word.try_upgrade(hold.rt, share) {
-            Ok(share) => Ok(RwLockWriteGuard::new(hold, share)),
-            Err(share) => Err(RwLockReadGuard::new(hold, share)),
+        let RwLockReadGuard { grant, hold } = self;
+        match hold.lender.lock.word.try_upgrade(hold.rt, grant) {
+            Ok(grant) => Ok(RwLockWriteGuard::new(hold, grant)),
+            Err(grant) => Err(RwLockReadGuard::new(hold, grant)),
         }
     }
 }
 
 impl<'a, T, R: Wait + Clock> RwLockWriteGuard<'a, T, R> {
     #[inline(always)]
-    pub(crate) fn new(hold: Borrowed<'a, RwLock<T>, R>, share: Share<Writing>) -> Self
-        requires { share ≡ hold.lock.now.word.slot.name }
+    pub(crate) fn new(hold: Lending<'a, RwLock<T>, R>, grant: Grant<'a, Writing, T>) -> Self
+        requires { grant.claim.name ≡ hold.lender.lock.now.word.slot.name }
     {
-        let value = match hold.lock.value.try_write() {
-            Some(value) => value,
-            None => hold.lock.value.write(hold.rt),
-        };
         RwLockWriteGuard {
-            value,
-            held: Held { hold, share },
+            tied: grant.write().tie(hold),
         }
     }
 
     /// Reads from here on, with no writer in between. All readers that wait are let in. Where others wait it may wait for the
     /// queues.
     pub fn downgrade(self) -> RwLockReadGuard<'a, T, R> {
-        let RwLockWriteGuard { value, held } = self;
-        let Held { hold, share } = held;
-        drop(value);
-        let share = hold.lock.word.downgrade(hold.rt, share);
-        RwLockReadGuard::new(hold, share)
+        let RwLockWriteGuard { tied } = self;
+        let (writing, hold) = tied.untie();
+        let grant = Grant::from_writing(writing);
+        let grant = hold.lender.lock.word.downgrade(hold.rt, grant);
+        RwLockReadGuard::new(hold, grant)
     }
 }
 
@@ -136,24 +119,25 @@ impl<T: Drop, R: Wait + Clock + Drop> RwLockReadGuardArc<T, R> {
         }
     }
 
-    /// Lends the value, and returns what `read` returns. It waits for nobody: who may read has been settled before.
+    /// Lends the value, and returns what `read` returns. Who may read has been settled before: it waits for no writer, and where others
+    /// wait it may wait for the queues. Meanwhile the guard is counted as two readers.
     pub fn with<O, F: FnOnce(&T) -> O>(&self, read: F) -> O
         requires { F.IsAlwaysCallable read }
         ensures { Reads F.FnOnce read result }
     {
         let hold = &self.held.hold;
-        let lock = &hold.lock.value;
-        match lock.try_read() {
-            Some(value) => lend(&*value, read),
-            None => lend(&*lock.read(&hold.rt), read),
-        }
+        let word = &hold.lock.word;
+        let grant = word.read_again(&hold.rt, &self.held.share);
+        let answer = lend(grant.get(), read);
+        word.end(&hold.rt, grant);
+        answer
     }
 
     /// As [`RwLockReadGuard::try_upgrade`].
     pub fn try_upgrade(self) -> Result<RwLockWriteGuardArc<T, R>, RwLockReadGuardArc<T, R>> {
         let RwLockReadGuardArc { held } = self;
         let HeldArc { hold, share } = held;
-        match hold.lock.word.try_upgrade(&hold.rt, share) {
+        match hold.lock.upgraded(&hold.rt, share) {
             Ok(share) => Ok(RwLockWriteGuardArc::new(hold, share)),
             Err(share) => Err(RwLockReadGuardArc::new(hold, share)),
         }
@@ -174,20 +158,67 @@ impl<T: Drop, R: Wait + Clock + Drop> RwLockWriteGuardArc<T, R> {
         requires { F.IsAlwaysCallable write }
         ensures { Changes F.FnOnce write result }
     {
-        let hold = &self.held.hold;
-        let lock = &hold.lock.value;
-        match lock.try_write() {
-            Some(mut value) => lend_mut(&mut *value, write),
-            None => lend_mut(&mut *lock.write(&hold.rt), write),
-        }
+        let HeldArc { hold, share } = &self.held;
+        hold.lock.lend_to(&hold.rt, share, write)
     }
 
     /// As [`RwLockWriteGuard::downgrade`].
     pub fn downgrade(self) -> RwLockReadGuardArc<T, R> {
         let RwLockWriteGuardArc { held } = self;
         let HeldArc { hold, share } = held;
-        let share = hold.lock.word.downgrade(&hold.rt, share);
+        let share = hold.lock.downgraded(&hold.rt, share);
         RwLockReadGuardArc::new(hold, share)
+    }
+}
+
+impl<T> RwLock<T> {
+    // The steps of guards that share the lock.
+    fn lend_to<R: Wait, O, F: FnOnce(&mut T) -> O>(
+        &self,
+        rt: &R,
+        share: &Share<Writing>,
+        write: F,
+    ) -> O
+        requires own { share.now ≡ self.now.word.slot.name }
+        requires callable { F.IsAlwaysCallable write }
+        ensures { Changes F.FnOnce write result }
+    {
+        let mut writing = self.word.write_again(rt, share).write();
+        let answer = lend_mut(&mut writing.get_mut().value, write);
+        self.word.park_again(rt, Grant::from_writing(writing));
+        answer
+    }
+
+    fn upgraded<R: Wait>(
+        &self,
+        rt: &R,
+        share: Share<Reading>,
+    ) -> Result<Share<Writing>, Share<Reading>>
+        requires { share ≡ self.now.word.slot.name }
+        ensures { MatchResult result (λ writes. writes ≡ self.now.word.slot.name)
+            (λ reads. reads ≡ self.now.word.slot.name) }
+    {
+        let grant = self.word.unpark(rt, share);
+        match self.word.try_upgrade(rt, grant) {
+            Ok(grant) => Ok(self.word.park(rt, grant)),
+            Err(grant) => Err(self.word.park(rt, grant)),
+        }
+    }
+
+    fn downgraded<R: Wait>(&self, rt: &R, share: Share<Writing>) -> Share<Reading>
+        requires { share ≡ self.now.word.slot.name }
+        ensures { result ≡ self.now.word.slot.name }
+    {
+        let grant = self.word.unpark(rt, share);
+        let grant = self.word.downgrade(rt, grant);
+        self.word.park(rt, grant)
+    }
+
+    fn ended<K: Right<Task>, R: Wait>(&self, rt: &R, share: Share<K>)
+        requires { share ≡ self.now.word.slot.name }
+    {
+        let grant = self.word.unpark(rt, share);
+        self.word.end(rt, grant);
     }
 }
 
@@ -211,10 +242,11 @@ fn lend_mut<T, O, F: FnOnce(&mut T) -> O>(value: &mut T, write: F) -> O
 impl<T, R: Wait + Clock> Deref for RwLockReadGuard<'_, T, R> {
     type Target = T;
 
-    ghost deref_gives = { λ guard value. value ≡ guard };
+    ghost deref_gives = { λ guard value. Some value ≡ guard };
 
+    #[inline(always)]
     fn deref(&self) -> &T {
-        &self.value
+        self.grant.get()
     }
 }
 
@@ -223,37 +255,38 @@ impl<T, R: Wait + Clock> Deref for RwLockWriteGuard<'_, T, R> {
 
     ghost deref_gives = { λ guard value. value ≡ guard };
 
+    #[inline(always)]
     fn deref(&self) -> &T {
-        &self.value
+        &self.tied.get().value
     }
 }
 
 impl<T, R: Wait + Clock> DerefMut for RwLockWriteGuard<'_, T, R> {
     ghost deref_mut_gives = { λ guard value. value ≡ guard };
 
+    #[inline(always)]
     fn deref_mut(&mut self) -> &mut T {
-        &mut self.value
+        &mut self.tied.get_mut().value
     }
 }
 
-// The value is given back before another one may come in.
 impl<T, R: Wait + Clock> Drop for RwLockReadGuard<'_, T, R> {
     #[inline(always)]
     fn drop(self) {
-        let RwLockReadGuard { value, held } = self;
-        let Held { hold, share } = held;
-        drop(value);
-        hold.lock.word.end(hold.rt, share);
+        let RwLockReadGuard { grant, hold } = self;
+        hold.lender.lock.word.end(hold.rt, grant);
     }
 }
 
 impl<T, R: Wait + Clock> Drop for RwLockWriteGuard<'_, T, R> {
     #[inline(always)]
     fn drop(self) {
-        let RwLockWriteGuard { value, held } = self;
-        let Held { hold, share } = held;
-        drop(value);
-        hold.lock.word.end(hold.rt, share);
+        let RwLockWriteGuard { tied } = self;
+        let (writing, hold) = tied.untie();
+        hold.lender
+            .lock
+            .word
+            .end(hold.rt, Grant::from_writing(writing));
     }
 }
 
@@ -261,7 +294,7 @@ impl<T: Drop, R: Wait + Clock + Drop> Drop for RwLockReadGuardArc<T, R> {
     fn drop(self) {
         let RwLockReadGuardArc { held } = self;
         let HeldArc { hold, share } = held;
-        hold.lock.word.end(&hold.rt, share);
+        hold.lock.ended(&hold.rt, share);
     }
 }
 
@@ -269,18 +302,18 @@ impl<T: Drop, R: Wait + Clock + Drop> Drop for RwLockWriteGuardArc<T, R> {
     fn drop(self) {
         let RwLockWriteGuardArc { held } = self;
         let HeldArc { hold, share } = held;
-        hold.lock.word.end(&hold.rt, share);
+        hold.lock.ended(&hold.rt, share);
     }
 }
 
 impl<T: Debug, R: Wait + Clock> Debug for RwLockReadGuard<'_, T, R> {
     fn fmt<W: fmt::Write>(&self, f: &mut Formatter<W>) -> fmt::Result {
-        Debug::fmt(&*self.value, f)
+        Debug::fmt(self.grant.get(), f)
     }
 }
 
 impl<T: Debug, R: Wait + Clock> Debug for RwLockWriteGuard<'_, T, R> {
     fn fmt<W: fmt::Write>(&self, f: &mut Formatter<W>) -> fmt::Result {
-        Debug::fmt(&*self.value, f)
+        Debug::fmt(&self.tied.get().value, f)
     }
 }

@@ -3,9 +3,10 @@ ghost use Rattle.std.specs.Prelude.{◌≡◌};
 ghost use Rattle.event_wait.specs.Rounds.{gives_what, tries_for};
 
 use super::RwLock;
+use crate::lending::Lender;
 use event_queue::{Key, RegisterResult, TaskExchange};
 use event_wait::{Attempted, LockError, Obtainable, TakesAny, Task, Waitable, WakerSource};
-use event_word::{Right, Share};
+use event_word::{Grant, Right, Share};
 use std::marker::{Model, PhantomData};
 use std::sync::Wait;
 
@@ -32,6 +33,87 @@ impl<K> Place<K> {
     }
 }
 
+impl<'a, T, K: Right<Task>> Waitable<Place<K>> for Lender<'a, RwLock<T>> {
+    type Output = Grant<'a, K, T>;
+
+    type Refusal = LockError;
+
+    ghost rules = { λ lender.
+        gives_what (λ grant. grant.claim.name ≡ lender.lock.now.word.slot.name)
+        (λ before after. after ≡ before) };
+
+    ghost source = { λ lender. lender.lock.now.source };
+
+    #[inline(always)]
+    fn waker_source(&self) -> &WakerSource {
+        &self.lock.source
+    }
+
+    fn attempt_or_wait<C, X: TaskExchange<Task, C>, R: Wait>(
+        &self,
+        rt: &R,
+        request: &mut Place<K>,
+        exchange: &X,
+        on: &mut C,
+    ) -> Attempted<Grant<'a, K, T>, LockError> {
+        let lock = self.lock;
+        let (_, mut held) = lock.word.take(rt);
+        let attempted = match request.key {
+            Some(key) => lock.word.come_waiting(rt, &mut held, key, exchange, on),
+            None => lock.word.come_newly(rt, &mut held, exchange, on),
+        };
+        request.key = attempted.key();
+        lock.word.put_back(rt, held);
+        attempted
+    }
+
+    fn leave<R: Wait>(
+        &self,
+        rt: &R,
+        request: &mut Place<K>,
+    ) -> Result<Option<Grant<'a, K, T>>, LockError> {
+        let lock = self.lock;
+        let (_, mut held) = lock.word.take(rt);
+        let grant = match request.key.take() {
+            Some(key) => lock.word.come_or_leave(rt, &mut held, key),
+            None => lock.word.count_newcomer(rt, &mut held),
+        };
+        lock.word.put_back(rt, held);
+        Ok(grant)
+    }
+}
+
+impl<'a, T, K: Right<Task>> Obtainable<Place<K>> for Lender<'a, RwLock<T>> {
+    ghost trying = { λ lender.
+        tries_for (λ grant. grant.claim.name ≡ lender.lock.now.word.slot.name) };
+
+    #[inline(always)]
+    fn is_waiting(&self, request: &Place<K>) -> bool {
+        request.key.is_some()
+    }
+
+    #[inline(always)]
+    fn attempt<R: Wait>(&self, rt: &R, _request: &mut Place<K>) -> Option<Grant<'a, K, T>> {
+        let lock = self.lock;
+        lock.word.attempt(rt)
+    }
+
+    // One that was let in goes, and the next is let in.
+    fn give_up<R: Wait>(&self, rt: &R, request: &mut Place<K>) {
+        if let Some(key) = request.key.take() {
+            let word = &self.lock.word;
+            let (_, mut held) = word.take(rt);
+            word.leave::<K>(&mut held, key);
+            word.put_back(rt, held);
+        }
+    }
+}
+
+impl<T, K: Right<Task>> TakesAny<Place<K>> for Lender<'_, RwLock<T>> {
+    ghost all_fit = { λ _ _. tt };
+}
+
+// The right of a guard that shares the lock is parked.
 impl<T, K: Right<Task>> Waitable<Place<K>> for RwLock<T> {
     type Output = Share<K>;
 
@@ -55,14 +137,13 @@ impl<T, K: Right<Task>> Waitable<Place<K>> for RwLock<T> {
         exchange: &X,
         on: &mut C,
     ) -> Attempted<Share<K>, LockError> {
-        let (_, mut held) = self.word.take(rt);
-        let attempted = match request.key {
-            Some(key) => self.word.come_waiting(rt, &mut held, key, exchange, on),
-            None => self.word.come_newly(rt, &mut held, exchange, on),
-        };
-        request.key = attempted.key();
-        self.word.put_back(rt, held);
-        attempted
+        let lender = Lender { lock: self };
+        match lender.attempt_or_wait(rt, request, exchange, on) {
+            Attempted::Done(grant) => Attempted::Done(self.word.park(rt, grant)),
+            Attempted::Waits(key) => Attempted::Waits(key),
+            Attempted::Absent => Attempted::Absent,
+            Attempted::Refused(error) => Attempted::Refused(error),
+        }
     }
 
     fn leave<R: Wait>(
@@ -70,13 +151,12 @@ impl<T, K: Right<Task>> Waitable<Place<K>> for RwLock<T> {
         rt: &R,
         request: &mut Place<K>,
     ) -> Result<Option<Share<K>>, LockError> {
-        let (_, mut held) = self.word.take(rt);
-        let share = match request.key.take() {
-            Some(key) => self.word.come_or_leave(rt, &mut held, key),
-            None => self.word.count_newcomer(rt, &mut held),
-        };
-        self.word.put_back(rt, held);
-        Ok(share)
+        let lender = Lender { lock: self };
+        match lender.leave(rt, request) {
+            Ok(Some(grant)) => Ok(Some(self.word.park(rt, grant))),
+            Ok(None) => Ok(None),
+            Err(error) => Err(error),
+        }
     }
 }
 
@@ -90,16 +170,12 @@ impl<T, K: Right<Task>> Obtainable<Place<K>> for RwLock<T> {
 
     #[inline(always)]
     fn attempt<R: Wait>(&self, rt: &R, _request: &mut Place<K>) -> Option<Share<K>> {
-        self.word.attempt(rt)
+        self.try_share(rt)
     }
 
-    // One that was let in goes, and the next is let in.
     fn give_up<R: Wait>(&self, rt: &R, request: &mut Place<K>) {
-        if let Some(key) = request.key.take() {
-            let (_, mut held) = self.word.take(rt);
-            self.word.leave::<K>(&mut held, key);
-            self.word.put_back(rt, held);
-        }
+        let lender = Lender { lock: self };
+        lender.give_up(rt, request);
     }
 }
 

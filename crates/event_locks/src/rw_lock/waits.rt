@@ -1,12 +1,12 @@
 //! Waits for the value of a read-write lock.
-ghost use Rattle.std.specs.Prelude.{◌≡◌, IsSomeAnd};
-ghost use Rattle.std.specs.Arc.{arc_value};
+ghost use Rattle.event_locks.specs.Awaited.{read_arc_awaits, read_awaits, write_arc_awaits, write_awaits};
 
 use super::RwLock;
 use super::guard::{RwLockReadGuard, RwLockReadGuardArc, RwLockWriteGuard, RwLockWriteGuardArc};
 use super::requests::Place;
+use crate::lending::{Lender, Lending};
 use crate::polled::guarded;
-use event_wait::{Borrowed, LockError, Obtaining, Shared};
+use event_wait::{LockError, Obtaining, Shared};
 use event_word::{Reading, Writing};
 use futures::Future;
 use futures::task::{Context, Poll};
@@ -22,7 +22,7 @@ use std::time::{Clock, Duration, Instant};
 #[must_use = "nothing is asked for until it is waited on or polled"]
 #[derive(Drop)]
 pub struct Read<'a, T, R: Wait + Clock> {
-    obtaining: Obtaining<RwLock<T>, Place<Reading>, Borrowed<'a, RwLock<T>, R>>,
+    obtaining: Obtaining<Lender<'a, RwLock<T>>, Place<Reading>, Lending<'a, RwLock<T>, R>>,
 }
 
 /// A wait for the value of a read-write lock, to be read, that shares the lock and so may go to another thread; else as [`Read`].
@@ -35,7 +35,7 @@ pub struct ReadArc<T: Drop, R: Wait + Clock + Drop> {
 impl<'a, T, R: Wait + Clock> Read<'a, T, R> {
     #[inline(always)]
     pub(crate) fn new(
-        obtaining: Obtaining<RwLock<T>, Place<Reading>, Borrowed<'a, RwLock<T>, R>>,
+        obtaining: Obtaining<Lender<'a, RwLock<T>>, Place<Reading>, Lending<'a, RwLock<T>, R>>,
     ) -> Self {
         Read { obtaining }
     }
@@ -44,8 +44,8 @@ impl<'a, T, R: Wait + Clock> Read<'a, T, R> {
     /// wait. An error says that it could not: then it is in no queue.
     #[inline(always)]
     pub fn wait(self) -> Result<RwLockReadGuard<'a, T, R>, LockError> {
-        let (hold, share) = self.obtaining.wait()?;
-        Ok(RwLockReadGuard::new(hold, share))
+        let (hold, grant) = self.obtaining.wait()?;
+        Ok(RwLockReadGuard::new(hold, grant))
     }
 
     /// Blocks the thread until it may read, or so long. `None` says that it was in vain: then the thread is in no queue. With
@@ -55,8 +55,10 @@ impl<'a, T, R: Wait + Clock> Read<'a, T, R> {
         self,
         timeout: Duration,
     ) -> Result<Option<RwLockReadGuard<'a, T, R>>, LockError> {
-        let got = self.obtaining.wait_timeout(timeout)?;
-        Ok(got.map(|(hold, share)| RwLockReadGuard::new(hold, share)))
+        let Some((hold, grant)) = self.obtaining.wait_timeout(timeout)? else {
+            return Ok(None);
+        };
+        Ok(Some(RwLockReadGuard::new(hold, grant)))
     }
 
     /// Blocks the thread until it may read, or until this moment. `None` says that it was in vain: then the thread is in no
@@ -65,8 +67,10 @@ impl<'a, T, R: Wait + Clock> Read<'a, T, R> {
         self,
         deadline: Instant,
     ) -> Result<Option<RwLockReadGuard<'a, T, R>>, LockError> {
-        let got = self.obtaining.wait_deadline(deadline)?;
-        Ok(got.map(|(hold, share)| RwLockReadGuard::new(hold, share)))
+        let Some((hold, grant)) = self.obtaining.wait_deadline(deadline)? else {
+            return Ok(None);
+        };
+        Ok(Some(RwLockReadGuard::new(hold, grant)))
     }
 }
 
@@ -105,7 +109,7 @@ impl<T: Drop, R: Wait + Clock + Drop> ReadArc<T, R> {
 impl<'a, T, R: Wait + Clock> Future for Read<'a, T, R> {
     type Output = Result<RwLockReadGuard<'a, T, R>, LockError>;
 
-    ghost needs = { λ it s. IsSomeAnd it.obtaining.hold (λ hold. s ≡ hold.lock.now.source) };
+    ghost needs = { read_awaits };
 
     fn poll(&mut self, cx: &mut Context<'_>) -> Poll<Result<RwLockReadGuard<'a, T, R>, LockError>> {
         guarded(self.obtaining.poll(cx), RwLockReadGuard::new)
@@ -115,7 +119,7 @@ impl<'a, T, R: Wait + Clock> Future for Read<'a, T, R> {
 impl<T: Drop, R: Wait + Clock + Drop> Future for ReadArc<T, R> {
     type Output = Result<RwLockReadGuardArc<T, R>, LockError>;
 
-    ghost needs = { λ it s. IsSomeAnd it.obtaining.hold (λ hold. s ≡ (arc_value hold.lock).source) };
+    ghost needs = { read_arc_awaits };
 
     fn poll(&mut self, cx: &mut Context<'_>) -> Poll<Result<RwLockReadGuardArc<T, R>, LockError>> {
         guarded(self.obtaining.poll(cx), RwLockReadGuardArc::new)
@@ -131,7 +135,7 @@ impl<T: Drop, R: Wait + Clock + Drop> Future for ReadArc<T, R> {
 #[must_use = "nothing is asked for until it is waited on or polled"]
 #[derive(Drop)]
 pub struct Write<'a, T, R: Wait + Clock> {
-    obtaining: Obtaining<RwLock<T>, Place<Writing>, Borrowed<'a, RwLock<T>, R>>,
+    obtaining: Obtaining<Lender<'a, RwLock<T>>, Place<Writing>, Lending<'a, RwLock<T>, R>>,
 }
 
 /// A wait for the value of a read-write lock, to be written, that shares the lock and so may go to another thread; else as [`Write`].
@@ -144,7 +148,7 @@ pub struct WriteArc<T: Drop, R: Wait + Clock + Drop> {
 impl<'a, T, R: Wait + Clock> Write<'a, T, R> {
     #[inline(always)]
     pub(crate) fn new(
-        obtaining: Obtaining<RwLock<T>, Place<Writing>, Borrowed<'a, RwLock<T>, R>>,
+        obtaining: Obtaining<Lender<'a, RwLock<T>>, Place<Writing>, Lending<'a, RwLock<T>, R>>,
     ) -> Self {
         Write { obtaining }
     }
@@ -153,8 +157,8 @@ impl<'a, T, R: Wait + Clock> Write<'a, T, R> {
     /// wait. An error says that it could not: then it is in no queue.
     #[inline(always)]
     pub fn wait(self) -> Result<RwLockWriteGuard<'a, T, R>, LockError> {
-        let (hold, share) = self.obtaining.wait()?;
-        Ok(RwLockWriteGuard::new(hold, share))
+        let (hold, grant) = self.obtaining.wait()?;
+        Ok(RwLockWriteGuard::new(hold, grant))
     }
 
     /// Blocks the thread until it may write, or so long. `None` says that it was in vain: then the thread is in no queue. With
@@ -164,8 +168,10 @@ impl<'a, T, R: Wait + Clock> Write<'a, T, R> {
         self,
         timeout: Duration,
     ) -> Result<Option<RwLockWriteGuard<'a, T, R>>, LockError> {
-        let got = self.obtaining.wait_timeout(timeout)?;
-        Ok(got.map(|(hold, share)| RwLockWriteGuard::new(hold, share)))
+        let Some((hold, grant)) = self.obtaining.wait_timeout(timeout)? else {
+            return Ok(None);
+        };
+        Ok(Some(RwLockWriteGuard::new(hold, grant)))
     }
 
     /// Blocks the thread until it may write, or until this moment. `None` says that it was in vain: then the thread is in no
@@ -174,8 +180,10 @@ impl<'a, T, R: Wait + Clock> Write<'a, T, R> {
         self,
         deadline: Instant,
     ) -> Result<Option<RwLockWriteGuard<'a, T, R>>, LockError> {
-        let got = self.obtaining.wait_deadline(deadline)?;
-        Ok(got.map(|(hold, share)| RwLockWriteGuard::new(hold, share)))
+        let Some((hold, grant)) = self.obtaining.wait_deadline(deadline)? else {
+            return Ok(None);
+        };
+        Ok(Some(RwLockWriteGuard::new(hold, grant)))
     }
 }
 
@@ -214,7 +222,7 @@ impl<T: Drop, R: Wait + Clock + Drop> WriteArc<T, R> {
 impl<'a, T, R: Wait + Clock> Future for Write<'a, T, R> {
     type Output = Result<RwLockWriteGuard<'a, T, R>, LockError>;
 
-    ghost needs = { λ it s. IsSomeAnd it.obtaining.hold (λ hold. s ≡ hold.lock.now.source) };
+    ghost needs = { write_awaits };
 
     fn poll(
         &mut self,
@@ -227,7 +235,7 @@ impl<'a, T, R: Wait + Clock> Future for Write<'a, T, R> {
 impl<T: Drop, R: Wait + Clock + Drop> Future for WriteArc<T, R> {
     type Output = Result<RwLockWriteGuardArc<T, R>, LockError>;
 
-    ghost needs = { λ it s. IsSomeAnd it.obtaining.hold (λ hold. s ≡ (arc_value hold.lock).source) };
+    ghost needs = { write_arc_awaits };
 
     fn poll(&mut self, cx: &mut Context<'_>) -> Poll<Result<RwLockWriteGuardArc<T, R>, LockError>> {
         guarded(self.obtaining.poll(cx), RwLockWriteGuardArc::new)

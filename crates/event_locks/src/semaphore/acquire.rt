@@ -1,8 +1,8 @@
 //! Waits for a permit.
-ghost use Rattle.std.specs.Prelude.{◌≡◌, IfOk, IfSome, IsSomeAnd};
-ghost use Rattle.std.specs.Arc.{arc_value};
+ghost use Rattle.std.specs.Prelude.{◌≡◌, IfOk, IfSome, Ok};
+ghost use Rattle.event_locks.specs.Awaited.{acquire_arc_awaits, acquire_awaits};
 ghost use Rattle.futures.specs.Poll.{IfReady, OnPending};
-ghost use Rattle.futures.specs.declared.task.Poll.TheVariants.{Pending};
+ghost use Rattle.futures.specs.declared.task.Poll.TheVariants.{Pending, Ready};
 
 use super::Semaphore;
 use super::error::AcquireError;
@@ -129,37 +129,49 @@ impl<R: Wait + Clock + Drop> AcquireArc<R> {
 impl<'a, R: Wait + Clock> Future for Acquire<'a, R> {
     type Output = Result<SemaphoreGuard<'a, R>, AcquireError>;
 
-    ghost needs = { λ acquire s. IsSomeAnd acquire.obtaining.hold
-        (λ hold. s ≡ hold.lock.now.source) };
+    ghost needs = { acquire_awaits };
+
+    ghost gives = { λ _ answer. IfOk answer (λ guard. guard ≡ 1) };
 
     fn poll(&mut self, cx: &mut Context<'_>) -> Poll<Result<SemaphoreGuard<'a, R>, AcquireError>> {
-        permitted(self.obtaining.poll(cx), SemaphoreGuard::new)
+        match permitted(self.obtaining.poll(cx)) {
+            Poll::Ready(Ok((hold, permit))) => Poll::Ready(Ok(SemaphoreGuard::new(hold, permit))),
+            Poll::Ready(Err(error)) => Poll::Ready(Err(error)),
+            Poll::Pending => Poll::Pending,
+        }
     }
 }
 
 impl<R: Wait + Clock + Drop> Future for AcquireArc<R> {
     type Output = Result<SemaphoreGuardArc<R>, AcquireError>;
 
-    ghost needs = { λ acquire s. IsSomeAnd acquire.obtaining.hold
-        (λ hold. s ≡ (arc_value hold.lock).source) };
+    ghost needs = { acquire_arc_awaits };
+
+    ghost gives = { λ _ answer. IfOk answer (λ guard. guard ≡ 1) };
 
     fn poll(&mut self, cx: &mut Context<'_>) -> Poll<Result<SemaphoreGuardArc<R>, AcquireError>> {
-        permitted(self.obtaining.poll(cx), SemaphoreGuardArc::new)
+        match permitted(self.obtaining.poll(cx)) {
+            Poll::Ready(Ok((hold, permit))) => {
+                Poll::Ready(Ok(SemaphoreGuardArc::new(hold, permit)))
+            }
+            Poll::Ready(Err(error)) => Poll::Ready(Err(error)),
+            Poll::Pending => Poll::Pending,
+        }
     }
 }
 
-// Makes the guard of the hold and of the permits that came with it, once the poll has them.
+// The hold and the permit that came with it, once the poll has them.
 #[inline(always)]
-fn permitted<H: Drop, G, F: FnOnce(H, Permit) -> G>(
+fn permitted<H: Drop>(
     polled: Poll<Result<(H, Result<Permit, AcquireError>), LockError>>,
-    new: F,
-) -> Poll<Result<G, AcquireError>>
-    requires { IfReady polled (λ answer. IfOk answer (λ got. IfOk got.1 (λ permit. F.pre new got.0 permit))) }
-    ensures { OnPending result (polled ≡ Pending) }
+) -> Poll<Result<(H, Permit), AcquireError>>
+    ensures pending { OnPending result (polled ≡ Pending) }
+    ensures ready { IfReady result (λ answer. IfOk answer (λ got.
+        polled ≡ Ready (Ok (got.0, Ok got.1)))) }
 {
     match polled {
         Poll::Ready(Ok((hold, permit))) => match permit {
-            Ok(permit) => Poll::Ready(Ok(new(hold, permit))),
+            Ok(permit) => Poll::Ready(Ok((hold, permit))),
             Err(error) => Poll::Ready(Err(error)),
         },
         Poll::Ready(Err(error)) => Poll::Ready(Err(AcquireError::WaitFailed(error))),

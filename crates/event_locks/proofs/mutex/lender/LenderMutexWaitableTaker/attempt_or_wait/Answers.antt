@@ -1,5 +1,5 @@
 use Rattle.event_locks.proofs.LossLemmas.{loses-undone}
-use Rattle.event_locks.proofs.mutex.lender.LenderWaitableTaker.attempt_or_wait.Goals as goal
+use Rattle.event_locks.proofs.mutex.lender.LenderMutexWaitableTaker.attempt_or_wait.Goals as goal
 
 pub returns-clause-waited : goal.returns-clause-waited
 returns-clause-waited g c =
