@@ -3,6 +3,7 @@ pub mod Event
 pub mod Listening
 pub mod Polling
 pub mod Waiting
+pub mod Heard
 pub mod Noting
 pub mod Closing
 pub mod recording

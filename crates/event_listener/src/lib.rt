@@ -8,7 +8,8 @@
 //! listener keeps a clone of the runtime value for its own calls.
 //!
 //! The queue itself is the crate `event_queue`. Its public names are exported here too. Read `event.rt` first, then
-//! `listener/queue_listener.rt` and `listener/place.rt`; of events that record `recorded/step.rt` and `recorded/event.rt`.
+//! `listener/queue_listener.rt`, `listener/place.rt` and `laws.rt`; of events that record `recorded/step.rt` and
+//! `recorded/event.rt`.
 //!
 //! The examples below are in the crate `example_events`, where they are proved.
 //!
@@ -209,8 +210,8 @@
 //! - [`Listener`]: when a listener is finished, that only a finished one fails, and that a wait which fails for memory
 //!   returns the same listener.
 //! - [`QueueListener`]: which calls its polls and waits, a discard and a drop are, with their replies.
-//! - [`EventHand`]: calls of a caller's own hand, and what hands and listeners learn of each other. Laws as [`told_by_another`] and
-//!   [`passes_on`] say what follows for whom a hand's history has waiting.
+//! - [`EventHand`]: calls of a caller's own hand, and what hands and listeners learn of each other. Laws say what follows, as
+//!   [`notifying_all_is_known`] for a listener whose hand knows that all were notified, and [`passes_on`].
 //! - [`RecordedEvent::close`]: a record is a history of its queue, and has the notes of each hand.
 //! - [`RecordedState::apply`]: one step of a queue, and one entry more.
 //!
@@ -219,6 +220,7 @@
 #![tactic(auto)]
 
 mod event;
+mod laws;
 mod listener;
 mod recorded;
 
@@ -240,6 +242,7 @@ pub use event_queue::{
 #[doc(hidden)]
 pub use event_queue::{Notice, TagList};
 pub use event_wait::{Limit, Task};
+pub use laws::{listening_is_known, notifying_all_is_known};
 pub use listener::{
     EventListener, Hold, Listener, NeverInserted, QueueListener, StackListener, StackSlot,
     WaitError, WaitReason,

@@ -77,6 +77,8 @@ pub trait Listener<T>: Sized {
     ///
     /// The waker always takes the place of the one before. A waker wakes when it is dropped, so the task of the one
     /// before is woken, even if that is the task that polls. The same happens to a waker that is not stored.
+    ///
+    /// A future of your own has a context in place of a waker: call [`poll_in`](Listener::poll_in).
     fn poll(&mut self, waker: Waker) -> Result<Poll<T>, NeverInserted>
         ensures polled { IsPolled (standing self.old) result (standing self.new) };
 

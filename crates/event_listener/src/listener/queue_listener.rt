@@ -9,6 +9,7 @@ ghost use Rattle.event_listener.specs.Waiting.{Finds, HandsBack, IfBack, PollsBy
 ghost use Rattle.event_wait.specs.declared.lock.limit.Limit.TheVariants.{Never};
 ghost use Rattle.event_history.specs.Hands.{IsOf, known_by};
 ghost use Rattle.event_history.specs.History.{Looks, both_views, newcomer};
+ghost use Rattle.event_history.specs.Laws.{OwnsListener};
 ghost use Rattle.event_history.specs.Queue.{NoneLeft, queue_machine};
 ghost use Rattle.event_history.specs.declared.queue_call.QueueCall.TheVariants as call;
 ghost use Rattle.event_listener.specs.declared.listener.wait_error.WaitReason.TheVariants as because;
@@ -118,6 +119,8 @@ impl<T, H: Hold<T>, R: Wait + Clock + Clone> QueueListener<T, H, R> {
         ensures looks { Looks queue_machine
             (both_views self.old.knows other.knows) self.new.knows }
         ensures same { (self.new.standing ≡ self.old.standing) × (self.new.table ≡ self.old.table) }
+        ensures owns { self.new.standing.is_finished ≡ false
+            → OwnsListener self.new.standing.key self.new.knows.mine }
     {
         let mut hand = self.hand.take();
         self.held.queue().join(&mut hand, other.into_hand());
