@@ -1,4 +1,3 @@
 mod AttemptLemmas
-mod HeardLemmas
 mod PassedLemmas
 mod TurnstileLemmas

@@ -1,9 +1,11 @@
 //! A thread that listens while another one notifies, and hears it.
 ghost use Rattle.std.specs.Prelude.{◌≡◌, true, IfOk};
-ghost use Rattle.example_events.specs.Heard.{NotifiesAll};
+ghost use Rattle.event_listener.specs.Heard.{NotifiesAll};
 
-use event_history::told_by_another;
-use event_listener::{Event, EventHand, IntoNotification, ListenError, Listener, Task};
+use event_listener::{
+    Event, EventHand, IntoNotification, ListenError, Listener, listening_is_known,
+    notifying_all_is_known,
+};
 use std::alloc::{AllocError, Global};
 use std::sync::Wait;
 use std::thread::{self, Threads};
@@ -38,19 +40,16 @@ where
         rt,
         || event.is_notified(rt),
         || -> EventHand
-            ensures { NotifiesAll other result }
-        { notify_all(rt, other) },
+            ensures table { result.table ≡ other.table }
+            ensures notifies { NotifiesAll other.knows result.knows }
+        {
+            let mut other = other;
+            let _ = other.notify(rt, usize::MAX.additional());
+            other
+        },
     );
     listener.join(other);
-    told_by_another::<(), Task>();
+    listening_is_known::<()>();
+    notifying_all_is_known::<()>();
     Ok(listener.discard())
-}
-
-// Notifies all that listen, and gives the hand back.
-fn notify_all<R: Wait>(rt: &R, hand: EventHand) -> EventHand
-    ensures { NotifiesAll hand result }
-{
-    let mut hand = hand;
-    let _ = hand.notify(rt, usize::MAX.additional());
-    hand
 }
