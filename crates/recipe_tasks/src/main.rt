@@ -1,7 +1,7 @@
 //! Tasks of one thread take turns at a balance, in a pool of `futures`. The balance is printed once all have added to it.
 #![tactic(auto)]
 
-ghost use Rattle.std.specs.Prelude.{◌≡◌, IsSomeAnd};
+ghost use Rattle.event_locks.specs.Awaited.{lock_awaits};
 
 use event_locks::{Lock, Mutex};
 use futures::executor::LocalPool;
@@ -29,8 +29,7 @@ impl<'a, R: Wait + Clock> Future for Deposit<'a, R> {
     type Output = ();
 
     // A pending poll waits for what that of the lock does.
-    ghost needs = { λ deposit s.
-        IsSomeAnd deposit.lock.obtaining.hold (λ hold. s ≡ hold.lender.mutex.now.source) };
+    ghost needs = { λ deposit s. lock_awaits deposit.lock s };
 
     fn poll(&mut self, cx: &mut Context<'_>) -> Poll<()> {
         if let Ok(mut balance) = ready!(self.lock.poll(cx)) {
