@@ -26,9 +26,11 @@ fn a_future_that_gave_its_output_is_over(rt: HostRuntime) {
 
 #[test]
 fn a_mutex_that_is_over_gives_its_value(rt: HostRuntime) {
-    let mutex = new_mutex(&rt, 1u64);
+    let mut mutex = new_mutex(&rt, 1u64);
     *mutex.try_lock(&rt).expect(&rt, "the value") = 2;
-    check(&rt, "the value", mutex.into_inner(), Some(2));
+    let value = mutex.get_mut().expect(&rt, "the value");
+    *value = value.saturating_add(1);
+    check(&rt, "the value", mutex.into_inner(), Some(3));
 }
 
 #[test]
@@ -83,6 +85,11 @@ fn permits_that_came_at_once_share_their_semaphore(rt: HostRuntime) {
     check(&rt, "shares", Arc::strong_count(&semaphore), 2);
     two.forget();
     check(&rt, "free", semaphore.available(), 1);
+    semaphore.add_permits(&rt, 1);
+    let two = Semaphore::try_acquire_many_arc(&semaphore, rt, 2).expect(&rt, "a share");
+    check(&rt, "whether there are so many", two.is_ok(), true);
+    drop(two);
+    check(&rt, "free", semaphore.available(), 2);
 }
 
 #[test]
