@@ -2,7 +2,8 @@
 //! who waited for it alone.
 use crate::support::{check, new_lock, new_semaphore, new_task};
 use event_locks::{
-    Barrier, LockError, Mutex, OnceCell, PollError, RwLock, Semaphore, TryAcquireError,
+    Barrier, LockError, Mutex, OnceCell, PollError, RwLock, RwLockCounts, Semaphore,
+    TryAcquireError,
 };
 use futures::task::Poll;
 use futures::test::MockTask;
@@ -10,7 +11,7 @@ use std::sync::Arc;
 use std::thread;
 use std::time::Duration;
 use test_event_locks::{Case, Kind, Refusal, Sharing, Waits, each, numbers};
-use test_support::Runtime;
+use test_support::{Runtime, deadline_after};
 
 /// A wait that a task of its own polls.
 #[derive(Drop)]
@@ -117,7 +118,8 @@ impl<R: Runtime> Case<R> for AllAreWoken {
         check(rt, "whether it is granted", given.is_ok(), true);
         drop(given);
         check(rt, "whether it is woken", third.is_woken(), true);
-        let given = third.into_waits().wait_timeout(Duration::ZERO);
+        let now = deadline_after(rt, Duration::ZERO).expect(rt, "a moment");
+        let given = third.into_waits().wait_deadline(now);
         let given = given.expect(rt, "an answer").is_some();
         check(rt, "whether it is granted", given, true);
         last.is_granted(rt);
@@ -267,6 +269,66 @@ fn an_owned_guard_goes_to_another_thread(rt: HostRuntime) {
     check(&rt, "whether it is woken", reads.is_woken(), true);
     let reader = reads.into_waits().wait().expect(&rt, "the value");
     check(&rt, "the value", reader.with(|value| *value), 8);
+}
+
+// Who has the value, who was let in and who waits, as the lock counts them.
+#[test]
+fn a_lock_counts_who_has_it_and_who_waits(rt: HostRuntime) {
+    let nobody = RwLockCounts {
+        readers: 0,
+        writers: 0,
+        readers_let_in: 0,
+        writers_let_in: 0,
+        readers_waiting: 0,
+        writers_waiting: 0,
+    };
+    let lock = new_lock(&rt, 7);
+    check(&rt, "counts", lock.counts(&rt), nobody);
+    let readers = [lock.try_read(&rt), lock.try_read(&rt)];
+    let writes = Polled::new(&rt, lock.write(&rt, rt.alloc()));
+    let reads = Polled::new(&rt, lock.read(&rt, rt.alloc()));
+    let wait = RwLockCounts {
+        readers_waiting: 1,
+        writers_waiting: 1,
+        ..nobody
+    };
+    let read = RwLockCounts { readers: 2, ..wait };
+    check(&rt, "counts", lock.counts(&rt), read);
+    drop(readers);
+    let let_in = RwLockCounts {
+        writers_let_in: 1,
+        readers_waiting: 1,
+        ..nobody
+    };
+    check(&rt, "counts", lock.counts(&rt), let_in);
+    let writer = writes.into_waits().wait().expect(&rt, "the value");
+    let written = RwLockCounts {
+        writers: 1,
+        readers_waiting: 1,
+        ..nobody
+    };
+    check(&rt, "counts", lock.counts(&rt), written);
+    drop(writer);
+    let let_in = RwLockCounts {
+        readers_let_in: 1,
+        ..nobody
+    };
+    check(&rt, "counts", lock.counts(&rt), let_in);
+    drop(reads);
+    check(&rt, "counts", lock.counts(&rt), nobody);
+}
+
+// A reader that shares its lock reads though a writer waits, and within its own reading.
+#[test]
+fn an_owned_reader_reads_while_a_writer_waits(rt: HostRuntime) {
+    let lock = Arc::new(rt.alloc(), new_lock(&rt, 7)).expect(&rt, "memory");
+    let reader = RwLock::try_read_arc(&lock, rt).expect(&rt, "a share");
+    let reader = reader.expect(&rt, "the value");
+    let behind = Polled::new(&rt, lock.write(&rt, rt.alloc()));
+    let read = reader.with(|value| reader.with(|again| (*value, *again)));
+    check(&rt, "what was read", read, (7, 7));
+    check(&rt, "readers", lock.counts(&rt).readers, 1);
+    behind.let_in(&rt, reader);
 }
 
 // A reader that was let in reads beside any other, before it is polled, too.

@@ -1,5 +1,4 @@
 //! What no clause sees of a word: that a thread which sleeps for the state is woken, and that threads which meet all get it.
-ghost use Rattle.std.specs.Prelude.{false};
 ghost use Rattle.event_word.specs.Rules.{Rules};
 
 use event_queue::WakeSink;
@@ -24,7 +23,7 @@ impl Kept for Tally {
       quiet = λ _. Unit {0};
       promised = λ _ _. Unit {0};
       tells = λ _ _. Unit {0};
-      taken = λ _. false;
+      counts = λ _. 0;
     } };
 
     fn number(&self, number: u64) -> u64 {
