@@ -1,7 +1,7 @@
 //! Waits for each lock of `event_locks` that are refused memory, and calls there that need none.
 use crate::support::{Runtime, all_memory, check, count_refused, leave, new_task};
 use event_listener::ListenError;
-use event_locks::{Barrier, LockError};
+use event_locks::{Barrier, LockError, Mutex, RwLock, Semaphore};
 use futures::task::Poll;
 use std::cell::Cell;
 use std::time::{Duration, Instant};
@@ -149,6 +149,12 @@ impl<R: Runtime> Case<R> for NeedsNone {
 fn calls_of_a_lock_that_need_no_memory(rt: HostRuntime) {
     each(&rt, &rt, &NeedsNone).expect(&rt, "memory");
     let hog = all_memory(&rt);
+    let mutex = Mutex::new(rt.alloc(), 1u64);
+    check(&rt, "free", mutex.try_lock(&rt).is_some(), true);
+    let permits = Semaphore::new(rt.alloc(), 1);
+    check(&rt, "free", permits.try_acquire(&rt).is_ok(), true);
+    let lock = RwLock::new(rt.alloc(), 1u64);
+    check(&rt, "free", lock.try_write(&rt).is_some(), true);
     let alone = Barrier::new(rt.alloc(), 1);
     let ended = alone.wait(&rt, rt.alloc()).wait().is_ok();
     check(&rt, "the end of the round", ended, true);
