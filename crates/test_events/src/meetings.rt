@@ -30,7 +30,7 @@ fn notify_in_steps<R: Runtime>(
     event.notify(rt, 1.tag_with(tag))
 }
 
-// One thread has the lock, and another one sleeps for it. Then a third comes, and writes over the mark that one sleeps.
+// One thread has the lock, and another one sleeps for it. Then a third comes.
 fn one_comes_after_the_sleeper<R: Runtime + Threads + Sync>(rt: &R, event: &Event<u32>) {
     let (_told, step) = (sharing(rt, event), &AtomicU32::new(0));
     let sleeps = || {
