@@ -1,5 +1,6 @@
 -- The bytes of a claim, of a writer, of a mark and of one at rest. Assumes `Logic`.
-use Rattle.event_slot.proofs.Names.{El, Good, one, lawful, shows, peeks, param, rewrite, drop, by, feq_l, ◌≡◌, ℕ, T, List, [], ◌∷◌, ◌++◌, refl, ap, ◌∙◌, Option, Some, None, Ura, Val, vstruct, vcons, vnil, of_list, has_ty, WT, Coded, SProp, ent, emp, ex, ex_i, guard, guard_i, via, never_e, Lft, Fml, shown, fact_i, Logic, sem, ‵, ◌$◌, ◌∵◌, !, qed, move, keep, fsplit, fjoin, fpick, fpack, use0, feq_i, nothing, done, RattleType, Valss, Is, NamedLft, ShrRef, Opens, Ptr, InBlock, block_ptr, null_ptr, ptr_val}
+use Rattle.std.specs.Prelude.{IsSome}
+use Rattle.event_slot.proofs.Names.{El, Good, one, lawful, shows, peeks, param, rewrite, drop, by, feq_l, ◌≡◌, ℕ, zero, suc, ◌<◌, arith, T, List, [], ◌∷◌, ◌++◌, refl, ap, ◌∙◌, Option, Some, None, Ura, Val, vstruct, vcons, vnil, of_list, has_ty, WT, Coded, SProp, ent, emp, ex, ex_i, guard, guard_i, via, never_e, Lft, Fml, shown, fact_i, Logic, sem, ‵, ◌$◌, ◌∵◌, !, qed, move, keep, fsplit, fjoin, fpick, fpack, use0, feq_i, nothing, done, RattleType, Valss, Is, NamedLft, ShrRef, Opens, Ptr, InBlock, block_ptr, null_ptr, ptr_val}
 use mir.Syntax.{ty_ptr, ty_struct, tcons, tnil}
 use denote.Copied.{Struct-Copied}
 use denote.Shadow.{makes_shadow}
@@ -8,7 +9,7 @@ use denote.Struct.Laws.{RawPtr-copy, field_copy}
 use denote.Struct.Struct.{Shape, Struct, within}
 use denote.Struct.Owning.{shape}
 use Rattle.core.specs.contracts.marker.PhantomData as marker
-use Rattle.event_slot.specs.Holding.{Names, writer, writes, held, claim_shares, writing_shares}
+use Rattle.event_slot.specs.Holding.{Names, writer, writes, right_to, held, claim_shares, writing_shares}
 use Rattle.event_slot.specs.contracts.rest.Rest as rest
 use Rattle.event_slot.specs.contracts.rule.Mark as mark
 
@@ -122,3 +123,11 @@ module _ {M : Type 1} {𝓤 : Ura M} (𝓛 : Logic 𝓤) (β : Lft) (R : RattleT
   pub writes_some : (b o : ℕ) (t : Names) (v : Option R.Denot) → ent 𝓤 (sem 𝓛 (writes R b o t v)) (ex 𝓤 (λ (x : R.Denot). guard 𝓤 (Some x ≡ v) (sem 𝓛 (writer R b o t x))))
   writes_some b o t (Some x) = via 𝓤 _ (guard_i 𝓤 (Some x ≡ Some x) (sem 𝓛 (writer R b o t x)) refl) (ex_i 𝓤 (λ (z : R.Denot). guard 𝓤 (Some z ≡ Some x) (sem 𝓛 (writer R b o t z))) x)
   writes_some b o t None = never_e 𝓤 _
+
+  -- whoever has a right has a value
+  pub right_has : (b o : ℕ) (t : Names) (k : ℕ) (v : Option R.Denot) → ent 𝓤 (sem 𝓛 (right_to R b o t k v)) (shown 𝓤 (0 < k → IsSome v))
+  right_has b o t zero v = fact_i 𝓤 (0 < 0 → IsSome v) _ (λ l. absurd (omega arith))
+  right_has b o t (suc zero) (Some x) = fact_i 𝓤 (0 < 1 → IsSome (Some x)) _ (λ l. refl)
+  right_has b o t (suc zero) None = never_e 𝓤 _
+  right_has b o t (suc (suc k)) (Some x) = fact_i 𝓤 (0 < suc (suc k) → IsSome (Some x)) _ (λ l. refl)
+  right_has b o t (suc (suc k)) None = never_e 𝓤 _

@@ -13,6 +13,13 @@ use Rattle.atomic_table.specs.Seated.{halved}
 use Rattle.atomic_table.proofs.Sent.{roster_keyless}
 use Rattle.counted_slot.specs.Counting.{Id, Phase, free, away, shared, state}
 use Rattle.event_slot.specs.Holding.{any, Names, count, place, behind, lies, writer, right_to, kept, claim_owns, writing_owns, claim_shares, writing_shares, rest_owns}
+use Rattle.event_slot.specs.Owning.{lent_by, owned_shares}
+use Rattle.event_slot.specs.contracts.leased.Leased as leased
+use Rattle.event_slot.specs.contracts.leased.Leased.TheInside as Inside
+use Rattle.std.specs.declared.alloc.Allocator.{Ghosts}
+use Rattle.std_alloc.proofs.SendSync.{Arc-send}
+use denote.Param.Send.{Frees, struct_send}
+use denote.Struct.Declared as declared
 
 module _ (R : RattleType) (s : IsSend R) (y : IsSync R) where
   pub state_keyless : (b o : ℕ) (t : Id) (n : ℕ) (p : Phase R.Denot) → Keyless (state R any b o t n p)
@@ -60,6 +67,30 @@ module _ (β : Lft) (R : RattleType) (y : IsSync R) where
   pub writing_common : (p : Ptr) (x : R.Denot) → Common (writing_shares β R p x)
   writing_common (block_ptr b o) x κ = y.shared x b (place R b o) (κ ++ β)
   writing_common null_ptr x κ = tt
+
+-- and to an `Arc` with a claim
+module _ (R : RattleType) (y : IsSync R) {S : Type 0} where
+  lent_common : (β : Lft) (p : Ptr) (right : ℕ) (v : Option R.Denot) (s : Option S) → Common (lent_by β R p right v s)
+  lent_common β p zero v s κ = tt
+  lent_common β p (suc zero) v s κ = claim_common β R y p 1 v κ
+  lent_common β p (suc (suc k)) (Some x) None κ = writing_common β R y p x κ
+  lent_common β p (suc (suc k)) None None κ = tt
+  lent_common β p (suc (suc k)) (Some x) (Some s) κ = tt
+  lent_common β p (suc (suc k)) None (Some s) κ = tt
+
+  pub owned_common : (l : Lft) (a : ℕ) (p : Ptr) (right : ℕ) (v : Option R.Denot) (s : Option S) → Common (owned_shares R l a p right v s)
+  owned_common l a p right v s κ = ((λ q. tt), lent_common (a ∷ l) p right v s κ)
+
+-- the `Arc` in it, too, while its token is out
+module _ (T A : RattleType) (g : Ghosts A.Denot) where
+  pub leased_send : IsSend T → IsSend A → IsSync T → IsSync A → Frees g g.dealloc_token → IsSend (leased.the_row T A g)
+  leased_send s sa y ya f = let shared = Arc-send T A g s y f sa ya in record {
+    owned = λ d vs. ((λ _. tt), λ i e. ((λ q c. tt), (struct_send (declared.shape (Inside.the_type T A g)) (shared, tt)).owned (i.arc, tt) vs));
+    leaving = λ k d w. tt;
+  }
+
+  pub leased_sync : IsSync (leased.the_row T A g)
+  leased_sync = record { shared = λ t b o κ. tt }
 
 pub rest_keyless : {W : Type 0} (e : W → Gv) (slot id : ℕ) (ws : List W) → Keyless (rest_owns e slot id ws)
 rest_keyless e slot id [] = tt

@@ -1,5 +1,5 @@
 -- One step on the word of a slot, under its invariant: the marks' side, and both sides at once. Assumes `Logic`.
-use Rattle.event_slot.proofs.Names.{◌≡◌, ◌≢◌, ℕ, ◌+◌, ◌^◌, ◌<◌, T, eqb, List, [], ◌∷◌, ◌++◌, set, sym, refl, subst, arith, eq-eqb, ne_eqb, w64, Option, None, get_elem?, Bool, true, false, dite, ℕ_discrete, Ura, ty_int, vint, has_ty, WT, full_share, Coded, SProp, ent, sep, ex, all, all_e, upd, upd_i, id⊢, Share, Fml, ftrue, fsep, fex, fbor, flft, either, Logic, sem, ‵, raw, ◌⊛◌, some, given, ◌$◌, ◌∵◌, !, qed, by, move, drop, split, fsplit, fsplit3, fjoin, fpick, fpack, pick, learn, show, frame, each, assume, suffices, settle, use1, use2, done, RattleType, RowLaws, block_ptr, nothing, asks, word, whenever}
+use Rattle.event_slot.proofs.Names.{◌≡◌, ◌≢◌, ℕ, ◌+◌, ◌^◌, ◌<◌, T, eqb, List, [], ◌∷◌, ◌++◌, set, sym, refl, subst, arith, eq-eqb, ne_eqb, w64, Option, get_elem?, Bool, true, false, dite, ℕ_discrete, Ura, ty_int, vint, has_ty, WT, full_share, Coded, SProp, ent, sep, ex, all, all_e, upd, upd_i, id⊢, Share, Fml, ftrue, fsep, fex, fbor, flft, either, Logic, sem, ‵, raw, ◌⊛◌, some, given, ◌$◌, ◌∵◌, !, qed, by, move, drop, split, fsplit, fsplit3, fjoin, fpick, fpack, pick, learn, show, frame, each, assume, suffices, settle, use1, use2, done, RattleType, RowLaws, block_ptr, nothing, asks, word, whenever}
 use mathlib.Core.Bool.{cond}
 use mathlib.Core.Option.{some as there}
 use Rattle.core.proofs.raw_atomic.Asked.{borrowed, Lies, Again}
@@ -7,7 +7,7 @@ use Rattle.atomic_table.specs.Seated.{roster}
 use Rattle.atomic_table.specs.Marked.{mark_owns}
 use Rattle.atomic_table.proofs.Roster.{Moved, moves, Joined, joins, apart}
 use Rattle.counted_slot.specs.Counting.{fact, Phase, state, State}
-use Rattle.event_slot.specs.Ruling.{MayTurn, Keeps, Trades, Comes, Splits, Joins}
+use Rattle.event_slot.specs.Ruling.{MayTurn, Keeps, MayTrade, Comes, MaySplit, MayJoin}
 use Rattle.event_slot.specs.Holding.{any, Names, count, lies, knowing, both, Inv}
 use Rattle.event_slot.proofs.Rights.{Won, Prepared, hits}
 use Rattle.event_slot.proofs.Turning.{left_over}
@@ -119,14 +119,15 @@ module _ {M : Type 1} {𝓤 : Ura M} (𝓛 : Logic 𝓤) where
         move ! (3 ∷ 2 ∷ []) $ use2 𝓛 (‵ (Lie (cond r.1 out p.0)) ⊛ ‵ (Lie (cond r.1 p.0 out))) (places r.1 p.0 out) $ split ! $
         move ! (0 ∷ 2 ∷ []) $ use2 𝓛 (‵ (Views m)) (ruled m (cond r.1 out p.0) (set p.1 id r.0) r.2) $ move ! (0 ∷ 2 ∷ 1 ∷ []) $ frame ! $ by ! (packs id P r.0 (cond r.1 p.0 out) r.3))))
 
-    pub comes : (n m : ℕ) (P : W → Option Q.Denot → Type 0) → ((home : Option Q.Denot) (vs : List W) → holds n home vs → (w : W) × (c : Bool) × holds m (cond c None home) (vs ++ w ∷ []) × P w (cond c home None))
-        → ⟦ Views n ⟧ ∗ ⟦ ftrue ⟧ ⊢ upd 𝓤 (⟦ Views m ⟧ ∗ ⟦ entered cw γ R Q b o t P ⟧)
-    comes n m P law = let Z : Pr = ⟦ Views m ⟧ ∗ ⟦ entered cw γ R Q b o t P ⟧ in qed 𝓛 (‵ (Views n) ∷ ‵ ftrue ∷ []) ∵ fpick ! (λ p. fsplit3 ! $ move ! (2 ∷ []) $ fpick ! (λ h. drop ! $ let r = law p.0 p.1 h in let us : List W = p.1 ++ r.0 ∷ [] in
-        -- [what lies at home; the views; nothing out]
+    pub comes : (out : Option Q.Denot) (n m : ℕ) (P : W → Option Q.Denot → Type 0)
+        → ((home : Option Q.Denot) (vs : List W) → holds n home vs → (w : W) × (c : Bool) × holds m (cond c out home) (vs ++ w ∷ []) × P w (cond c home out))
+        → ⟦ Views n ⟧ ∗ ⟦ Lie out ⟧ ⊢ upd 𝓤 (⟦ Views m ⟧ ∗ ⟦ entered cw γ R Q b o t P ⟧)
+    comes out n m P law = let Z : Pr = ⟦ Views m ⟧ ∗ ⟦ entered cw γ R Q b o t P ⟧ in qed 𝓛 (‵ (Views n) ∷ ‵ (Lie out) ∷ []) ∵ fpick ! (λ p. fsplit3 ! $ move ! (2 ∷ []) $ fpick ! (λ h. drop ! $ let r = law p.0 p.1 h in let us : List W = p.1 ++ r.0 ∷ [] in
+        -- [what lies at home; the views; what is out]
         move ! (1 ∷ []) $ use1 𝓛 (raw (upd 𝓤 (ex 𝓤 (Joined 𝓛 cw γ 0 p.1 r.0)))) (joins 𝓛 cw γ p.1 0 r.0) $ settle 𝓛 Z (some (λ (j : ℕ). ‵ (roster cw.code γ 0 us) ⊛ ‵ (mark_owns cw.code γ j r.0))) $ pick ! (λ j. split ! $ suffices ! _ (upd_i 𝓤 Z) $
-        move ! (2 ∷ 3 ∷ []) $ use2 𝓛 (‵ (Lie (cond r.1 None p.0)) ⊛ ‵ (Lie (cond r.1 p.0 None))) (places r.1 p.0 None) $ split ! $
-        move ! (0 ∷ 2 ∷ []) $ use2 𝓛 (‵ (Views m)) (ruled m (cond r.1 None p.0) us r.2) $ move ! (0 ∷ 2 ∷ 1 ∷ []) $ frame ! $
-        use2 𝓛 (‵ (traded cw γ R Q b o t P j)) (packs j P r.0 (cond r.1 p.0 None) r.3) $ fpack ! ℕ (traded cw γ R Q b o t P) j $ done !)))
+        move ! (2 ∷ 3 ∷ []) $ use2 𝓛 (‵ (Lie (cond r.1 out p.0)) ⊛ ‵ (Lie (cond r.1 p.0 out))) (places r.1 p.0 out) $ split ! $
+        move ! (0 ∷ 2 ∷ []) $ use2 𝓛 (‵ (Views m)) (ruled m (cond r.1 out p.0) us r.2) $ move ! (0 ∷ 2 ∷ 1 ∷ []) $ frame ! $
+        use2 𝓛 (‵ (traded cw γ R Q b o t P j)) (packs j P r.0 (cond r.1 p.0 out) r.3) $ fpack ! ℕ (traded cw γ R Q b o t P) j $ done !)))
 
     -- both sides at once
     module _ (c : ℕ → ℕ) (s : Share) where
@@ -163,17 +164,17 @@ module _ {M : Type 1} {𝓤 : Ura M} (𝓛 : Logic 𝓤) where
       pub keeps : (id : ℕ) (v : W) (tells : ℕ → W → Type 0) → Keeps holds id v tells → Marks (λ n. n) (mark_owns cw.code γ id v) (λ n. moved cw γ (tells n) id)
       keeps id v tells law n small = follows id v n (tells n) (λ home vs h at. law n home vs h at small)
 
-      pub changes : (id : ℕ) (v : W) (out : Option Q.Denot) (f : ℕ → ℕ) (tells : ℕ → W → Option Q.Denot → Type 0) → Trades holds id v out f tells
+      pub changes : (id : ℕ) (v : W) (out : Option Q.Denot) (f : ℕ → ℕ) (tells : ℕ → W → Option Q.Denot → Type 0) → MayTrade holds id v out f tells
           → Marks f (fsep (mark_owns cw.code γ id v) (Lie out)) (λ n. traded cw γ R Q b o t (tells n) id)
       changes id v out f tells law n small = trades id v out n (f n) (tells n) (λ home vs h at. law n home vs h at small)
 
-      pub enters : (f : ℕ → ℕ) (tells : ℕ → W → Option Q.Denot → Type 0) → Comes holds f tells → Marks f ftrue (λ n. entered cw γ R Q b o t (tells n))
-      enters f tells law n small = comes n (f n) (tells n) (λ home vs h. law n home vs h small)
+      pub enters : (out : Option Q.Denot) (f : ℕ → ℕ) (tells : ℕ → W → Option Q.Denot → Type 0) → Comes holds out f tells → Marks f (Lie out) (λ n. entered cw γ R Q b o t (tells n))
+      enters out f tells law n small = comes out n (f n) (tells n) (λ home vs h. law n home vs h small)
 
-      pub splits : (id : ℕ) (v l r : W) → Splits holds id v l r → Marks (λ n. n) (mark_owns cw.code γ id v) (λ _. fex ℕ (two id l r))
+      pub splits : (id : ℕ) (v l r : W) → MaySplit holds id v l r → Marks (λ n. n) (mark_owns cw.code γ id v) (λ _. fex ℕ (two id l r))
       splits id v l r law n small = forks id v l r n (λ home vs h at. law n home vs h at small)
 
-      pub unites : (id : ℕ) (v : W) (other : ℕ) (u all_ spent : W) → Joins holds id v other u all_ spent → Marks (λ n. n) (merged id v other u) (λ _. merged id all_ other spent)
+      pub unites : (id : ℕ) (v : W) (other : ℕ) (u all_ spent : W) → MayJoin holds id v other u all_ spent → Marks (λ n. n) (merged id v other u) (λ _. merged id all_ other spent)
       unites id v other u all_ spent law n small = absorbs id v other u all_ spent n (λ home vs h at two' at'. law n home vs h at two' at' small)
 
       -- a load

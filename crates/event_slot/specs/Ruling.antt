@@ -1,5 +1,5 @@
 -- What a step may change, what it gains, and what it asks of the rule.
-use Rattle.std.specs.Prelude.{◌≡◌, ◌≢◌, ℕ, zero, suc, ◌+◌, ◌%◌, ◌^◌, ◌<◌, ◌≤◌, Bool, if◌then◌else◌, Option, None, List, [], ◌∷◌, ◌++◌, slice_set}
+use Rattle.std.specs.Prelude.{◌≡◌, ◌≢◌, ℕ, zero, suc, ◌+◌, ◌%◌, ◌^◌, ◌<◌, ◌≤◌, Bool, if◌then◌else◌, Option, List, [], ◌∷◌, ◌++◌, slice_set}
 use mathlib.Core.Option.{some}
 use lib.ListN.{get_elem?}
 use Rattle.counted_slot.specs.Counting.{readers}
@@ -74,24 +74,24 @@ module _ {S W : Type 0} where
       → (w : W) × holds n home (views ++ w ∷ []) × tells n w
 
   -- Whatever word and state there are: the mark id, which knew v, can know `left`, and a new mark `right`
-  abbrev pub Splits : (ℕ → Option S → List W → Type 0) → ℕ → W → W → W → Type 0
-  Splits holds id v left right = (n : ℕ) (home : Option S) (views : List W) → holds n home views → get_elem? views id ≡ some v → n < 2 ^ 64
+  abbrev pub MaySplit : (ℕ → Option S → List W → Type 0) → ℕ → W → W → W → Type 0
+  MaySplit holds id v left right = (n : ℕ) (home : Option S) (views : List W) → holds n home views → get_elem? views id ≡ some v → n < 2 ^ 64
       → holds n home (slice_set views id left ++ right ∷ [])
 
   -- Whatever word and state there are: the mark id, which knew v, can know `both`, and another mark, which knew w, `spent`
-  abbrev pub Joins : (ℕ → Option S → List W → Type 0) → ℕ → W → ℕ → W → W → W → Type 0
-  Joins holds id v other w both spent = (n : ℕ) (home : Option S) (views : List W) → holds n home views → get_elem? views id ≡ some v
+  abbrev pub MayJoin : (ℕ → Option S → List W → Type 0) → ℕ → W → ℕ → W → W → W → Type 0
+  MayJoin holds id v other w both spent = (n : ℕ) (home : Option S) (views : List W) → holds n home views → get_elem? views id ≡ some v
       → other ≢ id → get_elem? (slice_set views id both) other ≡ some w → n < 2 ^ 64
       → holds n home (slice_set (slice_set views id both) other spent)
 
   -- The same as `Keeps` where the word becomes f of what it was, and what is at home may change places with what this one has out.
-  abbrev pub Trades : (ℕ → Option S → List W → Type 0) → ℕ → W → Option S → (ℕ → ℕ) → (ℕ → W → Option S → Type 0) → Type 0
-  Trades holds id v out f tells = (n : ℕ) (home : Option S) (views : List W) → holds n home views → get_elem? views id ≡ some v → n < 2 ^ 64
+  abbrev pub MayTrade : (ℕ → Option S → List W → Type 0) → ℕ → W → Option S → (ℕ → ℕ) → (ℕ → W → Option S → Type 0) → Type 0
+  MayTrade holds id v out f tells = (n : ℕ) (home : Option S) (views : List W) → holds n home views → get_elem? views id ≡ some v → n < 2 ^ 64
       → (w : W) × (change : Bool) × holds (f n) (if change then out else home) (slice_set views id w)
       × tells n w (if change then home else out)
 
-  -- the same for a mark that this very step makes, and that has nothing out
-  abbrev pub Comes : (ℕ → Option S → List W → Type 0) → (ℕ → ℕ) → (ℕ → W → Option S → Type 0) → Type 0
-  Comes holds f tells = (n : ℕ) (home : Option S) (views : List W) → holds n home views → n < 2 ^ 64
-      → (w : W) × (change : Bool) × holds (f n) (if change then None else home) (views ++ w ∷ [])
-      × tells n w (if change then home else None)
+  -- the same for a mark that this very step makes
+  abbrev pub Comes : (ℕ → Option S → List W → Type 0) → Option S → (ℕ → ℕ) → (ℕ → W → Option S → Type 0) → Type 0
+  Comes holds out f tells = (n : ℕ) (home : Option S) (views : List W) → holds n home views → n < 2 ^ 64
+      → (w : W) × (change : Bool) × holds (f n) (if change then out else home) (views ++ w ∷ [])
+      × tells n w (if change then home else out)

@@ -2,7 +2,7 @@
 ghost use Rattle.std.specs.Prelude.{◌≡◌, ◌≢◌, ℕ, ◌==◌, Option, None, Some};
 ghost use prog.Atomic.{either};
 ghost use Rattle.std.specs.Coded.{coded_option};
-ghost use Rattle.event_slot.specs.Ruling.{MayTurn, Becomes, Trades as Allows};
+ghost use Rattle.event_slot.specs.Ruling.{MayTurn, Becomes, Comes, MayTrade};
 ghost use Rattle.event_slot.specs.Holding.{claim_owns, claim_shares};
 
 use crate::rule::{Mark, Ruled, Trades};
@@ -64,7 +64,7 @@ impl<'a, X: Ruled<S>, S> Claim<'a, X, S> {
     ) -> (u64, Claim<'a, X, S>)
         requires turn { MayTurn self.right (X.counts old) (X.counts new) }
         requires keeps { (mark.old.slot ≡ self.name)
-            × Allows (X.holds self.key) mark.old.id mark.old.view self.state (λ n. either (n == old) new n)
+            × MayTrade (X.holds self.key) mark.old.id mark.old.view self.state (λ n. either (n == old) new n)
             (M.then old new mark.old.view self.state) }
         ensures becomes { (result.0 ≡ old → Becomes self.entry.right (X.counts old) (X.counts new) result.1.right)
             × (result.0 ≢ old → result.1.right ≡ self.entry.right) × (result.1.name ≡ self.entry.name)
@@ -77,6 +77,31 @@ impl<'a, X: Ruled<S>, S> Claim<'a, X, S> {
         let Claim { slot, marker } = self;
         let found = unsafe { exchange::<Brand>(&raw const (*slot).word, old, new) };
         (found, Claim { slot, marker })
+    }
+
+    /// The same by a compare-exchange that makes a mark.
+    pub fn arrive<M: Trades<X::View, S>>(
+        self,
+        old: u64,
+        new: u64,
+    ) -> (u64, Claim<'a, X, S>, Mark<X::View>)
+        requires turn { MayTurn self.right (X.counts old) (X.counts new) }
+        requires keeps { Comes (X.holds self.key) self.state (λ n. either (n == old) new n)
+            (M.then old new (X.first self.key) self.state) }
+        ensures becomes { (result.0 ≡ old → Becomes self.entry.right (X.counts old) (X.counts new) result.1.right)
+            × (result.0 ≢ old → result.1.right ≡ self.entry.right) × (result.1.name ≡ self.entry.name)
+            × (result.1.key ≡ self.entry.key) }
+        ensures value { self.entry.right ≡ 1 → result.1.right ≡ 1
+            → result.1.value ≡ self.entry.value }
+        ensures tells { (result.2.slot ≡ self.entry.name)
+            × M.then old new (X.first self.entry.key) self.entry.state result.0 result.2.view result.1.state }
+    {
+        let Claim { slot, marker } = self;
+        let found = unsafe { exchange::<Brand>(&raw const (*slot).word, old, new) };
+        let mark = Mark {
+            marker: PhantomData,
+        };
+        (found, Claim { slot, marker }, mark)
     }
 
     /// The right to write, of a claim that has it and nothing more.

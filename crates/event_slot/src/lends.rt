@@ -1,6 +1,6 @@
 //! What is lent to be changed. A clause names the row of the type that lends, which the file that declares it can't import: so these
 //! have a file of their own.
-ghost use Rattle.std.specs.Prelude.{◌≡◌, [], Some, IsSome};
+ghost use Rattle.std.specs.Prelude.{◌≡◌, [], None, Some, IsSome};
 ghost use mir.Syntax.{named};
 ghost use types.Logic.{sem};
 ghost use denote.Follow.{follows};
@@ -8,13 +8,16 @@ ghost use Rattle.event_slot.specs.contracts.slot.Slot.{the_row as slot_row};
 ghost use Rattle.event_slot.specs.contracts.claim.Claim.{the_row as claim_row};
 ghost use Rattle.event_slot.specs.contracts.writing.Writing.{the_row};
 ghost use Rattle.event_slot.specs.contracts.tied.Tied.{the_row as tied_row};
-ghost use Rattle.event_slot.specs.Lent.{claim_with, writing_with, tied_with};
+ghost use Rattle.event_slot.specs.contracts.owned.Owned.{the_row as owned_row};
+ghost use Rattle.event_slot.specs.Lent.{claim_with, writing_with, tied_with, owned_with, owned_with_state};
 
 use crate::claim::Claim;
+use crate::owned::Owned;
 use crate::rule::Ruled;
 use crate::slot::Slot;
 use crate::tied::{Tied, Ties};
 use crate::writing::Writing;
+use std::alloc::Allocator;
 
 impl<X: Ruled<S>, S> Slot<X, S> {
     /// The value, to be changed where it is, once nobody shares the slot. The slot keeps its name and key.
@@ -77,5 +80,45 @@ impl<'a, X: Ruled<S>, S, L: Ties> Tied<'a, X, S, L> {
         ensures value { result.now ≡ self.old.value }
     {
         unsafe { &mut *(&raw const (*self.slot).value as *mut X) }
+    }
+}
+
+impl<T, X: Ruled<S>, S, A: Allocator> Owned<T, X, S, A> {
+    /// The value, to a reader.
+    pub fn get(&self) -> &X
+        requires { self.now.right ≡ 1 }
+        ensures { Some result.now ≡ self.now.value }
+    {
+        unsafe { &(*self.slot).value }
+    }
+
+    /// The value as it is, to its writer.
+    pub fn written(&self) -> &X
+        requires { (self.now.right ≡ 2) × (self.now.state ≡ None) }
+        ensures { Some result.now ≡ self.now.value }
+    {
+        unsafe { &(*self.slot).value }
+    }
+
+    /// The value, to be changed where it is by its writer.
+    pub fn get_mut(&mut self) -> &mut X
+        requires { (self.old.right ≡ 2) × (self.old.state ≡ None) }
+        ensures* writes_back { sem 𝓛
+            (follows (owned_row T.row X.row S.row A.row X.View.row X.Key.row
+            (record { counts = X.counts; holds = X.holds; first = X.first }) A.Allocator) X.row self.entry.ghost_name result.ghost_name (owned_with self.old)) }
+        ensures value { Some result.now ≡ self.old.value }
+    {
+        unsafe { &mut *(&raw const (*self.slot).value as *mut X) }
+    }
+
+    /// The state, to be changed where it is, if it is out with this claim.
+    pub fn state_mut(&mut self) -> &mut S
+        requires { IsSome self.old.state }
+        ensures* writes_back { sem 𝓛
+            (follows (owned_row T.row X.row S.row A.row X.View.row X.Key.row
+            (record { counts = X.counts; holds = X.holds; first = X.first }) A.Allocator) S.row self.entry.ghost_name result.ghost_name (owned_with_state self.old)) }
+        ensures state { Some result.now ≡ self.old.state }
+    {
+        unsafe { &mut *(&raw const (*self.slot).state as *mut S) }
     }
 }

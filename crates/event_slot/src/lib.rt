@@ -1,8 +1,9 @@
 //! A value in place beside one atomic word, which many may read or one may write, and a state behind both that its taker owns, under
 //! a rule of the caller's.
 //!
-//! A [`Slot`] is a word, a value and a state. Of a word the caller says how it counts who has the value, [`Ruled::counts`]: all else
-//! of it is his. One compare-exchange, [`Claim::exchange`], says who may read or write, who takes the state out and who puts it back.
+//! A [`Slot`] is a word, a value and a state. The caller says how the word counts who has the value, [`Ruled::counts`], and what else
+//! it has. One compare-exchange, [`Claim::exchange`] or [`Claim::arrive`], says who may read or write, who takes the state out and who
+//! puts it back.
 //! What one has of a slot is a [`Claim`]. A reader lends `&T`; a writer is a [`Writing`], which lends `&mut T`; and whoever has the
 //! state out lends `&mut S`. Value and state stay where they are. Nothing is allocated, and making a slot can't fail.
 //!
@@ -14,25 +15,39 @@
 //!
 //! A guard over a writer has a mark besides, which has to be of the same slot. It is a [`Tied`], so that it can lend `&mut T`.
 //!
-//! Read `rule.rt` first, then `slot.rt`, `claim.rt`, `writing.rt` and `tied.rt`; of the definitions `specs/Ruling.antt`, then
-//! `specs/Holding.antt`. `proofs/Rights.antt` and `proofs/Steps.antt` have the two sides of a step on the word, that of the count and
-//! that of the marks, which the walks of the functions cite.
+//! A guard that keeps its lock by an `Arc` has no lifetime. It has an [`Owned`], an `Arc` with a claim on the slot in its value, which
+//! is [`Inside`]. It takes the same steps, lends the value and the state where they lie, and gives the `Arc` back at the end.
+//!
+//! A [`SetOnce`] is another thing: a value in place that is set at most once, and shared from then on. Each value that it may have
+//! fits its key, as [`Fits`] says.
+//!
+//! Read `rule.rt` first, then `slot.rt`, `claim.rt`, `writing.rt`, `tied.rt` and `owned.rt`; of the definitions `specs/Ruling.antt`,
+//! then `specs/Holding.antt` and `specs/Owning.antt`. `proofs/Rights.antt` and `proofs/Steps.antt` have the two sides of a step on the
+//! word, that of the count and that of the marks, which the walks of the functions cite. Of `SetOnce` read `set_once.rt` and
+//! `write_once.rt`, then `specs/Written.antt` and `proofs/Setting.antt`.
 #![tactic(auto)]
 
 mod claim;
+mod leased;
 mod lends;
+mod owned;
 mod rest;
 mod rule;
+mod set_once;
 mod sleep;
 mod slot;
 mod tied;
+mod write_once;
 mod writing;
 
 pub use claim::Claim;
+pub use owned::{Inside, Owned};
 pub use rest::Rest;
 pub use rule::{Joins, Mark, Ruled, Splits, Tells, Trades};
+pub use set_once::SetOnce;
 pub use slot::Slot;
 pub use tied::{Tied, Ties};
+pub use write_once::Fits;
 pub use writing::Writing;
 
 /// The state of a counted word where a writer may come, and no reader.
@@ -41,7 +56,7 @@ pub const FREE: u64 = 0;
 /// The state where readers may come, and a writer once there is none.
 pub const PRESENT: u64 = 1;
 
-/// The same as [`PRESENT`] to this crate. Who marks a value keeps new readers away.
+/// Another state where readers may come, which this crate takes for [`PRESENT`]. A rule may tell the two apart.
 pub const MARKED: u64 = 2;
 
 /// The state while a writer has the value.

@@ -1,12 +1,10 @@
 //! The slot, and what its owner or anybody with a `&` to it may do.
-ghost use Rattle.std.specs.Prelude.{◌≡◌, ◌≢◌, ℕ, ◌==◌, [], ◌∷◌, None, Some};
-ghost use prog.Atomic.{either};
-ghost use Rattle.event_slot.specs.Ruling.{IsTurn, Gains, Keeps, Comes, Enters, Splits as MaySplit, Joins as MayJoin};
+ghost use Rattle.std.specs.Prelude.{◌≡◌, ℕ, [], ◌∷◌, None, Some};
+ghost use Rattle.event_slot.specs.Ruling.{Keeps, Enters, MaySplit, MayJoin};
 ghost use Rattle.event_slot.specs.Holding.{Named, named_coded, slot_owns, slot_shares};
 
 use crate::claim::Claim;
-use crate::rule::{Joins, Mark, Ruled, Splits, Tells, Trades};
-use atomic_table::exchange;
+use crate::rule::{Joins, Mark, Ruled, Splits, Tells};
 use std::marker::{Brand, Move, Owns, PhantomData};
 use std::sync::atomic::Ordering::SeqCst;
 use std::sync::atomic::raw;
@@ -54,35 +52,6 @@ impl<X: Ruled<S>, S> Slot<X, S> {
             slot: self,
             marker: PhantomData,
         }
-    }
-
-    /// Changes the word from `old` to `new` by one compare-exchange, which makes a mark. Returns the word as it was, with what that
-    /// gained.
-    ///
-    /// `IsTurn` lists the changes that it may make. The rule has to hold afterwards, whether or not the word was `old`.
-    pub fn arrive<M: Trades<X::View, S>>(
-        &self,
-        old: u64,
-        new: u64,
-    ) -> (u64, Claim<'_, X, S>, Mark<X::View>)
-        requires turn { IsTurn (X.counts old) (X.counts new) }
-        requires keeps { Comes (X.holds self.now.key) (λ n. either (n == old) new n)
-            (M.then old new (X.first self.now.key) None) }
-        ensures gains { (result.0 ≡ old → Gains (X.counts old) (X.counts new) result.1.right)
-            × (result.0 ≢ old → result.1.right ≡ 0) × (result.1.name ≡ self.now.name)
-            × (result.1.key ≡ self.now.key) }
-        ensures tells { (result.2.slot ≡ self.now.name)
-            × M.then old new (X.first self.now.key) None result.0 result.2.view result.1.state }
-    {
-        let found = unsafe { exchange::<Brand>(&raw const self.word, old, new) };
-        let claim = Claim {
-            slot: self,
-            marker: PhantomData,
-        };
-        let mark = Mark {
-            marker: PhantomData,
-        };
-        (found, claim, mark)
     }
 
     /// The word, by one load, with what that tells.

@@ -1,5 +1,5 @@
 -- `rest` gives what the mark owns to its place.
-use Rattle.event_slot.proofs.Names.{◌≡◌, [], ◌∷◌, List, refl, a_type, Val, inst_fn, SProp, emp, tables, ‵, raw, ◌⊛◌, ◌$◌, ◌∵◌, !, qed, by, move, keep, split, fsplit, fjoin, use0, no_more, and_then, returns, enter, alloc_all, pass_all, free_all, look_at, get, sets, agg, RattleType, owns, types_at, plain, nothing, param, Stays, stay_dropped, walk_of, Goes-dropped, shown, fact_i, proved, leaves}
+use Rattle.event_slot.proofs.Names.{◌≡◌, [], ◌∷◌, refl, a_type, Val, inst_fn, SProp, emp, tables, ‵, raw, ◌⊛◌, ◌$◌, ◌∵◌, !, qed, by, move, keep, split, fsplit, fjoin, use0, no_more, and_then, returns, enter, alloc_all, pass_all, free_all, look_at, get, sets, agg, RattleType, owns, types_at, plain, nothing, param, Stays, stay_dropped, walk_of, Goes-dropped, shown, fact_i, proved, leaves}
 use Rattle.atomic_table.proofs.Names.{no, layouts, alive}
 use Rattle.event_slot.specs.contracts.rest.Rest as rest
 use Rattle.event_slot.specs.contracts.rule.Mark as mark

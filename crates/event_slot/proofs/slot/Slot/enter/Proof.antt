@@ -1,5 +1,5 @@
 -- `enter` is one load, by which a mark comes.
-use Rattle.event_slot.proofs.Names.{◌≡◌, ℕ, ◌++◌, false, vstruct, vcons, vnil, of_list, Valss, u64, feq, fpack, ◌+◌, ◌^◌, List, [], ◌∷◌, refl, lit<, w64, a_type, named, dcons, dnil, Val, vint, vptr, inst_fn, Coded, SProp, wand, emp, via, apply∗, Lft, Share, Fml, ftrue, fsep, flft, shown, fact_i, tables, ‵, raw, ◌⊛◌, some, given, later, mean, at_ret, ◌$◌, ◌∵◌, !, qed, by, move, keep, drop, split, split3, join, fsplit, fsplit3, fjoin, fpick, pick, learn, use0, use2, use3, await, feq_i, flt_i, stop, fld, addr, lit, of_opd, no_more, and_then, first, blocks, exec, Calls-last, returns, enter, alloc_all, pass_all, free_all, look_at, get, through, sets, lands_last, env, agg, yes, RattleType, owns, types_at, plain, block_ptr, nothing, unhide, param, bounded, RefOf, shr_vals, shr_Tells, Stays, stay_dropped, walk_of, Goes-dropped, tail, proved, leaves}
+use Rattle.event_slot.proofs.Names.{◌≡◌, None, ℕ, ◌++◌, false, vstruct, vcons, vnil, of_list, Valss, u64, feq, fpack, ◌+◌, ◌^◌, List, [], ◌∷◌, refl, lit<, w64, a_type, named, dcons, dnil, Val, vint, vptr, inst_fn, Coded, SProp, wand, emp, via, apply∗, Lft, Share, Fml, ftrue, fsep, flft, shown, fact_i, tables, ‵, raw, ◌⊛◌, some, given, later, mean, at_ret, ◌$◌, ◌∵◌, !, qed, by, move, keep, drop, split, split3, join, fsplit, fsplit3, fjoin, fpick, pick, learn, use0, use2, use3, await, feq_i, flt_i, stop, fld, addr, lit, of_opd, no_more, and_then, first, blocks, exec, Calls-last, returns, enter, alloc_all, pass_all, free_all, look_at, get, through, sets, lands_last, env, agg, yes, RattleType, owns, types_at, plain, block_ptr, nothing, unhide, param, bounded, RefOf, shr_vals, shr_Tells, Stays, stay_dropped, walk_of, Goes-dropped, tail, proved, leaves}
 use Rattle.atomic_table.proofs.Calls.{fm, seq_cst, found, finds, loads}
 use Rattle.event_slot.specs.Ruling.{Enters}
 use Rattle.event_slot.specs.contracts.slot.Slot as slot
@@ -30,7 +30,7 @@ enter_spec 𝓤 𝓛 𝓜 𝓡 wired X S Y Ky Z _ _ _ _ _ g d h d' _ _ =
     let right : ℕ → Fml = λ n. entered 𝓛 cw γ R Q b o t (λ w _. then n w) in let out : ℕ → Fml = λ n. fsep (flft t.0 s) (fsep ftrue (right n)) in
     first ! $ blocks ! $ sets ! (addr ! (through ! refl (fld ! refl (stop !)))) refl (tt, tt) $ nothing ! $ nothing ! $ join ! $ move ! (1 ∷ 2 ∷ 0 ∷ []) $
     use3 𝓛 (raw (𝓣.C _ (vptr b (o + 0) ∷ seq_cst ∷ []) (λ u. mean 𝓛 (found out u))))
-    (via 𝓤 _ (looks_on 𝓛 cw γ R Q (g.holds key) b o t g.counts s ftrue right (enters 𝓛 cw γ R Q (g.holds key) b o t g.counts s (λ n. n) (λ n w _. then n w) (λ n home views so small. let r = asked n home views so small in (r.0, false, r.1, r.2)))) (loads 𝓛 𝓜 𝓡 (code.calls-core::raw_atomic::load 𝓡.env wired) (block_ptr b (o + 0)) out)) $
+    (via 𝓤 _ (looks_on 𝓛 cw γ R Q (g.holds key) b o t g.counts s ftrue right (enters 𝓛 cw γ R Q (g.holds key) b o t g.counts s None (λ n. n) (λ n w _. then n w) (λ n home views so small. let r = asked n home views so small in (r.0, false, r.1, r.2)))) (loads 𝓛 𝓜 𝓡 (code.calls-core::raw_atomic::load 𝓡.env wired) (block_ptr b (o + 0)) out)) $
     sets ! (agg ! (and_then ! (lit ! tt) (no_more !))) refl (tt, (record { fits = lit< tt }, tt)) $ Calls-last ! (fm 𝓛 𝓜 𝓡) (found out) (and_then ! (get ! refl) (and_then ! (get ! refl) (no_more !))) (λ u. finds ! out (λ n fits.
     lands_last ! refl (tt, record { fits = fits }) $ exec ! 𝓣.C 𝓣.Λ Ev (tail fn.body) (at_ret Ev Post) $ sets ! (of_opd ! (get ! refl)) refl (tt, record { fits = fits }) $ sets ! (agg ! (no_more !)) refl (tt, tt) $ sets ! (agg ! (and_then ! (get ! refl) (no_more !))) refl (tt, (tt, tt)) $
     sets ! (of_opd ! (get ! refl)) refl (tt, (tt, tt)) $ sets ! (agg ! (and_then ! (get ! refl) (and_then ! (get ! refl) (no_more !)))) refl (tt, (record { fits = fits }, ((tt, tt), tt))) $

@@ -2,7 +2,7 @@
 use Rattle.event_slot.proofs.Names.{◌≡◌, ℕ, ◌+◌, List, [], ◌∷◌, refl, lit<, a_type, named, dcons, dnil, Val, vptr, inst_fn, Coded, SProp, wand, emp, all, via, all_e, apply∗, Lft, Share, Fml, ftrue, fsep, flft, shown, fact_i, tables, sep, vunit, ‵, raw, ◌⊛◌, some, given, later, mean, at_ret, ◌$◌, ◌∵◌, !, qed, by, move, keep, drop, split, split3, join, fsplit, fsplit3, fjoin, fpick, pick, sem, learn, use0, use1, use2, use3, await, feq_i, stop, fld, addr, lit, of_opd, no_more, and_then, first, blocks, exec, Calls-last, returns, enter, alloc_all, pass_all, free_all, look_at, get, through, sets, lands_last, env, agg, yes, RattleType, owns, types_at, plain, block_ptr, nothing, unhide, param, bounded, RefOf, shr_vals, shr_Tells, mut_vals, mut_Tells, Stays, stay_dropped, stay_ref, walk_of, Goes-dropped, Goes-ref, tail, proved, leaves}
 use Rattle.atomic_table.proofs.Calls.{fm, seq_cst, found, finds, loads}
 use Rattle.atomic_table.specs.Marked.{mark_owns}
-use Rattle.event_slot.specs.Ruling.{Joins}
+use Rattle.event_slot.specs.Ruling.{MayJoin}
 use Rattle.event_slot.specs.contracts.slot.Slot as slot
 use Rattle.event_slot.specs.contracts.rule.Mark as mark
 use types.Run.{unit_lit}
@@ -24,7 +24,7 @@ merge_spec 𝓤 𝓛 𝓜 𝓡 wired X S Y Ky Z _ _ _ _ _ g d h d' _ _ =
     let b : ℕ = a.0.ref_ptr.0 in let o : ℕ = a.0.ref_ptr.1 in let κ : Lft = κs.0 in let q : Share = qs.0 in let γ : ℕ = a.0.now.name in let key : Ky.Denot = a.0.now.key in let x = a.1.0 in let m : Mr.Denot = x.now in let u₂ = a.1.1.0 in let k : Mr.Denot = u₂.now in let all_ : Y.Denot = h.both m.view k.view in let κ₂ : Lft = κs.1.1.0 in let q₂ : Share = qs.1.1.0 in
     let y : (walk_of 𝓛 En hs c).Ghost = ((κs, qs, bounds, a, (vptr b o ∷ [], (mut_vals x, (mut_vals u₂, tt)))), gh) in let Post : Val → SProp 𝓤 = (walk_of 𝓛 En hs c).post y in
     let others : Fml = fsep (flft κs.1.1.1.0 qs.1.1.1.0) (fsep (flft κs.1.1.1.1.0 qs.1.1.1.1.0) (fsep (flft κs.1.1.1.1.1.0 qs.1.1.1.1.1.0) (fsep (flft κs.1.1.1.1.1.1.0 qs.1.1.1.1.1.1.0) (fsep (flft κs.1.1.1.1.1.1.1.0 qs.1.1.1.1.1.1.1.0) ftrue)))) in
-    qed 𝓛 (((‵ (flft κ q) ⊛ ‵ (flft κs.1.0 qs.1.0) ⊛ ‵ (flft κ₂ q₂) ⊛ ‵ others) ⊛ ‵ (owns (types_at En.signature.params κs) a y.0.4)) ∷ raw (shown 𝓤 _) ∷ raw (shown 𝓤 _) ∷ raw (shown 𝓤 _) ∷ raw (shown 𝓤 _) ∷ raw (shown 𝓤 _) ∷ given ((m.slot ≡ γ) × (k.slot ≡ γ) × Joins (g.holds key) m.id m.view k.id k.view all_ h.spent) (‵ ftrue) ∷ []) ∵
+    qed 𝓛 (((‵ (flft κ q) ⊛ ‵ (flft κs.1.0 qs.1.0) ⊛ ‵ (flft κ₂ q₂) ⊛ ‵ others) ⊛ ‵ (owns (types_at En.signature.params κs) a y.0.4)) ∷ raw (shown 𝓤 _) ∷ raw (shown 𝓤 _) ∷ raw (shown 𝓤 _) ∷ raw (shown 𝓤 _) ∷ raw (shown 𝓤 _) ∷ given ((m.slot ≡ γ) × (k.slot ≡ γ) × MayJoin (g.holds key) m.id m.view k.id k.view all_ h.spent) (‵ ftrue) ∷ []) ∵
     keep ! (6 ∷ 0 ∷ []) $ learn ! (λ asked. drop ! $ split ! $ split3 ! $ move ! (2 ∷ []) $ split ! $ move ! (4 ∷ []) $ fsplit3 ! $ fsplit ! $ move ! (3 ∷ []) $ fsplit ! $ keep ! (3 ∷ 7 ∷ 4 ∷ 8 ∷ 0 ∷ 5 ∷ 6 ∷ []) $
     -- [the slot; its token; the mark; its token; the other mark; its token; the other tokens]
     enter ! 𝓣.C 𝓣.Λ fn (vptr b o ∷ vptr x.ref_ptr.0 x.ref_ptr.1 ∷ vptr u₂.ref_ptr.0 u₂.ref_ptr.1 ∷ []) Post $ alloc_all ! (λ l. pass_all ! refl ((tt, tt), ((tt, tt), ((tt, tt), tt))) $ let Ev = env fn.locals l in

@@ -1,0 +1,25 @@
+-- `into_inner` takes the value, whatever the word is.
+use Rattle.event_slot.proofs.Names.{◌≡◌, List, [], ◌∷◌, ◌++◌, sym, refl, ◌∙◌, subst, w64, a_type, dcons, dnil, Val, vint, vstruct, vcons, vnil, of_list, has_ty, inst_fn, SProp, ent, emp, id⊢, ftrue, fsep, shown, fact_i, tables, WpFn, ‵, raw, ◌⊛◌, ◌$◌, ◌∵◌, !, qed, by, move, keep, drop, split, fsplit, fsplit3, fjoin, fpick, use0, rewrite, feq_l, flt_l, suffices, stop, fld, of_opd, returns, enter, alloc_all, pass_all, free_all, look_at, get, get_in, sets, sub, whole, no, RattleType, plain, nothing, peeks, Is, shows, param, layout, bounded, alive, Stays, stay_dropped, walk_of, Goes-dropped, El, lawful, Good, one, proved_at, leaves}
+use Rattle.std.proofs.ResultValues.{and_tt}
+use Rattle.event_slot.specs.contracts.write_once.WriteOnce as once
+use Rattle.event_slot.specs.contracts.write_once.WriteOnce.into_inner.{ended, clauses}
+use Rattle.event_slot.specs.contracts.write_once.WriteOnce.into_inner.Key.{name as #self}
+use Rattle.event_slot.proofs.write_once.WriteOnce.into_inner.Statement.{statement}
+use Rattle.event_slot.proofs.write_once.WriteOnce.into_inner.Code as code
+
+pub into_inner_spec : {M : Type 1} → statement M
+into_inner_spec 𝓤 𝓛 𝓜 𝓡 wired X Ky L _ g d _ =
+    let H = 𝓛.H in let 𝓣 = tables 𝓤 H 𝓜 𝓡 𝓡.env in let R : RattleType = param 0 X in let Kr : RattleType = param 1 Ky in let En = ended X Ky g d in let c = clauses X Ky g d 𝓛 𝓜.mem 𝓡.returns in let E : El = record { row = X; laws = L } in
+    let inst = bounded (a_type ∷ a_type ∷ []) (X, (Ky, tt)) (dcons d dnil) in let fn = inst_fn inst code.function in let self = plain (λ _. once.the_row R Kr g) in let hs : Stays En.signature.params En.kept = (stay_dropped self no, tt) in
+    proved_at 𝓛 En hs c 𝓜 𝓡 (Goes-dropped 𝓛 2 self no (λ κs x f. refl), tt) (#self inst) fn (code.unfolded 𝓤 H 𝓜 𝓡 wired (X, (Ky, tt)) d) (λ z are.
+    let Post : Val → SProp 𝓤 = (walk_of 𝓛 En hs c).post z in let Run : List Val → SProp 𝓤 = λ ws. WpFn 𝓤 H 𝓣.C 𝓣.Λ fn ws Post in
+    qed 𝓛 ((raw (alive 𝓛 En.signature z.0.0 z.0.1) ⊛ ‵ (fsep ((once.the_row R Kr g).own_val z.0.3.0 z.0.4.0) ftrue)) ∷ raw ((c z.0.0 z.0.3).requires z.1) ∷ []) ∵ keep ! (0 ∷ []) $ split ! $ move ! (1 ∷ []) $ fsplit ! $ fsplit ! $ drop ! $
+    fpick ! (λ s. fsplit ! $ fpick ! (λ vss. fsplit ! $ feq_l ! (λ ev. fsplit3 ! $ fsplit ! $ feq_l ! (λ en. flt_l ! (λ fits. peeks ! R (Is R) (shows 𝓛 R) s.1 vss.1.0 (λ is_x.
+    let got = one E vss.1.0 ((lawful E 𝓛).typed s.1 vss.1.0 is_x) in let vx : Val = got.0 in let fx : Good E vx = got.2 in let v : Val = vstruct (vcons (vint w64 s.0) (vcons vx vnil)) in let is_v : z.0.4.0 ≡ v ∷ [] = ev ∙ (λ i. vstruct (of_list (en i ++ (got.1 i ++ []))) ∷ []) in
+    -- [the value; nothing; the fact; nothing; the tokens]
+    rewrite ! 0 (λ (ws : List Val). ‵ (R.own_val s.1 ws)) got.1 refl $ keep ! (2 ∷ 0 ∷ 4 ∷ []) $ fpick ! (λ holds. drop ! $
+    suffices ! (Run (v ∷ [])) (subst (λ (ws : List Val). ent 𝓤 (Run (v ∷ [])) (Run ws)) (sym (λ i. is_v i ++ [])) (id⊢ 𝓤 (Run (v ∷ [])))) $
+    enter ! 𝓣.C 𝓣.Λ fn (v ∷ []) Post $ alloc_all ! (λ l. pass_all ! refl ((and_tt (has_ty (layout X) vx) fx.0, (record { fits = fits }, (fx.1, tt))), tt) $
+    sets ! (of_opd ! (get_in ! (fld ! refl (stop !)) (sub ! 1 refl (whole !)))) refl fx $ sets ! (of_opd ! (get ! refl)) refl fx $
+    let Told : Type 0 = g.fits z.0.3.0 s.1 in use0 𝓛 (raw (shown 𝓤 Told)) (fact_i 𝓤 Told (emp 𝓤) holds) $ nothing ! $ nothing ! $ fjoin ! $
+    returns ! (look_at ! 0 refl) $ free_all ! refl $ keep ! (3 ∷ 0 ∷ 2 ∷ 1 ∷ []) $ by ! (leaves 𝓛 En hs c z vx s.1 (tt, tt) (tt, tt)))))))))))

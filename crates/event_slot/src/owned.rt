@@ -1,0 +1,126 @@
+//! A claim with the `Arc` that its slot lies in, for a guard without a lifetime.
+ghost use Rattle.std.specs.Prelude.{◌≡◌, ◌≢◌, ℕ, ◌<◌, ◌==◌, ◌++◌, Option, None, Some, IsSome};
+ghost use prog.Atomic.{either};
+ghost use Rattle.std.specs.Coded.{coded_option};
+ghost use Rattle.event_slot.specs.Ruling.{MayTurn, Becomes, MayTrade};
+ghost use Rattle.event_slot.specs.Holding.{Named};
+ghost use Rattle.event_slot.specs.Owning.{owned_owns, owned_shares};
+
+use crate::claim::Claim;
+use crate::leased::Leased;
+use crate::rule::{Mark, Ruled, Trades};
+use crate::slot::Slot;
+use atomic_table::exchange;
+use std::alloc::Allocator;
+use std::marker::{Brand, Model};
+use std::sync::Arc;
+
+/// A value that a slot lies in, such as a lock.
+pub trait Inside<X: Ruled<S>, S> {
+    /// The name and the key of its slot.
+    ghost finds: { Self → Named X.Key };
+
+    /// The slot in it.
+    fn slot(&self) -> &Slot<X, S>
+        ensures { result.now ≡ finds self.now };
+}
+
+// How a block that an `Arc` points to is laid out.
+struct Shared<T, A> {
+    count: u64,
+    alloc: A,
+    value: T,
+}
+
+/// An `Arc` with what one has of the slot in its value. It is to a [`Claim`] what an `Arc` is to a `&`: it has no lifetime.
+///
+/// It can't be dropped. It ends by [`done`](Owned::done) once it is to nothing.
+pub struct Owned<T, X: Ruled<S>, S, A: Allocator> {
+    pub(crate) slot: *const Slot<X, S>,
+    pub(crate) arc: Leased<T, A>,
+    /// What the `Arc` shares.
+    pub ghost of: { T },
+    /// The name of the slot.
+    pub ghost name: { ℕ },
+    /// Its key.
+    pub ghost key: { X.Key } by { X.Key.code },
+    /// 0 for none, 1 to read the value and 2 to write it.
+    pub ghost right: { ℕ },
+    /// The value that its reader sees, or its writer finds.
+    pub ghost value: { Option X } by { coded_option X.code },
+    /// The state, if it is out with this claim.
+    pub ghost state: { Option S } by { coded_option S.code },
+}
+
+impl<T, X: Ruled<S>, S, A: Allocator> Model for Owned<T, X, S, A> {
+    ghost also_owns = { λ h. owned_owns X.View.row.coded.code h.name X.row S.row X.counts (X.holds h.key) (T.row.lives ++ (X.row.lives ++ S.row.lives)) h.arc.life h.slot h.right h.value h.state (h.arc.of ≡ h.of) };
+
+    ghost also_shares = { λ h _ κ. owned_shares X.row (T.row.lives ++ (X.row.lives ++ S.row.lives)) h.arc.life h.slot h.right h.value h.state κ };
+}
+
+// A claim to nothing of the slot in a value.
+fn find<'a, T: Inside<X, S>, X: Ruled<S> + 'a, S: 'a>(value: &'a T) -> Claim<'a, X, S>
+    ensures { (result.name ≡ (T.finds value.now).name) × (result.key ≡ (T.finds value.now).key)
+        × (result.right ≡ 0) × (result.state ≡ None) }
+{
+    value.slot().claim()
+}
+
+impl<T, X: Ruled<S>, S, A: Allocator> Owned<T, X, S, A> {
+    /// A claim to nothing, with which a step may begin.
+    // No clause of `Arc` says where its value lies, so its pointer is read: the proof compares `Shared` with what std defines.
+    pub fn new(arc: Arc<T, A>) -> Owned<T, X, S, A>
+    where
+        T: Inside<X, S>,
+        ensures { (result.of ≡ arc.value) × (result.name ≡ (T.finds arc.value).name)
+            × (result.key ≡ (T.finds arc.value).key) × (result.right ≡ 0) × (result.state ≡ None) }
+    {
+        let shared = unsafe { *(&raw const arc as *const *const Shared<T, A>) };
+        let claim = find(unsafe { &(*shared).value });
+        let Claim { slot, marker: _ } = claim;
+        Owned {
+            slot,
+            arc: Leased { arc },
+        }
+    }
+
+    /// Changes the word from `old` to `new` by one compare-exchange, as [`Claim::exchange`] does. Returns the word as it was, and
+    /// what one has then. Whoever has a right has a value.
+    pub fn exchange<M: Trades<X::View, S>>(
+        self,
+        mark: &mut Mark<X::View>,
+        old: u64,
+        new: u64,
+    ) -> (u64, Owned<T, X, S, A>)
+        requires turn { MayTurn self.right (X.counts old) (X.counts new) }
+        requires keeps { (mark.old.slot ≡ self.name)
+            × MayTrade (X.holds self.key) mark.old.id mark.old.view self.state (λ n. either (n == old) new n)
+            (M.then old new mark.old.view self.state) }
+        ensures becomes { (result.0 ≡ old → Becomes self.right (X.counts old) (X.counts new) result.1.right)
+            × (result.0 ≢ old → result.1.right ≡ self.right) × (result.1.name ≡ self.name)
+            × (result.1.key ≡ self.key) × (result.1.of ≡ self.of) }
+        ensures value { self.right ≡ 1 → result.1.right ≡ 1 → result.1.value ≡ self.value }
+        ensures has { 0 < result.1.right → IsSome result.1.value }
+        ensures tells { (mark.new.slot ≡ mark.old.slot) × (mark.new.id ≡ mark.old.id)
+            × M.then old new mark.old.view self.state result.0 mark.new.view result.1.state }
+    {
+        let Owned { slot, arc } = self;
+        let found = unsafe { exchange::<Brand>(&raw const (*slot).word, old, new) };
+        (found, Owned { slot, arc })
+    }
+
+    /// The `Arc`, once one has nothing of its slot any more.
+    pub fn done(self) -> Arc<T, A>
+        requires { (self.right ≡ 0) × (self.state ≡ None) }
+        ensures { result.value ≡ self.of }
+    {
+        let Owned { slot: _, arc } = self;
+        let Leased { arc } = arc;
+        arc
+    }
+}
+
+unsafe impl<T: Send + Sync, X: Ruled<S> + Send + Sync, S: Send, A: Allocator + Send + Sync> Send
+    for Owned<T, X, S, A> {}
+
+unsafe impl<T, X: Ruled<S> + Sync, S, A: Allocator> Sync for Owned<T, X, S, A> {}
