@@ -6,7 +6,7 @@ use mathlib.Core.Option.{some, some-ne-none}
 use lib.ListN.{get_elem?}
 use prog.Atomic.{either}
 use Rattle.atomic_table.proofs.Lists.{exchanged, at_last, set_again, set_else, set_here, at_set}
-use Rattle.event_slot.specs.Ruling.{Keeps, Enters, Splits, Joins, Trades, Comes}
+use Rattle.event_slot.specs.Ruling.{Keeps, Enters, MaySplit, MayJoin, MayTrade, Comes}
 use Rattle.event_history.specs.declared.history.Entry.{Entry}
 use Rattle.event_history.specs.declared.history.View.{View}
 use Rattle.event_history.specs.History.{Machine, entry, calls_by, StartsWith, AreAmong, EachRests, newcomer, met_of, both_views, Runs, LeadsTo}
@@ -102,7 +102,7 @@ module _ {S C : Type 0} (machine : Machine S C) where
   sits v n home vs k small = (newcomer k.log, welcomes n home vs k k.log ([], sym (append-nil k.log)), (k.log, refl))
 
   -- a hand tells another one what it has seen
-  pub tells : (id : ℕ) (v : V) → Splits Law id v v (newcomer v.seen)
+  pub tells : (id : ℕ) (v : V) → MaySplit Law id v v (newcomer v.seen)
   tells id v n home vs k me small = subst (λ (us : List V). Law n home (us ++ newcomer v.seen ∷ [])) (sym (set_again vs id v me)) (welcomes n home vs k v.seen (k.fits id v me).begins)
 
   -- what a step leads to that leaves the word at m
@@ -123,18 +123,18 @@ module _ {S C : Type 0} (machine : Machine S C) where
     ((λ _. (q, refl, refl)), λ miss. absurd (miss free)),
   )
 
-  locks_home : (owes : Bool) → owes ≡ false → (new : ℕ) → IsLocked new → (id : ℕ) (v : V) → v.spent ≡ false → Trades Law id v None (λ n. either (eqb n 0) new n) (Tries (owing owes v) 0 v None)
+  locks_home : (owes : Bool) → owes ≡ false → (new : ℕ) → IsLocked new → (id : ℕ) (v : V) → v.spent ≡ false → MayTrade Law id v None (λ n. either (eqb n 0) new n) (Tries (owing owes v) 0 v None)
   locks_home owes quiet new locks id v alive n home vs k me small = exchanged n 0 new (λ m. Goes m home vs id None (Tries (owing owes v) 0 v None n))
       (λ free. hits owes quiet new locks id v alive n home vs k me free)
       (λ miss. (v, false, unmoved n home vs k id v me, ((λ free. absurd (miss free)), λ _. (refl, refl))))
 
   -- a hand takes the state that is at home
-  pub locks : (owes : Bool) → owes ≡ false → (new : ℕ) → IsLocked new → (id : ℕ) (v : V) (out : Option S) → v.spent ≡ false → out ≡ None → Trades Law id v out (λ n. either (eqb n 0) new n) (Tries (owing owes v) 0 v out)
-  locks owes quiet new locked id v out alive none = subst (λ (o : Option S). Trades Law id v o (λ n. either (eqb n 0) new n) (Tries (owing owes v) 0 v o)) (sym none) (locks_home owes quiet new locked id v alive)
+  pub locks : (owes : Bool) → owes ≡ false → (new : ℕ) → IsLocked new → (id : ℕ) (v : V) (out : Option S) → v.spent ≡ false → out ≡ None → MayTrade Law id v out (λ n. either (eqb n 0) new n) (Tries (owing owes v) 0 v out)
+  locks owes quiet new locked id v out alive none = subst (λ (o : Option S). MayTrade Law id v o (λ n. either (eqb n 0) new n) (Tries (owing owes v) 0 v o)) (sym none) (locks_home owes quiet new locked id v alive)
 
   -- a new mark takes the state that is at home, or has seen the history so far
-  pub arrives : (v : V) (new : ℕ) → IsLocked new → Comes Law (λ n. either (eqb n 0) new n) (arrived 0 new v None)
-  arrives v new locked n home vs k small =
+  arrives_home : (v : V) (new : ℕ) → IsLocked new → Comes Law None (λ n. either (eqb n 0) new n) (arrived 0 new v None)
+  arrives_home v new locked n home vs k small =
       let first : V = newcomer k.log in
       let at_end = length vs in
       let kept : Law n home (vs ++ first ∷ []) = welcomes n home vs k k.log ([], sym (append-nil k.log)) in
@@ -144,6 +144,9 @@ module _ {S C : Type 0} (machine : Machine S C) where
         subst (λ (us : List V). Law (either (eqb n 0) new n) (cond goes.1 None home) us) (set-append_seam vs first [] goes.0) goes.2,
         (k.log, goes.3),
       )
+
+  pub arrives : (v : V) (new : ℕ) (out : Option S) → IsLocked new → out ≡ None → Comes Law out (λ n. either (eqb n 0) new n) (arrived 0 new v out)
+  arrives v new out locked none = subst (λ (o : Option S). Comes Law o (λ n. either (eqb n 0) new n) (arrived 0 new v o)) (sym none) (arrives_home v new locked)
 
   -- a look, from which on a hand owes this
   pub turns : (owes : Bool) (id : ℕ) (v : V) → v.spent ≡ false → v.out ≡ [] → Keeps Law id v (λ r w. w ≡ owing owes v)
@@ -158,7 +161,7 @@ module _ {S C : Type 0} (machine : Machine S C) where
   louder n (Some q) vs log one h = absurd (not_free n h.0 (inl one))
 
   -- a hand that waits says so
-  pub waits : (id : ℕ) (v : V) (out : Option S) → v.spent ≡ false → v.out ≡ [] → Trades Law id v out (λ n. either (eqb n 1) 2 n) (awaited 1 2 v out)
+  pub waits : (id : ℕ) (v : V) (out : Option S) → v.spent ≡ false → v.out ≡ [] → MayTrade Law id v out (λ n. either (eqb n 1) 2 n) (awaited 1 2 v out)
   waits id v out alive empty n home vs k me small =
       let w : V = owing true v in
       let owed : (m : ℕ) → There m home vs k.log → Goes m home vs id out (awaited 1 2 v out n) = λ m there.
@@ -244,7 +247,7 @@ module _ {S C : Type 0} (machine : Machine S C) where
     is_awaited n None vs log me (inl isnt) h = awaited_if n isnt h.0
     is_awaited n None vs log me (inr owes) h = let own : IsOut n h.1 h.2 id v.owes (q ∷ []) = subst (λ (o : List S). IsOut n h.1 h.2 id v.owes o) has (h.4 id v me) in own.2 owes
 
-    puts_one : Trades Law id v (Some r) (λ n. either (eqb n 1) 0 n) (put_back less made 1 0 v (Some r))
+    puts_one : MayTrade Law id v (Some r) (λ n. either (eqb n 1) 0 n) (put_back less made 1 0 v (Some r))
     puts_one n home vs k me small = exchanged n 1 0 (λ m. Goes m home vs id (Some r) (put_back less made 1 0 v (Some r) n))
         (λ one. let back = gives v.owes false n home vs k me in (brings k.log id v call, true, back.0, ((λ _. back.1), λ miss. absurd (miss one))))
         (λ miss. let two = is_awaited n home vs k.log me (inl miss) k.stands in (
@@ -254,16 +257,16 @@ module _ {S C : Type 0} (machine : Machine S C) where
           ((λ one. absurd (miss one)), λ _. (refl, refl)),
         ))
 
-    pub puts : (out : Option S) → out ≡ Some r → Trades Law id v out (λ n. either (eqb n 1) 0 n) (put_back less made 1 0 v out)
-    puts out there = subst (λ (o : Option S). Trades Law id v o (λ n. either (eqb n 1) 0 n) (put_back less made 1 0 v o)) (sym there) puts_one
+    pub puts : (out : Option S) → out ≡ Some r → MayTrade Law id v out (λ n. either (eqb n 1) 0 n) (put_back less made 1 0 v out)
+    puts out there = subst (λ (o : Option S). MayTrade Law id v o (λ n. either (eqb n 1) 0 n) (put_back less made 1 0 v o)) (sym there) puts_one
 
-    puts_two : v.owes ≡ true → Trades Law id v (Some r) (λ n. either (eqb n 2) 0 n) (put_awaited less made 2 0 v (Some r))
+    puts_two : v.owes ≡ true → MayTrade Law id v (Some r) (λ n. either (eqb n 2) 0 n) (put_awaited less made 2 0 v (Some r))
     puts_two owes n home vs k me small = let two = is_awaited n home vs k.log me (inr owes) k.stands in exchanged n 2 0 (λ m. Goes m home vs id (Some r) (put_awaited less made 2 0 v (Some r) n))
         (λ _. let back = gives false true n home vs k me in (owing true (brings k.log id v call), true, back.0, (two, brings k.log id v call, refl, back.1)))
         (λ miss. absurd (miss two))
 
-    pub puts_awaited : v.owes ≡ true → (out : Option S) → out ≡ Some r → Trades Law id v out (λ n. either (eqb n 2) 0 n) (put_awaited less made 2 0 v out)
-    puts_awaited owes out there = subst (λ (o : Option S). Trades Law id v o (λ n. either (eqb n 2) 0 n) (put_awaited less made 2 0 v o)) (sym there) (puts_two owes)
+    pub puts_awaited : v.owes ≡ true → (out : Option S) → out ≡ Some r → MayTrade Law id v out (λ n. either (eqb n 2) 0 n) (put_awaited less made 2 0 v out)
+    puts_awaited owes out there = subst (λ (o : Option S). MayTrade Law id v o (λ n. either (eqb n 2) 0 n) (put_awaited less made 2 0 v o)) (sym there) (puts_two owes)
 
   leads : (n : ℕ) (home : Option S) (vs : List V) (log : List (Entry C)) → There n home vs log → (t : S) × LeadsTo machine log t
   leads n None vs log h = (h.2, h.3)
@@ -295,7 +298,7 @@ module _ {S C : Type 0} (machine : Machine S C) where
       )
 
   -- a hand takes another one in
-  pub absorbs : (id : ℕ) (v : V) (other : ℕ) (u : V) → v.spent ≡ false → u.spent ≡ false → u.out ≡ [] → Joins Law id v other u (both_views v u) spent_view
+  pub absorbs : (id : ℕ) (v : V) (other : ℕ) (u : V) → v.spent ≡ false → u.spent ≡ false → u.out ≡ [] → MayJoin Law id v other u (both_views v u) spent_view
   absorbs id v other u alive living empty n home vs k me ne there small =
       let w : V = both_views v u in
       let vs1 : List V = set vs id w in

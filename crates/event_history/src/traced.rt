@@ -80,7 +80,7 @@ impl<S: Steps> Traced<S> {
             × Holds (newcomer result.1.view.seen) result.1.view claim.state) }
         ensures kept { result.0 ≡ None → result.1.view ≡ newcomer result.1.view.seen }
     {
-        let (found, claim, mark) = self.slot.arrive::<Arrive>(FREE, TAKEN);
+        let (found, claim, mark) = self.slot.claim().arrive::<Arrive>(FREE, TAKEN);
         if found == FREE {
             (Some(claim), mark)
         } else {

@@ -19,7 +19,7 @@ pub struct ByHand<'h, 'q, S: Steps, Q> {
     pub(crate) request: &'q mut Q,
 }
 
-// A request fits whose hand is of this lock's table and made what the request rests on.
+// A request fits whose hand is of this lock and made what the request rests on.
 impl<'h, 'q, S: Steps, Q: Request<S>> Waitable<ByHand<'h, 'q, S, Q>> for Lock<S> {
     type Output = Q::Output;
 

@@ -1,6 +1,6 @@
 use Rattle.std.proofs.Common.{rules, eqb, sym, subst}
 use prog.Atomic.{either}
-use Rattle.event_slot.specs.Ruling.{Trades}
+use Rattle.event_slot.specs.Ruling.{MayTrade}
 use Rattle.event_history.specs.History.{machine_from, machine_of}
 use Rattle.event_history.specs.Rule.{Kept, put_back}
 use Rattle.event_history.proofs.Keeps.{puts}
@@ -12,6 +12,6 @@ exchange-found-requires-clause-keeps g c =
     let mark = c.args.mark.now in
     let out = c.args.claim.state in (
       search rules,
-      subst (λ key. Trades (Kept (machine_of g.S.Steps key)) mark.id mark.view out (λ n. either (eqb n 1) 0 n) (put_back (machine_from g.S.Steps g.B.Begins.begins) g.K.Made.made 1 0 mark.view out)) (sym c.requires.claim.1)
+      subst (λ key. MayTrade (Kept (machine_of g.S.Steps key)) mark.id mark.view out (λ n. either (eqb n 1) 0 n) (put_back (machine_from g.S.Steps g.B.Begins.begins) g.K.Made.made 1 0 mark.view out)) (sym c.requires.claim.1)
           (puts (machine_of g.S.Steps c.args.self.now.slot.key) g.B.Begins.begins c.requires.begins g.K.Made.made mark.id mark.view s.1 s.2 s.0 s.3 s.4 s.6 s.7 s.8 out s.5),
     )
