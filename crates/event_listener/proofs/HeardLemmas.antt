@@ -43,11 +43,11 @@ module _ {T : Type 0} where
   among_last c (other ∷ cs) = inr (among_last c cs)
 
   -- what was known of a history is known of a longer one
-  listened_on : (key : Key) (log front : QueueLog T Task) → StartsWith log front → HasListened key front → HasListened key log
+  pub listened_on : (key : Key) (log front : QueueLog T Task) → StartsWith log front → HasListened key front → HasListened key log
   listened_on key log front starts h =
       record { by = h.by; among = subst (λ (es : QueueLog T Task). IsAmong (Insert (Ok key)) (calls_by h.by es)) (sym starts.1) (among_more h.by (Insert (Ok key)) front starts.0 h.among) }
 
-  notified_on : (key : Key) (log front : QueueLog T Task) → StartsWith log front → AllNotified key front → AllNotified key log
+  pub notified_on : (key : Key) (log front : QueueLog T Task) → StartsWith log front → AllNotified key front → AllNotified key log
   notified_on key log front starts h =
       let e : Entry (QueueCall T Task) = entry h.by (Notify (2 ^ 64 - 1) h.additional (Ok h.told)) in
       let place : log ≡ h.earlier ++ e ∷ (h.later ++ starts.0) = starts.1 ∙ (ap (λ (es : QueueLog T Task). es ++ starts.0) h.notified ∙ append_assoc h.earlier (e ∷ h.later) starts.0) in
@@ -69,35 +69,25 @@ module _ {T : Type 0} where
       let its : QueueCall T Task = Insert (Ok key) in
       record { by = l.number; among = subst (λ (cs : List (QueueCall T Task)). IsAmong its cs) (sym (l.each_once ∙ l.mine)) (among_last its v.mine) }
 
-  pub listened_joined : (key : Key) (met : Met (QueueCall T Task)) (v w : Known T) → Looks queue_machine (taking_in met v) w → HasListened key met.seen → HasListened key w.seen
-  listened_joined key met v w looks = listened_on key w.seen met.seen (took_in met v w looks)
-
-  pub listened_forked : (key : Key) (seen : QueueLog T Task) (w : Known T) → w ≡ newcomer seen → HasListened key seen → HasListened key w.seen
-  listened_forked key seen w is = listened_on key w.seen seen (as_newcomer seen w is)
-
-  pub listened_kept : (key : Key) (v w : Known T) → Looks queue_machine v w → HasListened key v.seen → HasListened key w.seen
-  listened_kept key v w looks = listened_on key w.seen v.seen looks.seen
-
-  pub listened_before : (key : Key) (v w : Known T) (c : QueueCall T Task) → Calls v c w → HasListened key v.seen → HasListened key w.seen
-  listened_before key v w c made = listened_on key w.seen v.seen (calls_on v w c made)
-
   pub notified : (key : Key) (v w : Known T) → NotifiesAll v w → HasListened key v.seen → AllNotified key w.seen
   notified key v w (additional, told, says) h =
       let l = says.2 in
       let front : QueueLog T Task = v.seen ++ l.between in
       record { earlier = front; by = l.number; additional = additional; told = told; later = []; listened = listened_on key front v.seen (l.between, refl) h; notified = l.seen }
 
-  pub notified_joined : (key : Key) (met : Met (QueueCall T Task)) (v w : Known T) → Looks queue_machine (taking_in met v) w → AllNotified key met.seen → AllNotified key w.seen
-  notified_joined key met v w looks = notified_on key w.seen met.seen (took_in met v w looks)
+  -- of what more of the history keeps: a hand knows it that takes in or is forked from one that does, that looks, or makes a call
+  module _ (Knows : Key → QueueLog T Task → Type 0) (on : (key : Key) (log front : QueueLog T Task) → StartsWith log front → Knows key front → Knows key log) where
+    pub knows_joined : (key : Key) (met : Met (QueueCall T Task)) (v w : Known T) → Looks queue_machine (taking_in met v) w → Knows key met.seen → Knows key w.seen
+    knows_joined key met v w looks = on key w.seen met.seen (took_in met v w looks)
 
-  pub notified_forked : (key : Key) (seen : QueueLog T Task) (w : Known T) → w ≡ newcomer seen → AllNotified key seen → AllNotified key w.seen
-  notified_forked key seen w is = notified_on key w.seen seen (as_newcomer seen w is)
+    pub knows_forked : (key : Key) (seen : QueueLog T Task) (w : Known T) → w ≡ newcomer seen → Knows key seen → Knows key w.seen
+    knows_forked key seen w is = on key w.seen seen (as_newcomer seen w is)
 
-  pub notified_kept : (key : Key) (v w : Known T) → Looks queue_machine v w → AllNotified key v.seen → AllNotified key w.seen
-  notified_kept key v w looks = notified_on key w.seen v.seen looks.seen
+    pub knows_kept : (key : Key) (v w : Known T) → Looks queue_machine v w → Knows key v.seen → Knows key w.seen
+    knows_kept key v w looks = on key w.seen v.seen looks.seen
 
-  pub notified_before : (key : Key) (v w : Known T) (c : QueueCall T Task) → Calls v c w → AllNotified key v.seen → AllNotified key w.seen
-  notified_before key v w c made = notified_on key w.seen v.seen (calls_on v w c made)
+    pub knows_before : (key : Key) (v w : Known T) (c : QueueCall T Task) → Calls v c w → Knows key v.seen → Knows key w.seen
+    knows_before key v w c made = on key w.seen v.seen (calls_on v w c made)
 
   notified_as : (key its : Key) (log : QueueLog T Task) → its ≡ key → AllNotified key log → AllNotified its log
   notified_as key its log same n = subst (λ (k : Key). AllNotified k log) (sym same) n

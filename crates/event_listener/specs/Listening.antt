@@ -26,13 +26,13 @@ pub record SharedQueue : Type 0 where
 abbrev pub Known : Type 0 → Type 0
 Known T = View (Queue T Task) (QueueCall T Task)
 
--- a listener: its standing, the table of its event's queue, and what its hand knows of the history there
+-- a listener: its standing, the name of the lock of its event's queue, and what its hand knows of the history there
 pub record Listening (T : Type 0) : Type 0 where
   pub standing : Standing
   pub table : ℕ
   pub knows : Known T
 
--- a hand of an event: the event's number, the table of its queue, and what the hand knows of the history there
+-- a hand of an event: the event's number, the name of its queue's lock, and what the hand knows of the history there
 pub record Caller (T : Type 0) : Type 0 where
   pub event_number : ℕ
   pub table : ℕ

@@ -13,13 +13,14 @@ use crate::listener::EventListener;
 use event_history::steps::{Counts, Insert, Notify};
 use event_history::{Hand, QueueCall, perform_first};
 use event_queue::{IntoNotification, List, ListenError, NotifyError};
+use event_slot::SetOnce;
 use event_wait::{DeferredWake, Task};
 pub use hand::EventHand;
 pub use identity::{EventId, EventIds, IdsUsedUp, given_numbers_are_distinct};
 pub use queue::Shared;
 use std::alloc::{AllocError, Global};
 use std::marker::Model;
-use std::sync::{Arc, OnceLock, Wait};
+use std::sync::{Arc, Wait};
 use std::time::Clock;
 
 /// A right to call the queue of one event.
@@ -39,15 +40,17 @@ pub(crate) type QueueHand<T> = Hand<List<T, Task>, QueueCall<T, Task>>;
 #[derive(Drop)]
 pub struct Event<T = ()> {
     id: EventId,
-    shared: OnceLock<Arc<Shared<T>>>,
+    shared: SetOnce<Arc<Shared<T>>>,
 }
 
 impl<T> Model for Event<T> {
-    ghost use Rattle.std.specs.Prelude.{ℕ};
+    ghost use Rattle.std.specs.Prelude.{◌≡◌, ℕ};
 
     ghost Value = { ℕ };
 
     ghost view = { λ event. event.id };
+
+    ghost invariant = { λ event. event.shared ≡ event.id };
 }
 
 impl<T> Event<T> {
@@ -57,10 +60,8 @@ impl<T> Event<T> {
     pub fn with_tag(id: EventId) -> Self
         ensures { result ≡ id }
     {
-        Event {
-            id,
-            shared: OnceLock::new(),
-        }
+        let shared = SetOnce::new(&id.number());
+        Event { id, shared }
     }
 
     /// For tests of the greatest serial numbers: an event whose queue is made already, and gives its first listener this
@@ -73,7 +74,8 @@ impl<T> Event<T> {
         T: Drop,
         ensures { IfOk result (λ event. event ≡ id) }
     {
-        let shared = OnceLock::from(Shared::new(alloc, id.number(), first_serial)?);
+        let made = Shared::new(alloc, id.number(), first_serial)?;
+        let shared = SetOnce::with(made, &id.number());
         Ok(Event { id, shared })
     }
 
@@ -115,17 +117,12 @@ impl<T> Event<T> {
         Ok(EventListener::new(shared, key, hand, runtime, alloc))
     }
 
-    // The queue, if there is one. No contract says what is in a `OnceLock`, so that the queue is this event's, as it always
-    // is, is known by its number.
+    // The queue, if there is one.
     #[inline(always)]
     fn made(&self) -> Option<&Arc<Shared<T>>>
         ensures { IfSome result (λ shared. (arc_value shared.now).event_number ≡ self.now) }
     {
-        let shared = self.shared.get()?;
-        if shared.number() != self.id.number() {
-            return None;
-        }
-        Some(shared)
+        self.shared.get()
     }
 
     // Makes the queue, and a share of it. It is a function of its own, so that a share of a queue that is there is a few
@@ -166,11 +163,8 @@ impl<T> Event<T> {
     {
         let made = Shared::new(alloc, self.id.number(), 0)?;
         match self.shared.try_set(made) {
-            Ok(token) => Ok(self.shared.value(&token)),
-            Err(_second) => {
-                self.shared.wait(rt);
-                self.made().ok_or(AllocError)
-            }
+            Ok(shared) => Ok(shared),
+            Err(_second) => Ok(self.shared.wait(rt)),
         }
     }
 

@@ -199,7 +199,7 @@
 //! # What the contracts say
 //!
 //! A contract sees an event as the number of its identity, and a listener as its standing (the number of its event, its
-//! key in the queue, whether it has given its tag), the table of the queue, and what its hand knows.
+//! key in the queue, whether it has given its tag), the name of the queue's lock, and what its hand knows.
 //!
 //! Behind the lock of an event there is one history of all calls on its queue, which is ghost. It runs, call by call, as
 //! the two lists of a queue do. Each listener has a hand of its own, and each of its calls is the hand's next one there.

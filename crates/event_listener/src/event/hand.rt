@@ -28,7 +28,7 @@ use std::time::Clock;
 /// order. Hands pass on what they know: [`fork`](EventHand::fork), [`observe`](EventHand::observe) and
 /// [`join`](EventHand::join). Compiled code has no trace of the history.
 ///
-/// A contract sees the number of its event, the table of the queue, and what it knows.
+/// A contract sees the number of its event, the name of the queue's lock, and what it knows.
 pub struct EventHand<T = ()> {
     shared: Arc<Shared<T>>,
     hand: QueueHand<T>,

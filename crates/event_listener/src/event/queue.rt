@@ -4,6 +4,7 @@ ghost use Rattle.std.specs.Arc.{arc_value};
 
 use event_history::Lock;
 use event_queue::List;
+use event_slot::Fits;
 use event_wait::Task;
 use std::alloc::{AllocError, Global};
 use std::marker::Model;
@@ -12,7 +13,7 @@ use std::sync::Arc;
 /// The queue of one event, under a lock that no other event has, with one history of all calls on it, and the number of the
 /// event, which is kept here once and not by each listener.
 ///
-/// A contract sees the number, the source at which a task registers that polls a listener, and the table that the queue is in.
+/// A contract sees the number, the source at which a task registers that polls a listener, and the name of the lock.
 #[derive(Drop)]
 pub struct Shared<T> {
     lock: Lock<List<T, Task>>,
@@ -28,6 +29,13 @@ impl<T> Model for Shared<T> {
       lock = shared.lock;
       event_number = shared.event_number;
     } };
+}
+
+/// Its event has the number that is the key.
+impl<T> Fits for Shared<T> {
+    type Key = u64;
+
+    ghost fits = { λ number shared. shared.event_number ≡ number };
 }
 
 impl<T> Shared<T> {

@@ -11,8 +11,8 @@ use std::sync::Arc;
 
 /// How a listener holds the queue of its event: by a share of it, or by a borrow.
 ///
-/// A contract sees the lock of the queue as the source at which a task registers that polls a listener there, and the table
-/// that the queue is in; and the number of the event.
+/// A contract sees the lock of the queue as the source at which a task registers that polls a listener there, and the lock's
+/// name; and the number of the event.
 pub trait Hold<T> {
     ghost lock: { Self → LockId (Unit {0}) };
 

@@ -1,6 +1,7 @@
 use Rattle.std.proofs.Common.{◌≢◌}
 use Rattle.std.specs.Bool.{⊤}
-use Rattle.event_listener.proofs.HeardLemmas.{notified, notified_joined, notified_forked, notified_kept, notified_before, removed, removed_by, polled, waited}
+use Rattle.event_listener.specs.Heard.{AllNotified}
+use Rattle.event_listener.proofs.HeardLemmas.{notified, notified_on, knows_joined, knows_forked, knows_kept, knows_before, removed, removed_by, polled, waited}
 use Rattle.event_wait.specs.declared.lock.limit.Limit.TheVariants.{Never}
 use Rattle.event_listener.proofs.laws.notifying_all_is_known.Goals as goal
 
@@ -8,16 +9,16 @@ pub returns-clause-notified : goal.returns-clause-notified
 returns-clause-notified g c = notified
 
 pub returns-clause-joined : goal.returns-clause-joined
-returns-clause-joined g c = notified_joined
+returns-clause-joined g c = knows_joined AllNotified notified_on
 
 pub returns-clause-forked : goal.returns-clause-forked
-returns-clause-forked g c = notified_forked
+returns-clause-forked g c = knows_forked AllNotified notified_on
 
 pub returns-clause-kept : goal.returns-clause-kept
-returns-clause-kept g c = notified_kept
+returns-clause-kept g c = knows_kept AllNotified notified_on
 
 pub returns-clause-before_a_call : goal.returns-clause-before_a_call
-returns-clause-before_a_call g c = notified_before
+returns-clause-before_a_call g c = knows_before AllNotified notified_on
 
 pub returns-clause-removed : goal.returns-clause-removed
 returns-clause-removed g c = removed c.told_by_another.ensures.removed
