@@ -7,7 +7,7 @@ use mathlib.Core.Logic.{dite}
 use native.Mathlib.Decide.{ℕ_discrete}
 use prog.Atomic.{either}
 use Rattle.atomic_table.proofs.Lists.{exchanged, at_set, set_again, set_here, at_longer, at_snoc}
-use Rattle.event_slot.specs.Ruling.{Keeps, Trades, Enters, Becomes, MayTurn}
+use Rattle.event_slot.specs.Ruling.{Keeps, MayTrade, Comes, Enters, Becomes, MayTurn}
 use Rattle.event_word.specs.declared.word.rule.View.{View}
 use Rattle.event_word.specs.Rules.{Rules}
 use Rattle.event_word.specs.Word.{number_of, IsOut, Eases, EasesFrom, AtHome, IsAway, StateIn, Holds, Changes, Passes, Takes, Stays, counts_of, entered, looked, seen_again, took, changed, moved, put, nothing, numbered}
@@ -137,10 +137,16 @@ module _ {S : Type 0} (rules : Rules S) where
   )
 
   -- the number changes and nobody has to be notified
-  pub changes : (id : ℕ) (v : View) (out : Option S) (old new : ℕ) → Changes rules old new → Trades Law id v out (λ n. either (eqb n old) new n) (changed old new v out)
+  pub changes : (id : ℕ) (v : View) (out : Option S) (old new : ℕ) → Changes rules old new → MayTrade Law id v out (λ n. either (eqb n old) new n) (changed old new v out)
   changes id v out old new c n home vs k me small = exchanged n old new (Goes n home vs id out (changed old new v out))
       (λ hit. (v, false, unmoved new id v home vs me (record { fits = c.fits; state = state_stays old new home vs c (subst (λ (x : ℕ). StateIn rules x home vs) hit k.state) }), (refl, refl)))
       (λ miss. (v, false, unmoved n id v home vs me k, (refl, refl)))
+
+  -- the same by a step that makes a seat
+  pub comes : (out : Option S) (old new : ℕ) → Changes rules old new → Comes Law out (λ n. either (eqb n old) new n) (changed old new nothing out)
+  comes out old new c n home vs k small = exchanged n old new (λ m. (u : View) × (change : Bool) × Law m (cond change out home) (vs ++ u ∷ []) × changed old new nothing out n u (cond change home out))
+      (λ hit. (nothing, false, record { fits = c.fits; state = joined new home vs (state_stays old new home vs c (subst (λ (x : ℕ). StateIn rules x home vs) hit k.state)) }, (refl, refl)))
+      (λ miss. (nothing, false, record { fits = k.fits; state = joined n home vs k.state }, (refl, refl)))
 
   state_away : (w new : ℕ) (home : Option S) (vs : Vs) → new % 2 ≡ 1 → number_of w ≡ number_of new → w % 2 ≡ 1 → StateIn rules w home vs → StateIn rules new home vs
   state_away w new None vs odd same is h = record {
@@ -154,7 +160,7 @@ module _ {S : Type 0} (rules : Rules S) where
   state_away w new (Some q) vs odd same is h = absurd (odd_is_not_even w is h.0.home)
 
   -- a thread is going to sleep until the state is back
-  pub awaits : (id : ℕ) (v : View) (out : Option S) (old new : ℕ) → old % 2 ≡ 1 → new % 2 ≡ 1 → number_of new ≡ number_of old → Trades Law id v out (λ n. either (eqb n old) new n) (changed old new v out)
+  pub awaits : (id : ℕ) (v : View) (out : Option S) (old new : ℕ) → old % 2 ≡ 1 → new % 2 ≡ 1 → number_of new ≡ number_of old → MayTrade Law id v out (λ n. either (eqb n old) new n) (changed old new v out)
   awaits id v out old new odd odd' same n home vs k me small = exchanged n old new (Goes n home vs id out (changed old new v out))
       (λ hit.
       let is : number_of n ≡ number_of new = ap number_of hit ∙ sym same in
@@ -181,14 +187,14 @@ module _ {S : Type 0} (rules : Rules S) where
     ((λ _. (q, refl, refl, subst (λ (x : ℕ). rules.stands (number_of x) q) hit h.0.stands)), λ miss. absurd (miss hit)),
   )
 
-  takes_none : (id : ℕ) (v : View) (old new : ℕ) → old % 2 ≡ 0 → Takes rules old new → Trades Law id v None (λ n. either (eqb n old) new n) (took rules old new v None)
+  takes_none : (id : ℕ) (v : View) (old new : ℕ) → old % 2 ≡ 0 → Takes rules old new → MayTrade Law id v None (λ n. either (eqb n old) new n) (took rules old new v None)
   takes_none id v old new even c n home vs k me small = exchanged n old new (Goes n home vs id None (took rules old new v None))
       (λ hit. took_at n id old new v home vs even c me hit k.state)
       (λ miss. (v, false, unmoved n id v home vs me k, ((λ hit. absurd (miss hit)), λ _. (refl, refl))))
 
   -- the state is taken out
-  pub takes_out : (id : ℕ) (v : View) (out : Option S) (old new : ℕ) → out ≡ None → old % 2 ≡ 0 → Takes rules old new → Trades Law id v out (λ n. either (eqb n old) new n) (took rules old new v out)
-  takes_out id v out old new none even c = subst (λ (o : Option S). Trades Law id v o (λ n. either (eqb n old) new n) (took rules old new v o)) (sym none) (takes_none id v old new even c)
+  pub takes_out : (id : ℕ) (v : View) (out : Option S) (old new : ℕ) → out ≡ None → old % 2 ≡ 0 → Takes rules old new → MayTrade Law id v out (λ n. either (eqb n old) new n) (took rules old new v out)
+  takes_out id v out old new none even c = subst (λ (o : Option S). MayTrade Law id v o (λ n. either (eqb n old) new n) (took rules old new v o)) (sym none) (takes_none id v old new even c)
 
   -- whoever remembers a number has the state out, and it is this number
   pub record Mine (w id b : ℕ) (home : Option S) (vs : Vs) : Type 0 where
@@ -222,7 +228,7 @@ module _ {S : Type 0} (rules : Rules S) where
       )
 
   -- whoever has the state out changes the number
-  pub moves : (id : ℕ) (v : View) (out : Option S) (old new b : ℕ) → v.number ≡ Some b → Takes rules old new → Trades Law id v out (λ n. either (eqb n old) new n) (moved old new v out)
+  pub moves : (id : ℕ) (v : View) (out : Option S) (old new b : ℕ) → v.number ≡ Some b → Takes rules old new → MayTrade Law id v out (λ n. either (eqb n old) new n) (moved old new v out)
   moves id v out old new b has c n home vs k me small = exchanged n old new (Goes n home vs id out (moved old new v out))
       (λ hit.
       let t = owned n id b v home vs has me k.state in
@@ -234,7 +240,7 @@ module _ {S : Type 0} (rules : Rules S) where
       ))
       (λ miss. (v, false, unmoved n id v home vs me k, ((λ hit. absurd (miss hit)), (λ _. refl), refl)))
 
-  puts_some : (id : ℕ) (v : View) (q : S) (old new b : ℕ) → v.number ≡ Some b → AtHome rules new q → rules.fits (number_of new) → Trades Law id v (Some q) (λ n. either (eqb n old) new n) (put old new v (Some q))
+  puts_some : (id : ℕ) (v : View) (q : S) (old new b : ℕ) → v.number ≡ Some b → AtHome rules new q → rules.fits (number_of new) → MayTrade Law id v (Some q) (λ n. either (eqb n old) new n) (put old new v (Some q))
   puts_some id v q old new b has at_home fit n home vs k me small = exchanged n old new (Goes n home vs id (Some q) (put old new v (Some q)))
       (λ hit.
       let t = owned n id b v home vs has me k.state in (
@@ -246,8 +252,8 @@ module _ {S : Type 0} (rules : Rules S) where
       (λ miss. (v, false, unmoved n id v home vs me k, ((λ hit. absurd (miss hit)), λ _. (refl, refl))))
 
   -- the state is put back, in which nobody waits in vain
-  pub puts : (id : ℕ) (v : View) (out : Option S) (q : S) (old new b : ℕ) → v.number ≡ Some b → out ≡ Some q → AtHome rules new q → rules.fits (number_of new) → Trades Law id v out (λ n. either (eqb n old) new n) (put old new v out)
-  puts id v out q old new b has is at_home fit = subst (λ (o : Option S). Trades Law id v o (λ n. either (eqb n old) new n) (put old new v o)) (sym is) (puts_some id v q old new b has at_home fit)
+  pub puts : (id : ℕ) (v : View) (out : Option S) (q : S) (old new b : ℕ) → v.number ≡ Some b → out ≡ Some q → AtHome rules new q → rules.fits (number_of new) → MayTrade Law id v out (λ n. either (eqb n old) new n) (put old new v out)
+  puts id v out q old new b has is at_home fit = subst (λ (o : Option S). MayTrade Law id v o (λ n. either (eqb n old) new n) (put old new v o)) (sym is) (puts_some id v q old new b has at_home fit)
 
   -- a new lock
   pub opens : (w : ℕ) (q : S) → w % 4 ≡ 0 → rules.fits (number_of w) → rules.stands (number_of w) q → rules.quiet q → Law w (Some q) (nothing ∷ [])

@@ -9,7 +9,7 @@ use Rattle.event_word.specs.Count.{IsCount, counted, readers_of, writers_of}
 use Rattle.event_wait.specs.Line.{HandsOut}
 use Rattle.event_word.specs.Rules.{Rules}
 use Rattle.event_word.specs.declared.word.rule.View.{View}
-use Rattle.event_word.specs.Word.{Changes, EasesFrom, Passes, Takes, number_of}
+use Rattle.event_word.specs.Word.{Changes, EasesFrom, Passes, Takes, counts_of}
 use Rattle.event_wait.specs.declared.error.LockError.{LockError}
 use Rattle.event_wait.specs.declared.error.LockError.TheVariants.{Listen, Memory, TooManyReaders, Finished}
 use Rattle.event_word.specs.declared.shares.queues.Queues.{Queues}
@@ -74,6 +74,7 @@ module _ {W : Type 0} where
     pub fits : readers + length q.read_line.told + length q.read_line.waiting < 2 ^ 29
     pub spare : length q.read_line.waiting + 1 < 2 ^ 29
 
+  -- who writes is alone, where this number counts those that have come
   abbrev pub IsExclusive : ℕ → Queues W → Type 0
   IsExclusive n q = AreExclusive (readers_of n) (writers_of n) q
 
@@ -145,7 +146,7 @@ module _ {W : Type 0} where
 
 -- who has the value by this word, as a slot counts it
 abbrev pub counted_in : ℕ → ℕ
-counted_in w = counted (number_of w)
+counted_in w = counts_of (lock_rules {W = Task}) w
 
 -- the word may become this one, which counts others, and nobody is to be let in by that; one who has this right has the other then
 pub record Recounts (right left : ℕ) (old new : ℕ) : Type 0 where

@@ -12,6 +12,6 @@ pub record Rules (S : Type 0) : Type 1 where
   pub promised : ℕ → S → Type 0
   -- the number shows newcomers what it has to of the state
   pub tells : ℕ → S → Type 0
-  -- who has the value by the number, as a slot counts it: 3 is one who may write it, 1 and four times so many are readers, and 0
-  -- is nobody
+  -- what the slot counts at this number: 3 while one has the right to write, else 1 and 4 more for each that has the right to read; a
+  -- lock that nobody reads counts 0 in place of that 1
   pub counts : ℕ → ℕ

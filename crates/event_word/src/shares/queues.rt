@@ -1,10 +1,7 @@
 //! The queues of a read-write lock.
-ghost use Rattle.std.specs.Prelude.{◌≡◌, ℕ, ◌+◌, ◌*◌, ◌<◌, ◌≤◌, ◌^◌, ◌↔◌, length, IsTrue, IsFalse, IfErr, IfOk, OnErr};
-ghost use Rattle.event_queue.specs.Exchange.{JoinsWithTask, RegistersWith};
-ghost use Rattle.event_wait.specs.Joining.{CannotJoin};
+ghost use Rattle.std.specs.Prelude.{◌≡◌, ◌+◌, ◌<◌, ◌^◌, ◌↔◌, length, IsTrue, IsFalse};
 ghost use Rattle.event_word.specs.Count.{readers_of, writers_of};
-ghost use Rattle.event_wait.specs.Line.{HasLeft, IsNotIn, IsNotInUnlessWaits, Looked, left_by};
-ghost use Rattle.event_word.specs.Queues.{Admits, HasNoRoom, IsAWriterThere, IsExclusive, IsNext, IsQuiet, LetsNextIn, LetsReadersIn, MayUpgrade, NoWriterIsThere, NobodyWaitsInVain, ReadersStay, RefusesReader, WritersStay, joined_by, reading, writing};
+ghost use Rattle.event_word.specs.Queues.{Admits, HasNoRoom, IsAWriterThere, IsExclusive, IsNext, IsQuiet, LetsNextIn, LetsReadersIn, MayUpgrade, NoWriterIsThere, NobodyWaitsInVain, reading, writing};
 
 use super::counts::RwLockCounts;
 use super::number;

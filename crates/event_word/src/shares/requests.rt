@@ -5,7 +5,7 @@ ghost use Rattle.event_wait.specs.Line.{IsNotIn, IsNotInUnlessWaits, Looked, lef
 ghost use Rattle.event_word.specs.Queues.{Admits, CountsMore, IsExclusive, given, if_any};
 ghost use Rattle.event_word.specs.Held.{HasState, IsOf};
 ghost use Rattle.event_word.specs.Word.{number_of};
-ghost use Rattle.event_wait.specs.Attempted.{Attempts, OnDone, Stores};
+ghost use Rattle.event_wait.specs.Attempted.{Attempts, OnDone, OnUndone, Stores};
 
 use super::queues::Queues;
 use super::right::Right;
@@ -84,33 +84,17 @@ impl<V> Word<Queues<Task>, V> {
         ensures exchanged { Attempts (X.exchanged exchange.now) on.old result on.new }
         ensures settled { IsSettled result }
         ensures stays { UnlessWaits result (held.new.claim.state ≡ held.old.claim.state) }
+        ensures waits { OnUndone result (HasState (λ n _. HasState (λ _ q. K.is_open n q
+            → K.is_full n q) held.old) held.new) }
     {
-        if let Some(grant) = self.count_newcomer(rt, held) {
-            return Attempted::Done(grant);
-        }
-        match self.wait_newly::<K, C, X>(held, exchange, on) {
+        let seen = match self.count_or_see(rt, held) {
+            Ok(grant) => return Attempted::Done(grant),
+            Err(seen) => seen,
+        };
+        match self.wait_seeing::<K, C, X>(held, seen, exchange, on) {
             Ok(key) => Attempted::Waits(key),
             Err(error) => Attempted::Refused(error),
         }
-    }
-
-    fn wait_newly<K: Right<Task>, C, X: TaskExchange<Task, C>>(
-        &self,
-        held: &mut Out<'_, V>,
-        exchange: &X,
-        on: &mut C,
-    ) -> Result<Key, LockError>
-        requires seat { IsOf self.now.slot.name held.old }
-        requires alone { HasState IsExclusive held.old }
-        ensures seat { IsOf self.now.slot.name held.new }
-        ensures alone { HasState IsExclusive held.new }
-        ensures counts { CountsMore 0 held.old.seat.view held.new.seat.view }
-        ensures waits { IfOk result (λ _. Stores (X.exchanged exchange.now) on.old on.new) }
-        ensures refused { OnErr result ((on.new ≡ on.old)
-            × (held.new.claim.state ≡ held.old.claim.state)) }
-    {
-        let seen = self.look_alone(held);
-        self.wait_seeing::<K, C, X>(held, seen, exchange, on)
     }
 
     // One waits in its queue, if it can be counted later.

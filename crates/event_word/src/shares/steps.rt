@@ -237,7 +237,8 @@ impl<V> Word<Queues<Task>, V> {
         self.take_parked(rt)
     }
 
-    /// The same for a call, after which the writer is to be parked again.
+    /// The same for a call, after which the writer is to be parked again. Two such calls at once would wait for each other: the lock
+    /// takes `&mut` to the guard for that.
     pub fn write_again<R: Wait>(&self, rt: &R, _share: &Share<Writing>) -> Grant<'_, Writing, V>
         requires { _share.now ≡ self.now.slot.name }
         ensures { result.claim.name ≡ self.now.slot.name }
@@ -370,13 +371,37 @@ impl<V> Word<Queues<Task>, V> {
         ensures refused { result ≡ None → HasState (λ n q. K.is_open n q
             → K.is_full n q) held.new }
     {
+        match self.count_or_see(rt, held) {
+            Ok(grant) => Some(grant),
+            Err(_) => None,
+        }
+    }
+
+    // The same. An error is the word by which it may not.
+    pub(super) fn count_or_see<K: Right<Task>, R: Wait>(
+        &self,
+        rt: &R,
+        held: &mut Out<'_, V>,
+    ) -> Result<Grant<'_, K, V>, u64>
+        requires seat { IsOf self.now.slot.name held.old }
+        requires alone { HasState IsExclusive held.old }
+        ensures seat { IsOf self.now.slot.name held.new }
+        ensures state { held.new.claim.state ≡ held.old.claim.state }
+        ensures alone { HasState IsExclusive held.new }
+        ensures own { IfOk result (λ grant. grant.claim.name ≡ self.now.slot.name) }
+        ensures counts { MatchResult result
+            (λ _. CountsMore K.COUNTS held.old.seat.view held.new.seat.view)
+            (λ _. CountsMore 0 held.old.seat.view held.new.seat.view) }
+        ensures refused { IfErr result (λ seen. HasState (λ n q. (n ≡ number_of seen)
+            × (K.is_open n q → K.is_full n q)) held.new) }
+    {
         for _ in rt.forever() {
             let seen = self.look_alone(held);
             if !self.may_come::<K>(held, seen) {
-                return None;
+                return Err(seen);
             }
             if let Some(grant) = self.admit_with(held, seen) {
-                return Some(grant);
+                return Ok(grant);
             }
         }
         unreachable!()

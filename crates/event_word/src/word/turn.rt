@@ -1,8 +1,8 @@
 //! Steps on the number of a word by one who has, gets or gives up a right to the value.
-ghost use Rattle.std.specs.Prelude.{◌≡◌, ◌%◌, ⊤, None, Some, false, true, IfErr, IfOk};
+ghost use Rattle.std.specs.Prelude.{◌≡◌, ◌≢◌, ◌%◌, ⊤, None, Some, false, true, IfErr, IfOk};
 ghost use Rattle.event_slot.specs.Ruling.{Becomes, MayTurn};
 ghost use Rattle.event_word.specs.Held.{HasState, IsOf};
-ghost use Rattle.event_word.specs.Word.{Changes, Passes, Takes, counts_of, number_of};
+ghost use Rattle.event_word.specs.Word.{Changes, Passes, Takes, counts_of, nothing, number_of};
 
 use super::held::Held;
 use super::kept::Kept;
@@ -33,6 +33,27 @@ impl<S: Kept, V> Word<S, V> {
     {
         let (found, claim) = claim.exchange::<Change>(seat, seen, new);
         (found == seen, claim)
+    }
+
+    // The same by a step that makes a seat, and with the word as it was.
+    #[inline(always)]
+    #[tactic(auto, using(crate::proofs::WordKeeps::comes))]
+    pub(crate) fn turn_at<'a>(
+        &self,
+        claim: Claim<'a, Place<V>, S>,
+        expected: u64,
+        new: u64,
+    ) -> (u64, Claim<'a, Place<V>, S>, Seat)
+        requires own { (claim.name ≡ self.now.slot.name) × (claim.state ≡ None) }
+        requires may { MayTurn claim.right (counts_of S.rules expected) (counts_of S.rules new) }
+        requires changes { Changes S.rules expected new }
+        ensures own { (result.1.name ≡ self.now.slot.name) × (result.1.state ≡ None) }
+        ensures seat { (result.2.slot ≡ self.now.slot.name) × (result.2.view ≡ nothing) }
+        ensures made { result.0 ≡ expected → Becomes claim.entry.right (counts_of S.rules expected)
+            (counts_of S.rules new) result.1.right }
+        ensures stays { result.0 ≢ expected → result.1.right ≡ claim.entry.right }
+    {
+        claim.arrive::<Change>(expected, new)
     }
 
     // The same by a step that takes the state out where it is at home, and with which the right ends. An error has the claim and the

@@ -2,7 +2,7 @@
 ghost use Rattle.std.specs.Prelude.{◌≡◌, ◌%◌, ⊤, true, None, Some, IfErr, IfOk, IfSome, MatchOption};
 ghost use Rattle.event_word.specs.Free.{NoneFor, ServesTheStarving, ServesWith, unshut_of};
 ghost use Rattle.event_word.specs.Held.{HasState, IsOf};
-ghost use Rattle.event_word.specs.Word.{Changes, Passes, Takes, count, number_of};
+ghost use Rattle.event_word.specs.Word.{Changes, Passes, Takes, count, nothing, number_of};
 
 use super::held::Held;
 use super::kept::Kept;
@@ -82,6 +82,41 @@ impl<S: Kept, V> Word<S, V> {
         Err(claim.write())
     }
 
+    // Takes the right to the value by one compare-exchange, where nobody has to be notified. An error is the word, where that is another.
+    #[inline(always)]
+    fn lend_at(&self, expected: u64, new: u64) -> Result<Lent<'_, S, V>, u64>
+        requires changes { Changes S.rules expected new × Passes S.rules 0 2 expected new }
+        ensures lends { IfOk result (λ lent. lent.name ≡ self.now.slot.name) }
+    {
+        let (found, claim, _seat) = self.turn_at(self.slot.claim(), expected, new);
+        if found == expected {
+            return Ok(claim.write());
+        }
+        claim.done();
+        Err(found)
+    }
+
+    // Gives it back likewise. An error has it, and the word with a seat.
+    #[inline(always)]
+    fn give_back_at<'a>(
+        &self,
+        lent: Lent<'a, S, V>,
+        expected: u64,
+        new: u64,
+    ) -> Result<(), (Lent<'a, S, V>, u64, Seat)>
+        requires own { lent.name ≡ self.now.slot.name }
+        requires changes { Changes S.rules expected new × Passes S.rules 2 0 expected new }
+        ensures own { IfErr result (λ again. (again.0.name ≡ self.now.slot.name)
+            × (again.2.slot ≡ self.now.slot.name) × (again.2.view ≡ nothing)) }
+    {
+        let (found, claim, seat) = self.turn_at(lent.claim(), expected, new);
+        if found == expected {
+            claim.done();
+            return Ok(());
+        }
+        Err((claim.write(), found, seat))
+    }
+
     // Takes the state out where it is at home, gives the right back, and changes the number by the same step. An error has the
     // right and the seat where the word was another.
     fn try_swap<'a>(
@@ -129,20 +164,17 @@ impl<S: Kept, V> Held<'_, S, V> {
 }
 
 impl<V> Word<Competing<OneValue>, Lodging<V>> {
-    /// Takes the right to the value, if nobody has it and newcomers may. It is one load and one compare-exchange where no other
-    /// thread comes between.
+    /// Takes the right to the value, if nobody has it and newcomers may. It is one compare-exchange where no other thread comes
+    /// between.
     #[inline(always)]
     pub fn try_value(&self) -> Option<Lent<'_, Competing<OneValue>, Lodging<V>>>
         ensures { IfSome result (λ lent. lent.name ≡ self.now.slot.name) }
     {
-        let (seen, mut seat) = self.look();
-        if seen < ONE || seen >= CLOSED * ONE {
-            return None;
+        match self.lend_at(ONE, 0) {
+            Ok(lent) => Some(lent),
+            Err(found) if found < ONE || found >= CLOSED * ONE => None,
+            Err(_) => self.try_value_again(),
         }
-        if let Some(lent) = self.lend(&mut seat, seen, seen - ONE) {
-            return Some(lent);
-        }
-        self.try_value_again()
     }
 
     #[cold]
@@ -164,30 +196,31 @@ impl<V> Word<Competing<OneValue>, Lodging<V>> {
     }
 
     /// Gives the right back, and notifies the first that waits, if one does. It does not wait for the state: whoever has that out
-    /// notifies. It is one load and one compare-exchange where nobody waits.
+    /// notifies. It is one compare-exchange where nobody waits.
     #[inline(always)]
     pub fn give_value<R: Wait>(&self, rt: &R, lent: Lent<'_, Competing<OneValue>, Lodging<V>>)
         requires { lent.name ≡ self.now.slot.name }
     {
-        let (seen, mut seat) = self.look();
-        if seen < CROWDED {
-            match self.give_back(lent, &mut seat, seen, seen + ONE) {
-                Ok(()) => {}
-                Err(again) => self.give_value_slowly(rt, again),
-            }
-            return;
+        if let Err((again, found, seat)) = self.give_back_at(lent, 0, ONE) {
+            self.give_value_slowly(rt, again, found, seat);
         }
-        self.give_value_slowly(rt, lent);
     }
 
     // The word says that one has the right, as long as one has.
     #[cold]
     #[inline(never)]
-    fn give_value_slowly<R: Wait>(&self, rt: &R, lent: Lent<'_, Competing<OneValue>, Lodging<V>>)
-        requires { lent.name ≡ self.now.slot.name }
+    fn give_value_slowly<R: Wait>(
+        &self,
+        rt: &R,
+        lent: Lent<'_, Competing<OneValue>, Lodging<V>>,
+        found: u64,
+        seat: Seat,
+    )
+        requires own { lent.name ≡ self.now.slot.name }
+        requires seat { (seat.slot ≡ self.now.slot.name) × (seat.view ≡ nothing) }
     {
         let mut lent = lent;
-        let (mut seen, mut seat) = self.look();
+        let (mut seen, mut seat) = (found, seat);
         for _ in rt.forever() {
             if !is_taken(seen) {
                 seen = self.look_again(&mut seat);

@@ -1,0 +1,5 @@
+use Rattle.event_word.proofs.WordKeeps.{passed}
+use Rattle.event_word.proofs.word.Word.lend_at.Goals as goal
+
+pub write-requires : goal.write-requires
+write-requires g c = (passed g.S.Kept.rules 0 2 _ _ _ _ c.requires.changes.1 c.claim.ensures.2 (c.turn_at-found.ensures.made c.if-found-expected.true), c.turn_at-found.ensures.own.1)
