@@ -171,8 +171,10 @@ impl<T: Drop, R: Wait + Clock + Drop> RwLockWriteGuardArc<T, R> {
     }
 }
 
+// The steps of guards that share the lock.
 impl<T> RwLock<T> {
-    // The steps of guards that share the lock.
+    // Lends the value to a call. Of two such calls at once by one share the second would wait until the first ends, and inside it for
+    // ever: so `with` has its guard by `&mut`.
     fn lend_to<R: Wait, O, F: FnOnce(&mut T) -> O>(
         &self,
         rt: &R,
