@@ -98,6 +98,6 @@ Says waited (Ok message) = waited ≡ Ok (Some (Some message))
 Says waited (Err received.Closed) = waited ≡ Ok (Some None)
 Says {E = E} waited (Err (received.WaitFailed error)) = (refused : E) × (waited ≡ Err refused)
 
--- one hand rests there, and its table is the one that is wanted
+-- one hand rests there, and its lock has the name that is wanted
 abbrev pub IsOneHand : {A V : Type 0} → A → A → List V → Type 0
 IsOneHand {V = V} wanted table views = (table ≡ wanted) × (v : V) × (views ≡ v ∷ [])

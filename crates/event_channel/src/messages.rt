@@ -21,8 +21,11 @@ pub use turns::PATIENCE;
 use turns::left_for_newcomers;
 pub(crate) use waits::{key_after, put_back};
 
-/// The messages, first the one that is received next; how many there may be at most; whether the channel is closed; and the
-/// queues of those that wait.
+/// The state of a channel, with no lock and no thread: the messages that were sent and not received, first the one that is
+/// received next; how many there may be at most; whether the channel is closed; and the queues of those that wait.
+///
+/// After each call nobody waits in vain, as [`nobody_waits_in_vain`](Messages::nobody_waits_in_vain) says, and there are no more
+/// messages than there may be. Where there is a limit below `usize::MAX`, each has its place from the beginning.
 ///
 /// One that is notified has no message or place of its own: it looks, and waits again if another one came before. A message
 /// notifies one receiver more and all streams, so whoever was notified before and is left alone keeps it from nobody. A
