@@ -2,19 +2,24 @@
 //!
 //! [`Lock`] has a value that many read or one writes, until somebody closes it, and a tally behind it, which is out with one that
 //! counts. Its rule: whoever knows that the lock is closed is right, and the word shows what the tally is while it is at home. Who
-//! comes has a mark, which the compare-exchange makes by which it came.
+//! comes has a mark, which the compare-exchange makes by which it came. [`Owning`] and [`Sharing`] are guards without a lifetime.
 //!
 //! | Module | What it tests |
 //! |---|---|
-//! | `tests` | readers together, a writer alone, who closes it; four threads that write in turn, and sleep till they may; parking; the owner's `&mut`; the tally out with one at a time, and what four threads count |
+//! | `tests` | readers together, a writer alone, who closes it; four threads that write in turn, and sleep till they may; parking; the owner's `&mut`; the tally out with one at a time, and what four threads count; guards that keep their lock by an `Arc` |
+//! | `once` | a cell that is set once: who wins, what all see, and that its value is dropped once |
 #![tactic(auto)]
 
 mod guard;
 mod lock;
+mod once;
 mod rule;
+mod shared;
 #[cfg(test)]
 mod tests;
 
 pub use guard::{Changing, Counting, Kept, Reading};
 pub use lock::Lock;
+pub use once::{AtLeast, settles};
 pub use rule::{Adds, Closes, Copies, Held, Looks, Puts, Stays, Takes, Tally, View};
+pub use shared::{Owning, Sharing};

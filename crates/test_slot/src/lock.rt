@@ -42,7 +42,7 @@ impl<T> Lock<T> {
         if seen % 4 != PRESENT || seen % LOW_HALF >= FULL {
             return None;
         }
-        let (found, claim, mark) = self.slot.arrive::<Stays>(seen, seen + ONE_READER);
+        let (found, claim, mark) = self.slot.claim().arrive::<Stays>(seen, seen + ONE_READER);
         if found == seen {
             Some(Reading::new(rt, self, claim, mark))
         } else {
@@ -56,7 +56,7 @@ impl<T> Lock<T> {
     pub fn try_write<'a, R: Wait>(&'a self, rt: &'a R) -> Option<Changing<'a, T, R>>
         ensures { IfSome result (λ it. it.tied.name ≡ self.now.slot.name) }
     {
-        let (found, claim, mark) = self.slot.arrive::<Stays>(PRESENT, TAKEN);
+        let (found, claim, mark) = self.slot.claim().arrive::<Stays>(PRESENT, TAKEN);
         if found == PRESENT {
             Some(Changing::new(rt, self, claim.write(), mark))
         } else {
@@ -92,7 +92,7 @@ impl<T> Lock<T> {
         if seen / OUT % 2 == 1 {
             return None;
         }
-        let (found, claim, mark) = self.slot.arrive::<Takes>(seen, seen + OUT);
+        let (found, claim, mark) = self.slot.claim().arrive::<Takes>(seen, seen + OUT);
         if found == seen {
             Some(Counting::new(rt, self, claim, mark))
         } else {

@@ -1,6 +1,7 @@
 //! What no clause sees: that a step wins where nobody is in the way, and that threads that meet change one value and one tally.
 use crate::lock::Lock;
-use std::sync::Wait;
+use crate::shared::{Owning, Sharing};
+use std::sync::{Arc, Wait};
 use std::test::Fail;
 use std::thread;
 use std::time::Duration;
@@ -88,6 +89,26 @@ fn the_owner_changes_the_value_in_place(rt: HostRuntime) {
     lock.slot.get_mut().value = 6;
     assert!(rt; !lock.is_closed(&mut mark));
     assert!(rt; lock.into_inner() == (6, 0));
+}
+
+#[test]
+fn guards_keep_their_lock_by_an_arc(rt: HostRuntime) {
+    let (lock, _mark) = Lock::new(5u64);
+    let lock = Arc::new(rt.alloc(), lock).expect(&rt, "memory");
+    let share = || Arc::try_clone(&lock).expect(&rt, "a share");
+    let mut writing = crossing(Owning::try_new(rt, share()).expect(&rt, "the writer"));
+    *writing = 7;
+    assert!(rt; writing.replace(8) == 7 && *writing == 8 && Sharing::first(rt, share()).is_none());
+    assert!(rt; lock.try_read(&rt).is_none() && Arc::strong_count(&lock) == 2);
+    drop(writing);
+    let first = crossing(Sharing::first(rt, share()).expect(&rt, "a reader"));
+    let second = lock.try_read(&rt).expect(&rt, "another one");
+    assert!(rt; *first == 8 && *second == 8 && Owning::try_new(rt, share()).is_none());
+    drop(first);
+    drop(second);
+    let owner = Owning::try_new(rt, share()).expect(&rt, "the writer again");
+    drop(lock);
+    assert!(rt; *owner == 8);
 }
 
 // Two numbers that a writer changes one after the other.
