@@ -1,16 +1,12 @@
 //! What each lock does in the order in which callers of other crates' locks use it.
 use crate::kinds::numbers;
-use crate::support::{check, new_lock, new_mutex, new_semaphore, new_task, sum, wait_until};
-use event_locks::{
-    AcquireError, Barrier, LockError, Mutex, OnceCell, Semaphore, SetError, SetReason,
-    TryAcquireError,
-};
+use crate::support::{check, new_lock, new_mutex, new_semaphore, new_task};
+use crate::waits::Waits;
+use event_locks::{AcquireError, LockError, Mutex, RwLock, Semaphore, TryAcquireError};
 use std::fmt::Debug;
 use std::sync::Arc;
-use std::sync::atomic::{AtomicUsize, Ordering};
-use std::thread::{self, Threads};
 use std::time::Duration;
-use test_support::{Runtime, for_two_seconds};
+use test_support::Runtime;
 
 #[test]
 fn a_future_that_gave_its_output_is_over(rt: HostRuntime) {
@@ -31,6 +27,31 @@ fn a_mutex_that_is_over_gives_its_value(rt: HostRuntime) {
     let value = mutex.get_mut().expect(&rt, "the value");
     *value = value.saturating_add(1);
     check(&rt, "the value", mutex.into_inner(), Some(3));
+}
+
+// Whether a task has it at its first poll. Then it lets it go at once.
+fn has_it_at_once<R: Runtime, W: Waits>(rt: &R, waits: W) -> bool {
+    let mut waits = waits;
+    waits.can_be_polled();
+    new_task(rt).poll(&mut waits).is_ready()
+}
+
+// Beside a reader a writer waits, and gives up here: then a reader waits for nobody.
+#[test]
+fn whoever_finds_a_read_write_lock_free_has_it_at_once(rt: HostRuntime) {
+    let lock = Arc::new(rt.alloc(), new_lock(&rt, 7u64)).expect(&rt, "memory");
+    for has_reader in [false, true] {
+        let reader = has_reader.then(|| lock.try_read(&rt));
+        let writes = has_it_at_once(&rt, lock.write(&rt, rt.alloc()));
+        check(&rt, "to write", writes, !has_reader);
+        let write = RwLock::write_arc(&lock, rt, rt.alloc()).expect(&rt, "a share");
+        check(&rt, "to write", has_it_at_once(&rt, write), !has_reader);
+        let reads = has_it_at_once(&rt, lock.read(&rt, rt.alloc()));
+        check(&rt, "to read", reads, true);
+        let read = RwLock::read_arc(&lock, rt, rt.alloc()).expect(&rt, "a share");
+        check(&rt, "to read", has_it_at_once(&rt, read), true);
+        drop(reader);
+    }
 }
 
 #[test]
@@ -187,80 +208,4 @@ fn a_read_write_lock_and_its_guards_show_themselves(rt: HostRuntime) {
     let writer = lock.try_write(&rt);
     shows(&rt, &lock, "RwLock { readers: 0, is_written: true }");
     shows(&rt, &writer, "Some(7)");
-}
-
-// How often this thread led.
-fn goes_round<R: Runtime>(rt: &R, barrier: &Barrier) -> usize {
-    let mut led = 0usize;
-    for _ in 0..10u32 {
-        let ended = barrier.wait(rt, rt.alloc()).wait();
-        let is_leader = ended.expect(rt, "the end of the round").is_leader();
-        led = led.saturating_add(usize::from(is_leader));
-    }
-    led
-}
-
-#[test]
-fn a_barrier_has_one_leader_a_round(rt: HostRuntime) {
-    let barrier = Barrier::new(rt.alloc(), 10);
-    let goes = |_| goes_round(&rt, &barrier);
-    let led = thread::map_indices(&rt, rt.alloc(), 10, &goes);
-    check(&rt, "led", sum(&rt, led), 10);
-}
-
-fn failed() -> Result<u64, LockError> {
-    Err(LockError::Finished)
-}
-
-#[test]
-fn a_cell_is_set_once(rt: HostRuntime) {
-    let cell = OnceCell::new(rt.alloc());
-    let set = cell.set(&rt, rt.alloc(), 7).copied();
-    check(&rt, "set", set, Ok(7));
-    let again = cell.set(&rt, rt.alloc(), 8).copied();
-    let (value, reason) = (8, SetReason::AlreadySet);
-    check(&rt, "again", again, Err(SetError { value, reason }));
-    let seen = cell.wait(&rt, rt.alloc()).wait().expect(&rt, "the value");
-    check(&rt, "seen", *seen, 7);
-}
-
-#[test]
-fn a_value_that_cannot_be_made_leaves_a_cell_unset(rt: HostRuntime) {
-    let cell = OnceCell::new(rt.alloc());
-    let made = cell.get_or_try_init(&rt, rt.alloc(), failed).copied();
-    check(&rt, "failed", made, Err(LockError::Finished));
-    check(&rt, "unset", cell.get().copied(), None);
-    let set = cell.set(&rt, rt.alloc(), 7).copied();
-    check(&rt, "set", set, Ok(7));
-    let made = cell.get_or_try_init(&rt, rt.alloc(), failed).copied();
-    check(&rt, "made", made, Ok(7));
-}
-
-// Of four threads one makes the value, and all have it.
-fn make_once<R: Runtime + Threads + Sync>(rt: &R) {
-    let (cell, made, come) = (
-        OnceCell::new(rt.alloc()),
-        AtomicUsize::new(0),
-        AtomicUsize::new(0),
-    );
-    let gets = |_| {
-        come.fetch_add(1, Ordering::SeqCst);
-        wait_until(rt, || come.load(Ordering::SeqCst) >= 4);
-        let make = || -> Result<u64, LockError> {
-            made.fetch_add(1, Ordering::SeqCst);
-            thread::yield_now();
-            Ok(7)
-        };
-        let value = cell.get_or_try_init(rt, rt.alloc(), make);
-        value.copied().unwrap_or(0)
-    };
-    let values = thread::map_indices(rt, rt.alloc(), 4, &gets);
-    let values = values.expect(rt, "the threads");
-    check(rt, "values", values.as_slice(), [7; 4].as_slice());
-    check(rt, "made", made.load(Ordering::SeqCst), 1);
-}
-
-#[test]
-fn a_value_is_made_once(rt: HostRuntime) {
-    for_two_seconds(&rt, || make_once(&rt)).expect(&rt, "the time");
 }

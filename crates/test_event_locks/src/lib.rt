@@ -1,6 +1,6 @@
 //! Each kind of wait that the locks of `event_locks` have, with cases that are run with each of them, which other crates of tests
-//! use too; and tests of these locks, by their public calls: many threads and tasks at each lock, and the orders in which
-//! callers use it. `test_lock_waits` has those of single waits.
+//! use too; and tests of semaphore, mutex and read-write lock, by their public calls: many threads and tasks at each lock, and the
+//! orders in which callers use it. `test_lock_waits` has those of single waits, `test_monitor` those of the other locks.
 //!
 //! | Module | What it has, or tests |
 //! |---|---|
@@ -8,19 +8,13 @@
 //! | `threads` | threads that wait in each way, and are woken once they are let in |
 //! | `races` | one lets go while another one goes into the queue |
 //! | `stress` | threads and tasks at these locks, which give up at times |
-//! | `cell` | a value that tasks make: one at a time, and once that one is gone the next |
 //! | `behaviours` | what each lock does when it is called in the order that its users know from other crates |
-//! | `monitor` | a value that threads and tasks wait for: that a thread parks until it changes, whatever changes it, or until its limit, and until the lock is free |
 #![tactic(auto)]
 
 #[cfg(test)]
 mod behaviours;
 mod cases;
-#[cfg(test)]
-mod cell;
 mod kinds;
-#[cfg(test)]
-mod monitor;
 #[cfg(test)]
 mod races;
 #[cfg(test)]

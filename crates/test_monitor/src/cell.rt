@@ -1,12 +1,16 @@
-//! A value that tasks make: one at a time, and once that one is gone the next. `test_lock_waits` has threads that wait for it.
+//! A value that is made once: what a cell does in the order in which callers of other crates' cells use it, and tasks that make
+//! it, one at a time, and once that one is gone the next. `test_lock_waits` has threads that wait for it.
 use crate::support::{check, new_task};
-use event_locks::{Claim, LockError, OnceCell};
+use event_locks::{Claim, LockError, OnceCell, SetError, SetReason};
 use futures::Future;
 use futures::future::ready;
 use futures::task::{Context, Poll};
 use futures::test::MockTask;
 use std::cell::Cell;
+use std::sync::atomic::{AtomicUsize, Ordering};
+use std::thread::{self, Threads};
 use std::time::{Duration, Instant};
+use test_support::{Runtime, for_two_seconds, spin_until};
 
 // What a maker is told to give, how often it was polled, and whether it is gone, and was before the next one was woken.
 #[derive(Drop)]
@@ -179,4 +183,61 @@ fn a_value_is_waited_for_until_a_limit(rt: HostRuntime) {
     check(&rt, "one in time", made, Ok(Some(&8)));
     let kept = cell.get_or_try_init_deadline(&rt, alloc, now, make);
     check(&rt, "one in time", kept, Ok(Some(&8)));
+}
+
+fn failed() -> Result<u64, LockError> {
+    Err(LockError::Finished)
+}
+
+#[test]
+fn a_cell_is_set_once(rt: HostRuntime) {
+    let cell = OnceCell::new(rt.alloc());
+    let set = cell.set(&rt, rt.alloc(), 7).copied();
+    check(&rt, "set", set, Ok(7));
+    let again = cell.set(&rt, rt.alloc(), 8).copied();
+    let (value, reason) = (8, SetReason::AlreadySet);
+    check(&rt, "again", again, Err(SetError { value, reason }));
+    let seen = cell.wait(&rt, rt.alloc()).wait().expect(&rt, "the value");
+    check(&rt, "seen", *seen, 7);
+}
+
+#[test]
+fn a_value_that_cannot_be_made_leaves_a_cell_unset(rt: HostRuntime) {
+    let cell = OnceCell::new(rt.alloc());
+    let made = cell.get_or_try_init(&rt, rt.alloc(), failed).copied();
+    check(&rt, "failed", made, Err(LockError::Finished));
+    check(&rt, "unset", cell.get().copied(), None);
+    let set = cell.set(&rt, rt.alloc(), 7).copied();
+    check(&rt, "set", set, Ok(7));
+    let made = cell.get_or_try_init(&rt, rt.alloc(), failed).copied();
+    check(&rt, "made", made, Ok(7));
+}
+
+// Of four threads one makes the value, and all have it.
+fn make_once<R: Runtime + Threads + Sync>(rt: &R) {
+    let (cell, made, come) = (
+        OnceCell::new(rt.alloc()),
+        AtomicUsize::new(0),
+        AtomicUsize::new(0),
+    );
+    let gets = |_| {
+        come.fetch_add(1, Ordering::SeqCst);
+        spin_until(rt, || come.load(Ordering::SeqCst) >= 4);
+        let make = || -> Result<u64, LockError> {
+            made.fetch_add(1, Ordering::SeqCst);
+            thread::yield_now();
+            Ok(7)
+        };
+        let value = cell.get_or_try_init(rt, rt.alloc(), make);
+        value.copied().unwrap_or(0)
+    };
+    let values = thread::map_indices(rt, rt.alloc(), 4, &gets);
+    let values = values.expect(rt, "the threads");
+    check(rt, "values", values.as_slice(), [7; 4].as_slice());
+    check(rt, "made", made.load(Ordering::SeqCst), 1);
+}
+
+#[test]
+fn a_value_is_made_once(rt: HostRuntime) {
+    for_two_seconds(&rt, || make_once(&rt)).expect(&rt, "the time");
 }

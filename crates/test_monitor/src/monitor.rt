@@ -1,12 +1,12 @@
 //! A value that threads and tasks wait for, with the condition that the page of `event_locks` shows.
-use crate::support::{check, new_task, wait_until};
+use crate::support::{check, new_task};
 use event_locks::{Condition, Monitor, Until};
 use futures::test::MockTask;
 use std::sync::atomic::{AtomicUsize, Ordering};
 use std::sync::{Barrier, Wait};
 use std::thread::{self, Threads};
 use std::time::{CpuClock, Duration, Instant};
-use test_support::{Runtime, deadline_after};
+use test_support::{Runtime, deadline_after, spin_until};
 
 /// Takes an amount off a balance, once there is as much. It gives what is left.
 #[derive(Clone, Copy)]
@@ -105,11 +105,11 @@ fn a_change_wakes_a_thread_and_a_task(rt: HostRuntime) {
         )
         .wait();
     let changes = || {
-        wait_until(&rt, || attempts.load(Ordering::SeqCst) >= 3);
+        spin_until(&rt, || attempts.load(Ordering::SeqCst) >= 3);
         thread::sleep(&rt, Duration::from_millis(20));
         check(&rt, "attempts", attempts.load(Ordering::SeqCst), 3);
         add(&rt, &balance, 4);
-        wait_until(&rt, || attempts.load(Ordering::SeqCst) >= 4);
+        spin_until(&rt, || attempts.load(Ordering::SeqCst) >= 4);
     };
     let (left, ()) = thread::join(&rt, waits, changes);
     check(&rt, "the thread", left, Ok(3));
