@@ -104,9 +104,10 @@ fn came(reply: &str) -> Option<Result<Key, ListenError>> {
         "used up" => Some(Err(ListenError::SerialsUsedUp)),
         reply => {
             let slot: u32 = reply.strip_prefix("listener ")?.parse().ok()?;
-            let serial = u64::from(slot);
-            let slot = usize::try_from(slot).ok()?;
-            Some(Ok(Key { slot, serial }))
+            Some(Ok(Key {
+                slot,
+                serial: u64::from(slot),
+            }))
         }
     }
 }

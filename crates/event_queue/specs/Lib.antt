@@ -12,4 +12,5 @@ pub mod Run
 pub mod Woken
 pub mod Ring
 pub mod RingMemory
+pub mod Entry
 pub mod Nodes

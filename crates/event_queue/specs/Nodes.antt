@@ -4,8 +4,7 @@ use Rattle.std.specs.Prelude.{◌≡◌, ℕ, ◌+◌, ◌-◌, ◌^◌, cond, e
 use denote.RawPtr.{Ptr}
 use Rattle.event_queue.specs.declared.key.Key.{Key}
 use Rattle.event_queue.specs.declared.node.ring.pointers.NodePtr.{NodePtr}
-use Rattle.event_queue.specs.declared.node.entries.Held.{Held}
-use Rattle.event_queue.specs.declared.node.entries.Held.TheVariants.{Nothing, Before, AfterWithout, After}
+use Rattle.event_queue.specs.Entry.{Held, Nothing, Before, AfterWithout, After}
 use Rattle.event_queue.specs.declared.node.entries.Entry.{Entry}
 use Rattle.event_queue.specs.declared.node.entries.Entries.{Entries}
 use Rattle.event_queue.specs.declared.node.table.Slot.{Slot}
@@ -116,11 +115,11 @@ module _ {A B : Type 0} where
   held_after (Some value) = After value
 
   abbrev pub key_of : Entry A B → Key
-  key_of entry = record { slot = entry.slot; serial = entry.serial.number }
+  key_of entry = record { slot = entry.slot; serial = entry.serial }
 
   -- what a spare node of that slot carries
   abbrev pub spare_entry : ℕ → Entry A B
-  spare_entry slot = record { slot = slot; serial = record { number = 0 }; held = Nothing }
+  spare_entry slot = record { slot = slot; serial = 0; held = Nothing }
 
   -- a node is at p that carries nothing
   abbrev pub IsSpareAt : List (Node A B) → Ptr → Type 0
@@ -144,14 +143,14 @@ module _ {A B : Type 0} where
   pub record HandsIn (old : Entries A B) (p : Ptr) (key : Key) (value : Option B) (new : Entries A B) : Type 0 where
     pub root : new.ring.at ≡ old.ring.at
     pub cursor : new.cursor ≡ old.cursor
-    pub nodes : AtNode old.ring.nodes p (λ xs n ys. new.ring.nodes ≡ xs ++ placed n.at (record { slot = key.slot; serial = record { number = key.serial }; held = held_after value }) ∷ ys)
+    pub nodes : AtNode old.ring.nodes p (λ xs n ys. new.ring.nodes ≡ xs ++ placed n.at (record { slot = key.slot; serial = key.serial; held = held_after value }) ∷ ys)
 
   -- the first entry after the cursor, which had this value, got another one under that key, and the cursor moved behind it
   pub record Advances (old : Entries A B) (key : Key) (value : A) (former : Option B) (new : Entries A B) : Type 0 where
     pub root : new.ring.at ≡ old.ring.at
     pub cursor : AtNode old.ring.nodes old.cursor.ptr (λ _ _ ys. new.cursor.ptr ≡ first_place ys old.ring.at)
     pub had : AtNode old.ring.nodes old.cursor.ptr (λ _ n _. n.entry.held ≡ held_after former)
-    pub nodes : AtNode old.ring.nodes old.cursor.ptr (λ xs n ys. new.ring.nodes ≡ xs ++ placed n.at (record { slot = key.slot; serial = record { number = key.serial }; held = Before value }) ∷ ys)
+    pub nodes : AtNode old.ring.nodes old.cursor.ptr (λ xs n ys. new.ring.nodes ≡ xs ++ placed n.at (record { slot = key.slot; serial = key.serial; held = Before value }) ∷ ys)
 
   -- the node at p was taken out
   pub record TakesOut (old : Entries A B) (p : Ptr) (new : Entries A B) : Type 0 where
@@ -187,7 +186,7 @@ module _ {A B : Type 0} where
   abbrev pub AreMapped : Slots A B → List (Node A B) → Type 0
   AreMapped slots [] = Unit {0}
   AreMapped slots (node ∷ rest) =
-      (slice_get slots node.entry.slot ≡ Some (Some (node.entry.serial.number, record { ptr = node.at }))) × AreMapped slots rest
+      (slice_get slots node.entry.slot ≡ Some (Some (node.entry.serial, record { ptr = node.at }))) × AreMapped slots rest
 
   -- each spare node holds nothing, and its slot leads nowhere
   abbrev pub AreSpare : Slots A B → List (Spare A B) → Type 0

@@ -7,7 +7,7 @@ ghost use Rattle.std.specs.Prelude.{◌≡◌};
 #[derive(Clone, Copy, Debug, PartialEq, Eq)]
 pub struct Key {
     /// The slot of the listener. Which one a listener gets is the queue's choice.
-    pub slot: usize,
+    pub slot: u32,
     /// The serial number of the listener: the first serial of the queue, and one more for each earlier insertion.
     pub serial: u64,
 }

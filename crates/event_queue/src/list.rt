@@ -90,7 +90,7 @@ impl<T, W> List<T, W> {
     ///
     /// It allocates only if fewer than `n` slots are spare. An error leaves the listeners and the next serial as
     /// they were, and fewer than `n` slots spare, but no fewer than before: those that were made stay. A number that no
-    /// memory has room for fails too.
+    /// memory has room for fails too. More than 2^32 slots, in use or spare, are refused as memory is.
     pub fn reserve(&mut self, n: usize) -> Result<(), AllocError>
         ensures room { OnOk result (n ≤ self.new.spare) }
         ensures listeners { self.new ≡ record self.old { spare = self.new.spare } }

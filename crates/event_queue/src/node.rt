@@ -101,7 +101,8 @@ impl<A, B> Chain<A, B> {
         self.table.spare()
     }
 
-    /// Makes room for `n` more entries, which allocates if fewer are spare. If that fails no room is lost.
+    /// Makes room for `n` more entries, which allocates if fewer are spare. If that fails no room is lost. More than 2^32
+    /// nodes, with those that are spare, are refused as memory is.
     #[inline(always)]
     pub fn reserve(&mut self, n: usize) -> Result<(), AllocError>
         ensures room { OnOk result (n ≤ self.new.spare) }
@@ -213,7 +214,7 @@ impl<A, B> Chain<A, B> {
         let own = self.table.find(key, steps)?;
         let entries = self.entries.as_mut().unwrap();
         if entries.is_after(&own) {
-            let (value, room) = entries.take_after(own, steps);
+            let (value, room) = entries.take_after(own, key.slot, steps);
             self.table.recycle(key.slot, room);
             self.after_len -= 1;
             return Some(Side::After(value));

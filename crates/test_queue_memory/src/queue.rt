@@ -271,7 +271,7 @@ fn a_key_of_another_list_is_that_of_the_listener_with_its_slot_and_serial(rt: Ho
     }
     check(&rt, ("equal", equal), equal > 0, true);
     let mut equal = 0usize;
-    for slot in [0, 1, 2, 3, 4, 5, (1 << 32) + 1, usize::MAX - 1, usize::MAX] {
+    for slot in [0, 1, 2, 3, 4, 5, (1 << 16) + 1, u32::MAX - 1, u32::MAX] {
         for serial in [0, 1, 2, 3, 4, 5, 6, (1 << 32) + 1, u64::MAX - 1, u64::MAX] {
             equal = equal.wrapping_add(finds(&rt, Key { slot, serial }));
         }
@@ -303,7 +303,7 @@ fn many_leave<F: Fn(usize) -> usize, R: Abort + AllocGlobal>(rt: &R, place_of: F
     check(rt, "slots", list.spare(), slots);
     for step in 0..slots {
         let key = list.insert_uncounted().expect(rt, "a listener");
-        check(rt, step, key.slot < slots, true);
+        check(rt, step, (key.slot as usize) < slots, true);
     }
 }
 

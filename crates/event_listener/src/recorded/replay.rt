@@ -34,7 +34,7 @@ pub fn replays<T: Copy + Eq>(alloc: Global, entries: &[Entry<T>]) -> Result<bool
 }
 
 // The slot that a newcomer got, by the reply; any number if the reply is not that of a newcomer.
-fn slot_in<T>(reply: &RecordedReply<T>) -> usize
+fn slot_in<T>(reply: &RecordedReply<T>) -> u32
     ensures { result ≡ slot_in reply.now }
 {
     match reply {

@@ -6,8 +6,7 @@ use Rattle.std.proofs.lemmas.Bool.{eqb-true, eq-eqb, ne_eqb, cases_lt}
 use denote.RawPtr.{Ptr}
 use Rattle.event_queue.specs.declared.key.Key.{Key}
 use Rattle.event_queue.specs.declared.node.ring.pointers.NodePtr.{NodePtr}
-use Rattle.event_queue.specs.declared.node.entries.Held.{Held}
-use Rattle.event_queue.specs.declared.node.entries.Held.TheVariants.{Nothing, Before}
+use Rattle.event_queue.specs.Entry.{Held, Nothing, Before}
 use Rattle.event_queue.specs.declared.node.entries.Entry.{Entry}
 use Rattle.event_queue.specs.declared.node.entries.Entries.{Entries}
 use Rattle.event_queue.specs.Key.{is_key}
@@ -82,7 +81,7 @@ module _ {A B : Type 0} where
     pub rest : List (Node A B)
     pub is : nodes ≡ front ++ node ∷ rest
     pub slot_is : node.entry.slot ≡ key.slot
-    pub serial_is : node.entry.serial.number ≡ key.serial
+    pub serial_is : node.entry.serial ≡ key.serial
     pub place : node.at ≡ at
     pub off_front : times key.slot (slots_of front) ≡ 0
     pub off_rest : times key.slot (slots_of rest) ≡ 0
@@ -96,7 +95,7 @@ module _ {A B : Type 0} where
       let slot = key.slot in
       let cut = cut_at slot nodes (linked_slot slots nodes spares table key at leads) in
       let there = leads_to slots cut.front cut.rest cut.node key cut.at (subst (λ (ns : List (Node A B)). AreMapped slots ns) cut.is table.mapped) in
-      let found = found_there (eqb cut.node.entry.serial.number key.serial) cut.node.at at (sym there ∙ leads) in
+      let found = found_there (eqb cut.node.entry.serial key.serial) cut.node.at at (sym there ∙ leads) in
       let counted = ap (λ (ns : List (Node A B)). times slot (slots_of ns)) cut.is ∙ times-slots_of-append slot cut.front (cut.node ∷ cut.rest) in
       let one = times_same slot cut.node.entry.slot (slots_of cut.rest) (sym cut.at) in
       let most = once slots nodes spares table slot in
@@ -106,7 +105,7 @@ module _ {A B : Type 0} where
         rest = cut.rest;
         is = cut.is;
         slot_is = cut.at;
-        serial_is = eqb-true cut.node.entry.serial.number key.serial found.0;
+        serial_is = eqb-true cut.node.entry.serial key.serial found.0;
         place = found.1;
         off_front = omega (arith, counted, one, most);
         off_rest = omega (arith, counted, one, most);
@@ -145,7 +144,7 @@ module _ {A B : Type 0} where
         looked =
             ap (λ nodes. lookup (is_key key) (entries_by value nodes)) lies.is
             ∙ lookup_cut value key lies.front lies.rest lies.node lies.off_front lies.off_rest lies.slot_is
-            ∙ ap (λ b. cond b (value lies.node.entry.held) None) (eq-eqb key.serial lies.node.entry.serial.number (sym lies.serial_is))
+            ∙ ap (λ b. cond b (value lies.node.entry.held) None) (eq-eqb key.serial lies.node.entry.serial (sym lies.serial_is))
 
         -- a test of the node at the place
         abbrev pub Tests : Bool → Type 0
@@ -174,8 +173,8 @@ module _ {A B : Type 0} where
             let cut = cut_at key.slot (nodes_of entries) some in
             let table = table_of slots (sound.before ++ sound.after) (cut.front ++ cut.node ∷ cut.rest) spares (sym sound.in_order ∙ cut.is) sound.table in
             let there = leads_to slots cut.front cut.rest cut.node key cut.at table.mapped in
-            let fails = nothing_there (eqb cut.node.entry.serial.number key.serial) (record { ptr = cut.node.at }) (sym there ∙ nowhere) in
-            let other = ne_eqb key.serial cut.node.entry.serial.number (λ same. true≢false (sym (eq-eqb cut.node.entry.serial.number key.serial (sym same)) ∙ fails)) in
+            let fails = nothing_there (eqb cut.node.entry.serial key.serial) (record { ptr = cut.node.at }) (sym there ∙ nowhere) in
+            let other = ne_eqb key.serial cut.node.entry.serial (λ same. true≢false (sym (eq-eqb cut.node.entry.serial key.serial (sym same)) ∙ fails)) in
             let split = times-slots_of-append key.slot cut.front (cut.node ∷ cut.rest) in
             let one = times_same key.slot cut.node.entry.slot (slots_of cut.rest) (sym cut.at) in
             let most = once slots (cut.front ++ cut.node ∷ cut.rest) spares table key.slot in
@@ -453,7 +452,7 @@ module _ {A B : Type 0} where
 
       pub IsSound-pushed : (spare : Spare A B) (others : List (Spare A B)) → spares ≡ others ++ spare ∷ [] → node.at ≡ spare.at → node.entry.slot ≡ spare.entry.slot
           → later.ring.at ≡ entries.ring.at → later.cursor.ptr ≡ cond (eqb after_len 0) node.at entries.cursor.ptr
-          → IsSound (Some later) (set slots spare.entry.slot (Some (node.entry.serial.number, record { ptr = spare.at }))) others before_len (after_len + 1)
+          → IsSound (Some later) (set slots spare.entry.slot (Some (node.entry.serial, record { ptr = spare.at }))) others before_len (after_len + 1)
       IsSound-pushed spare others spares_are same_place same_slot root moved =
           let order : entries.ring.nodes ++ node ∷ [] ≡ sound.before ++ (sound.after ++ node ∷ []) =
           ap (λ ns. ns ++ node ∷ []) sound.in_order ∙ append_assoc sound.before sound.after (node ∷ []) in
@@ -468,7 +467,7 @@ module _ {A B : Type 0} where
             are_after = AreAfter-append sound.after (node ∷ []) sound.are_after (some, tt);
             before_len_is = sound.before_len_is;
             after_len_is = omega (arith, sound.after_len_is, length-append sound.after (node ∷ []));
-            table = table_of (set slots spare.entry.slot (Some (node.entry.serial.number, record { ptr = spare.at }))) (entries.ring.nodes ++ node ∷ [])
+            table = table_of (set slots spare.entry.slot (Some (node.entry.serial, record { ptr = spare.at }))) (entries.ring.nodes ++ node ∷ [])
                 (sound.before ++ (sound.after ++ node ∷ [])) others order linked;
             cursor = pushed_cursor sound.after entries.ring.at entries.cursor.ptr later.cursor.ptr sound.cursor (moved ∙ ap (λ n. cond (eqb n 0) node.at entries.cursor.ptr) sound.after_len_is)
                 ∙ ap (λ (p : Ptr). first_place (sound.after ++ node ∷ []) p) (sym root);

@@ -5,8 +5,7 @@ use Rattle.std.specs.Map.{lookup, remove_entry, set_value}
 use Rattle.std.proofs.lemmas.Bool.{eq-eqb, ne_eqb, and_left}
 use Rattle.std.proofs.lemmas.List.Elements.{All-nil, All-cons, filter_map-append}
 use Rattle.event_queue.specs.declared.key.Key.{Key}
-use Rattle.event_queue.specs.declared.node.entries.Held.{Held}
-use Rattle.event_queue.specs.declared.node.entries.Held.TheVariants.{Nothing, Before, AfterWithout, After}
+use Rattle.event_queue.specs.Entry.{Held, Nothing, Before, AfterWithout, After}
 use Rattle.event_queue.specs.Key.{is_key}
 use Rattle.event_queue.specs.Nodes.{Node, times, slots_of, key_of, value_before, value_after, held_after, AreBefore, AreAfter}
 use Rattle.event_queue.proofs.Nodes.Slots.{times-cons_le, apart_from_times}
@@ -72,11 +71,11 @@ module _ {A B X : Type 0} (value : Held A B → Option X) where
       ]
 
   pub lookup_cut : (key : Key) (front rest : List (Node A B)) (node : Node A B) → times key.slot (slots_of front) ≡ 0 → times key.slot (slots_of rest) ≡ 0
-      → node.entry.slot ≡ key.slot → lookup (is_key key) (entries_by (front ++ node ∷ rest)) ≡ cond (eqb key.serial node.entry.serial.number) (value node.entry.held) None
+      → node.entry.slot ≡ key.slot → lookup (is_key key) (entries_by (front ++ node ∷ rest)) ≡ cond (eqb key.serial node.entry.serial) (value node.entry.held) None
   lookup_cut key [] rest node off_front off_rest at =
       let later = lookup_absent key rest off_rest in
       elim (cases_option (value node.entry.held)) [
-        | inl none ↦ rw none (later ∙ sym (either_way (eqb key.serial node.entry.serial.number)))
+        | inl none ↦ rw none (later ∙ sym (either_way (eqb key.serial node.entry.serial)))
         | inr some ↦ rw (some.1, eq-eqb key.slot node.entry.slot (sym at), later) refl
       ]
   lookup_cut key (n ∷ ns) rest node off_front off_rest at =

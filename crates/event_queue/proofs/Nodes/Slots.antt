@@ -7,7 +7,7 @@ use Rattle.std.proofs.lemmas.Option.{slice_get_past, slice_get-map}
 use Rattle.std.specs.Prelude.{option_map}
 use Rattle.event_queue.specs.declared.key.Key.{Key}
 use Rattle.event_queue.specs.declared.node.ring.pointers.NodePtr.{NodePtr}
-use Rattle.event_queue.specs.declared.node.entries.Held.TheVariants.{Nothing}
+use Rattle.event_queue.specs.Entry.{Nothing}
 use Rattle.event_queue.specs.declared.node.entries.Entry.{Entry}
 use Rattle.event_queue.specs.declared.node.table.Slot.{Slot}
 use Rattle.event_queue.specs.Nodes.{Node, Spare, Slots, shown, shown_in, times, slots_of, spare_slots, node_at, key_of, spare_entry, AreMapped, AreSpare, IsTable}
@@ -281,10 +281,10 @@ module _ {A B : Type 0} where
 
   -- ---- what stands in the slot of a linked node
   pub leads_to : (slots : Slots A B) (front rest : List (Node A B)) (node : Node A B) (key : Key) → node.entry.slot ≡ key.slot → AreMapped slots (front ++ node ∷ rest)
-      → node_at slots key ≡ cond (eqb node.entry.serial.number key.serial) (Some (record { ptr = node.at })) None
+      → node_at slots key ≡ cond (eqb node.entry.serial key.serial) (Some (record { ptr = node.at })) None
   leads_to slots front rest node key same mapped =
       let here = (AreMapped-cut slots front (node ∷ rest) mapped).1.0 in
-      let there : slice_get slots key.slot ≡ Some (Some (node.entry.serial.number, record { ptr = node.at })) = rw (← same) here in
+      let there : slice_get slots key.slot ≡ Some (Some (node.entry.serial, record { ptr = node.at })) = rw (← same) here in
       rw there refl
 
   -- no linked node has the slot of a spare one, which is a slot of the table
@@ -308,17 +308,17 @@ module _ {A B : Type 0} where
   -- a spare node is linked in at the end, and its place goes into its slot
   pub IsTable-linked : (slots : Slots A B) (nodes : List (Node A B)) (spares : List (Spare A B)) (spare : Spare A B) (node : Node A B) → node.at ≡ spare.at
       → node.entry.slot ≡ spare.entry.slot → IsTable slots nodes (spares ++ spare ∷ [])
-      → IsTable (set slots spare.entry.slot (Some (node.entry.serial.number, record { ptr = spare.at }))) (nodes ++ node ∷ []) spares
+      → IsTable (set slots spare.entry.slot (Some (node.entry.serial, record { ptr = spare.at }))) (nodes ++ node ∷ []) spares
   IsTable-linked slots nodes spares spare node same_place same_slot table =
       let slot = spare.entry.slot in
-      let place : Option (ℕ × NodePtr (Entry A B)) = Some (node.entry.serial.number, record { ptr = spare.at }) in
+      let place : Option (ℕ × NodePtr (Entry A B)) = Some (node.entry.serial, record { ptr = spare.at }) in
       let one = times_same slot slot [] refl in
       let split = times-spare_slots slot spares (spare ∷ []) in
       let most = once slots nodes (spares ++ spare ∷ []) table slot in
       let off_nodes : times slot (slots_of nodes) ≡ 0 = omega (arith, split, one, most) in
       let off_spares : times slot (spare_slots spares) ≡ 0 = omega (arith, split, one, most) in
       let below = within slots nodes (spares ++ spare ∷ []) table slot (omega (arith, split, one)) in
-      let here : slice_get (set slots slot place) node.entry.slot ≡ Some (Some (node.entry.serial.number, record { ptr = node.at })) =
+      let here : slice_get (set slots slot place) node.entry.slot ≡ Some (Some (node.entry.serial, record { ptr = node.at })) =
       rw (same_slot, same_place) (slice_get-set_same slots slot place below) in
       record {
         mapped = AreMapped-append (set slots slot place) nodes (node ∷ []) (AreMapped-set slots slot place nodes off_nodes table.mapped) (here, tt);
@@ -367,9 +367,9 @@ module _ {A B : Type 0} where
       → key_of other.entry ≡ key_of node.entry → IsTable slots (front ++ node ∷ rest) spares → IsTable slots (front ++ other ∷ rest) spares
   IsTable-changed slots front rest node other spares same_place same_key table =
       let same_slot : other.entry.slot ≡ node.entry.slot = ap (λ (k : Key). k.slot) same_key in
-      let same_serial : other.entry.serial.number ≡ node.entry.serial.number = ap (λ (k : Key). k.serial) same_key in
+      let same_serial : other.entry.serial ≡ node.entry.serial = ap (λ (k : Key). k.serial) same_key in
       let mapped = AreMapped-cut slots front (node ∷ rest) table.mapped in
-      let here : slice_get slots other.entry.slot ≡ Some (Some (other.entry.serial.number, record { ptr = other.at })) =
+      let here : slice_get slots other.entry.slot ≡ Some (Some (other.entry.serial, record { ptr = other.at })) =
       rw (same_slot, same_serial, same_place) mapped.1.0 in
       record {
         mapped = AreMapped-append slots front (other ∷ rest) mapped.0 (here, mapped.1.1);

@@ -5,8 +5,7 @@ use Rattle.std.specs.Map.{lookup, set_value}
 use denote.RawPtr.{Ptr}
 use Rattle.event_queue.specs.declared.key.Key.{Key}
 use Rattle.event_queue.specs.declared.node.ring.pointers.NodePtr.{NodePtr}
-use Rattle.event_queue.specs.declared.node.entries.Held.{Held}
-use Rattle.event_queue.specs.declared.node.entries.Held.TheVariants.{Nothing, Before, AfterWithout, After}
+use Rattle.event_queue.specs.Entry.{Held, Nothing, Before, AfterWithout, After}
 use Rattle.event_queue.specs.declared.node.entries.Entry.{Entry}
 use Rattle.event_queue.specs.declared.node.entries.Entries.{Entries}
 use Rattle.event_queue.specs.declared.node.table.Slot.{Slot}
@@ -161,12 +160,13 @@ module _ {A B : Type 0} where
         some_were_after =
             some_after entries slots spares before_len after_len node.sound key at.ptr found_after
 
-        pub sound_after : (made : Ptr) → AtNode entries.ring.nodes at.ptr (λ _ n ys. AtNode entries.ring.nodes entries.cursor.ptr (λ _ first _. later.cursor.ptr ≡ cond (eqb first.entry.slot n.entry.slot) (first_place ys entries.ring.at) entries.cursor.ptr))
+        pub sound_after : (made : Ptr) → AtNode entries.ring.nodes at.ptr (λ _ _ ys. AtNode entries.ring.nodes entries.cursor.ptr (λ _ first _. later.cursor.ptr ≡ cond (eqb first.entry.slot key.slot) (first_place ys entries.ring.at) entries.cursor.ptr))
             → IsSound (Some later) (set slots key.slot None) (spares ++ spare made ∷ []) before_len (after_len - 1)
         unfolding found_after found
         sound_after made moved =
             let cursor = cursor_is entries slots spares before_len after_len node.sound (omega (arith, some_were_after)) in
-            let skips = moved its_place.front its_place.node its_place.rest its_place.is its_place.place node.sound.before cursor.first cursor.others cursor.is cursor.place in
+            let moves = moved its_place.front its_place.node its_place.rest its_place.is its_place.place node.sound.before cursor.first cursor.others cursor.is cursor.place in
+            let skips = subst (λ slot. later.cursor.ptr ≡ cond (eqb cursor.first.entry.slot slot) (first_place its_place.rest entries.ring.at) entries.cursor.ptr) (sym its_place.slot_is) moves in
             IsSound-without_after entries slots spares before_len after_len node.sound key at.ptr found_after cursor later (spare made) others take.root skips (spare_is made)
 
         pub was_after : lookup (is_key key) (seen chain spares).after ≡ Some value
@@ -198,7 +198,7 @@ module _ {A B : Type 0} where
 
       module _ {later : Entries A B} {changed : Option B} (hand_in : HandsIn out at.ptr key changed later) where
         abbrev other : Node A B
-        other = placed its_place.node.at (record { slot = key.slot; serial = record { number = key.serial }; held = held_after changed })
+        other = placed its_place.node.at (record { slot = key.slot; serial = key.serial; held = held_after changed })
 
         set_there : later.ring.nodes ≡ its_place.front ++ other ∷ its_place.rest
         set_there = hand_in.nodes its_place.front left_behind its_place.rest cut its_place.place
@@ -245,7 +245,7 @@ module _ {A B : Type 0} where
       pub read_is : slot ≡ first.first.entry.slot
       read_is = read sound_now.before first.first first.others first.is first.place
 
-      pub leads_to_first : slice_get slots slot ≡ Some (Some (first.first.entry.serial.number, record { ptr = first.first.at }))
+      pub leads_to_first : slice_get slots slot ≡ Some (Some (first.first.entry.serial, record { ptr = first.first.at }))
       leads_to_first =
           let table = table_is entries slots spares before_len after_len sound_now in
           let mapped = subst (λ (ns : List (Node A B)). AreMapped slots ns) first.is table.mapped in
@@ -256,7 +256,7 @@ module _ {A B : Type 0} where
 
     module _ {key : Key} {value : A} {former : Option B} {later : Entries A B} (key_is : key ≡ key_of first.first.entry) (advance : Advances entries key value former later) where
       abbrev told : Node A B
-      told = placed first.first.at (record { slot = key.slot; serial = record { number = key.serial }; held = Before value })
+      told = placed first.first.at (record { slot = key.slot; serial = key.serial; held = Before value })
 
       moved : later.ring.nodes ≡ sound_now.before ++ told ∷ first.others
       moved = advance.nodes sound_now.before first.first first.others first.is first.place

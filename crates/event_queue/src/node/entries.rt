@@ -1,12 +1,14 @@
 //! The entries of a chain in order, each on a node of one ring, and the cursor.
 ghost use Rattle.std.specs.Prelude.{◌≡◌, ◌+◌, [], ◌∷◌, ◌++◌, if◌then◌else◌, ◌↔◌, eqb, IsTrue, IsSome, IfOk};
 ghost use Rattle.event_queue.specs.Ring.{placed, first_place, IsAt, AtNode};
+ghost use Rattle.event_queue.specs.Entry.{Nothing, Before};
 ghost use Rattle.event_queue.specs.Nodes.{value_before, value_after, held_after, spare_entry, IsSpareAt, IsBeforeAt, IsAfterAt, HandsOut, HandsIn, TakesOut, Advances};
 
 use super::ring::{NodePtr, NodeRef, Ring, Room, Steps};
 use super::serial::Serial;
 use crate::key::Key;
 use std::alloc::{AllocError, Global};
+use std::marker::Model;
 use std::sync::ledger::Ledger;
 use std_alloc::room::Vacant;
 
@@ -14,61 +16,125 @@ use std_alloc::room::Vacant;
 /// for proofs alone.
 #[derive(Drop)]
 pub(super) struct Entry<A, B> {
-    slot: usize,
+    packed: Packed<A, B>,
     serial: Serial,
-    held: Held<A, B>,
 }
 
-/// A value before the cursor, or one that may be absent after it. The root and a spare node hold nothing.
+/// A slot, and a value before the cursor, or one that may be absent after it. The root and a spare node hold nothing.
 ///
-/// It is one enum, and not a value with an `Option` in it, since each tag takes 8 bytes of every node.
+/// It is one enum, and not a value with an `Option` in it beside the slot, since a tag takes 8 bytes of every node
+/// unless something of 4 bytes stands behind it: so each variant has the slot, and has it first.
 #[derive(Drop)]
-pub(super) enum Held<A, B> {
-    Nothing,
-    Before(A),
-    AfterWithout,
-    After(B),
+pub(super) enum Packed<A, B> {
+    Spare(u32),
+    Before(u32, A),
+    AfterWithout(u32),
+    After(u32, B),
 }
 
-impl<A, B> Held<A, B> {
-    /// That value after the cursor.
-    #[inline(always)]
-    fn after(value: Option<B>) -> Self
-        ensures { result ≡ held_after value }
-    {
-        match value {
-            Some(value) => Held::After(value),
-            None => Held::AfterWithout,
-        }
-    }
+impl<A, B> Model for Entry<A, B> {
+    ghost use Rattle.event_queue.specs.Entry.{Payload, slot_of, held_of};
+
+    ghost Value = { Payload A B };
+
+    ghost view = { λ entry. record {
+      slot = slot_of entry.packed;
+      serial = entry.serial.number;
+      held = held_of entry.packed;
+    } };
 }
 
 impl<A, B> Entry<A, B> {
     /// The payload of a spare node with that slot.
     #[inline(always)]
-    pub(super) fn spare(slot: usize) -> Self
+    pub(super) fn spare(slot: u32) -> Self
         ensures { result ≡ spare_entry slot }
     {
         Entry {
-            slot,
+            packed: Packed::Spare(slot),
             serial: Serial::new(&0),
-            held: Held::Nothing,
         }
+    }
+
+    // The payload of the node of that key, whose entry is before the cursor.
+    #[inline(always)]
+    fn before(key: Key, value: A) -> Self
+        ensures { result ≡ record { slot = key.slot; serial = key.serial; held = Before value } }
+    {
+        Entry {
+            packed: Packed::Before(key.slot, value),
+            serial: Serial::new(&key.serial),
+        }
+    }
+
+    // The payload of the node of that key, whose entry is after the cursor.
+    #[inline(always)]
+    fn after(key: Key, value: Option<B>) -> Self
+        ensures { result ≡ record {
+          slot = key.slot;
+          serial = key.serial;
+          held = held_after value;
+        } }
+    {
+        let packed = match value {
+            Some(value) => Packed::After(key.slot, value),
+            None => Packed::AfterWithout(key.slot),
+        };
+        Entry {
+            packed,
+            serial: Serial::new(&key.serial),
+        }
+    }
+
+    /// The slot that the node keeps.
+    #[inline(always)]
+    pub(super) fn slot(&self) -> u32
+        ensures { result ≡ self.now.slot }
+    {
+        let (Packed::Spare(slot)
+        | Packed::Before(slot, _)
+        | Packed::AfterWithout(slot)
+        | Packed::After(slot, _)) = &self.packed;
+        *slot
+    }
+
+    // The slot of a spare node: with no other case to look at, it is found in fewer instructions.
+    #[inline(always)]
+    fn slot_of_spare(&self) -> u32
+        requires { self.now.held ≡ Nothing }
+        ensures { result ≡ self.now.slot }
+    {
+        match &self.packed {
+            Packed::Spare(slot) => *slot,
+            _ => unreachable!(),
+        }
+    }
+
+    // Whether it has an entry before the cursor.
+    #[inline(always)]
+    fn is_before(&self) -> bool
+        ensures { IsTrue result ↔ IsSome (value_before self.now.held) }
+    {
+        matches!(self.packed, Packed::Before(_, _))
+    }
+
+    // Whether it has an entry after the cursor.
+    #[inline(always)]
+    fn is_after(&self) -> bool
+        ensures { IsTrue result ↔ IsSome (value_after self.now.held) }
+    {
+        matches!(self.packed, Packed::After(_, _) | Packed::AfterWithout(_))
     }
 
     // The value of an entry before the cursor.
     #[inline(always)]
     fn into_before(self) -> A
         requires { IsSome (value_before self.held) }
-        ensures { self.held ≡ Held.Before result }
+        ensures { self.held ≡ Before result }
     {
-        let Entry {
-            slot: _,
-            serial: _,
-            held,
-        } = self;
-        match held {
-            Held::Before(value) => value,
+        let Entry { packed, serial: _ } = self;
+        match packed {
+            Packed::Before(_, value) => value,
             _ => unreachable!(),
         }
     }
@@ -79,14 +145,10 @@ impl<A, B> Entry<A, B> {
         requires { IsSome (value_after self.held) }
         ensures { self.held ≡ held_after result }
     {
-        let Entry {
-            slot: _,
-            serial: _,
-            held,
-        } = self;
-        match held {
-            Held::After(value) => Some(value),
-            Held::AfterWithout => None,
+        let Entry { packed, serial: _ } = self;
+        match packed {
+            Packed::After(_, value) => Some(value),
+            Packed::AfterWithout(_) => None,
             _ => unreachable!(),
         }
     }
@@ -94,15 +156,11 @@ impl<A, B> Entry<A, B> {
     /// Drops what a spare node carries.
     #[inline(always)]
     pub(super) fn drop_spare(self)
-        requires { self.held ≡ Held.Nothing }
+        requires { self.held ≡ Nothing }
     {
-        let Entry {
-            slot: _,
-            serial: _,
-            held,
-        } = self;
-        match held {
-            Held::Nothing => {}
+        let Entry { packed, serial: _ } = self;
+        match packed {
+            Packed::Spare(_) => {}
             _ => unreachable!(),
         }
     }
@@ -136,7 +194,7 @@ impl<A, B> Entries<A, B> {
             ↔ IsSome (value_before n.entry.held)) }
     {
         let (entry, _) = self.ring.look(own);
-        matches!(entry.held, Held::Before(_))
+        entry.is_before()
     }
 
     /// Whether the node's entry is after the cursor.
@@ -147,7 +205,7 @@ impl<A, B> Entries<A, B> {
             ↔ IsSome (value_after n.entry.held)) }
     {
         let (entry, _) = self.ring.look(own);
-        matches!(entry.held, Held::After(_) | Held::AfterWithout)
+        entry.is_after()
     }
 
     /// Links a spare node in at the end, with an entry after the cursor, and returns its slot and the node.
@@ -161,16 +219,16 @@ impl<A, B> Entries<A, B> {
         value: Option<B>,
         is_first: bool,
         steps: &mut Steps<L>,
-    ) -> (usize, NodeRef<Entry<A, B>>)
+    ) -> (u32, NodeRef<Entry<A, B>>)
         requires alone { node.nodes ≡ [] }
-        requires spare { node.entry.held ≡ Held.Nothing }
+        requires spare { node.entry.held ≡ Nothing }
         ensures slot { result.0 ≡ node.entry.slot }
         ensures place { result.1.ptr ≡ node.at }
         ensures root { self.new.ring.at ≡ self.old.ring.at }
         ensures nodes { self.new.ring.nodes
             ≡ self.old.ring.nodes ++ placed node.at (record {
               slot = node.entry.slot;
-              serial = record { number = serial };
+              serial = serial;
               held = held_after value;
             }) ∷ [] }
         ensures cursor { self.new.cursor.ptr ≡ if is_first then node.at else self.old.cursor.ptr }
@@ -179,12 +237,8 @@ impl<A, B> Entries<A, B> {
     {
         let own = self.ring.append(node, steps);
         let (spare, _) = self.ring.look(&own);
-        let slot = spare.slot;
-        let entry = Entry {
-            slot,
-            serial: Serial::new(&serial),
-            held: Held::after(value),
-        };
+        let slot = spare.slot_of_spare();
+        let entry = Entry::after(Key { slot, serial }, value);
         self.ring.replace(&own, entry).drop_spare();
         if is_first {
             self.cursor = own.place();
@@ -199,7 +253,7 @@ impl<A, B> Entries<A, B> {
         ensures { HandsOut self.old own.now.ptr result self.new }
     {
         let (entry, _) = self.ring.look(own);
-        let slot = entry.slot;
+        let slot = entry.slot();
         let entry = self.ring.replace(own, Entry::spare(slot));
         entry.into_after()
     }
@@ -210,11 +264,7 @@ impl<A, B> Entries<A, B> {
         requires { IsSpareAt self.old.ring.nodes own.now.ptr }
         ensures { HandsIn self.old own.now.ptr key value self.new }
     {
-        let entry = Entry {
-            slot: key.slot,
-            serial: Serial::new(&key.serial),
-            held: Held::after(value),
-        };
+        let entry = Entry::after(key, value);
         self.ring.replace(own, entry).drop_spare();
     }
 
@@ -228,7 +278,7 @@ impl<A, B> Entries<A, B> {
         requires { IsBeforeAt self.old.ring.nodes own.ptr }
         ensures taken { TakesOut self.old own.ptr self.new }
         ensures value { AtNode self.old.ring.nodes own.ptr
-            (λ _ n _. n.entry.held ≡ Held.Before result.0) }
+            (λ _ n _. n.entry.held ≡ Before result.0) }
         ensures cursor { self.new.cursor ≡ self.old.cursor }
         ensures visits { steps.new.visits ≡ steps.old.visits + 2 }
         ensures looks { steps.new.looks ≡ steps.old.looks }
@@ -237,12 +287,13 @@ impl<A, B> Entries<A, B> {
         (entry.into_before(), room)
     }
 
-    /// Takes a node out whose entry is after the cursor, as [`Entries::take_before`] does. If it is the first of these,
-    /// the cursor moves behind it.
+    /// Takes a node out whose entry is after the cursor, as [`Entries::take_before`] does. If its slot is that of the
+    /// first of these, the cursor moves behind it.
     #[inline(always)]
     pub(super) fn take_after<L: Ledger>(
         &mut self,
         own: NodeRef<Entry<A, B>>,
+        slot: u32,
         steps: &mut Steps<L>,
     ) -> (Option<B>, Room<Entry<A, B>>)
         requires node { IsAfterAt self.old.ring.nodes own.ptr }
@@ -250,9 +301,9 @@ impl<A, B> Entries<A, B> {
         ensures taken { TakesOut self.old own.ptr self.new }
         ensures value { AtNode self.old.ring.nodes own.ptr
             (λ _ n _. n.entry.held ≡ held_after result.0) }
-        ensures cursor { AtNode self.old.ring.nodes own.ptr (λ _ n ys.
+        ensures cursor { AtNode self.old.ring.nodes own.ptr (λ _ _ ys.
             AtNode self.old.ring.nodes self.old.cursor.ptr (λ _ first _.
-            self.new.cursor.ptr ≡ if eqb first.entry.slot n.entry.slot
+            self.new.cursor.ptr ≡ if eqb first.entry.slot slot
             then first_place ys self.old.ring.at
             else self.old.cursor.ptr)) }
         ensures visits { steps.new.visits ≡ steps.old.visits + 3 }
@@ -260,8 +311,8 @@ impl<A, B> Entries<A, B> {
     {
         let cursor = self.ring.visit(self.cursor, steps);
         let (first, _) = self.ring.look(&cursor);
-        let (entry, next) = self.ring.look(&own);
-        let is_at_cursor = first.slot == entry.slot;
+        let is_at_cursor = first.slot() == slot;
+        let (_, next) = self.ring.look(&own);
         let (entry, room) = self.ring.take(own, steps);
         if is_at_cursor {
             self.cursor = next;
@@ -271,7 +322,7 @@ impl<A, B> Entries<A, B> {
 
     /// Goes to the first node after the cursor, and returns the slot that it has, too.
     #[inline(always)]
-    pub(super) fn first<L: Ledger>(&self, steps: &mut Steps<L>) -> (NodeRef<Entry<A, B>>, usize)
+    pub(super) fn first<L: Ledger>(&self, steps: &mut Steps<L>) -> (NodeRef<Entry<A, B>>, u32)
         requires { IsAt self.now.ring.nodes self.now.cursor.ptr }
         ensures place { result.0.ptr ≡ self.now.cursor.ptr }
         ensures slot { AtNode self.now.ring.nodes self.now.cursor.ptr
@@ -281,8 +332,7 @@ impl<A, B> Entries<A, B> {
     {
         let first = self.ring.visit(self.cursor, steps);
         let (entry, _) = self.ring.look(&first);
-        let slot = entry.slot;
-        (first, slot)
+        (first, entry.slot())
     }
 
     /// Moves the cursor past the first node after it, whose entry has this key and gets this value. Returns the value
@@ -293,11 +343,7 @@ impl<A, B> Entries<A, B> {
         requires place { first.ptr ≡ self.old.cursor.ptr }
         ensures { Advances self.old key value result self.new }
     {
-        let entry = Entry {
-            slot: key.slot,
-            serial: Serial::new(&key.serial),
-            held: Held::Before(value),
-        };
+        let entry = Entry::before(key, value);
         let (_, next) = self.ring.look(&first);
         let told = self.ring.replace(&first, entry);
         self.cursor = next;

@@ -92,7 +92,7 @@ impl<A, B> Table<A, B> {
     fn place_of(&self, key: Key) -> Option<NodePtr<Entry<A, B>>>
         ensures { result ≡ node_at (shown_in self.now.slots.items) key }
     {
-        match self.slots.as_slice().get(key.slot) {
+        match self.slots.as_slice().get(key.slot as usize) {
             Some(slot) => slot.place_of(key.serial),
             None => None,
         }
@@ -100,12 +100,12 @@ impl<A, B> Table<A, B> {
 
     /// The serial in a slot.
     #[inline(always)]
-    pub(super) fn serial_in(&self, slot: usize) -> u64
+    pub(super) fn serial_in(&self, slot: u32) -> u64
         requires { slot < length (shown_in self.now.slots.items) }
         ensures { option_map (λ found. found.serial) (slice_get self.now.slots.items slot)
             ≡ Option.Some result }
     {
-        self.slots[slot].serial
+        self.slots[slot as usize].serial
     }
 
     /// Takes a spare node.
@@ -128,7 +128,7 @@ impl<A, B> Table<A, B> {
             key.slot (Option.Some (key.serial, record { ptr = node.now.ptr })) }
         ensures spares { self.new.spares ≡ self.old.spares }
     {
-        self.slots[key.slot] = Slot {
+        self.slots[key.slot as usize] = Slot {
             serial: key.serial,
             place: node.place(),
         };
@@ -136,7 +136,7 @@ impl<A, B> Table<A, B> {
 
     /// Makes a spare node in that room, whose slot this is. It allocates nothing.
     #[inline(always)]
-    pub(super) fn recycle(&mut self, slot: usize, room: Room<Entry<A, B>>)
+    pub(super) fn recycle(&mut self, slot: u32, room: Room<Entry<A, B>>)
         requires slot { slot < length (shown_in self.old.slots.items) }
         requires room { length self.old.spares < length (shown_in self.old.slots.items) }
         ensures slots { shown_in self.new.slots.items
@@ -144,7 +144,7 @@ impl<A, B> Table<A, B> {
         ensures spares { self.new.spares
             ≡ self.old.spares ++ placed room.ptr (spare_entry slot) ∷ [] }
     {
-        self.slots[slot].serial = u64::MAX;
+        self.slots[slot as usize].serial = u64::MAX;
         self.spares.push(room, Entry::spare(slot));
     }
 
@@ -166,7 +166,7 @@ impl<A, B> Table<A, B> {
         Ok(())
     }
 
-    // Makes one more spare node, with a slot of its own at the end of the table.
+    // Makes one more spare node, with a slot of its own at the end of the table. A table of 2^32 slots gets none.
     fn make_spare(&mut self, blocks: &mut Blocks) -> Result<(), AllocError>
         requires slots_room { vec_len self.old.slots < vec_capacity self.old.slots }
         requires count { blocks.old.granted + 1 < 2 ^ 64 }
@@ -179,8 +179,11 @@ impl<A, B> Table<A, B> {
         ensures granted { OnOk result (blocks.new.granted ≡ blocks.old.granted + 1) }
         ensures refused { OnErr result (blocks.new.granted ≡ blocks.old.granted) }
     {
+        let Ok(slot) = u32::try_from(self.slots.len()) else {
+            return Err(AllocError);
+        };
         let room = blocks.take()?;
-        let place = self.spares.push(room, Entry::spare(self.slots.len()));
+        let place = self.spares.push(room, Entry::spare(slot));
         self.slots.push_reserved(Slot {
             serial: u64::MAX,
             place,

@@ -55,7 +55,7 @@ impl<T: Copy> ReplayedQueue<T> {
     pub(super) fn perform_call(
         &mut self,
         call: RecordedCall<T>,
-        slot: usize,
+        slot: u32,
     ) -> Result<RecordedReply<T>, AllocError>
         ensures answer { IfOk result (λ reply. reply ≡ answer_at self.old slot call) }
         ensures shape { OnOk result (self.new ≡ after_call self.old slot call) }
@@ -76,7 +76,7 @@ impl<T: Copy> ReplayedQueue<T> {
         })
     }
 
-    fn listen(&mut self, slot: usize) -> Result<Result<Key, ListenError>, AllocError>
+    fn listen(&mut self, slot: u32) -> Result<Result<Key, ListenError>, AllocError>
         ensures answer { IfOk result (λ answer. Listened answer ≡ answer_at self.old slot Listen) }
         ensures shape { OnOk result (self.new ≡ after_call self.old slot Listen) }
     {

@@ -40,7 +40,7 @@ invariant_of-self g c =
     let later = IsSound-pushed c.unwrap-entries.result.now (shown_in i.table.slots.items) i.table.spares i.before_len i.after_len sound c.append-slot.new.self
     (placed node.at (record {
       slot = node.entry.slot;
-      serial = record { number = c.args.serial };
+      serial = c.args.serial;
       held = held_after c.args.value;
     })) c.args.value c.append-slot.ensures.nodes refl (placed node.at node.entry) c.take_spare.new.self.spares spares refl refl c.append-slot.ensures.root c.append-slot.ensures.cursor in
     rw (slots_are, c.fill.ensures.spares) later
@@ -53,7 +53,7 @@ returns-clause-before g c =
     let node = c.unwrap-node.result in
     rw (← c.self.view_is, is)
     (before_pushed c.unwrap-entries.result.now (shown_in i.table.slots.items) i.table.spares i.before_len i.after_len sound c.append-slot.new.self
-    (placed node.at (record { slot = node.entry.slot; serial = record { number = c.args.serial }; held = held_after c.args.value })) c.args.value c.append-slot.ensures.nodes refl)
+    (placed node.at (record { slot = node.entry.slot; serial = c.args.serial; held = held_after c.args.value })) c.args.value c.append-slot.ensures.nodes refl)
 
 pub returns-clause-after : goal.returns-clause-after
 returns-clause-after g c =
@@ -63,7 +63,7 @@ returns-clause-after g c =
     let node = c.unwrap-node.result in
     rw (← c.self.view_is, is, c.append-slot.ensures.slot)
     (after_pushed c.unwrap-entries.result.now (shown_in i.table.slots.items) i.table.spares i.before_len i.after_len sound c.append-slot.new.self
-    (placed node.at (record { slot = node.entry.slot; serial = record { number = c.args.serial }; held = held_after c.args.value })) c.args.value c.append-slot.ensures.nodes refl)
+    (placed node.at (record { slot = node.entry.slot; serial = c.args.serial; held = held_after c.args.value })) c.args.value c.append-slot.ensures.nodes refl)
 
 pub returns-clause-slot_before : goal.returns-clause-slot_before
 returns-clause-slot_before g c =
@@ -94,7 +94,7 @@ returns-clause-slots_fit g c =
     let later = IsSound-pushed c.unwrap-entries.result.now (shown_in i.table.slots.items) i.table.spares i.before_len i.after_len sound c.append-slot.new.self
     (placed node.at (record {
       slot = node.entry.slot;
-      serial = record { number = c.args.serial };
+      serial = c.args.serial;
       held = held_after c.args.value;
     })) c.args.value c.append-slot.ensures.nodes refl (placed node.at node.entry) c.take_spare.new.self.spares spares refl refl c.append-slot.ensures.root c.append-slot.ensures.cursor in
     let slots = i.table.slots in

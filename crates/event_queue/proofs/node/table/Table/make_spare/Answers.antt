@@ -6,8 +6,8 @@ use Rattle.event_queue.proofs.node.table.Table.make_spare.Goals as goal
 pub returns-clause-grows : goal.returns-clause-grows
 returns-clause-grows g c = λ nodes table.
     let slots = c.args.self.now.slots in
-    let at_end : c.len.result ≡ length (shown_in slots.items) =
-    omega (arith, c.len.ensures, slots.ok.0, length-shown_in slots.items) in
+    let at_end : c.in-Ok.slot ≡ length (shown_in slots.items) =
+    omega (arith, c.in-Ok.ensures, c.len.ensures, slots.ok.0, length-shown_in slots.items) in
     let is = c.spare.ensures ∙ ap spare_entry at_end in
     rw (c.push_reserved.ensures.items, c.push-place.ensures.nodes, shown_in-longer slots.items c.push-place.result)
     (IsTable-grown (shown_in slots.items) nodes c.args.self.now.spares _ is table)
