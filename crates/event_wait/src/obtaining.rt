@@ -94,10 +94,7 @@ impl<L: TakesAny<Q, Refusal = LockError>, Q: Drop, H: Hold<L> + Drop> Obtaining<
                 return Ok(Some((hold, output)));
             }
         }
-        match try_then_wait(hold.lock(), hold.rt(), alloc, &mut request, limit)? {
-            Some(output) => Ok(Some((hold, output))),
-            None => Ok(None),
-        }
+        wait_longer(hold, alloc, request, limit)
     }
 
     /// Attempts, and registers the task that polls if it waits on. After an output or an error it is
@@ -138,6 +135,26 @@ impl<L: TakesAny<Q, Refusal = LockError>, Q: Drop, H: Hold<L> + Drop> Obtaining<
         ensures { self.new.hold ≡ None }
     {
         drop(self.hold.take());
+    }
+}
+
+// What comes after a first attempt that gave nothing. The request goes there by value: so what is free is taken with none in memory.
+#[cold]
+#[inline(never)]
+fn wait_longer<L: TakesAny<Q, Refusal = LockError>, Q: Drop, H: Hold<L> + Drop>(
+    hold: H,
+    alloc: Global,
+    request: Q,
+    limit: Limit,
+) -> Result<Option<(H, L::Output)>, LockError>
+    ensures never { limit ≡ Never → IfOk result IsSome }
+    ensures obtained { IfOk result (λ answer.
+        IfSome answer (λ got. Obtained (L.rules (H.held got.0)) (L.trying (H.held got.0)) got.1)) }
+{
+    let mut request = request;
+    match try_then_wait(hold.lock(), hold.rt(), alloc, &mut request, limit)? {
+        Some(output) => Ok(Some((hold, output))),
+        None => Ok(None),
     }
 }
 
