@@ -135,7 +135,7 @@ impl<T: Drop> Mutex<T> {
         ensures { result.parked ≡ self.now.word.slot.name }
     {
         let mut lent = lent;
-        let value = wait_for_value(rt, &mut lent);
+        let value = value_of(rt, &mut lent);
         Loan {
             value,
             parked: self.word.park(rt, lent),
@@ -209,8 +209,20 @@ impl<T: Drop> Mutex<T> {
     }
 }
 
-// Moves the value out for one that waits.
+// Moves the value out for one that has the right to its place.
 #[inline(always)]
+fn value_of<T, R: Wait>(rt: &R, lent: &mut Right<'_, T>) -> T
+    ensures { lent.new.name ≡ lent.old.name }
+{
+    match take_out(lent) {
+        Some(value) => value,
+        None => wait_for_value(rt, lent),
+    }
+}
+
+// The same where it was not seen there. It is a function of its own, so that what is there is taken in a few instructions.
+#[cold]
+#[inline(never)]
 fn wait_for_value<T, R: Wait>(rt: &R, lent: &mut Right<'_, T>) -> T
     ensures { lent.new.name ≡ lent.old.name }
 {

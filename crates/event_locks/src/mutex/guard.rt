@@ -3,7 +3,7 @@ ghost use Rattle.std.specs.Prelude.{◌≡◌, []};
 ghost use mir.Syntax.{named};
 ghost use Rattle.std.specs.Arc.{arc_value};
 
-use super::{Loan, Mutex, Right, wait_for_value};
+use super::{Loan, Mutex, Right, value_of};
 use crate::lending::Lending;
 use event_wait::Shared;
 use event_word::{Parked, take_out};
@@ -62,7 +62,7 @@ impl<'a, T: Drop, R: Wait + Clock> MutexGuard<'a, T, R> {
         requires { lent.name ≡ hold.lender.lock.now.word.slot.name }
     {
         let mut lent = lent;
-        let value = wait_for_value(hold.rt, &mut lent);
+        let value = value_of(hold.rt, &mut lent);
         MutexGuard {
             place: Place { hold, lent },
             value,
