@@ -1,5 +1,6 @@
 -- One that was not notified leaves as many notified as there were.
-use Rattle.std.proofs.Common.{◌≡◌, ℕ, ◌+◌, ◌<◌, ◌≤◌, ◌==◌, ◌||◌, Bool, true, false, List, [], ◌∷◌, length, refl, sym, ap, ◌∙◌, arith, Option, Some, None, is_some}
+use Rattle.std.proofs.Common.{◌≡◌, ℕ, ◌+◌, ◌<◌, ◌≤◌, ◌==◌, ◌||◌, Bool, true, false, List, [], ◌∷◌, length, refl, sym, ap, ◌∙◌, arith, Option, Some, None, is_some, Result, Ok, Err}
+use Rattle.std.specs.Prelude.{IfOk, IfErr}
 use Rattle.std.specs.Map.{lookup, remove_entry}
 use Rattle.event_queue.specs.declared.key.Key.{Key}
 use Rattle.event_queue.specs.declared.reply.ListenError.{ListenError}
@@ -37,12 +38,17 @@ module _ {W : Type 0} where
   left-untold None old new untold left = ap (λ (q : Queue (Unit {0}) W). length q.told) left
   left-untold (Some key) old new untold left = rw (left.told, others-untold (Some key) old untold) refl
 
-  pub as_many-waits : {C : Type 0} (exchanged : C → Option W → W → C → Type 0) (key : Option Key) (old : Queue (Unit {0}) W) (before : C) (waits : Key) (new : Queue (Unit {0}) W) (after : C)
+  as_many-waits : {C : Type 0} (exchanged : C → Option W → W → C → Type 0) (key : Option Key) (old : Queue (Unit {0}) W) (before : C) (waits : Key) (new : Queue (Unit {0}) W) (after : C)
       → is_told key old ≡ false → WaitsBy exchanged key old before waits new after → length new.told ≡ length old.told
   as_many-waits exchanged key old before waits new after untold h = rw (h.told, others-untold key old untold) refl
 
-  pub as_many-refused : (key : Option Key) (error : ListenError) (old new : Queue (Unit {0}) W) → is_told key old ≡ false → CannotWait key error old new → length new.told ≡ length old.told
+  as_many-refused : (key : Option Key) (error : ListenError) (old new : Queue (Unit {0}) W) → is_told key old ≡ false → CannotWait key error old new → length new.told ≡ length old.told
   as_many-refused key error old new untold h = left-untold key old new untold h.leaves
+
+  pub as_many : {C : Type 0} (exchanged : C → Option W → W → C → Type 0) (key : Option Key) (old : Queue (Unit {0}) W) (before : C) (result : Result Key ListenError) (new : Queue (Unit {0}) W) (after : C)
+      → is_told key old ≡ false → IfOk result (λ waits. WaitsBy exchanged key old before waits new after) → IfErr result (λ error. CannotWait key error old new) → length new.told ≡ length old.told
+  as_many exchanged key old before (Ok waits) new after untold waited refused = as_many-waits exchanged key old before waits new after untold waited
+  as_many exchanged key old before (Err error) new after untold waited refused = as_many-refused key error old new untold refused
 
 -- one found nothing, and the queue of the receivers is another one now: still nobody waits in vain
 module _ {T W : Type 0} where

@@ -4,9 +4,10 @@ ghost use Rattle.std.specs.List.{FoldsTo};
 ghost use Rattle.std.specs.VecDeque.{deque_capacity};
 ghost use Rattle.event_wait.specs.Line.{TellsAll, TellsUpTo, or_more, woken_up_to, woken_at_once};
 ghost use Rattle.event_channel.specs.Errors.{IsUnsent, IsUnsentAtOnce};
-ghost use Rattle.event_channel.specs.Messages.{NobodyWaitsInVain, IsFull, for_newcomers, limit_of, new_state, room_for, room_for_newcomers, room_in, there_for};
+ghost use Rattle.event_channel.specs.Messages.{NobodyWaitsInVain, IsFull, for_newcomers, for_one, limit_of, new_state, room_for_newcomers, room_for_one, room_in};
 ghost use Rattle.event_channel.specs.Order.{IsReceivedInOrder};
 ghost use Rattle.event_channel.specs.Steps.{Pushes, Refuses, RefusesAt, Forces, Takes, FindsNone, IsEmptyFor, Closes, woken_by_forcing, woken_by_pushing, woken_by_taking};
+ghost use Rattle.event_channel.specs.Turns.{is_told};
 
 mod turns;
 mod waits;
@@ -18,7 +19,7 @@ use std::alloc::{AllocError, AllocFailed, Global};
 use std::collections::VecDeque;
 use std::marker::Model;
 pub use turns::PATIENCE;
-use turns::left_for_newcomers;
+use turns::{is_told, left_for_newcomers};
 pub(crate) use waits::{key_after, put_back};
 
 /// The state of a channel, with no lock and no thread: the messages that were sent and not received, first the one that is
@@ -160,6 +161,7 @@ impl<T, W> Messages<T, W> {
 
     /// Puts a message behind all others, if the channel is open and there is room for newcomers, and wakes a receiver and all
     /// streams. It allocates only where there is no limit.
+    #[inline(always)]
     pub fn push<S: WakeSink<W>>(&mut self, message: T, sink: &mut S) -> Result<(), SendError<T>>
         ensures pushed { IfOk result (λ _. Pushes message self.old self.new) }
         ensures may { OnOk result (0 < room_for_newcomers self.old) }
@@ -172,37 +174,49 @@ impl<T, W> Messages<T, W> {
         ensures due { IfErr result (λ error. error.reason ≡ SendReason.Full
             → room_in self.old ≤ length self.old.senders.told) }
     {
-        if !self.is_closed && self.room_for_newcomers() == 0 {
+        if self.starving_senders.len() != 0 && self.places_are_due() {
             return Err(SendError::new(message, SendReason::Full));
         }
         self.push_any(message, sink)
     }
 
-    // `push` of one that was notified, or was not.
+    // `push` of one that may have a place in the queue of the senders.
+    #[inline(always)]
     fn push_as<S: WakeSink<W>>(
         &mut self,
-        told: bool,
+        key: Option<Key>,
         message: T,
         sink: &mut S,
     ) -> Result<(), SendError<T>>
         ensures pushed { IfOk result (λ _. Pushes message self.old self.new) }
-        ensures may { OnOk result (0 < room_for told self.old) }
+        ensures may { OnOk result (0 < room_for_one key self.old) }
         ensures wakes { IfOk result (λ _.
             FoldsTo S.woke sink.old (woken_by_pushing self.old self.new) sink.new) }
         ensures returned { IfErr result (λ error. error.message ≡ message) }
         ensures refused { OnErr result ((self.new ≡ self.old) × (sink.new ≡ sink.old)) }
         ensures reason { IfErr result (λ error.
-            RefusesAt (room_for told self.old) self.old error.reason) }
+            RefusesAt (room_for_one key self.old) self.old error.reason) }
         ensures at_once { IfErr result (λ error. IsUnsentAtOnce error.reason) }
         ensures due { IfErr result (λ error. error.reason ≡ SendReason.Full
             → room_in self.old ≤ length self.old.senders.told) }
-        ensures full { told ≡ true → IfErr result (λ error. error.reason ≡ SendReason.Full
-            → room_in self.old ≡ 0) }
+        ensures full { is_told key self.old.senders ≡ true
+            → IfErr result (λ error. error.reason ≡ SendReason.Full → room_in self.old ≡ 0) }
     {
-        if told {
-            return self.push_any(message, sink);
+        let starve = self.starving_senders.len() != 0;
+        if starve && !is_told(&self.senders, key) && self.places_are_due() {
+            return Err(SendError::new(message, SendReason::Full));
         }
-        self.push(message, sink)
+        self.push_any(message, sink)
+    }
+
+    // Whether the channel is open, and there is no room for newcomers.
+    #[cold]
+    #[inline(never)]
+    fn places_are_due(&self) -> bool
+        ensures due { IsTrue result
+            ↔ ((self.now.is_closed ≡ false) × (room_for_newcomers self.now ≡ 0)) }
+    {
+        !self.is_closed && self.room_for_newcomers() == 0
     }
 
     // Puts a message behind all others, if the channel is open and not full, on a place that is due to others or not, and wakes a
@@ -268,6 +282,7 @@ impl<T, W> Messages<T, W> {
     }
 
     /// Takes the first message, if it is there for newcomers, and wakes a sender.
+    #[inline(always)]
     pub fn pop<S: WakeSink<W>>(&mut self, sink: &mut S) -> Result<T, TryRecvError>
         ensures popped { IfOk result (λ message. Takes (message ∷ []) self.old self.new) }
         ensures may { OnOk result (0 < for_newcomers self.old) }
@@ -277,27 +292,40 @@ impl<T, W> Messages<T, W> {
         ensures reason { IfErr result (IsEmptyFor self.old) }
         ensures due { OnErr result (length self.old.messages ≤ length self.old.receivers.told) }
     {
-        if !self.is_closed && self.for_newcomers() == 0 {
+        if self.starving_receivers.len() != 0 && self.messages_are_due() {
             return Err(TryRecvError::Empty);
         }
         self.pop_any(sink)
     }
 
-    // `pop` of one that was notified, or was not.
-    fn pop_as<S: WakeSink<W>>(&mut self, told: bool, sink: &mut S) -> Result<T, TryRecvError>
+    // `pop` of one that may have a place in the queue of the receivers.
+    #[inline(always)]
+    fn pop_as<S: WakeSink<W>>(&mut self, key: Option<Key>, sink: &mut S) -> Result<T, TryRecvError>
         ensures popped { IfOk result (λ message. Takes (message ∷ []) self.old self.new) }
-        ensures may { OnOk result (0 < there_for told self.old) }
+        ensures may { OnOk result (0 < for_one key self.old) }
         ensures wakes { IfOk result (λ _.
             FoldsTo S.woke sink.old (woken_by_taking 1 self.old self.new) sink.new) }
         ensures empty { OnErr result ((self.new ≡ self.old) × (sink.new ≡ sink.old)) }
-        ensures reason { IfErr result (FindsNone (there_for told self.old) self.old) }
+        ensures reason { IfErr result (FindsNone (for_one key self.old) self.old) }
         ensures due { OnErr result (length self.old.messages ≤ length self.old.receivers.told) }
-        ensures none { told ≡ true → OnErr result (self.old.messages ≡ []) }
+        ensures none { is_told key self.old.receivers ≡ true
+            → OnErr result (self.old.messages ≡ []) }
     {
-        if told {
-            return self.pop_any(sink);
+        let starve = self.starving_receivers.len() != 0;
+        if starve && !is_told(&self.receivers, key) && self.messages_are_due() {
+            return Err(TryRecvError::Empty);
         }
-        self.pop(sink)
+        self.pop_any(sink)
+    }
+
+    // Whether the channel is open, and there is no message for newcomers.
+    #[cold]
+    #[inline(never)]
+    fn messages_are_due(&self) -> bool
+        ensures due { IsTrue result
+            ↔ ((self.now.is_closed ≡ false) × (for_newcomers self.now ≡ 0)) }
+    {
+        !self.is_closed && self.for_newcomers() == 0
     }
 
     // Takes the first message, due to others or not, and wakes a sender.

@@ -1,5 +1,5 @@
 //! Those in a queue that starve, for which newcomers leave what is due to them.
-ghost use Rattle.std.specs.Prelude.{◌≡◌, ◌≤◌, ◌==◌, ◌||◌, false, length, IfErr, IfOk, OnErr};
+ghost use Rattle.std.specs.Prelude.{◌≡◌, ◌≤◌, ◌==◌, ◌||◌, true, false, length, IfErr, IfOk, OnErr};
 ghost use Rattle.event_wait.specs.Line.{CannotWait, LeavesThenTells, WaitsBy, woken_by_leaving};
 ghost use Rattle.std.specs.List.{FoldsTo};
 ghost use Rattle.event_channel.specs.Turns.{CannotWaitInTurn, Counts, but, is_told, left_for_newcomers, struck};
@@ -7,7 +7,7 @@ ghost use Rattle.event_queue.specs.Key.{without};
 ghost use Rattle.event_queue.specs.Queue.{IsQueue};
 
 use event_queue::{Key, List, ListenError, TaskExchange, WakeSink};
-use event_wait::waiters::{leave, leave_then_tell, wait_in_line};
+use event_wait::waiters::{join_line, leave, leave_then_tell, wait_in_line};
 use std::alloc::Global;
 
 /// How often one is notified and finds nothing before newcomers leave it what is due to it.
@@ -47,10 +47,14 @@ fn strike(starving: &mut Vec<Key, Global>, key: Option<Key>)
     ensures { starving.new.items ≡ but key starving.old.items }
 {
     if let Some(key) = key {
-        strike_off(starving, key);
+        if starving.len() != 0 {
+            strike_off(starving, key);
+        }
     }
 }
 
+#[cold]
+#[inline(never)]
 fn strike_off(starving: &mut Vec<Key, Global>, key: Key)
     ensures { starving.new.items ≡ without key starving.old.items }
 {
@@ -79,30 +83,53 @@ pub(crate) fn leave_in_turn<W: Drop, S: WakeSink<W>>(
 // Has one wait that found nothing: at its place, or at the end of the queue if it was notified or is new. One that was
 // notified has lost once more, and starves if it lost `PATIENCE` times. One that is new or starves may allocate. An error
 // says that it is in the queue no more.
+#[inline(always)]
 pub(crate) fn wait_in_turn<W: Drop, C, X: TaskExchange<W, C>>(
     line: &mut List<(), W>,
     starving: &mut Vec<Key, Global>,
-    told: bool,
     key: Option<Key>,
     losses: &mut u32,
     exchange: &X,
     on: &mut C,
 ) -> Result<Key, ListenError>
-    requires told { told ≡ is_told key line.old }
     ensures waits { IfOk result (λ waits.
         WaitsBy (X.exchanged exchange.now) key line.old on.old waits line.new on.new) }
-    ensures as_many { told ≡ false → length line.new.told ≡ length line.old.told }
-    ensures same { told ≡ false → starving.new.items ≡ starving.old.items }
-    ensures counts { IfOk result (λ waits. Counts told key waits losses.old starving.old.items
-        losses.new starving.new.items) }
+    ensures as_many { is_told key line.old ≡ false
+        → length line.new.told ≡ length line.old.told }
+    ensures same { is_told key line.old ≡ false → starving.new.items ≡ starving.old.items }
+    ensures counts { IfOk result (λ waits. Counts (is_told key line.old) key waits losses.old
+        starving.old.items losses.new starving.new.items) }
     ensures refused { IfErr result (λ error.
-        CannotWaitInTurn told key losses.old error line.old line.new) }
-    ensures struck { OnErr result (starving.new.items ≡ struck told key starving.old.items) }
+        CannotWaitInTurn (is_told key line.old) key losses.old error line.old line.new) }
+    ensures struck { OnErr result
+        (starving.new.items ≡ struck (is_told key line.old) key starving.old.items) }
     ensures kept { OnErr result ((on.new ≡ on.old) × (losses.new ≡ losses.old)) }
 {
-    if !told {
-        return wait_untold(line, key, exchange, on);
+    if is_told(line, key) {
+        return wait_after_loss(line, starving, key, losses, exchange, on);
     }
+    wait_untold(line, key, exchange, on)
+}
+
+// Has one wait that was notified and found nothing.
+#[inline(never)]
+fn wait_after_loss<W: Drop, C, X: TaskExchange<W, C>>(
+    line: &mut List<(), W>,
+    starving: &mut Vec<Key, Global>,
+    key: Option<Key>,
+    losses: &mut u32,
+    exchange: &X,
+    on: &mut C,
+) -> Result<Key, ListenError>
+    ensures waits { IfOk result (λ waits.
+        WaitsBy (X.exchanged exchange.now) key line.old on.old waits line.new on.new) }
+    ensures counts { IfOk result (λ waits. Counts true key waits losses.old starving.old.items
+        losses.new starving.new.items) }
+    ensures refused { IfErr result (λ error.
+        CannotWaitInTurn true key losses.old error line.old line.new) }
+    ensures struck { OnErr result (starving.new.items ≡ but key starving.old.items) }
+    ensures kept { OnErr result ((on.new ≡ on.old) × (losses.new ≡ losses.old)) }
+{
     let lost = losses.saturating_add(1);
     strike(starving, key);
     if lost >= PATIENCE && starving.reserve(1).is_err() {
@@ -132,8 +159,8 @@ fn wait_untold<W, C, X: TaskExchange<W, C>>(
     ensures refused { IfErr result (λ error. CannotWait key error line.old line.new) }
     ensures kept { OnErr result (on.new ≡ on.old) }
 {
-    match wait_in_line(line, key, exchange, on) {
-        Ok(waits) => Ok(waits),
-        Err(error) => Err(error),
+    match key {
+        None => join_line(line, exchange, on),
+        Some(_) => wait_in_line(line, key, exchange, on),
     }
 }

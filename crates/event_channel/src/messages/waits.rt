@@ -8,10 +8,9 @@ ghost use Rattle.event_channel.specs.Errors.{IsUnsentAtOnce};
 ghost use Rattle.event_channel.specs.Messages.{room_in};
 ghost use Rattle.event_channel.specs.Steps.{KeepsAllButSenders, KeepsAllButReceivers, KeepsAllButStreams};
 ghost use Rattle.event_channel.specs.Waits.{Empties, ReceiverLeaves, Receives, ReceivesInTurn, SenderLeaves, SendsInTurn, woken_by_receiver, woken_by_receiver_leaving, woken_by_receiving, woken_by_sending};
-ghost use Rattle.event_channel.specs.Turns.{is_told};
 
 use super::Messages;
-use super::turns::{is_told, leave_in_turn, left_for_newcomers, wait_in_turn};
+use super::turns::{leave_in_turn, left_for_newcomers, wait_in_turn};
 use crate::error::{SendError, SendReason, TryRecvError};
 use event_queue::{Key, ListenError, TaskExchange, WakeSink};
 use event_wait::Attempted;
@@ -68,8 +67,7 @@ impl<T, W: Drop> Messages<T, W> {
             self.cancel_sender(key, sink);
             return Attempted::Absent;
         };
-        let told = is_told(&self.senders, key);
-        match self.push_as(told, unsent, sink) {
+        match self.push_as(key, unsent, sink) {
             Ok(()) => {
                 self.cancel_sender(key, sink);
                 Attempted::Done(Ok(()))
@@ -81,7 +79,7 @@ impl<T, W: Drop> Messages<T, W> {
                     SendReason::Full => {
                         let line = &mut self.senders;
                         let starving = &mut self.starving_senders;
-                        match wait_in_turn(line, starving, told, key, losses, exchange, on) {
+                        match wait_in_turn(line, starving, key, losses, exchange, on) {
                             Ok(key) => Attempted::Waits(key),
                             Err(error) => Attempted::Refused(error),
                         }
@@ -112,8 +110,7 @@ impl<T, W: Drop> Messages<T, W> {
         ensures wakes { FoldsTo S.woke sink.old
             (woken_by_receiver key self.old result self.new) sink.new }
     {
-        let told = is_told(&self.receivers, key);
-        match self.pop_as(told, sink) {
+        match self.pop_as(key, sink) {
             Ok(message) => {
                 self.cancel_receiver(key, sink);
                 Attempted::Done(Some(message))
@@ -121,7 +118,7 @@ impl<T, W: Drop> Messages<T, W> {
             Err(TryRecvError::Empty) => {
                 let line = &mut self.receivers;
                 let starving = &mut self.starving_receivers;
-                match wait_in_turn(line, starving, told, key, losses, exchange, on) {
+                match wait_in_turn(line, starving, key, losses, exchange, on) {
                     Ok(key) => Attempted::Waits(key),
                     Err(error) => Attempted::Refused(error),
                 }
@@ -178,8 +175,7 @@ impl<T, W: Drop> Messages<T, W> {
         ensures returned { IfErr result (λ error. error.message ≡ message) }
         ensures at_once { IfErr result (λ error. IsUnsentAtOnce error.reason) }
     {
-        let told = is_told(&self.senders, key);
-        self.push_as(told, message, sink)
+        self.push_as(key, message, sink)
     }
 
     /// Takes this sender, if it is one, out of its queue: it starves no more. If now fewer are notified than there are places
@@ -205,14 +201,28 @@ impl<T, W: Drop> Messages<T, W> {
     ) -> Result<T, TryRecvError>
         ensures receives { ReceivesOne key result self.old self.new }
     {
-        let told = is_told(&self.receivers, key);
-        self.pop_as(told, sink)
+        self.pop_as(key, sink)
     }
 
     /// Takes this receiver, if it is one, out of its queue: it starves no more. If now fewer are notified than there are
     /// messages, others are, and are woken. If now a message is there for newcomers, all streams are.
     #[inline(always)]
     pub fn cancel_receiver<S: WakeSink<W>>(&mut self, key: Option<Key>, sink: &mut S)
+        ensures left { ReceiverLeaves key self.old self.new }
+        ensures wakes { FoldsTo S.woke sink.old
+            (woken_by_receiver_leaving key self.old self.new) sink.new }
+        ensures others { KeepsAllButReceivers self.old self.new }
+    {
+        if self.starving_receivers.len() != 0 {
+            return self.cancel_in_turn(key, sink);
+        }
+        leave_then_tell(&mut self.receivers, key, self.items.len(), sink);
+    }
+
+    // The same where a receiver starves.
+    #[cold]
+    #[inline(never)]
+    fn cancel_in_turn<S: WakeSink<W>>(&mut self, key: Option<Key>, sink: &mut S)
         ensures left { ReceiverLeaves key self.old self.new }
         ensures wakes { FoldsTo S.woke sink.old
             (woken_by_receiver_leaving key self.old self.new) sink.new }

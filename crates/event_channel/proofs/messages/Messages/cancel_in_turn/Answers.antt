@@ -1,7 +1,7 @@
 use Rattle.std.proofs.Common.{◌<◌, ◌==◌, ◌||◌, length, rules}
 use Rattle.event_channel.specs.Turns.{left_for_newcomers}
 use Rattle.event_channel.proofs.WakeLemmas.{wakes_as_leaving}
-use Rattle.event_channel.proofs.messages.Messages.cancel_receiver.Goals as goal
+use Rattle.event_channel.proofs.messages.Messages.cancel_in_turn.Goals as goal
 
 pub returns-then-left_for_newcomers-gt0-clause-wakes : goal.returns-then-left_for_newcomers-gt0-clause-wakes
 returns-then-left_for_newcomers-gt0-clause-wakes g c =
