@@ -137,16 +137,16 @@ module _ {S : Type 0} (rules : Rules S) where
   )
 
   -- the number changes and nobody has to be notified
-  pub changes : (id : ℕ) (v : View) (out : Option S) (old new : ℕ) → Changes rules old new → MayTrade Law id v out (λ n. either (eqb n old) new n) (changed old new v out)
-  changes id v out old new c n home vs k me small = exchanged n old new (Goes n home vs id out (changed old new v out))
-      (λ hit. (v, false, unmoved new id v home vs me (record { fits = c.fits; state = state_stays old new home vs c (subst (λ (x : ℕ). StateIn rules x home vs) hit k.state) }), (refl, refl)))
-      (λ miss. (v, false, unmoved n id v home vs me k, (refl, refl)))
+  pub changes : (id : ℕ) (v : View) (out : Option S) (old new : ℕ) → Changes rules old new → MayTrade Law id v out (λ n. either (eqb n old) new n) (changed rules old new v out)
+  changes id v out old new c n home vs k me small = exchanged n old new (Goes n home vs id out (changed rules old new v out))
+      (λ hit. (v, false, unmoved new id v home vs me (record { fits = c.fits; state = state_stays old new home vs c (subst (λ (x : ℕ). StateIn rules x home vs) hit k.state) }), (refl, refl, k.fits)))
+      (λ miss. (v, false, unmoved n id v home vs me k, (refl, refl, k.fits)))
 
   -- the same by a step that makes a seat
-  pub comes : (out : Option S) (old new : ℕ) → Changes rules old new → Comes Law out (λ n. either (eqb n old) new n) (changed old new nothing out)
-  comes out old new c n home vs k small = exchanged n old new (λ m. (u : View) × (change : Bool) × Law m (cond change out home) (vs ++ u ∷ []) × changed old new nothing out n u (cond change home out))
-      (λ hit. (nothing, false, record { fits = c.fits; state = joined new home vs (state_stays old new home vs c (subst (λ (x : ℕ). StateIn rules x home vs) hit k.state)) }, (refl, refl)))
-      (λ miss. (nothing, false, record { fits = k.fits; state = joined n home vs k.state }, (refl, refl)))
+  pub comes : (out : Option S) (old new : ℕ) → Changes rules old new → Comes Law out (λ n. either (eqb n old) new n) (changed rules old new nothing out)
+  comes out old new c n home vs k small = exchanged n old new (λ m. (u : View) × (change : Bool) × Law m (cond change out home) (vs ++ u ∷ []) × changed rules old new nothing out n u (cond change home out))
+      (λ hit. (nothing, false, record { fits = c.fits; state = joined new home vs (state_stays old new home vs c (subst (λ (x : ℕ). StateIn rules x home vs) hit k.state)) }, (refl, refl, k.fits)))
+      (λ miss. (nothing, false, record { fits = k.fits; state = joined n home vs k.state }, (refl, refl, k.fits)))
 
   state_away : (w new : ℕ) (home : Option S) (vs : Vs) → new % 2 ≡ 1 → number_of w ≡ number_of new → w % 2 ≡ 1 → StateIn rules w home vs → StateIn rules new home vs
   state_away w new None vs odd same is h = record {
@@ -160,12 +160,12 @@ module _ {S : Type 0} (rules : Rules S) where
   state_away w new (Some q) vs odd same is h = absurd (odd_is_not_even w is h.0.home)
 
   -- a thread is going to sleep until the state is back
-  pub awaits : (id : ℕ) (v : View) (out : Option S) (old new : ℕ) → old % 2 ≡ 1 → new % 2 ≡ 1 → number_of new ≡ number_of old → MayTrade Law id v out (λ n. either (eqb n old) new n) (changed old new v out)
-  awaits id v out old new odd odd' same n home vs k me small = exchanged n old new (Goes n home vs id out (changed old new v out))
+  pub awaits : (id : ℕ) (v : View) (out : Option S) (old new : ℕ) → old % 2 ≡ 1 → new % 2 ≡ 1 → number_of new ≡ number_of old → MayTrade Law id v out (λ n. either (eqb n old) new n) (changed rules old new v out)
+  awaits id v out old new odd odd' same n home vs k me small = exchanged n old new (Goes n home vs id out (changed rules old new v out))
       (λ hit.
       let is : number_of n ≡ number_of new = ap number_of hit ∙ sym same in
-      (v, false, unmoved new id v home vs me (record { fits = subst rules.fits is k.fits; state = state_away n new home vs odd' is (subst (λ (x : ℕ). x % 2 ≡ 1) (sym hit) odd) k.state }), (refl, refl)))
-      (λ miss. (v, false, unmoved n id v home vs me k, (refl, refl)))
+      (v, false, unmoved new id v home vs me (record { fits = subst rules.fits is k.fits; state = state_away n new home vs odd' is (subst (λ (x : ℕ). x % 2 ≡ 1) (sym hit) odd) k.state }), (refl, refl, k.fits)))
+      (λ miss. (v, false, unmoved n id v home vs me k, (refl, refl, k.fits)))
 
   -- the state is out with this seat, which remembers this number
   goes_out : (new id m : ℕ) (vs : Vs) (v : View) → new % 2 ≡ 1 → Eases rules m (number_of new) → get_elem? vs id ≡ some v → ((by : ℕ) (u : View) → by ≢ id → get_elem? vs by ≡ some u → u.number ≡ None) → IsAway rules new (set vs id (numbered m))

@@ -1,5 +1,7 @@
 -- The state of a lock, out with one thread.
-use Rattle.std.specs.Prelude.{◌≡◌, ℕ, Option, Some, None}
+use Rattle.std.specs.Prelude.{◌≡◌, ℕ, Option, Some, None, IsSome}
+use mathlib.Core.Bool.{true≢false}
+use mathlib.Core.Path.{sym}
 use Rattle.event_word.specs.declared.word.held.Held.{Held}
 use Rattle.event_word.specs.declared.word.rule.Place.{Place}
 
@@ -16,3 +18,8 @@ module _ {S V : Type 0} where
 abbrev pub placed : {V : Type 0} → Option (Place V) → Option V
 placed (Some place) = Some place.value
 placed None = None
+
+-- the same where there is one
+abbrev pub placed_in : {V : Type 0} → (o : Option (Place V)) → IsSome o → V
+placed_in (Some place) has = place.value
+placed_in None has = absurd (true≢false (sym has))

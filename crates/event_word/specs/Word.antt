@@ -100,6 +100,10 @@ module _ {S : Type 0} (rules : Rules S) where
   abbrev pub seen_again : View → ℕ → View → Type 0
   seen_again v r u = (u ≡ numbered (number_of r)) × rules.fits (number_of r) × (r % 2 ≡ 1) × EasesFrom v.number (number_of r)
 
+  -- nothing is taken or put back
+  abbrev pub changed : ℕ → ℕ → View → Option S → ℕ → View → Option S → Type 0
+  changed old new v out r u out' = (u ≡ v) × (out' ≡ out) × rules.fits (number_of r)
+
   -- where the word was as expected, the state is out
   abbrev pub took : ℕ → ℕ → View → Option S → ℕ → View → Option S → Type 0
   took old new v out r u out' =
@@ -107,10 +111,6 @@ module _ {S : Type 0} (rules : Rules S) where
       × (r ≢ old → (u ≡ v) × (out' ≡ out))
 
 module _ {S : Type 0} where
-  -- nothing is taken or put back
-  abbrev pub changed : ℕ → ℕ → View → Option S → ℕ → View → Option S → Type 0
-  changed old new v out r u out' = (u ≡ v) × (out' ≡ out)
-
   -- whoever has the state out changed the number, and remembers it
   abbrev pub moved : ℕ → ℕ → View → Option S → ℕ → View → Option S → Type 0
   moved old new v out r u out' = (r ≡ old → u ≡ numbered (number_of new)) × (r ≢ old → u ≡ v) × (out' ≡ out)

@@ -12,7 +12,7 @@
 //!
 //! Read `word.rt` and `word/rule.rt` first, then `word/take.rt`; for a semaphore and a mutex `competing.rt`,
 //! `word/competing.rt`, `word/permits.rt` and `word/value.rt`; for a read-write lock `shares/queues.rt`, `shares/right.rt`,
-//! `shares/steps.rt` and `shares/requests.rt`.
+//! `shares/steps.rt`, `shares/owned.rt` and `shares/requests.rt`.
 #![tactic(auto)]
 
 mod competing;
@@ -28,6 +28,7 @@ pub use counts::Counts;
 pub use error::TryAcquireError;
 pub use shares::counts::RwLockCounts;
 pub use shares::number::{is_written, readers};
+pub use shares::owned::OwnedRight;
 pub use shares::queues::Queues;
 pub use shares::reading::Reading;
 pub use shares::right::Right;

@@ -122,13 +122,6 @@ impl<W> Queues<W> {
         self.write_line.total_listeners() > 0
     }
 
-    // Whether one reader more can be counted beside those that read, and nobody writes or was let in to.
-    pub(super) fn may_read_again(&self, number: u64) -> bool
-        ensures { IsTrue result → IsExclusive number self.now → Admits 2 number self.now }
-    {
-        self.has_room(number) && !self.is_written(number)
-    }
-
     /// Whether the reader that asks may write from here on: it is the only one, no other one was let in, and no writer waits.
     pub fn may_upgrade(&self, number: u64) -> bool
         ensures yes { IsTrue result ↔ MayUpgrade number self.now }

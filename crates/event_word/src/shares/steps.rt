@@ -221,28 +221,12 @@ impl<V> Word<Queues<Task>, V> {
         Err(Grant::new(claim))
     }
 
-    /// Parks one whose share is there already.
-    pub fn park_again<K: Right<Task>, R: Wait>(&self, rt: &R, grant: Grant<'_, K, V>)
-        requires { grant.claim.name ≡ self.now.slot.name }
-    {
-        self.park(rt, grant).end();
-    }
-
     /// Takes the right again of one that is parked. It waits for nobody: who has the value has been settled before.
     pub fn unpark<K: Right<Task>, R: Wait>(&self, rt: &R, share: Share<K>) -> Grant<'_, K, V>
         requires { share ≡ self.now.slot.name }
         ensures { result.claim.name ≡ self.now.slot.name }
     {
         share.end();
-        self.take_parked(rt)
-    }
-
-    /// The same for a call, after which the writer is to be parked again. Two such calls at once would wait for each other: the lock
-    /// takes `&mut` to the guard for that.
-    pub fn write_again<R: Wait>(&self, rt: &R, _share: &Share<Writing>) -> Grant<'_, Writing, V>
-        requires { _share.now ≡ self.now.slot.name }
-        ensures { result.claim.name ≡ self.now.slot.name }
-    {
         self.take_parked(rt)
     }
 
@@ -260,54 +244,6 @@ impl<V> Word<Queues<Task>, V> {
             seen = self.look_again(&mut seat);
         }
         unreachable!()
-    }
-
-    /// One more right to read for a reader that is parked, for a call: also where writers wait, which its share keeps out. It is counted
-    /// beside the one that is parked.
-    pub fn read_again<R: Wait>(&self, rt: &R, _share: &Share<Reading>) -> Grant<'_, Reading, V>
-        requires { _share.now ≡ self.now.slot.name }
-        ensures { result.claim.name ≡ self.now.slot.name }
-    {
-        let (seen, mut seat) = self.look();
-        if let Some(new) = <Reading as Right<Task>>::word_in(seen) {
-            if let Some(grant) = self.admit(&mut seat, seen, new) {
-                return grant;
-            }
-        }
-        let (_, mut held) = self.take(rt);
-        let grant = self.count_again(rt, &mut held);
-        self.put_back(rt, held);
-        grant
-    }
-
-    // The same with the queues out, once one more can be counted.
-    fn count_again<R: Wait>(&self, rt: &R, held: &mut Out<'_, V>) -> Grant<'_, Reading, V>
-        requires seat { IsOf self.now.slot.name held.old }
-        requires alone { HasState IsExclusive held.old }
-        ensures seat { IsOf self.now.slot.name held.new }
-        ensures alone { HasState IsExclusive held.new }
-        ensures own { result.claim.name ≡ self.now.slot.name }
-    {
-        for _ in rt.forever() {
-            let seen = self.look_alone(held);
-            if self.may_read_again(held, seen) {
-                if let Some(grant) = self.admit_with(held, seen) {
-                    return grant;
-                }
-            }
-        }
-        unreachable!()
-    }
-
-    // Whether one reader more can be counted, and nobody writes or was let in to.
-    fn may_read_again(&self, held: &mut Out<'_, V>, seen: u64) -> bool
-        requires seat { IsOf self.now.slot.name held.old }
-        requires alone { HasState (λ n q. (n ≡ number_of seen) × IsExclusive n q) held.old }
-        ensures seat { IsOf self.now.slot.name held.new }
-        ensures alone { HasState (λ n q. (n ≡ number_of seen) × IsExclusive n q) held.new }
-        ensures yes { IsTrue result → HasState (λ n q. (n ≡ number_of seen) × Admits 2 n q) held.new }
-    {
-        held.claim.state_mut().may_read_again(seen / ONE)
     }
 
     // Looks at the word with the queues out.

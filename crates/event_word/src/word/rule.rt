@@ -58,8 +58,8 @@ impl<S: Kept> Tells<View> for LookAgain<S> {
 // The number changes.
 pub struct Change;
 
-impl<S> Trades<View, S> for Change {
-    ghost then = { changed };
+impl<S: Kept> Trades<View, S> for Change {
+    ghost then = { changed S.rules };
 }
 
 // The state is taken out.
