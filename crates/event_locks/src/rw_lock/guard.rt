@@ -1,19 +1,18 @@
 //! The value of a read-write lock, with those that have it.
-ghost use Rattle.std.specs.Prelude.{◌≡◌, MatchResult, Option, Some};
+ghost use Rattle.std.specs.Prelude.{◌≡◌, ◌<◌, IsSome, MatchResult, None, Option, Some};
 ghost use Rattle.std.specs.Arc.{arc_value};
-ghost use Rattle.std.specs.Fn.{FnOnceReturnsAt, FnOnceReturnsAtMut};
-ghost use Rattle.event_locks.specs.Reads.{Reads};
-ghost use Rattle.event_monitor.specs.Watched.{Changes};
-ghost use Rattle.event_word.specs.Held.{placed};
+ghost use Rattle.event_word.specs.Count.{IsCount};
+ghost use Rattle.event_word.specs.Held.{placed, placed_in};
+ghost use Rattle.event_word.specs.Word.{number_of};
 
 use super::RwLock;
 use crate::lending::Lending;
-use event_slot::{Tied, Ties};
+use event_slot::{Inside, Slot, Tied, Ties};
 use event_wait::{Shared, Task};
-use event_word::{Grant, Place, Queues, Reading, Right, Share, Writing};
+use event_word::{Grant, OwnedRight, Place, Queues, Reading, Right, Seat, Share, Writing};
 use std::fmt;
 use std::fmt::{Debug, Formatter};
-use std::marker::Model;
+use std::marker::{Model, PhantomData};
 use std::ops::{Deref, DerefMut};
 use std::sync::Wait;
 use std::time::Clock;
@@ -23,11 +22,83 @@ impl<T, R> Ties for Lending<'_, RwLock<T>, R> {
     ghost ties = { λ hold name. hold.lender.lock.now.word.slot.name ≡ name };
 }
 
-// The right of one that shares the lock, and where it goes back.
-struct HeldArc<T, R, K> {
-    hold: Shared<RwLock<T>, R>,
-    share: Share<K>,
-    ghost own: { share ≡ (arc_value hold.lock).word.slot.name },
+// Where a right goes back that shares the lock.
+impl<T> Inside<Place<T>, Queues<Task>> for RwLock<T> {
+    ghost finds = { λ lock. lock.word.slot };
+
+    fn slot(&self) -> &Slot<Place<T>, Queues<Task>> {
+        &self.word.slot
+    }
+}
+
+// The right of one that shares the lock. A ghost field of the guard's own would stand in the way of its `deref_mut`.
+struct HeldArc<T, R, K: Right<Task>> {
+    owned: OwnedRight<RwLock<T>, T>,
+    seat: Seat,
+    word: u64,
+    rt: R,
+    of: PhantomData<K>,
+    ghost right: { (owned.right ≡ K.RIGHT) × (owned.state ≡ None) },
+    ghost lends: { IsSome owned.value },
+    ghost own: { owned.name ≡ owned.of.word.slot.name },
+    ghost same: { seat.slot ≡ owned.name },
+    ghost fits: { IsCount (number_of word) },
+}
+
+impl<T, R: Wait, K: Right<Task>> HeldArc<T, R, K> {
+    fn new(hold: Shared<RwLock<T>, R>, share: Share<K>) -> Self
+        requires own { share ≡ (arc_value hold.lock).word.slot.name }
+        requires right { 0 < K.RIGHT }
+    {
+        let Shared { lock, rt } = hold;
+        let (owned, seat, word) = share.unpark(&rt, lock);
+        HeldArc {
+            owned,
+            seat,
+            word,
+            rt,
+            of: PhantomData,
+        }
+    }
+
+    fn park(self) -> (Shared<RwLock<T>, R>, Share<K>)
+        ensures { result.1 ≡ (arc_value result.0.lock).word.slot.name }
+    {
+        let HeldArc {
+            owned,
+            seat,
+            word,
+            rt,
+            of: _,
+        } = self;
+        let (lock, share) = Share::park(&rt, owned, seat, word);
+        (Shared { lock, rt }, share)
+    }
+}
+
+impl<T, R> HeldArc<T, R, Reading> {
+    #[inline(always)]
+    fn get(&self) -> &T
+        ensures { result.now ≡ placed_in self.now.owned.value self.now.lends }
+    {
+        &self.owned.get().value
+    }
+}
+
+impl<T, R> HeldArc<T, R, Writing> {
+    #[inline(always)]
+    fn get(&self) -> &T
+        ensures { result.now ≡ placed_in self.now.owned.value self.now.lends }
+    {
+        &self.owned.written().value
+    }
+
+    #[inline(always)]
+    fn get_mut(&mut self) -> &mut T
+        ensures { result.now ≡ placed_in self.old.owned.value self.old.lends }
+    {
+        &mut self.owned.get_mut().value
+    }
 }
 
 /// The value of a read-write lock, to be read where it lies. Dropping the guard ends the reading. A contract sees the value as `Some`.
@@ -44,15 +115,15 @@ pub struct RwLockWriteGuard<'a, T, R: Wait + Clock> {
     tied: Tied<'a, Place<T>, Queues<Task>, Lending<'a, RwLock<T>, R>>,
 }
 
-/// The right to read the value of a read-write lock, which shares the lock and so may go to another thread. Dropping it ends the
-/// reading.
+/// The value of a read-write lock, to be read where it lies, by a guard that shares the lock, and so may go to another thread. Dropping
+/// it ends the reading. A contract sees the value. It is counted as long as it is there, as parked for a moment when it is made and
+/// when it ends.
 #[must_use = "a guard that is dropped at once ends the reading"]
 pub struct RwLockReadGuardArc<T: Drop, R: Wait + Clock + Drop> {
     held: HeldArc<T, R, Reading>,
 }
 
-/// The right to write the value of a read-write lock, which shares the lock and so may go to another thread. Dropping it ends the
-/// writing.
+/// The value of a read-write lock, to be written where it lies; else as [`RwLockReadGuardArc`]. Dropping it ends the writing.
 #[must_use = "a guard that is dropped at once ends the writing"]
 pub struct RwLockWriteGuardArc<T: Drop, R: Wait + Clock + Drop> {
     held: HeldArc<T, R, Writing>,
@@ -68,6 +139,18 @@ impl<'a, T, R: Wait + Clock> Model for RwLockWriteGuard<'a, T, R> {
     ghost Value = { T };
 
     ghost view = { λ guard. guard.tied.value.value };
+}
+
+impl<T: Drop, R: Wait + Clock + Drop> Model for RwLockReadGuardArc<T, R> {
+    ghost Value = { T };
+
+    ghost view = { λ guard. placed_in guard.held.owned.value guard.held.lends };
+}
+
+impl<T: Drop, R: Wait + Clock + Drop> Model for RwLockWriteGuardArc<T, R> {
+    ghost Value = { T };
+
+    ghost view = { λ guard. placed_in guard.held.owned.value guard.held.lends };
 }
 
 impl<'a, T, R: Wait + Clock> RwLockReadGuard<'a, T, R> {
@@ -115,28 +198,14 @@ impl<T: Drop, R: Wait + Clock + Drop> RwLockReadGuardArc<T, R> {
         requires { share ≡ (arc_value hold.lock).word.slot.name }
     {
         RwLockReadGuardArc {
-            held: HeldArc { hold, share },
+            held: HeldArc::new(hold, share),
         }
-    }
-
-    /// Lends the value, and returns what `read` returns. Who may read has been settled before: it waits for no writer, and where others
-    /// wait it may wait for the queues. Meanwhile the guard is counted as two readers.
-    pub fn with<O, F: FnOnce(&T) -> O>(&self, read: F) -> O
-        requires { F.IsAlwaysCallable read }
-        ensures { Reads F.FnOnce read result }
-    {
-        let hold = &self.held.hold;
-        let word = &hold.lock.word;
-        let grant = word.read_again(&hold.rt, &self.held.share);
-        let answer = lend(grant.get(), read);
-        word.end(&hold.rt, grant);
-        answer
     }
 
     /// As [`RwLockReadGuard::try_upgrade`].
     pub fn try_upgrade(self) -> Result<RwLockWriteGuardArc<T, R>, RwLockReadGuardArc<T, R>> {
         let RwLockReadGuardArc { held } = self;
-        let HeldArc { hold, share } = held;
+        let (hold, share) = held.park();
         match hold.lock.upgraded(&hold.rt, share) {
             Ok(share) => Ok(RwLockWriteGuardArc::new(hold, share)),
             Err(share) => Err(RwLockReadGuardArc::new(hold, share)),
@@ -149,23 +218,14 @@ impl<T: Drop, R: Wait + Clock + Drop> RwLockWriteGuardArc<T, R> {
         requires { share ≡ (arc_value hold.lock).word.slot.name }
     {
         RwLockWriteGuardArc {
-            held: HeldArc { hold, share },
+            held: HeldArc::new(hold, share),
         }
-    }
-
-    /// Lends the value, and returns what `write` returns. It waits for nobody: who may write has been settled before.
-    pub fn with<O, F: FnOnce(&mut T) -> O>(&mut self, write: F) -> O
-        requires { F.IsAlwaysCallable write }
-        ensures { Changes F.FnOnce write result }
-    {
-        let HeldArc { hold, share } = &self.held;
-        hold.lock.lend_to(&hold.rt, share, write)
     }
 
     /// As [`RwLockWriteGuard::downgrade`].
     pub fn downgrade(self) -> RwLockReadGuardArc<T, R> {
         let RwLockWriteGuardArc { held } = self;
-        let HeldArc { hold, share } = held;
+        let (hold, share) = held.park();
         let share = hold.lock.downgraded(&hold.rt, share);
         RwLockReadGuardArc::new(hold, share)
     }
@@ -173,24 +233,6 @@ impl<T: Drop, R: Wait + Clock + Drop> RwLockWriteGuardArc<T, R> {
 
 // The steps of guards that share the lock.
 impl<T> RwLock<T> {
-    // Lends the value to a call. Of two such calls at once by one share the second would wait until the first ends, and inside it for
-    // ever: so `with` has its guard by `&mut`.
-    fn lend_to<R: Wait, O, F: FnOnce(&mut T) -> O>(
-        &self,
-        rt: &R,
-        share: &Share<Writing>,
-        write: F,
-    ) -> O
-        requires own { share.now ≡ self.now.word.slot.name }
-        requires callable { F.IsAlwaysCallable write }
-        ensures { Changes F.FnOnce write result }
-    {
-        let mut writing = self.word.write_again(rt, share).write();
-        let answer = lend_mut(&mut writing.get_mut().value, write);
-        self.word.park_again(rt, Grant::from_writing(writing));
-        answer
-    }
-
     fn upgraded<R: Wait>(
         &self,
         rt: &R,
@@ -224,23 +266,6 @@ impl<T> RwLock<T> {
     }
 }
 
-// Lends a value to a call.
-#[inline(always)]
-fn lend<T, O, F: FnOnce(&T) -> O>(value: &T, read: F) -> O
-    requires { F.IsAlwaysCallable read }
-    ensures { FnOnceReturnsAt F.FnOnce read value.now result }
-{
-    read(value)
-}
-
-#[inline(always)]
-fn lend_mut<T, O, F: FnOnce(&mut T) -> O>(value: &mut T, write: F) -> O
-    requires { F.IsAlwaysCallable write }
-    ensures { FnOnceReturnsAtMut F.FnOnce write value.old result value.new }
-{
-    write(value)
-}
-
 impl<T, R: Wait + Clock> Deref for RwLockReadGuard<'_, T, R> {
     type Target = T;
 
@@ -272,6 +297,37 @@ impl<T, R: Wait + Clock> DerefMut for RwLockWriteGuard<'_, T, R> {
     }
 }
 
+impl<T: Drop, R: Wait + Clock + Drop> Deref for RwLockReadGuardArc<T, R> {
+    type Target = T;
+
+    ghost deref_gives = { λ guard value. value ≡ guard };
+
+    #[inline(always)]
+    fn deref(&self) -> &T {
+        self.held.get()
+    }
+}
+
+impl<T: Drop, R: Wait + Clock + Drop> Deref for RwLockWriteGuardArc<T, R> {
+    type Target = T;
+
+    ghost deref_gives = { λ guard value. value ≡ guard };
+
+    #[inline(always)]
+    fn deref(&self) -> &T {
+        self.held.get()
+    }
+}
+
+impl<T: Drop, R: Wait + Clock + Drop> DerefMut for RwLockWriteGuardArc<T, R> {
+    ghost deref_mut_gives = { λ guard value. value ≡ guard };
+
+    #[inline(always)]
+    fn deref_mut(&mut self) -> &mut T {
+        self.held.get_mut()
+    }
+}
+
 impl<T, R: Wait + Clock> Drop for RwLockReadGuard<'_, T, R> {
     #[inline(always)]
     fn drop(self) {
@@ -295,7 +351,7 @@ impl<T, R: Wait + Clock> Drop for RwLockWriteGuard<'_, T, R> {
 impl<T: Drop, R: Wait + Clock + Drop> Drop for RwLockReadGuardArc<T, R> {
     fn drop(self) {
         let RwLockReadGuardArc { held } = self;
-        let HeldArc { hold, share } = held;
+        let (hold, share) = held.park();
         hold.lock.ended(&hold.rt, share);
     }
 }
@@ -303,7 +359,7 @@ impl<T: Drop, R: Wait + Clock + Drop> Drop for RwLockReadGuardArc<T, R> {
 impl<T: Drop, R: Wait + Clock + Drop> Drop for RwLockWriteGuardArc<T, R> {
     fn drop(self) {
         let RwLockWriteGuardArc { held } = self;
-        let HeldArc { hold, share } = held;
+        let (hold, share) = held.park();
         hold.lock.ended(&hold.rt, share);
     }
 }
@@ -317,5 +373,17 @@ impl<T: Debug, R: Wait + Clock> Debug for RwLockReadGuard<'_, T, R> {
 impl<T: Debug, R: Wait + Clock> Debug for RwLockWriteGuard<'_, T, R> {
     fn fmt<W: fmt::Write>(&self, f: &mut Formatter<W>) -> fmt::Result {
         Debug::fmt(&self.tied.get().value, f)
+    }
+}
+
+impl<T: Drop + Debug, R: Wait + Clock + Drop> Debug for RwLockReadGuardArc<T, R> {
+    fn fmt<W: fmt::Write>(&self, f: &mut Formatter<W>) -> fmt::Result {
+        Debug::fmt(self.held.get(), f)
+    }
+}
+
+impl<T: Drop + Debug, R: Wait + Clock + Drop> Debug for RwLockWriteGuardArc<T, R> {
+    fn fmt<W: fmt::Write>(&self, f: &mut Formatter<W>) -> fmt::Result {
+        Debug::fmt(self.held.get(), f)
     }
 }

@@ -113,7 +113,7 @@ impl<T, K: Right<Task>> TakesAny<Place<K>> for Lender<'_, RwLock<T>> {
     ghost all_fit = { λ _ _. tt };
 }
 
-// The right of a guard that shares the lock is parked.
+// The right for a guard that shares the lock comes parked.
 impl<T, K: Right<Task>> Waitable<Place<K>> for RwLock<T> {
     type Output = Share<K>;
 
