@@ -200,12 +200,17 @@ fn a_mutex_and_its_guards_show_themselves(rt: HostRuntime) {
 
 #[test]
 fn a_read_write_lock_and_its_guards_show_themselves(rt: HostRuntime) {
-    let lock = new_lock(&rt, 7u64);
-    let readers = (lock.try_read(&rt), lock.try_read(&rt));
-    shows(&rt, &lock, "RwLock { readers: 2, is_written: false }");
+    let lock = Arc::new(rt.alloc(), new_lock(&rt, 7u64)).expect(&rt, "memory");
+    let owned = RwLock::try_read_arc(&lock, rt).expect(&rt, "a share");
+    let readers = (lock.try_read(&rt), owned);
+    shows(&rt, &*lock, "RwLock { readers: 2, is_written: false }");
     shows(&rt, &readers, "(Some(7), Some(7))");
     drop(readers);
     let writer = lock.try_write(&rt);
-    shows(&rt, &lock, "RwLock { readers: 0, is_written: true }");
+    shows(&rt, &*lock, "RwLock { readers: 0, is_written: true }");
     shows(&rt, &writer, "Some(7)");
+    drop(writer);
+    let owned = RwLock::try_write_arc(&lock, rt).expect(&rt, "a share");
+    shows(&rt, &*lock, "RwLock { readers: 0, is_written: true }");
+    shows(&rt, &owned, "Some(7)");
 }

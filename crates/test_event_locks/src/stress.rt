@@ -106,7 +106,7 @@ fn read_and_write_shared<R: Runtime + Copy>(
     let Some(mut count) = in_some_way(rt, way, write) else {
         return 0;
     };
-    count.with(|count| *count = count.saturating_add(1));
+    *count = count.saturating_add(1);
     1
 }
 
