@@ -2,8 +2,8 @@
 //! who waited for it alone.
 use crate::support::{check, new_lock, new_semaphore, new_task};
 use event_locks::{
-    Barrier, LockError, Mutex, OnceCell, PollError, RwLock, RwLockCounts, Semaphore,
-    TryAcquireError,
+    Barrier, LockError, Mutex, OnceCell, PollError, RwLock, RwLockCounts, RwLockWriteGuardArc,
+    Semaphore, TryAcquireError,
 };
 use futures::task::Poll;
 use futures::test::MockTask;
@@ -233,6 +233,7 @@ macro_rules! reads_and_writes {
         let behind = Polled::new($rt, $lock.write($rt, $rt.alloc()));
         let reader = writer.downgrade();
         first.is_granted($rt);
+        check($rt, "the value", *reader, 7);
         let reader = reader.try_upgrade().err().expect($rt, "the reader");
         second.is_granted($rt);
         let reader = reader.try_upgrade().err().expect($rt, "the reader");
@@ -255,20 +256,24 @@ fn an_owned_guard_downgrades_and_upgrades(rt: HostRuntime) {
     reads_and_writes!(&rt, lock, writer);
 }
 
-// A guard that shares its lock is dropped by another thread, which lets in a reader that shares it too.
+// Writes this, and lets the guard go.
+fn write_by<R: Runtime>(mut writer: RwLockWriteGuardArc<u64, R>, value: u64) {
+    *writer = value;
+}
+
+// A guard that shares its lock writes in another thread, and is dropped there, which lets in a reader that shares it too.
 #[test]
 fn an_owned_guard_goes_to_another_thread(rt: HostRuntime) {
     let lock = Arc::new(rt.alloc(), new_lock(&rt, 7)).expect(&rt, "memory");
     let writer = RwLock::try_write_arc(&lock, rt).expect(&rt, "a share");
-    let mut writer = writer.expect(&rt, "the value");
-    writer.with(|value| *value = 8);
+    let writer = writer.expect(&rt, "the value");
     let reads = RwLock::read_arc(&lock, rt, rt.alloc()).expect(&rt, "a share");
     let reads = Polled::new(&rt, reads);
-    let child = thread::spawn(&rt, move || drop(writer));
+    let child = thread::spawn(&rt, move || write_by(writer, 8));
     child.ok().expect(&rt, "a thread").join(&rt);
     check(&rt, "whether it is woken", reads.is_woken(), true);
     let reader = reads.into_waits().wait().expect(&rt, "the value");
-    check(&rt, "the value", reader.with(|value| *value), 8);
+    check(&rt, "the value", *reader, 8);
 }
 
 // Who has the value, who was let in and who waits, as the lock counts them.
@@ -318,17 +323,23 @@ fn a_lock_counts_who_has_it_and_who_waits(rt: HostRuntime) {
     check(&rt, "counts", lock.counts(&rt), nobody);
 }
 
-// A reader that shares its lock reads though a writer waits, and within its own reading.
+// Readers that share their lock read at once, also while a writer waits, and are counted as long as their guards are there.
 #[test]
-fn an_owned_reader_reads_while_a_writer_waits(rt: HostRuntime) {
+fn owned_readers_read_while_a_writer_waits(rt: HostRuntime) {
     let lock = Arc::new(rt.alloc(), new_lock(&rt, 7)).expect(&rt, "memory");
     let reader = RwLock::try_read_arc(&lock, rt).expect(&rt, "a share");
     let reader = reader.expect(&rt, "the value");
+    let other = RwLock::try_read_arc(&lock, rt).expect(&rt, "a share");
+    let other = other.expect(&rt, "the value");
     let behind = Polled::new(&rt, lock.write(&rt, rt.alloc()));
-    let read = reader.with(|value| reader.with(|again| (*value, *again)));
-    check(&rt, "what was read", read, (7, 7));
+    check(&rt, "what was read", (*reader, *other), (7, 7));
+    check(&rt, "readers", lock.counts(&rt).readers, 2);
+    let child = thread::spawn(&rt, move || *other);
+    let read = child.ok().expect(&rt, "a thread").join(&rt);
+    check(&rt, "what was read", read, 7);
     check(&rt, "readers", lock.counts(&rt).readers, 1);
     behind.let_in(&rt, reader);
+    check(&rt, "readers", lock.counts(&rt).readers, 0);
 }
 
 // A reader that was let in reads beside any other, before it is polled, too.
