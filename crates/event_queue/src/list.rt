@@ -7,15 +7,16 @@ ghost use Rattle.event_queue.specs.Queue.{IsQueue, how_many, after_telling, task
 ghost use Rattle.event_queue.specs.Insert.{HasSerialLeft, JoinsStoring, Inserts, IsInsertion, IsInsertionBy};
 ghost use Rattle.event_queue.specs.Register.{Registers, IsRegistration};
 ghost use Rattle.event_queue.specs.Exchange.{RegistersWith, InsertsWith};
-ghost use Rattle.event_queue.specs.StoredTask.{RegistersBy};
+ghost use Rattle.event_queue.specs.StoredTask.{answer_of};
 ghost use Rattle.event_queue.specs.Remove.{PassedAs, woken_by_passing, after_passing, IsRemoval};
 ghost use Rattle.event_queue.specs.Notify.{told_by, IsNotification};
 ghost use Rattle.event_queue.specs.Counts.{counted_on};
+ghost use Rattle.event_queue.specs.Nodes.{visits_of_change};
 ghost use Rattle.event_queue.specs.Visits.{visits_of_insertion, visits_of_registration, visits_of_removal};
 
 use crate::exchange::TaskExchange;
 use crate::key::Key;
-use crate::node::{Chain, Change, Side, Steps};
+use crate::node::{Chain, Count, Side, Steps};
 use crate::notice::Notice;
 use crate::notify::Notification;
 use crate::reply::{ListenError, NotifyError, RegisterResult, State};
@@ -34,7 +35,7 @@ use std::sync::ledger::Ledger;
 /// has a namesake for callers that count nothing, as [`insert_uncounted`](List::insert_uncounted).
 #[derive(Drop)]
 pub struct List<T, W> {
-    chain: Chain<Notice<T>, W>,
+    pub(crate) chain: Chain<Notice<T>, W>,
     next_serial: u64,
 }
 
@@ -56,6 +57,22 @@ impl<T, W> Model for List<T, W> {
       next_serial = list.next_serial;
       spare = list.chain.spare;
     }) };
+}
+
+// What a registration answers that found this.
+#[inline(always)]
+pub(crate) fn answer<T>(found: Option<Side<Notice<T>, ()>>) -> RegisterResult<T>
+    ensures value { result ≡ answer_of found }
+    ensures visits { visits_of_registration result ≡ visits_of_change found }
+{
+    match found {
+        Some(Side::Before(notice)) => {
+            let Notice { additional: _, tag } = notice;
+            RegisterResult::Notified(tag)
+        }
+        Some(Side::After(())) => RegisterResult::Registered,
+        None => RegisterResult::NeverInserted,
+    }
 }
 
 impl<T, W> List<T, W> {
@@ -146,7 +163,7 @@ impl<T, W> List<T, W> {
     // Sees to it that one more listener can be inserted: that a serial is left and a slot spare, for which it may allocate.
     // Returns the serial, so that it is read once.
     #[inline(always)]
-    fn make_room(&mut self) -> Result<u64, ListenError>
+    pub(crate) fn make_room(&mut self) -> Result<u64, ListenError>
         ensures serial { IfOk result (λ serial. serial ≡ self.new.next_serial) }
         ensures left { OnOk result (HasSerialLeft self.new) }
         ensures slot { OnOk result (0 < self.new.spare) }
@@ -167,14 +184,14 @@ impl<T, W> List<T, W> {
 
     // Has a newcomer wait at the end of the queue, which has the next serial and stores this. It can't be refused.
     #[inline(always)]
-    fn join<L: Ledger>(&mut self, serial: u64, stored: Option<W>, steps: &mut Steps<L>) -> Key
+    pub(crate) fn join<K: Count>(&mut self, serial: u64, stored: Option<W>, steps: &mut K) -> Key
         requires serial { serial ≡ self.old.next_serial }
         requires left { HasSerialLeft self.old }
         requires slot { 0 < self.old.spare }
         ensures joins { JoinsStoring stored self.old result self.new }
         ensures queue { IsQueue self.new }
-        ensures visits { steps.new.visits ≡ steps.old.visits + 1 }
-        ensures looks { steps.new.looks ≡ steps.old.looks }
+        ensures visits { K.visits steps.new ≡ K.visits steps.old + 1 }
+        ensures looks { K.looks steps.new ≡ K.looks steps.old }
     {
         let key = self.chain.push_spare(serial, stored, steps);
         self.next_serial += 1;
@@ -202,35 +219,8 @@ impl<T, W> List<T, W> {
         ensures looks { steps.new.looks ≤ steps.old.looks + 1 }
         ensures looked { steps.new.looks ≡ counted_on steps.old.looks 1 }
     {
-        self.register_by(key, Storing { task }, &mut None, steps)
-    }
-
-    // Registers a listener: a notified one takes its tag and leaves the queue, and one that waits stores what `change`
-    // makes of what it stored.
-    #[inline(always)]
-    fn register_by<C, M: Change<Option<W>, C>, L: Ledger>(
-        &mut self,
-        key: Key,
-        change: M,
-        on: &mut C,
-        steps: &mut Steps<L>,
-    ) -> RegisterResult<T>
-    where
-        M: Drop,
-        ensures law { IsRegistration
-            (RegistersBy (M.changes change) self.old key on.old result self.new on.new) self.old
-            key result self.new }
-        ensures counted { steps.new.visits ≡ steps.old.visits + visits_of_registration result }
-        ensures looked { steps.new.looks ≡ counted_on steps.old.looks 1 }
-    {
-        match self.chain.take_or_change(key, change, on, steps) {
-            Some(Side::Before(notice)) => {
-                let Notice { additional: _, tag } = notice;
-                RegisterResult::Notified(tag)
-            }
-            Some(Side::After(())) => RegisterResult::Registered,
-            None => RegisterResult::NeverInserted,
-        }
+        let change = Storing { task };
+        answer(self.chain.take_or_change(key, change, &mut None, steps))
     }
 
     /// Registers a listener with a task that is made of the one that it stored: one that was notified takes its tag and
@@ -254,7 +244,8 @@ impl<T, W> List<T, W> {
         ensures looks { steps.new.looks ≤ steps.old.looks + 1 }
         ensures looked { steps.new.looks ≡ counted_on steps.old.looks 1 }
     {
-        self.register_by(key, Exchanging { exchange }, on, steps)
+        let change = Exchanging { exchange };
+        answer(self.chain.take_or_change(key, change, on, steps))
     }
 
     /// Removes a listener from the queue, and returns what it was, or `None` if no listener has that key.
@@ -279,6 +270,24 @@ impl<T, W> List<T, W> {
         ensures looks { steps.new.looks ≤ steps.old.looks + 1 }
         ensures looked { steps.new.looks ≡ counted_on steps.old.looks 1 }
     {
+        self.remove_by(key, propagate, sink, steps)
+    }
+
+    // Removes a listener, and tells `steps` of it.
+    #[inline(always)]
+    pub(crate) fn remove_by<S: WakeSink<W>, K: Count>(
+        &mut self,
+        key: Key,
+        propagate: bool,
+        sink: &mut S,
+        steps: &mut K,
+    ) -> Option<State<T, W>>
+        ensures law { IsRemoval S.woke self.old key propagate sink.old result self.new sink.new }
+        ensures visits { K.visits steps.new ≤ K.visits steps.old + 3 }
+        ensures counted { K.visits steps.new
+            ≡ K.visits steps.old + visits_of_removal result key self.old }
+        ensures looked { K.looks steps.new ≡ counted_on (K.looks steps.old) 1 }
+    {
         match self.chain.take(key, steps)? {
             Side::After(stored) => Some(match stored {
                 Some(task) => State::Task(task),
@@ -299,25 +308,28 @@ impl<T, W> List<T, W> {
     // short.
     #[cold]
     #[inline(never)]
-    fn pass_on<S: WakeSink<W>, L: Ledger>(
+    fn pass_on<S: WakeSink<W>, K: Count>(
         &mut self,
         notice: Notice<T>,
         sink: &mut S,
-        steps: &mut Steps<L>,
+        steps: &mut K,
     ) -> State<T, W>
         ensures answer { PassedAs notice self.old result }
         ensures passed { self.new ≡ after_passing notice self.old }
         ensures wakes { FoldsTo S.woke sink.old (woken_by_passing notice self.old) sink.new }
         ensures queue { IsQueue self.new }
-        ensures visits { steps.new.visits
-            ≡ steps.old.visits + how_many 1 notice.additional self.old }
-        ensures looks { steps.new.looks ≡ steps.old.looks }
+        ensures visits { K.visits steps.new
+            ≡ K.visits steps.old + how_many 1 notice.additional self.old }
+        ensures looks { K.looks steps.new ≡ K.looks steps.old }
     {
         if self.how_many(1, notice.additional) == 0 {
             let Notice { additional, tag } = notice;
             return State::Lost { additional, tag };
         }
-        let to = self.tell_next(notice, sink, steps);
+        let (to, task) = self.tell_next(notice, steps);
+        if let Some(task) = task {
+            sink.wake(task);
+        }
         State::Passed { to }
     }
 
@@ -344,13 +356,32 @@ impl<T, W> List<T, W> {
         ensures visits { steps.new.visits ≡ steps.old.visits + told_by result }
         ensures looks { steps.new.looks ≡ steps.old.looks }
     {
+        self.notify_by(n, sink, steps)
+    }
+
+    // Notifies the first waiting listeners, and tells `steps` of it.
+    #[inline(always)]
+    pub(crate) fn notify_by<N: Notification<Tag = T>, S: WakeSink<W>, K: Count>(
+        &mut self,
+        n: &mut N,
+        sink: &mut S,
+        steps: &mut K,
+    ) -> Result<usize, NotifyError>
+        requires { N.can_tag n.old }
+        ensures law { IsNotification N.tag_gives S.woke (N.count n.old) (N.is_additional n.old)
+            self.old n.old sink.old result self.new n.new sink.new }
+        ensures visits { K.visits steps.new ≡ K.visits steps.old + told_by result }
+        ensures looks { K.looks steps.new ≡ K.looks steps.old }
+    {
         let additional = n.is_additional();
         let count = self.how_many(n.count(), additional);
         for told in 0..count {
             let Ok(tag) = n.next_tag() else {
                 return Err(NotifyError { told });
             };
-            self.tell_next(Notice { additional, tag }, sink, steps);
+            if let (_, Some(task)) = self.tell_next(Notice { additional, tag }, steps) {
+                sink.wake(task);
+            }
         }
         Ok(count)
     }
@@ -369,27 +400,17 @@ impl<T, W> List<T, W> {
         wanted.min(self.chain.after_len())
     }
 
-    // Notifies the first listener that waits, wakes its task if it stored one, and returns its key.
+    // Notifies the first listener that waits, and returns its key, and the task to wake if it stored one.
     #[inline(always)]
-    fn tell_next<S: WakeSink<W>, L: Ledger>(
-        &mut self,
-        notice: Notice<T>,
-        sink: &mut S,
-        steps: &mut Steps<L>,
-    ) -> Key
+    fn tell_next<K: Count>(&mut self, notice: Notice<T>, steps: &mut K) -> (Key, Option<W>)
         requires { 0 < length self.old.waiting }
-        ensures first { keys_of (take 1 self.old.waiting) ≡ result ∷ [] }
+        ensures first { take 1 self.old.waiting ≡ result ∷ [] }
         ensures told { self.new ≡ after_telling notice.additional (notice.tag ∷ []) self.old }
-        ensures wakes { FoldsTo S.woke sink.old (tasks_of 1 self.old) sink.new }
         ensures queue { IsQueue self.new }
-        ensures visits { steps.new.visits ≡ steps.old.visits + 1 }
-        ensures looks { steps.new.looks ≡ steps.old.looks }
+        ensures visits { K.visits steps.new ≡ K.visits steps.old + 1 }
+        ensures looks { K.looks steps.new ≡ K.looks steps.old }
     {
-        let (key, task) = self.chain.advance(notice, steps);
-        if let Some(task) = task {
-            sink.wake(task);
-        }
-        key
+        self.chain.advance(notice, steps)
     }
 
     // Shows that this is an `IsQueue`, to a caller that reads no field.

@@ -12,17 +12,17 @@ use crate::node::table::Table;
 use std::alloc::{AllocError, Global};
 use std::marker::Model;
 use std::mem;
-use std::sync::ledger::Ledger;
 
 mod change;
 mod entries;
 mod granted;
+mod number;
 mod ring;
-mod serial;
 mod table;
 
 pub use change::Change;
-pub use ring::Steps;
+pub(crate) use number::Number;
+pub use ring::{Count, Steps};
 
 /// What is known of an entry, by the side of the cursor that it is on.
 #[derive(Drop)]
@@ -159,10 +159,10 @@ impl<A, B> Chain<A, B> {
 
     /// Whether the entry of that key is before the cursor.
     #[inline(always)]
-    pub fn is_before<L: Ledger>(&self, key: Key, steps: &mut Steps<L>) -> bool
+    pub fn is_before<K: Count>(&self, key: Key, steps: &mut K) -> bool
         ensures value { IsTrue result ↔ IsSome (lookup (is_key key) self.now.before) }
-        ensures visits { steps.new.visits ≡ steps.old.visits }
-        ensures looks { steps.new.looks ≡ counted_on steps.old.looks 1 }
+        ensures visits { K.visits steps.new ≡ K.visits steps.old }
+        ensures looks { K.looks steps.new ≡ counted_on (K.looks steps.old) 1 }
     {
         let own = self.table.find(key, steps);
         let (Some(entries), Some(own)) = (&self.entries, own) else {
@@ -173,12 +173,7 @@ impl<A, B> Chain<A, B> {
 
     /// Appends an entry, whose serial is below `u64::MAX`, on a node that is spare.
     #[inline(always)]
-    pub fn push_spare<L: Ledger>(
-        &mut self,
-        serial: u64,
-        value: Option<B>,
-        steps: &mut Steps<L>,
-    ) -> Key
+    pub fn push_spare<K: Count>(&mut self, serial: u64, value: Option<B>, steps: &mut K) -> Key
         requires spare { 0 < self.old.spare }
         requires serial { serial < 2 ^ 64 - 1 }
         ensures serial { result.serial ≡ serial }
@@ -192,8 +187,8 @@ impl<A, B> Chain<A, B> {
         ensures spare { self.new.spare + 1 ≡ self.old.spare }
         ensures slots_fit { length self.new.before + length
             self.new.after + self.new.spare < 2 ^ 64 }
-        ensures visits { steps.new.visits ≡ steps.old.visits + 1 }
-        ensures looks { steps.new.looks ≡ steps.old.looks }
+        ensures visits { K.visits steps.new ≡ K.visits steps.old + 1 }
+        ensures looks { K.looks steps.new ≡ K.looks steps.old }
     {
         let entries = self.entries.as_mut().unwrap();
         let node = self.table.take_spare().unwrap();
@@ -206,10 +201,10 @@ impl<A, B> Chain<A, B> {
 
     /// Takes the entry of that key out.
     #[inline(always)]
-    pub fn take<L: Ledger>(&mut self, key: Key, steps: &mut Steps<L>) -> Option<Side<A, Option<B>>>
+    pub fn take<K: Count>(&mut self, key: Key, steps: &mut K) -> Option<Side<A, Option<B>>>
         ensures step { Takes self.old key result self.new }
-        ensures visits { steps.new.visits ≡ steps.old.visits + visits_of_taking result }
-        ensures looks { steps.new.looks ≡ counted_on steps.old.looks 1 }
+        ensures visits { K.visits steps.new ≡ K.visits steps.old + visits_of_taking result }
+        ensures looks { K.looks steps.new ≡ counted_on (K.looks steps.old) 1 }
     {
         let own = self.table.find(key, steps)?;
         let entries = self.entries.as_mut().unwrap();
@@ -228,19 +223,19 @@ impl<A, B> Chain<A, B> {
     /// Takes the entry of that key out, if it is before the cursor. If it is after the cursor, gives it the value that
     /// `change` makes of the one that it has.
     #[inline(always)]
-    pub fn take_or_change<C, M: Change<Option<B>, C>, L: Ledger>(
+    pub fn take_or_change<C, M: Change<Option<B>, C>, K: Count>(
         &mut self,
         key: Key,
         change: M,
         on: &mut C,
-        steps: &mut Steps<L>,
+        steps: &mut K,
     ) -> Option<Side<A, ()>>
     where
         M: Drop,
         ensures step { TakesOrChanges (M.changes change) self.old key on.old
             result self.new on.new }
-        ensures visits { steps.new.visits ≡ steps.old.visits + visits_of_change result }
-        ensures looks { steps.new.looks ≡ counted_on steps.old.looks 1 }
+        ensures visits { K.visits steps.new ≡ K.visits steps.old + visits_of_change result }
+        ensures looks { K.looks steps.new ≡ counted_on (K.looks steps.old) 1 }
     {
         let own = self.table.find(key, steps)?;
         let entries = self.entries.as_mut().unwrap();
@@ -258,13 +253,13 @@ impl<A, B> Chain<A, B> {
     /// Moves the cursor past the first entry after it, which gets this value. Returns its key and the value that it
     /// had.
     #[inline(always)]
-    pub fn advance<L: Ledger>(&mut self, value: A, steps: &mut Steps<L>) -> (Key, Option<B>)
+    pub fn advance<K: Count>(&mut self, value: A, steps: &mut K) -> (Key, Option<B>)
         requires { 0 < length self.old.after }
         ensures first { self.old.after ≡ result ∷ self.new.after }
         ensures told { self.new.before ≡ self.old.before ++ (result.0, value) ∷ [] }
         ensures spare { self.new.spare ≡ self.old.spare }
-        ensures visits { steps.new.visits ≡ steps.old.visits + 1 }
-        ensures looks { steps.new.looks ≡ steps.old.looks }
+        ensures visits { K.visits steps.new ≡ K.visits steps.old + 1 }
+        ensures looks { K.looks steps.new ≡ K.looks steps.old }
     {
         let entries = self.entries.as_mut().unwrap();
         let (first, slot) = entries.first(steps);
@@ -272,9 +267,8 @@ impl<A, B> Chain<A, B> {
             slot,
             serial: self.table.serial_in(slot),
         };
-        let former = entries.advance(first, key, value);
         self.before_len += 1;
         self.after_len -= 1;
-        (key, former)
+        (key, entries.advance(first, key, value))
     }
 }

@@ -1,5 +1,5 @@
-//! The calls of a queue for callers that count no visits: each makes the counted call, in a ledger that is dropped.
-ghost use Rattle.std.specs.Prelude.{◌↔◌, IsTrue, IsSome};
+//! The calls of a queue for callers that count no visits: each does what the counted call does, with counts for proofs alone.
+ghost use Rattle.std.specs.Prelude.{◌-◌, ◌^◌, ◌↔◌, min, IsTrue, IsSome};
 ghost use Rattle.std.specs.Map.{lookup};
 ghost use Rattle.event_queue.specs.Key.{is_key};
 ghost use Rattle.event_queue.specs.Queue.{IsQueue};
@@ -8,17 +8,49 @@ ghost use Rattle.event_queue.specs.Register.{Registers, IsRegistration};
 ghost use Rattle.event_queue.specs.Exchange.{RegistersWith, InsertsWith};
 ghost use Rattle.event_queue.specs.Remove.{IsRemoval};
 ghost use Rattle.event_queue.specs.Notify.{IsNotification};
-ghost use Rattle.event_queue.specs.Counts.{Opens};
 
 use crate::exchange::TaskExchange;
 use crate::key::Key;
-use crate::list::List;
-use crate::node::Steps;
+use crate::list::{List, answer};
+use crate::node::{Count, Number};
 use crate::notify::Notification;
 use crate::reply::{ListenError, NotifyError, RegisterResult, State};
+use crate::stored_task::{Exchanging, Storing};
 use crate::wake::WakeSink;
-use std::marker::Brand;
-use std::sync::ledger::{Blank, Ledger};
+
+// Counts that only proofs read. Only the calls below make one, so what a counted call looks at is counted in its `steps`.
+#[derive(Drop)]
+struct Uncounted {
+    visits: Number,
+    looks: Number,
+}
+
+impl Uncounted {
+    // Counts of 0.
+    #[inline(always)]
+    fn new() -> Self {
+        Uncounted {
+            visits: Number::new(&0),
+            looks: Number::new(&0),
+        }
+    }
+}
+
+impl Count for Uncounted {
+    ghost visits = { λ steps. steps.visits.number };
+
+    ghost looks = { λ steps. min steps.looks.number (2 ^ 64 - 1) };
+
+    #[inline(always)]
+    fn add_visit(&mut self) {
+        self.visits = Number::after(&self.visits);
+    }
+
+    #[inline(always)]
+    fn add_look(&mut self) {
+        self.looks = Number::after(&self.looks);
+    }
+}
 
 impl<T, W> List<T, W> {
     /// [`insert`](List::insert), with its refusals, for a caller that counts no visits.
@@ -26,15 +58,8 @@ impl<T, W> List<T, W> {
     pub fn insert_uncounted(&mut self) -> Result<Key, ListenError>
         ensures { IsInsertion self.old result self.new }
     {
-        self.insert_from::<Brand>(Blank::new(1))
-    }
-
-    #[inline(always)]
-    fn insert_from<L: Ledger>(&mut self, blank: Blank) -> Result<Key, ListenError>
-        requires { Opens blank L.name L.parts }
-        ensures { IsInsertion self.old result self.new }
-    {
-        self.insert(&mut Steps::<L>::new(blank))
+        let serial = self.make_room()?;
+        Ok(self.join(serial, None, &mut Uncounted::new()))
     }
 
     /// [`insert_with`](List::insert_with), with its refusals, for a caller that counts no visits.
@@ -47,21 +72,9 @@ impl<T, W> List<T, W> {
         ensures { IsInsertionBy (InsertsWith (X.exchanged exchange.now) self.old on.old result
             self.new on.new) self.old result self.new }
     {
-        self.insert_with_from::<C, X, Brand>(exchange, on, Blank::new(1))
-    }
-
-    #[inline(always)]
-    fn insert_with_from<C, X: TaskExchange<W, C>, L: Ledger>(
-        &mut self,
-        exchange: &X,
-        on: &mut C,
-        blank: Blank,
-    ) -> Result<Key, ListenError>
-        requires { Opens blank L.name L.parts }
-        ensures { IsInsertionBy (InsertsWith (X.exchanged exchange.now) self.old on.old result
-            self.new on.new) self.old result self.new }
-    {
-        self.insert_with(exchange, on, &mut Steps::<L>::new(blank))
+        let serial = self.make_room()?;
+        let task = exchange.exchange(on, None);
+        Ok(self.join(serial, Some(task), &mut Uncounted::new()))
     }
 
     /// [`register`](List::register) for a caller that counts no visits.
@@ -72,18 +85,9 @@ impl<T, W> List<T, W> {
         ensures { IsRegistration (Registers self.old key task result self.new) self.old
             key result self.new }
     {
-        self.register_from::<Brand>(key, task, Blank::new(1))
-    }
-
-    #[inline(always)]
-    fn register_from<L: Ledger>(&mut self, key: Key, task: W, blank: Blank) -> RegisterResult<T>
-    where
-        W: Drop,
-        requires { Opens blank L.name L.parts }
-        ensures { IsRegistration (Registers self.old key task result self.new) self.old
-            key result self.new }
-    {
-        self.register(key, task, &mut Steps::<L>::new(blank))
+        let steps = &mut Uncounted::new();
+        let change = Storing { task };
+        answer(self.chain.take_or_change(key, change, &mut None, steps))
     }
 
     /// [`register_with`](List::register_with) for a caller that counts no visits.
@@ -97,22 +101,9 @@ impl<T, W> List<T, W> {
             (RegistersWith (X.exchanged exchange.now) self.old key on.old result self.new on.new)
             self.old key result self.new }
     {
-        self.register_with_from::<C, X, Brand>(key, exchange, on, Blank::new(1))
-    }
-
-    fn register_with_from<C, X: TaskExchange<W, C>, L: Ledger>(
-        &mut self,
-        key: Key,
-        exchange: &X,
-        on: &mut C,
-        blank: Blank,
-    ) -> RegisterResult<T>
-        requires { Opens blank L.name L.parts }
-        ensures { IsRegistration
-            (RegistersWith (X.exchanged exchange.now) self.old key on.old result self.new on.new)
-            self.old key result self.new }
-    {
-        self.register_with(key, exchange, on, &mut Steps::<L>::new(blank))
+        let steps = &mut Uncounted::new();
+        let change = Exchanging { exchange };
+        answer(self.chain.take_or_change(key, change, on, steps))
     }
 
     /// [`remove`](List::remove) for a caller that counts no visits.
@@ -125,21 +116,7 @@ impl<T, W> List<T, W> {
     ) -> Option<State<T, W>>
         ensures { IsRemoval S.woke self.old key propagate sink.old result self.new sink.new }
     {
-        self.remove_from::<S, Brand>(key, propagate, sink, Blank::new(1))
-    }
-
-    #[inline(always)]
-    fn remove_from<S: WakeSink<W>, L: Ledger>(
-        &mut self,
-        key: Key,
-        propagate: bool,
-        sink: &mut S,
-        blank: Blank,
-    ) -> Option<State<T, W>>
-        requires { Opens blank L.name L.parts }
-        ensures { IsRemoval S.woke self.old key propagate sink.old result self.new sink.new }
-    {
-        self.remove(key, propagate, sink, &mut Steps::<L>::new(blank))
+        self.remove_by(key, propagate, sink, &mut Uncounted::new())
     }
 
     /// [`notify`](List::notify) for a caller that counts no visits.
@@ -153,22 +130,7 @@ impl<T, W> List<T, W> {
         ensures { IsNotification N.tag_gives S.woke (N.count n.old) (N.is_additional n.old) self.old
             n.old sink.old result self.new n.new sink.new }
     {
-        self.notify_from::<N, S, Brand>(n, sink, Blank::new(1))
-    }
-
-    #[inline(always)]
-    fn notify_from<N: Notification<Tag = T>, S: WakeSink<W>, L: Ledger>(
-        &mut self,
-        n: &mut N,
-        sink: &mut S,
-        blank: Blank,
-    ) -> Result<usize, NotifyError>
-        requires blank { Opens blank L.name L.parts }
-        requires can_tag { N.can_tag n.old }
-        ensures { IsNotification N.tag_gives S.woke (N.count n.old) (N.is_additional n.old) self.old
-            n.old sink.old result self.new n.new sink.new }
-    {
-        self.notify(n, sink, &mut Steps::<L>::new(blank))
+        self.notify_by(n, sink, &mut Uncounted::new())
     }
 
     /// [`is_told`](List::is_told) for a caller that counts no looks.
@@ -176,15 +138,6 @@ impl<T, W> List<T, W> {
         ensures value { IsTrue result ↔ IsSome (lookup (is_key key) self.now.told) }
         ensures queue { IsQueue self.now }
     {
-        self.is_told_from::<Brand>(key, Blank::new(1))
-    }
-
-    #[inline(always)]
-    fn is_told_from<L: Ledger>(&self, key: Key, blank: Blank) -> bool
-        requires { Opens blank L.name L.parts }
-        ensures value { IsTrue result ↔ IsSome (lookup (is_key key) self.now.told) }
-        ensures queue { IsQueue self.now }
-    {
-        self.is_told(key, &mut Steps::<L>::new(blank))
+        self.chain.is_before(key, &mut Uncounted::new())
     }
 }

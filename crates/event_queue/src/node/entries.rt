@@ -4,12 +4,11 @@ ghost use Rattle.event_queue.specs.Ring.{placed, first_place, IsAt, AtNode};
 ghost use Rattle.event_queue.specs.Entry.{Nothing, Before};
 ghost use Rattle.event_queue.specs.Nodes.{value_before, value_after, held_after, spare_entry, IsSpareAt, IsBeforeAt, IsAfterAt, HandsOut, HandsIn, TakesOut, Advances};
 
-use super::ring::{NodePtr, NodeRef, Ring, Room, Steps};
-use super::serial::Serial;
+use super::number::Number;
+use super::ring::{Count, NodePtr, NodeRef, Ring, Room};
 use crate::key::Key;
 use std::alloc::{AllocError, Global};
 use std::marker::Model;
-use std::sync::ledger::Ledger;
 use std_alloc::room::Vacant;
 
 /// What a node carries: the slot that it keeps, and an entry's value. The slot has the entry's serial, which is here
@@ -17,7 +16,7 @@ use std_alloc::room::Vacant;
 #[derive(Drop)]
 pub(super) struct Entry<A, B> {
     packed: Packed<A, B>,
-    serial: Serial,
+    serial: Number,
 }
 
 /// A slot, and a value before the cursor, or one that may be absent after it. The root and a spare node hold nothing.
@@ -52,7 +51,7 @@ impl<A, B> Entry<A, B> {
     {
         Entry {
             packed: Packed::Spare(slot),
-            serial: Serial::new(&0),
+            serial: Number::new(&0),
         }
     }
 
@@ -63,7 +62,7 @@ impl<A, B> Entry<A, B> {
     {
         Entry {
             packed: Packed::Before(key.slot, value),
-            serial: Serial::new(&key.serial),
+            serial: Number::new(&key.serial),
         }
     }
 
@@ -82,7 +81,7 @@ impl<A, B> Entry<A, B> {
         };
         Entry {
             packed,
-            serial: Serial::new(&key.serial),
+            serial: Number::new(&key.serial),
         }
     }
 
@@ -212,13 +211,13 @@ impl<A, B> Entries<A, B> {
     ///
     /// If no other entry is after the cursor, the cursor moves to it.
     #[inline(always)]
-    pub(super) fn append<L: Ledger>(
+    pub(super) fn append<K: Count>(
         &mut self,
         node: Ring<Entry<A, B>>,
         serial: u64,
         value: Option<B>,
         is_first: bool,
-        steps: &mut Steps<L>,
+        steps: &mut K,
     ) -> (u32, NodeRef<Entry<A, B>>)
         requires alone { node.nodes ≡ [] }
         requires spare { node.entry.held ≡ Nothing }
@@ -232,8 +231,8 @@ impl<A, B> Entries<A, B> {
               held = held_after value;
             }) ∷ [] }
         ensures cursor { self.new.cursor.ptr ≡ if is_first then node.at else self.old.cursor.ptr }
-        ensures visits { steps.new.visits ≡ steps.old.visits + 1 }
-        ensures looks { steps.new.looks ≡ steps.old.looks }
+        ensures visits { K.visits steps.new ≡ K.visits steps.old + 1 }
+        ensures looks { K.looks steps.new ≡ K.looks steps.old }
     {
         let own = self.ring.append(node, steps);
         let (spare, _) = self.ring.look(&own);
@@ -270,18 +269,18 @@ impl<A, B> Entries<A, B> {
 
     /// Takes a node out whose entry is before the cursor, and returns its value and its block.
     #[inline(always)]
-    pub(super) fn take_before<L: Ledger>(
+    pub(super) fn take_before<K: Count>(
         &mut self,
         own: NodeRef<Entry<A, B>>,
-        steps: &mut Steps<L>,
+        steps: &mut K,
     ) -> (A, Room<Entry<A, B>>)
         requires { IsBeforeAt self.old.ring.nodes own.ptr }
         ensures taken { TakesOut self.old own.ptr self.new }
         ensures value { AtNode self.old.ring.nodes own.ptr
             (λ _ n _. n.entry.held ≡ Before result.0) }
         ensures cursor { self.new.cursor ≡ self.old.cursor }
-        ensures visits { steps.new.visits ≡ steps.old.visits + 2 }
-        ensures looks { steps.new.looks ≡ steps.old.looks }
+        ensures visits { K.visits steps.new ≡ K.visits steps.old + 2 }
+        ensures looks { K.looks steps.new ≡ K.looks steps.old }
     {
         let (entry, room) = self.ring.take(own, steps);
         (entry.into_before(), room)
@@ -290,11 +289,11 @@ impl<A, B> Entries<A, B> {
     /// Takes a node out whose entry is after the cursor, as [`Entries::take_before`] does. If its slot is that of the
     /// first of these, the cursor moves behind it.
     #[inline(always)]
-    pub(super) fn take_after<L: Ledger>(
+    pub(super) fn take_after<K: Count>(
         &mut self,
         own: NodeRef<Entry<A, B>>,
         slot: u32,
-        steps: &mut Steps<L>,
+        steps: &mut K,
     ) -> (Option<B>, Room<Entry<A, B>>)
         requires node { IsAfterAt self.old.ring.nodes own.ptr }
         requires cursor { IsAt self.old.ring.nodes self.old.cursor.ptr }
@@ -306,8 +305,8 @@ impl<A, B> Entries<A, B> {
             self.new.cursor.ptr ≡ if eqb first.entry.slot slot
             then first_place ys self.old.ring.at
             else self.old.cursor.ptr)) }
-        ensures visits { steps.new.visits ≡ steps.old.visits + 3 }
-        ensures looks { steps.new.looks ≡ steps.old.looks }
+        ensures visits { K.visits steps.new ≡ K.visits steps.old + 3 }
+        ensures looks { K.looks steps.new ≡ K.looks steps.old }
     {
         let cursor = self.ring.visit(self.cursor, steps);
         let (first, _) = self.ring.look(&cursor);
@@ -322,13 +321,13 @@ impl<A, B> Entries<A, B> {
 
     /// Goes to the first node after the cursor, and returns the slot that it has, too.
     #[inline(always)]
-    pub(super) fn first<L: Ledger>(&self, steps: &mut Steps<L>) -> (NodeRef<Entry<A, B>>, u32)
+    pub(super) fn first<K: Count>(&self, steps: &mut K) -> (NodeRef<Entry<A, B>>, u32)
         requires { IsAt self.now.ring.nodes self.now.cursor.ptr }
         ensures place { result.0.ptr ≡ self.now.cursor.ptr }
         ensures slot { AtNode self.now.ring.nodes self.now.cursor.ptr
             (λ _ n _. result.1 ≡ n.entry.slot) }
-        ensures visits { steps.new.visits ≡ steps.old.visits + 1 }
-        ensures looks { steps.new.looks ≡ steps.old.looks }
+        ensures visits { K.visits steps.new ≡ K.visits steps.old + 1 }
+        ensures looks { K.looks steps.new ≡ K.looks steps.old }
     {
         let first = self.ring.visit(self.cursor, steps);
         let (entry, _) = self.ring.look(&first);

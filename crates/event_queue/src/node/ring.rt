@@ -6,8 +6,7 @@ ghost use Rattle.event_queue.specs.Counts.{counted_on};
 use self::pointers::Node;
 pub(super) use self::pointers::{NodePtr, Ring, Room};
 pub(super) use self::spares::Spares;
-pub use self::steps::Steps;
-use std::sync::ledger::Ledger;
+pub use self::steps::{Count, Steps};
 
 mod pointers;
 mod spares;
@@ -26,14 +25,11 @@ pub(super) struct NodeRef<E> {
 impl<E> NodeRef<E> {
     /// The node that a look by key led to: the call's own one. The look is counted even if it led nowhere.
     #[inline(always)]
-    pub(super) fn looked_up<L: Ledger>(
-        place: Option<NodePtr<E>>,
-        steps: &mut Steps<L>,
-    ) -> Option<Self>
+    pub(super) fn looked_up<K: Count>(place: Option<NodePtr<E>>, steps: &mut K) -> Option<Self>
         ensures node { MatchOption result (place ≡ None)
             (λ node. place ≡ Some (record { ptr = node.ptr })) }
-        ensures visits { steps.new.visits ≡ steps.old.visits }
-        ensures looks { steps.new.looks ≡ counted_on steps.old.looks 1 }
+        ensures visits { K.visits steps.new ≡ K.visits steps.old }
+        ensures looks { K.looks steps.new ≡ counted_on (K.looks steps.old) 1 }
     {
         steps.add_look();
         match place {
@@ -54,12 +50,12 @@ impl<E> NodeRef<E> {
 impl<E> Ring<E> {
     /// Goes to another node than the call's own one, which is one visit.
     #[inline(always)]
-    pub(super) fn visit<L: Ledger>(&self, node: NodePtr<E>, steps: &mut Steps<L>) -> NodeRef<E>
+    pub(super) fn visit<K: Count>(&self, node: NodePtr<E>, steps: &mut K) -> NodeRef<E>
         ensures place { result.ptr ≡ node.ptr }
-        ensures visits { steps.new.visits ≡ steps.old.visits + 1 }
-        ensures looks { steps.new.looks ≡ steps.old.looks }
+        ensures visits { K.visits steps.new ≡ K.visits steps.old + 1 }
+        ensures looks { K.looks steps.new ≡ K.looks steps.old }
     {
-        steps.add(1);
+        steps.add_visit();
         NodeRef { ptr: node.ptr }
     }
 
@@ -87,31 +83,32 @@ impl<E> Ring<E> {
 
     /// Links the call's own node in behind the last, which is one visit.
     #[inline(always)]
-    pub(super) fn append<L: Ledger>(&mut self, node: Ring<E>, steps: &mut Steps<L>) -> NodeRef<E>
+    pub(super) fn append<K: Count>(&mut self, node: Ring<E>, steps: &mut K) -> NodeRef<E>
         requires { node.nodes ≡ [] }
         ensures place { result.ptr ≡ node.at }
         ensures root { (self.new.at ≡ self.old.at) × (self.new.entry ≡ self.old.entry) }
         ensures nodes { self.new.nodes ≡ self.old.nodes ++ placed node.at node.entry ∷ [] }
-        ensures visits { steps.new.visits ≡ steps.old.visits + 1 }
-        ensures looks { steps.new.looks ≡ steps.old.looks }
+        ensures visits { K.visits steps.new ≡ K.visits steps.old + 1 }
+        ensures looks { K.looks steps.new ≡ K.looks steps.old }
     {
-        steps.add(1);
+        steps.add_visit();
         let place = self.link_last(node);
         NodeRef { ptr: place.ptr }
     }
 
     /// Takes the call's own node out: what it carries, and its block with nothing in it. Its two neighbors are visited.
     #[inline(always)]
-    pub(super) fn take<L: Ledger>(&mut self, node: NodeRef<E>, steps: &mut Steps<L>) -> (E, Room<E>)
+    pub(super) fn take<K: Count>(&mut self, node: NodeRef<E>, steps: &mut K) -> (E, Room<E>)
         requires { IsAt self.old.nodes node.ptr }
         ensures root { (self.new.at ≡ self.old.at) × (self.new.entry ≡ self.old.entry) }
         ensures place { result.1.ptr ≡ node.ptr }
         ensures nodes { AtNode self.old.nodes node.ptr (λ xs n ys. (self.new.nodes ≡ xs ++ ys)
             × (result.0 ≡ n.entry)) }
-        ensures visits { steps.new.visits ≡ steps.old.visits + 2 }
-        ensures looks { steps.new.looks ≡ steps.old.looks }
+        ensures visits { K.visits steps.new ≡ K.visits steps.old + 2 }
+        ensures looks { K.looks steps.new ≡ K.looks steps.old }
     {
-        steps.add(2);
+        steps.add_visit();
+        steps.add_visit();
         self.unlink(NodePtr { ptr: node.ptr })
     }
 }

@@ -6,10 +6,9 @@ ghost use Rattle.event_queue.specs.Nodes.{place_of, shown, shown_in, node_at, sp
 
 use super::entries::Entry;
 use super::granted::Blocks;
-use super::ring::{NodePtr, NodeRef, Ring, Room, Spares, Steps};
+use super::ring::{Count, NodePtr, NodeRef, Ring, Room, Spares};
 use crate::key::Key;
 use std::alloc::{AllocError, Global};
-use std::sync::ledger::Ledger;
 
 /// A slot: the serial of the entry that uses it, and the place of its node. While the node is spare the serial is
 /// `u64::MAX`, which no entry gets, so no key leads to the place.
@@ -72,17 +71,13 @@ impl<A, B> Table<A, B> {
     /// The node of the key's entry, if there is one: that of the call's own listener. It is one look by key, even if
     /// no entry has the key: then no node is reached, since the table has the serial too.
     #[inline(always)]
-    pub(super) fn find<L: Ledger>(
-        &self,
-        key: Key,
-        steps: &mut Steps<L>,
-    ) -> Option<NodeRef<Entry<A, B>>>
+    pub(super) fn find<K: Count>(&self, key: Key, steps: &mut K) -> Option<NodeRef<Entry<A, B>>>
         ensures node { MatchOption result
             (node_at (shown_in self.now.slots.items) key ≡ Option.None)
             (λ node. node_at (shown_in self.now.slots.items) key
             ≡ Option.Some (record { ptr = node.ptr })) }
-        ensures visits { steps.new.visits ≡ steps.old.visits }
-        ensures looks { steps.new.looks ≡ counted_on steps.old.looks 1 }
+        ensures visits { K.visits steps.new ≡ K.visits steps.old }
+        ensures looks { K.looks steps.new ≡ counted_on (K.looks steps.old) 1 }
     {
         NodeRef::looked_up(self.place_of(key), steps)
     }

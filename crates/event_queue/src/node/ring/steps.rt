@@ -1,9 +1,27 @@
 //! How many nodes of other listeners the calls of a queue visit, and how often they look up a key.
-ghost use Rattle.std.specs.Prelude.{◌≡◌, ◌+◌, ◌-◌, ◌<◌, ◌^◌, min};
+ghost use Rattle.std.specs.Prelude.{◌≡◌, ◌+◌, ◌-◌, ◌<◌, ◌^◌, ℕ, min};
 ghost use Rattle.event_queue.specs.Counts.{counted_on};
 
 use std::marker::Model;
 use std::sync::ledger::{Blank, Book, Ledger, Share};
+
+/// What a call of a queue tells of its visits and its looks by key: [`Steps`], or what the `_uncounted` calls have in
+/// their place. Only the ring counts, at each way to a node that it gives.
+pub trait Count {
+    ghost visits: { Self → ℕ };
+
+    ghost looks: { Self → ℕ };
+
+    /// Counts one visit more.
+    fn add_visit(&mut self)
+        ensures visits { visits self.new ≡ visits self.old + 1 }
+        ensures looks { looks self.new ≡ looks self.old };
+
+    /// Counts one look by key more.
+    fn add_look(&mut self)
+        ensures visits { visits self.new ≡ visits self.old }
+        ensures looks { looks self.new ≡ counted_on (looks self.old) 1 };
+}
 
 /// Counts visits, which are looks of a call at the nodes of other listeners, and looks by key, which are lookups of a
 /// key's node.
@@ -65,23 +83,21 @@ impl<L: Ledger> Steps<L> {
     {
         self.looks
     }
+}
 
-    // Counts `visits` more. Only the ring counts.
+impl<L: Ledger> Count for Steps<L> {
+    ghost visits = { λ steps. steps.visits };
+
+    ghost looks = { λ steps. steps.looks };
+
     #[inline(always)]
-    pub(super) fn add(&mut self, visits: u64)
-        ensures visits { self.new.visits ≡ self.old.visits + visits }
-        ensures looks { self.new.looks ≡ self.old.looks }
-    {
-        self.book.add(&mut self.share, visits);
-        self.visits = self.visits.saturating_add(visits);
+    fn add_visit(&mut self) {
+        self.book.add(&mut self.share, 1);
+        self.visits = self.visits.saturating_add(1);
     }
 
-    // Counts one look by key more. Only the ring counts.
     #[inline(always)]
-    pub(super) fn add_look(&mut self)
-        ensures visits { self.new.visits ≡ self.old.visits }
-        ensures looks { self.new.looks ≡ counted_on self.old.looks 1 }
-    {
+    fn add_look(&mut self) {
         self.looks = self.looks.saturating_add(1);
     }
 }

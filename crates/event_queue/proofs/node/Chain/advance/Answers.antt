@@ -14,8 +14,8 @@ serial_in-requires g c =
     let some = rw (← c.self.view_is) at c.requires in
     read_within c.self.invariant is some c.first-slot.ensures.slot
 
-pub advance-former-requires-clause-node : goal.advance-former-requires-clause-node
-advance-former-requires-clause-node g c =
+pub advance-requires-clause-node : goal.advance-requires-clause-node
+advance-requires-clause-node g c =
     let is = sym (rw c.unwrap-entries.ensures at c.as_mut.ensures.value) in
     let some = rw (← c.self.view_is) at c.requires in
     has_next c.self.invariant is some
@@ -31,18 +31,18 @@ invariant_of-self g c =
     let is = sym (rw c.unwrap-entries.ensures at c.as_mut.ensures.value) in
     let some = rw (← c.self.view_is) at c.requires in
     let key = key_of_first c.self.inside.table.slots.items c.self.invariant is some c.first-slot.ensures.slot c.serial_in.ensures in
-    sound_advanced c.self.invariant is some key c.advance-former.ensures
+    sound_advanced c.self.invariant is some key c.advance.ensures
 
 pub returns-clause-first : goal.returns-clause-first
 returns-clause-first g c =
     let is = sym (rw c.unwrap-entries.ensures at c.as_mut.ensures.value) in
     let some = rw (← c.self.view_is) at c.requires in
     let key = key_of_first c.self.inside.table.slots.items c.self.invariant is some c.first-slot.ensures.slot c.serial_in.ensures in
-    rw (← c.self.view_is) (next_was_first c.self.invariant is some key c.advance-former.ensures)
+    rw (← c.self.view_is) (next_was_first c.self.invariant is some key c.advance.ensures)
 
 pub returns-clause-told : goal.returns-clause-told
 returns-clause-told g c =
     let is = sym (rw c.unwrap-entries.ensures at c.as_mut.ensures.value) in
     let some = rw (← c.self.view_is) at c.requires in
     let key = key_of_first c.self.inside.table.slots.items c.self.invariant is some c.first-slot.ensures.slot c.serial_in.ensures in
-    rw (← c.self.view_is) (next_is_last c.self.invariant is some key c.advance-former.ensures)
+    rw (← c.self.view_is) (next_is_last c.self.invariant is some key c.advance.ensures)

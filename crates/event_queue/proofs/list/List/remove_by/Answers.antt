@@ -1,7 +1,7 @@
 use Rattle.std.proofs.Common.{refl, rules}
 use Rattle.event_queue.proofs.LawLemmas.{untold-waiting, IsRemoval-step}
 use Rattle.event_queue.proofs.Calls.Taken.{IsQueue-taken}
-use Rattle.event_queue.proofs.list.List.remove.Goals as goal
+use Rattle.event_queue.proofs.list.List.remove_by.Goals as goal
 
 pub invariant_of-self-in-After : goal.invariant_of-self-in-After
 invariant_of-self-in-After g c =

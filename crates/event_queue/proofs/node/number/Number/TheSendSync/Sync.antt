@@ -1,6 +1,6 @@
--- A `&` to a serial leads to nothing more, so it may go to another thread.
+-- A `&` to a number leads to nothing more, so it may go to another thread.
 use denote.Param.Send.{IsSync, owning_send, part_keyless}
-use Rattle.event_queue.specs.contracts.node.serial.Serial.{the_row, the_type}
+use Rattle.event_queue.specs.contracts.node.number.Number.{the_row, the_type}
 
 pub sync : IsSync the_row
 sync = record {
