@@ -1,16 +1,15 @@
 //! Waits, blocking or awaited.
-ghost use Rattle.std.specs.Prelude.{◌≡◌, None, Err, IfOk, IfSome, IsSome, IsSomeAnd};
+ghost use Rattle.std.specs.Prelude.{◌≡◌, None, Err, IfErr, IfOk, IfSome, IsSomeAnd};
 ghost use Rattle.futures.specs.Poll.{IfReady, OnPending};
 ghost use Rattle.futures.specs.Task.{Covers, Keeps};
 ghost use Rattle.futures.specs.declared.task.Poll.TheVariants.{Ready};
 ghost use Rattle.event_wait.specs.declared.error.LockError.TheVariants.{Finished};
-ghost use Rattle.event_wait.specs.declared.lock.limit.Limit.TheVariants.{Never};
 ghost use Rattle.event_wait.specs.Obtained.{Obtained};
 
 use crate::error::LockError;
 use crate::hold::Hold;
 use crate::lock::Limit;
-use crate::lock::wait::{poll_in, try_then_wait};
+use crate::lock::wait::{obtain, poll_in, try_then_wait};
 use crate::waitable::TakesAny;
 use futures::task::{Context, Poll};
 use std::alloc::Global;
@@ -40,18 +39,75 @@ impl<L: TakesAny<Q>, Q, H: Hold<L>> Obtaining<L, Q, H> {
     }
 }
 
-impl<L: TakesAny<Q, Refusal = LockError>, Q: Drop, H: Hold<L> + Drop> Obtaining<L, Q, H> {
+impl<L: TakesAny<Q, Refusal = LockError>, Q: Default + Drop, H: Hold<L> + Drop> Obtaining<L, Q, H> {
     /// Blocks the thread until it is granted.
     #[inline(always)]
     pub fn wait(self) -> Result<(H, L::Output), LockError>
         ensures obtained { IfOk result (λ got. Obtained (L.rules (H.held got.0)) (L.trying (H.held got.0)) got.1) }
     {
-        match self.wait_until(Limit::Never)? {
-            Some(got) => Ok(got),
-            None => unreachable!(),
+        match self.at_once() {
+            Ok(got) => Ok(got),
+            Err(rest) => rest.wait_longer(),
         }
     }
 
+    /// What is granted at once. An error is the wait, for [`wait_longer`](Obtaining::wait_longer): one that waits in a queue
+    /// already attempts where its place is.
+    #[inline(always)]
+    pub fn at_once(self) -> Result<(H, L::Output), Self>
+        ensures obtained { IfOk result (λ got. Obtained (L.rules (H.held got.0)) (L.trying (H.held got.0)) got.1) }
+        ensures kept { IfErr result (λ rest. rest.hold ≡ self.hold) }
+    {
+        let Obtaining {
+            hold,
+            alloc,
+            request,
+            lock,
+        } = self;
+        let mut request = request;
+        let hold = match hold {
+            Some(hold) => {
+                if !hold.lock().is_waiting(&request) {
+                    if let Some(output) = hold.lock().attempt(hold.rt(), &mut request) {
+                        return Ok((hold, output));
+                    }
+                }
+                Some(hold)
+            }
+            None => None,
+        };
+        Err(Obtaining {
+            hold,
+            alloc,
+            request,
+            lock,
+        })
+    }
+
+    /// Blocks the thread until it is granted, and does not attempt it at once.
+    #[inline(always)]
+    pub fn wait_longer(self) -> Result<(H, L::Output), LockError>
+        ensures obtained { IfOk result (λ got. Obtained (L.rules (H.held got.0)) (L.trying (H.held got.0)) got.1) }
+    {
+        let Obtaining {
+            hold,
+            alloc,
+            request,
+            lock: _,
+        } = self;
+        let Some(hold) = hold else {
+            return Err(LockError::Finished);
+        };
+        if hold.lock().is_waiting(&request) {
+            return wait_in_queue(hold, alloc, request);
+        }
+        // Whoever is in no queue has nothing to lose by a new request. One that goes by a pointer would have a thread that gets at
+        // once what it asks for clear a place.
+        wait_anew(hold, alloc)
+    }
+}
+
+impl<L: TakesAny<Q, Refusal = LockError>, Q: Drop, H: Hold<L> + Drop> Obtaining<L, Q, H> {
     /// Blocks the thread until it is granted, or so long. With no time left it only attempts.
     pub fn wait_timeout(self, timeout: Duration) -> Result<Option<(H, L::Output)>, LockError>
         ensures obtained { IfOk result (λ answer.
@@ -72,9 +128,7 @@ impl<L: TakesAny<Q, Refusal = LockError>, Q: Drop, H: Hold<L> + Drop> Obtaining<
         self.wait_until(Limit::At(deadline))
     }
 
-    #[inline(always)]
     fn wait_until(self, limit: Limit) -> Result<Option<(H, L::Output)>, LockError>
-        ensures never { limit ≡ Never → IfOk result IsSome }
         ensures obtained { IfOk result (λ answer.
             IfSome answer (λ got. Obtained (L.rules (H.held got.0)) (L.trying (H.held got.0)) got.1)) }
     {
@@ -88,13 +142,10 @@ impl<L: TakesAny<Q, Refusal = LockError>, Q: Drop, H: Hold<L> + Drop> Obtaining<
             return Err(LockError::Finished);
         };
         let mut request = request;
-        let lock = hold.lock();
-        if !lock.is_waiting(&request) {
-            if let Some(output) = lock.attempt(hold.rt(), &mut request) {
-                return Ok(Some((hold, output)));
-            }
+        match obtain(hold.lock(), hold.rt(), alloc, &mut request, limit)? {
+            Some(output) => Ok(Some((hold, output))),
+            None => Ok(None),
         }
-        wait_longer(hold, alloc, request, limit)
     }
 
     /// Attempts, and registers the task that polls if it waits on. After an output or an error it is
@@ -120,41 +171,34 @@ impl<L: TakesAny<Q, Refusal = LockError>, Q: Drop, H: Hold<L> + Drop> Obtaining<
             }
         }
     }
-
-    /// The hold, if it waits in no queue and has given nothing yet: what it wants may be at hand without the lock.
-    #[inline(always)]
-    pub fn idle(&self) -> Option<&H> {
-        match &self.hold {
-            Some(hold) if !hold.lock().is_waiting(&self.request) => Some(hold),
-            _ => None,
-        }
-    }
-
-    /// It has given what was at hand.
-    pub fn finish(&mut self)
-        ensures { self.new.hold ≡ None }
-    {
-        drop(self.hold.take());
-    }
 }
 
-// What comes after a first attempt that gave nothing. The request goes there by value: so what is free is taken with none in memory.
+// With a new request.
 #[cold]
 #[inline(never)]
-fn wait_longer<L: TakesAny<Q, Refusal = LockError>, Q: Drop, H: Hold<L> + Drop>(
+fn wait_anew<L: TakesAny<Q, Refusal = LockError>, Q: Default + Drop, H: Hold<L> + Drop>(
+    hold: H,
+    alloc: Global,
+) -> Result<(H, L::Output), LockError>
+    ensures obtained { IfOk result (λ got. Obtained (L.rules (H.held got.0)) (L.trying (H.held got.0)) got.1) }
+{
+    wait_in_queue(hold, alloc, Q::default())
+}
+
+// A few attempts with pauses between, if it is in no queue, and then there.
+#[cold]
+#[inline(never)]
+fn wait_in_queue<L: TakesAny<Q, Refusal = LockError>, Q: Drop, H: Hold<L> + Drop>(
     hold: H,
     alloc: Global,
     request: Q,
-    limit: Limit,
-) -> Result<Option<(H, L::Output)>, LockError>
-    ensures never { limit ≡ Never → IfOk result IsSome }
-    ensures obtained { IfOk result (λ answer.
-        IfSome answer (λ got. Obtained (L.rules (H.held got.0)) (L.trying (H.held got.0)) got.1)) }
+) -> Result<(H, L::Output), LockError>
+    ensures obtained { IfOk result (λ got. Obtained (L.rules (H.held got.0)) (L.trying (H.held got.0)) got.1) }
 {
     let mut request = request;
-    match try_then_wait(hold.lock(), hold.rt(), alloc, &mut request, limit)? {
-        Some(output) => Ok(Some((hold, output))),
-        None => Ok(None),
+    match try_then_wait(hold.lock(), hold.rt(), alloc, &mut request, Limit::Never)? {
+        Some(output) => Ok((hold, output)),
+        None => unreachable!(),
     }
 }
 

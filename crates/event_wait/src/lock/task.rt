@@ -176,6 +176,7 @@ impl WakerSource {
 impl<'cx> TaskExchange<Task, Context<'cx>> for WakerSource {
     ghost exchanged = { λ line before _ task after. Repolls line before task after };
 
+    #[inline(always)]
     fn exchange(&self, cx: &mut Context<'cx>, stored: Option<Task>) -> Task
         ensures { Repolls self.now cx.old result cx.new }
     {
