@@ -333,7 +333,12 @@ impl<V> Word<Competing<OneValue>, Lodging<V>> {
 pub fn take_out<S: Kept, V>(lent: &mut Lent<'_, S, Lodging<V>>) -> Option<V>
     ensures { lent.new.name ≡ lent.old.name }
 {
-    lent.get_mut().value.value.get_mut().take()
+    let place = lent.get_mut().value.value.get_mut();
+    // What is written there is written over when the value comes back: but only where the compiler sees that one lay there.
+    if place.is_none() {
+        return None;
+    }
+    place.take()
 }
 
 /// Moves a value into the place.
