@@ -75,8 +75,8 @@ impl<T: Drop> Mutex<T> {
     #[must_use = "a guard that is dropped at once gives back what it holds"]
     #[inline(always)]
     pub fn try_lock<'a, R: Wait + Clock>(&'a self, rt: &'a R) -> Option<MutexGuard<'a, T, R>> {
-        let lent = self.word.try_value()?;
-        MutexGuard::find(Lending::new(self, rt), lent)
+        let (lent, value) = self.try_value(rt)?;
+        Some(MutexGuard::with(Lending::new(self, rt), lent, value))
     }
 
     /// The value by a guard that may go to another thread, if nobody has it and nobody starves. It returns an error if no share
@@ -94,7 +94,7 @@ impl<T: Drop> Mutex<T> {
     /// A wait for the value.
     #[inline(always)]
     pub fn lock<'a, R: Wait + Clock>(&'a self, rt: &'a R, alloc: Global) -> Lock<'a, T, R> {
-        Lock::new(Obtaining::new(Lending::new(self, rt), alloc, Taker::new()))
+        Lock::new(Obtaining::new(Lending::new(self, rt), alloc, Taker::default()))
     }
 
     /// A wait for the value by a guard that may go to another thread. It returns an error if no share of the mutex can be
@@ -105,7 +105,7 @@ impl<T: Drop> Mutex<T> {
         alloc: Global,
     ) -> Result<LockArc<T, R>, AllocError> {
         let lock = Arc::try_clone(this)?;
-        Ok(LockArc::new(Obtaining::new(Shared { lock, rt }, alloc, Taker::new())))
+        Ok(LockArc::new(Obtaining::new(Shared { lock, rt }, alloc, Taker::default())))
     }
 
     /// The value, without a lock. `None` says that a guard was forgotten, and the value with it.
@@ -117,16 +117,6 @@ impl<T: Drop> Mutex<T> {
     pub fn into_inner(self) -> Option<T> {
         let Mutex { word, source: _ } = self;
         word.into_value()
-    }
-
-    // Puts the value into its place, and gives that back.
-    #[inline(always)]
-    fn give_back<R: Wait>(&self, rt: &R, lent: Right<'_, T>, value: T)
-        requires { lent.name ≡ self.now.word.slot.name }
-    {
-        let mut lent = lent;
-        put_in(&mut lent, value);
-        self.word.give_value(rt, lent);
     }
 
     // Moves the value out, and gives up the right to its place.
@@ -142,15 +132,14 @@ impl<T: Drop> Mutex<T> {
         }
     }
 
-    fn try_borrow<R: Wait>(&self, rt: &R) -> Option<Loan<T>>
-        ensures { IfSome result (λ loan. loan.parked ≡ self.now.word.slot.name) }
+    // Where the value does not lie in its place, the right goes back.
+    #[inline(always)]
+    fn try_value<'a, R: Wait>(&'a self, rt: &R) -> Option<(Right<'a, T>, T)>
+        ensures { IfSome result (λ got. got.0.name ≡ self.now.word.slot.name) }
     {
         let mut lent = self.word.try_value()?;
         match take_out(&mut lent) {
-            Some(value) => Some(Loan {
-                value,
-                parked: self.word.park(rt, lent),
-            }),
+            Some(value) => Some((lent, value)),
             None => {
                 self.word.give_value(rt, lent);
                 None
@@ -158,13 +147,24 @@ impl<T: Drop> Mutex<T> {
         }
     }
 
+    fn try_borrow<R: Wait>(&self, rt: &R) -> Option<Loan<T>>
+        ensures { IfSome result (λ loan. loan.parked ≡ self.now.word.slot.name) }
+    {
+        let (lent, value) = self.try_value(rt)?;
+        Some(Loan {
+            value,
+            parked: self.word.park(rt, lent),
+        })
+    }
+
     // Puts a value back that was moved out.
     fn take_back<R: Wait>(&self, rt: &R, loan: Loan<T>)
         requires { loan.parked ≡ self.now.word.slot.name }
     {
         let Loan { value, parked } = loan;
-        let lent = self.word.unpark(rt, parked);
-        self.give_back(rt, lent, value);
+        let mut lent = self.word.unpark(rt, parked);
+        put_in(&mut lent, value);
+        self.word.give_value(rt, lent);
     }
 
     fn attempt_held<'a, C, X: TaskExchange<Task, C>, R: Wait>(

@@ -91,13 +91,13 @@ impl<T> RwLock<T> {
     /// A wait for the value to be read, until no writer has it or has come before.
     #[inline(always)]
     pub fn read<'a, R: Wait + Clock>(&'a self, rt: &'a R, alloc: Global) -> Read<'a, T, R> {
-        Read::new(Obtaining::new(Lending::new(self, rt), alloc, Place::new()))
+        Read::new(Obtaining::new(Lending::new(self, rt), alloc, Place::default()))
     }
 
     /// A wait for the value to be written, until nobody else has it.
     #[inline(always)]
     pub fn write<'a, R: Wait + Clock>(&'a self, rt: &'a R, alloc: Global) -> Write<'a, T, R> {
-        Write::new(Obtaining::new(Lending::new(self, rt), alloc, Place::new()))
+        Write::new(Obtaining::new(Lending::new(self, rt), alloc, Place::default()))
     }
 
     /// A wait for the value to be read, by a guard that may go to another thread. It returns an error if no share of the
@@ -111,7 +111,7 @@ impl<T> RwLock<T> {
         T: Drop,
     {
         let lock = Arc::try_clone(this)?;
-        Ok(ReadArc::new(Obtaining::new(Shared { lock, rt }, alloc, Place::new())))
+        Ok(ReadArc::new(Obtaining::new(Shared { lock, rt }, alloc, Place::default())))
     }
 
     /// A wait for the value to be written, by a guard that may go to another thread. It returns an error if no share of the
@@ -125,7 +125,7 @@ impl<T> RwLock<T> {
         T: Drop,
     {
         let lock = Arc::try_clone(this)?;
-        Ok(WriteArc::new(Obtaining::new(Shared { lock, rt }, alloc, Place::new())))
+        Ok(WriteArc::new(Obtaining::new(Shared { lock, rt }, alloc, Place::default())))
     }
 
     /// How it stands at some moment of this call: who waits is next only once those have gone that have the value. It takes no

@@ -154,7 +154,7 @@ impl Semaphore {
     /// A wait for a permit.
     #[inline(always)]
     pub fn acquire<'a, R: Wait + Clock>(&'a self, rt: &'a R, alloc: Global) -> Acquire<'a, R> {
-        Acquire::new(Obtaining::new(Borrowed { lock: self, rt }, alloc, Taker::new()))
+        Acquire::new(Obtaining::new(Borrowed { lock: self, rt }, alloc, Taker::default()))
     }
 
     /// A wait for a permit that may go to another thread. It returns an error if no share of the semaphore can be made.
@@ -164,7 +164,7 @@ impl Semaphore {
         alloc: Global,
     ) -> Result<AcquireArc<R>, AllocError> {
         let lock = Arc::try_clone(this)?;
-        Ok(AcquireArc::new(Obtaining::new(Shared { lock, rt }, alloc, Taker::new())))
+        Ok(AcquireArc::new(Obtaining::new(Shared { lock, rt }, alloc, Taker::default())))
     }
 
     /// Adds permits, all free at once, and notifies the first that wait of them. As many as

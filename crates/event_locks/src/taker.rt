@@ -8,14 +8,17 @@ pub(crate) struct Taker {
     pub(crate) contender: Contender,
 }
 
-impl Taker {
+impl Default for Taker {
+    // One that has lost nothing, and waits in no queue.
     #[inline(always)]
-    pub(crate) fn new() -> Self {
+    fn default() -> Self {
         Taker {
             contender: Contender::new(),
         }
     }
+}
 
+impl Taker {
     /// Whether it has a place in the queue.
     #[inline(always)]
     pub(crate) fn is_waiting(&self) -> bool {

@@ -6,7 +6,7 @@ ghost use Rattle.std.specs.Arc.{arc_value};
 use super::{Loan, Mutex, Right, value_of};
 use crate::lending::Lending;
 use event_wait::Shared;
-use event_word::{Parked, take_out};
+use event_word::{Parked, put_in};
 use std::alloc::Global;
 use std::fmt;
 use std::fmt::{Debug, Formatter};
@@ -57,34 +57,25 @@ impl<T: Drop, R: Wait + Clock + Drop> Model for MutexGuardArc<T, R> {
 }
 
 impl<'a, T: Drop, R: Wait + Clock> MutexGuard<'a, T, R> {
+    /// With the value, which was moved out.
     #[inline(always)]
-    pub(crate) fn new(hold: Lending<'a, Mutex<T>, R>, lent: Right<'a, T>) -> Self
+    pub(crate) fn with(hold: Lending<'a, Mutex<T>, R>, lent: Right<'a, T>, value: T) -> Self
         requires { lent.name ≡ hold.lender.lock.now.word.slot.name }
     {
-        let mut lent = lent;
-        let value = value_of(hold.rt, &mut lent);
         MutexGuard {
             place: Place { hold, lent },
             value,
         }
     }
 
-    /// The same, for one that waits for nothing: where the value does not lie in its place, the right goes back.
+    /// Moves the value out.
     #[inline(always)]
-    pub(crate) fn find(hold: Lending<'a, Mutex<T>, R>, lent: Right<'a, T>) -> Option<Self>
+    pub(crate) fn new(hold: Lending<'a, Mutex<T>, R>, lent: Right<'a, T>) -> Self
         requires { lent.name ≡ hold.lender.lock.now.word.slot.name }
     {
         let mut lent = lent;
-        match take_out(&mut lent) {
-            Some(value) => Some(MutexGuard {
-                place: Place { hold, lent },
-                value,
-            }),
-            None => {
-                hold.lender.lock.word.give_value(hold.rt, lent);
-                None
-            }
-        }
+        let value = value_of(hold.rt, &mut lent);
+        Self::with(hold, lent, value)
     }
 
     /// The mutex.
@@ -170,7 +161,9 @@ impl<T: Drop, R: Wait + Clock> Drop for MutexGuard<'_, T, R> {
     fn drop(self) {
         let MutexGuard { place, value } = self;
         let Place { hold, lent } = place;
-        hold.lender.lock.give_back(hold.rt, lent, value);
+        let mut lent = lent;
+        put_in(&mut lent, value);
+        hold.lender.lock.word.give_value(hold.rt, lent);
     }
 }
 

@@ -7,6 +7,7 @@ use crate::lending::{Lender, Lending};
 use crate::polled::guarded;
 use crate::taker::Taker;
 use event_wait::{LockError, Obtaining, Shared};
+use event_word::take_out;
 use futures::Future;
 use futures::task::{Context, Poll};
 use std::sync::Wait;
@@ -43,8 +44,15 @@ impl<'a, T: Drop, R: Wait + Clock> Lock<'a, T, R> {
     /// wait. An error says that it could not: then it is in no queue.
     #[inline(always)]
     pub fn wait(self) -> Result<MutexGuard<'a, T, R>, LockError> {
-        let (hold, lent) = self.obtaining.wait()?;
-        Ok(MutexGuard::new(hold, lent))
+        let (hold, lent) = match self.obtaining.at_once() {
+            Ok(got) => got,
+            Err(rest) => rest.wait_longer()?,
+        };
+        let mut lent = lent;
+        match take_out(&mut lent) {
+            Some(value) => Ok(MutexGuard::with(hold, lent, value)),
+            None => Ok(MutexGuard::new(hold, lent)),
+        }
     }
 
     /// Blocks the thread until it has the value, or so long. `None` says that it was in vain: then the thread is in no queue. With

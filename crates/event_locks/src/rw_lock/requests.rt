@@ -23,9 +23,10 @@ impl<K> Model for Place<K> {
     ghost view = { λ _. tt };
 }
 
-impl<K> Place<K> {
+impl<K> Default for Place<K> {
+    // None.
     #[inline(always)]
-    pub(crate) fn new() -> Self {
+    fn default() -> Self {
         Place {
             key: None,
             of: PhantomData,
