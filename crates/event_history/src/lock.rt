@@ -179,29 +179,6 @@ impl<S: Steps> Lock<S> {
     }
 
     // Attempts, with the task that the exchange makes if it waits on.
-    #[inline(always)]
-    fn ask<Q: Request<S>, C, X: TaskExchange<Task, C>, R: Wait>(
-        &self,
-        rt: &R,
-        hand: &mut Hand<S, S::Call>,
-        request: &mut Q,
-        exchange: &X,
-        on: &mut C,
-    ) -> Attempted<Q::Output, Q::Refusal>
-        requires hand { IsOf self.now.table hand.old }
-        requires rests { AreAmong (Q.rests request.old) (known_by hand.old).mine }
-        ensures hand { SameTable hand.old hand.new }
-        ensures rests { AreAmong (Q.rests request.new) (known_by hand.new).mine }
-        ensures call { Makes (machine_of S.Steps self.now.start) (known_by hand.old)
-            (Q.attempting request.old result) (known_by hand.new) }
-        ensures succeeded { OnDone result (λ output. Q.succeeds request.old output request.new) }
-        ensures waited { OnUndone result (Q.waits request.old request.new) }
-        ensures kept { OnRefused result (request.new ≡ request.old) }
-        ensures exchanged { Attempts (X.exchanged exchange.now) on.old result on.new }
-    {
-        self.attempt_named::<Brand, _, _, _, _>(rt, hand, request, exchange, on)
-    }
-
     fn attempt_named<
         N: Named<Attempted<Q::Output, Q::Refusal>, S::Call>,
         Q: Request<S>,
@@ -241,25 +218,6 @@ impl<S: Steps> Lock<S> {
     }
 
     // Leaves the queue at the limit, with what can still be had.
-    #[inline(always)]
-    fn leave<Q: Request<S>, R: Wait>(
-        &self,
-        rt: &R,
-        hand: &mut Hand<S, S::Call>,
-        request: &mut Q,
-    ) -> Result<Option<Q::Output>, Q::Refusal>
-        requires hand { IsOf self.now.table hand.old }
-        requires rests { AreAmong (Q.rests request.old) (known_by hand.old).mine }
-        ensures hand { SameTable hand.old hand.new }
-        ensures rests { AreAmong (Q.rests request.new) (known_by hand.new).mine }
-        ensures call { Makes (machine_of S.Steps self.now.start) (known_by hand.old)
-            (Q.leaving request.old result) (known_by hand.new) }
-        ensures left { IfOk result (λ answer. Q.leaves request.old answer request.new) }
-        ensures kept { OnErr result (request.new ≡ request.old) }
-    {
-        self.leave_named::<Brand, _, _>(rt, hand, request)
-    }
-
     fn leave_named<
         N: Named<Result<Option<Q::Output>, Q::Refusal>, S::Call>,
         Q: Request<S>,

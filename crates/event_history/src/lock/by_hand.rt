@@ -10,6 +10,7 @@ use crate::history::Steps;
 use crate::request::{Attempt, Request};
 use event_queue::TaskExchange;
 use event_wait::{Attempted, Obtainable, Task, Waitable, WakerSource};
+use std::marker::Brand;
 use std::sync::Wait;
 
 /// A request, and the hand whose calls its attempts are, both lent for one wait.
@@ -48,7 +49,7 @@ impl<'h, 'q, S: Steps, Q: Request<S>> Waitable<ByHand<'h, 'q, S, Q>> for Lock<S>
         exchange: &X,
         on: &mut C,
     ) -> Attempted<Q::Output, Q::Refusal> {
-        self.ask(rt, by.hand, by.request, exchange, on)
+        self.attempt_named::<Brand, _, _, _, _>(rt, by.hand, by.request, exchange, on)
     }
 
     #[inline(always)]
@@ -57,7 +58,7 @@ impl<'h, 'q, S: Steps, Q: Request<S>> Waitable<ByHand<'h, 'q, S, Q>> for Lock<S>
         rt: &R,
         by: &mut ByHand<'h, 'q, S, Q>,
     ) -> Result<Option<Q::Output>, Q::Refusal> {
-        Lock::leave(self, rt, by.hand, by.request)
+        self.leave_named::<Brand, _, _>(rt, by.hand, by.request)
     }
 }
 

@@ -12,9 +12,10 @@ use super::by_hand::ByHand;
 use crate::hand::Hand;
 use crate::history::Steps;
 use crate::request::{Attempt, Request};
-use event_wait::{Limit, Refused};
+use event_wait::{Attempted, Limit, Refused};
 use futures::task::{Context, Poll};
 use std::alloc::Global;
+use std::marker::Brand;
 use std::sync::Wait;
 use std::time::Clock;
 
@@ -97,12 +98,12 @@ impl<S: Steps> Lock<S> {
         ensures registered { OnPending result (Covers cx.new (λ s. s ≡ self.now.source)) }
         ensures kept { Keeps cx.old cx.new }
     {
-        let mut by = ByHand { hand, request };
-        let polled = event_wait::poll_in(self, rt, &mut by, cx);
-        let ByHand {
-            hand: _,
-            request: _,
-        } = by;
-        polled
+        let source = &self.source;
+        match self.attempt_named::<Brand, _, _, _, _>(rt, hand, request, source, cx) {
+            Attempted::Done(output) => Poll::Ready(Ok(output)),
+            Attempted::Waits(_) => Poll::Pending,
+            Attempted::Absent => cx.yield_now(),
+            Attempted::Refused(error) => Poll::Ready(Err(error)),
+        }
     }
 }
