@@ -1,7 +1,7 @@
 //! What both sides share.
 ghost use Rattle.std.specs.Prelude.{◌≡◌, Some, IfErr, IfOk, IsSome};
 ghost use Rattle.event_channel.specs.Calls.{answer_of, channel_machine};
-ghost use Rattle.event_channel.specs.Errors.{IsUnsent, IsUnsentAtOnce};
+ghost use Rattle.event_channel.specs.Errors.{IsUnsent};
 ghost use Rattle.event_channel.specs.Hands.{SendsWaiting};
 ghost use Rattle.event_channel.specs.Waits.{Empties, Gets};
 ghost use Rattle.event_channel.specs.declared.call.ChannelCall.TheVariants as call;
@@ -12,7 +12,7 @@ use crate::call::ChannelHand;
 use crate::error::{SendError, SendReason, WaitError};
 use crate::messages::Messages;
 use crate::sending::Sending;
-use crate::steps::{Close, IsClosed, IsFull, Len, Push, PushForced};
+use crate::steps::{Close, IsClosed, IsFull, Len, PushForced};
 use event_history::{Lock, perform};
 use event_queue::ListenError;
 use event_wait::{DeferredWake, Limit, Refused, Task};
@@ -103,27 +103,6 @@ impl<T: Drop> Channel<T> {
             senders: Handles::one(),
             receivers: Handles::one(),
         })
-    }
-
-    /// Puts a message behind all others, if the channel is open and not full.
-    #[inline(always)]
-    pub(crate) fn try_send<R: Wait>(
-        &self,
-        rt: &R,
-        hand: &mut ChannelHand<T>,
-        message: T,
-    ) -> Result<(), SendError<T>>
-        requires { IsOf self.now.lock.table hand.old }
-        ensures hand { SameTable hand.old hand.new }
-        ensures call { Extends (channel_machine self.now.lock.start) (known_by hand.old)
-            (call.Send message (answer_of result)) (known_by hand.new) }
-        ensures returned { IfErr result (λ error. error.message ≡ message) }
-        ensures reason { IfErr result (λ error. IsUnsentAtOnce error.reason) }
-    {
-        let mut waking = DeferredWake::new();
-        let answer = perform!(self.lock, rt, hand, Push { message }, &mut waking);
-        waking.finish_seldom();
-        answer
     }
 
     /// Puts a message behind all others, if the channel is open, and takes the first out if it is full.

@@ -2,7 +2,7 @@
 ghost use Rattle.std.specs.Prelude.{◌≡◌, ◌+◌, ◌-◌, ◌<◌, ◌≤◌, ◌↔◌, min, true, false, [], ◌∷◌, ◌++◌, take, drop, length, vec_len, vec_capacity, IfOk, IfErr, OnOk, OnErr, IsTrue, IsFalse};
 ghost use Rattle.std.specs.List.{FoldsTo};
 ghost use Rattle.std.specs.VecDeque.{deque_capacity};
-ghost use Rattle.event_wait.specs.Line.{TellsAll, TellsUpTo, or_more, woken_up_to, woken_at_once};
+ghost use Rattle.event_wait.specs.Line.{woken_at_once};
 ghost use Rattle.event_channel.specs.Errors.{IsUnsent, IsUnsentAtOnce};
 ghost use Rattle.event_channel.specs.Messages.{NobodyWaitsInVain, IsFull, for_newcomers, for_one, limit_of, new_state, room_for_newcomers, room_for_one, room_in};
 ghost use Rattle.event_channel.specs.Order.{IsReceivedInOrder};
@@ -105,24 +105,6 @@ fn move_first<T>(items: &mut VecDeque<T>, into: &mut Vec<T>, count: usize)
         };
         into.push_reserved(message);
     }
-}
-
-// Notifies receivers of one more message, so that as many are notified as there are messages, and all streams.
-#[inline(always)]
-fn tell_of<W, S: WakeSink<W>>(
-    receivers: &mut List<(), W>,
-    streams: &mut List<(), W>,
-    messages: usize,
-    sink: &mut S,
-)
-    ensures receivers { TellsUpTo (or_more messages 1 receivers.old) receivers.old receivers.new }
-    ensures streams { TellsAll streams.old streams.new }
-    ensures wakes { FoldsTo S.woke sink.old
-        (woken_up_to (or_more messages 1 receivers.old) receivers.old ++ woken_at_once
-        streams.old) sink.new }
-{
-    tell_more(receivers, messages, 1, sink);
-    tell_all(streams, sink);
 }
 
 impl<T, W> Messages<T, W> {
@@ -241,7 +223,8 @@ impl<T, W> Messages<T, W> {
         match self.items.push_back(message) {
             Ok(()) => {
                 let messages = self.items.len();
-                tell_of(&mut self.receivers, &mut self.streams, messages, sink);
+                tell_more(&mut self.receivers, messages, 1, sink);
+                tell_all(&mut self.streams, sink);
                 Ok(())
             }
             Err(AllocFailed { value }) => Err(SendError::new(value, SendReason::Memory)),
@@ -292,10 +275,7 @@ impl<T, W> Messages<T, W> {
         ensures reason { IfErr result (IsEmptyFor self.old) }
         ensures due { OnErr result (length self.old.messages ≤ length self.old.receivers.told) }
     {
-        if self.starving_receivers.len() != 0 && self.messages_are_due() {
-            return Err(TryRecvError::Empty);
-        }
-        self.pop_any(sink)
+        self.pop_as(None, sink)
     }
 
     // `pop` of one that may have a place in the queue of the receivers.
@@ -315,7 +295,15 @@ impl<T, W> Messages<T, W> {
         if starve && !is_told(&self.receivers, key) && self.messages_are_due() {
             return Err(TryRecvError::Empty);
         }
-        self.pop_any(sink)
+        match self.items.pop_front() {
+            Some(message) => {
+                let room = self.capacity - self.items.len();
+                tell_more(&mut self.senders, room, 1, sink);
+                Ok(message)
+            }
+            None if self.is_closed => Err(TryRecvError::Closed),
+            None => Err(TryRecvError::Empty),
+        }
     }
 
     // Whether the channel is open, and there is no message for newcomers.
@@ -326,26 +314,6 @@ impl<T, W> Messages<T, W> {
             ↔ ((self.now.is_closed ≡ false) × (for_newcomers self.now ≡ 0)) }
     {
         !self.is_closed && self.for_newcomers() == 0
-    }
-
-    // Takes the first message, due to others or not, and wakes a sender.
-    fn pop_any<S: WakeSink<W>>(&mut self, sink: &mut S) -> Result<T, TryRecvError>
-        ensures popped { IfOk result (λ message. Takes (message ∷ []) self.old self.new) }
-        ensures wakes { IfOk result (λ _.
-            FoldsTo S.woke sink.old (woken_by_taking 1 self.old self.new) sink.new) }
-        ensures empty { OnErr result ((self.new ≡ self.old) × (sink.new ≡ sink.old)) }
-        ensures none { OnErr result (self.old.messages ≡ []) }
-        ensures reason { IfErr result (FindsNone (length self.old.messages) self.old) }
-    {
-        match self.items.pop_front() {
-            Some(message) => {
-                let room = self.capacity - self.items.len();
-                tell_more(&mut self.senders, room, 1, sink);
-                Ok(message)
-            }
-            None if self.is_closed => Err(TryRecvError::Closed),
-            None => Err(TryRecvError::Empty),
-        }
     }
 
     /// Takes the first messages, `limit` at most and no more than are there for newcomers and `into` has room for, puts them

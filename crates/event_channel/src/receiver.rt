@@ -13,8 +13,10 @@ use crate::channel::{Link, wait_error};
 use crate::error::{RecvError, RecvTimeoutError, TryRecvError, WaitError};
 use crate::receiving::{Receiving, ReceivingMany};
 use crate::recv::{Recv, received};
+use crate::steps::Pop;
+use event_history::perform;
 use event_queue::ListenError;
-use event_wait::{Limit, Refused};
+use event_wait::{DeferredWake, Limit, Refused};
 use futures::Stream;
 use futures::task::{Context, Poll};
 use std::alloc::AllocError;
@@ -128,16 +130,11 @@ impl<T: Drop, R: Wait + Clock + Clone> Receiver<T, R> {
         ensures call { Extends (channel_machine self.now.capacity) (known_by hand.old)
             (call.Receive result) (known_by hand.new) }
     {
-        match self
-            .link
-            .channel
-            .lock
-            .attempt(&self.link.rt, hand, &mut Receiving::one())
-        {
-            Some(Some(message)) => Ok(message),
-            Some(None) => Err(TryRecvError::Closed),
-            None => Err(TryRecvError::Empty),
-        }
+        let (lock, rt) = (&self.link.channel.lock, &self.link.rt);
+        let mut waking = DeferredWake::new();
+        let received = perform!(lock, rt, hand, Pop, &mut waking);
+        waking.finish_seldom();
+        received
     }
 
     /// Receives a message once there is one: to be awaited. Nothing is received before it is polled, and no message is lost

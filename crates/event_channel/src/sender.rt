@@ -16,7 +16,9 @@ use crate::error::{SendError, SendReason};
 use crate::receiver::Receiver;
 use crate::send::Send;
 use crate::sending::Sending;
-use event_wait::Limit;
+use crate::steps::Push;
+use event_history::perform;
+use event_wait::{DeferredWake, Limit};
 use std::alloc::{AllocError, Global};
 use std::fmt;
 use std::fmt::{Debug, Formatter};
@@ -167,7 +169,11 @@ impl<T: Drop, R: Wait + Clock + Clone> Sender<T, R> {
         ensures returned { IfErr result (λ error. error.message ≡ message) }
         ensures reason { IfErr result (λ error. IsUnsentAtOnce error.reason) }
     {
-        self.link.channel.try_send(&self.link.rt, hand, message)
+        let (lock, rt) = (&self.link.channel.lock, &self.link.rt);
+        let mut waking = DeferredWake::new();
+        let sent = perform!(lock, rt, hand, Push { message }, &mut waking);
+        waking.finish_seldom();
+        sent
     }
 
     /// Sends a message if the channel is open, on any free place, due to others or not. If it is full the first message of all

@@ -4,7 +4,7 @@ ghost use Rattle.event_channel.specs.Calls.{answer_of};
 ghost use Rattle.event_channel.specs.Errors.{IsUnsent, IsUnsentAtOnce};
 ghost use Rattle.event_channel.specs.declared.call.ChannelCall.TheVariants as call;
 
-use crate::error::SendError;
+use crate::error::{SendError, TryRecvError};
 use crate::messages::Messages;
 use event_history::Step;
 use event_queue::WakeSink;
@@ -45,6 +45,23 @@ impl<T, W, K: WakeSink<W>> Step<Messages<T, W>, K> for PushForced<T> {
     fn make(self, messages: &mut Messages<T, W>, sink: &mut K) -> Result<Option<T>, SendError<T>> {
         let PushForced { message } = self;
         messages.push_forced(message, sink)
+    }
+}
+
+/// A message is received.
+#[derive(Drop)]
+pub(crate) struct Pop;
+
+impl<T, W, K: WakeSink<W>> Step<Messages<T, W>, K> for Pop {
+    type Reply = Result<T, TryRecvError>;
+
+    ghost call = { λ _ reply. call.Receive reply };
+
+    ghost does = { λ _ _ _ _ _ _. ⊤ };
+
+    #[inline(always)]
+    fn make(self, messages: &mut Messages<T, W>, sink: &mut K) -> Result<T, TryRecvError> {
+        messages.pop(sink)
     }
 }
 

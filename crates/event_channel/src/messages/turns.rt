@@ -1,13 +1,12 @@
 //! Those in a queue that starve, for which newcomers leave what is due to them.
-ghost use Rattle.std.specs.Prelude.{◌≡◌, ◌≤◌, ◌==◌, ◌||◌, true, false, length, IfErr, IfOk, OnErr};
-ghost use Rattle.event_wait.specs.Line.{CannotWait, LeavesThenTells, WaitsBy, woken_by_leaving};
-ghost use Rattle.std.specs.List.{FoldsTo};
+ghost use Rattle.std.specs.Prelude.{◌≡◌, ◌==◌, ◌||◌, true, false, length, IfErr, IfOk, OnErr};
+ghost use Rattle.event_wait.specs.Line.{WaitsBy};
 ghost use Rattle.event_channel.specs.Turns.{CannotWaitInTurn, Counts, but, is_told, left_for_newcomers, struck};
 ghost use Rattle.event_queue.specs.Key.{without};
 ghost use Rattle.event_queue.specs.Queue.{IsQueue};
 
-use event_queue::{Key, List, ListenError, TaskExchange, WakeSink};
-use event_wait::waiters::{join_line, leave, leave_then_tell, wait_in_line};
+use event_queue::{Key, List, ListenError, TaskExchange};
+use event_wait::waiters::{join_line, leave, wait_in_line};
 use std::alloc::Global;
 
 /// How often one is notified and finds nothing before newcomers leave it what is due to it.
@@ -43,7 +42,7 @@ pub(crate) fn left_for_newcomers<W>(
 
 // Takes this one, if it is one, out of those that starve.
 #[inline(always)]
-fn strike(starving: &mut Vec<Key, Global>, key: Option<Key>)
+pub(crate) fn strike(starving: &mut Vec<Key, Global>, key: Option<Key>)
     ensures { starving.new.items ≡ but key starving.old.items }
 {
     if let Some(key) = key {
@@ -59,25 +58,6 @@ fn strike_off(starving: &mut Vec<Key, Global>, key: Key)
     ensures { starving.new.items ≡ without key starving.old.items }
 {
     starving.retain(|other| key != *other);
-}
-
-// Takes this one, if it is one, out of the queue and out of those that starve, and then notifies the first that wait until
-// `n` are.
-#[inline(always)]
-pub(crate) fn leave_in_turn<W: Drop, S: WakeSink<W>>(
-    line: &mut List<(), W>,
-    starving: &mut Vec<Key, Global>,
-    key: Option<Key>,
-    n: usize,
-    sink: &mut S,
-)
-    ensures left { LeavesThenTells key n line.old line.new }
-    ensures struck { starving.new.items ≡ but key starving.old.items }
-    ensures wakes { FoldsTo S.woke sink.old (woken_by_leaving key n line.old) sink.new }
-    ensures waiting { length line.new.waiting ≤ length line.old.waiting }
-{
-    strike(starving, key);
-    leave_then_tell(line, key, n, sink);
 }
 
 // Has one wait that found nothing: at its place, or at the end of the queue if it was notified or is new. One that was
@@ -108,7 +88,10 @@ pub(crate) fn wait_in_turn<W: Drop, C, X: TaskExchange<W, C>>(
     if is_told(line, key) {
         return wait_after_loss(line, starving, key, losses, exchange, on);
     }
-    wait_untold(line, key, exchange, on)
+    match key {
+        None => join_line(line, exchange, on),
+        Some(_) => wait_in_line(line, key, exchange, on),
+    }
 }
 
 // Has one wait that was notified and found nothing.
@@ -142,25 +125,4 @@ fn wait_after_loss<W: Drop, C, X: TaskExchange<W, C>>(
         starving.push_reserved(waits);
     }
     Ok(waits)
-}
-
-// Has one wait that was not notified.
-#[inline(always)]
-fn wait_untold<W, C, X: TaskExchange<W, C>>(
-    line: &mut List<(), W>,
-    key: Option<Key>,
-    exchange: &X,
-    on: &mut C,
-) -> Result<Key, ListenError>
-    requires untold { is_told key line.old ≡ false }
-    ensures waits { IfOk result (λ waits.
-        WaitsBy (X.exchanged exchange.now) key line.old on.old waits line.new on.new) }
-    ensures as_many { length line.new.told ≡ length line.old.told }
-    ensures refused { IfErr result (λ error. CannotWait key error line.old line.new) }
-    ensures kept { OnErr result (on.new ≡ on.old) }
-{
-    match key {
-        None => join_line(line, exchange, on),
-        Some(_) => wait_in_line(line, key, exchange, on),
-    }
 }

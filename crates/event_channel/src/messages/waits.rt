@@ -10,7 +10,7 @@ ghost use Rattle.event_channel.specs.Steps.{KeepsAllButSenders, KeepsAllButRecei
 ghost use Rattle.event_channel.specs.Waits.{Empties, ReceiverLeaves, Receives, ReceivesInTurn, SenderLeaves, SendsInTurn, woken_by_receiver, woken_by_receiver_leaving, woken_by_receiving, woken_by_sending};
 
 use super::Messages;
-use super::turns::{leave_in_turn, left_for_newcomers, wait_in_turn};
+use super::turns::{left_for_newcomers, strike, wait_in_turn};
 use crate::error::{SendError, SendReason, TryRecvError};
 use event_queue::{Key, ListenError, TaskExchange, WakeSink};
 use event_wait::Attempted;
@@ -188,8 +188,8 @@ impl<T, W: Drop> Messages<T, W> {
         ensures others { KeepsAllButSenders self.old self.new }
     {
         let room = self.capacity - self.items.len();
-        let line = &mut self.senders;
-        leave_in_turn(line, &mut self.starving_senders, key, room, sink);
+        strike(&mut self.starving_senders, key);
+        leave_then_tell(&mut self.senders, key, room, sink);
     }
 
     /// [`pop`](Messages::pop) of one that may have a place in the queue of the receivers: if it was notified it takes what is
@@ -232,8 +232,8 @@ impl<T, W: Drop> Messages<T, W> {
             return;
         };
         let messages = self.items.len();
-        let (line, starving) = (&mut self.receivers, &mut self.starving_receivers);
-        leave_in_turn(line, starving, Some(gone), messages, sink);
+        strike(&mut self.starving_receivers, Some(gone));
+        leave_then_tell(&mut self.receivers, Some(gone), messages, sink);
         let starving = &self.starving_receivers;
         if left_for_newcomers(self.is_closed, starving, &self.receivers, messages) > 0 {
             tell_all(&mut self.streams, sink);
