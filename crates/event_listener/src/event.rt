@@ -74,7 +74,7 @@ impl<T> Event<T> {
         T: Drop,
         ensures { IfOk result (λ event. event ≡ id) }
     {
-        let made = Shared::new(alloc, id.number(), first_serial)?;
+        let made = Arc::new(alloc, Shared::new(alloc, id.number(), first_serial))?;
         let shared = SetOnce::with(made, &id.number());
         Ok(Event { id, shared })
     }
@@ -96,11 +96,14 @@ impl<T> Event<T> {
         ensures unfinished { IfOk result (λ listener. listener.standing.is_finished ≡ false) }
         ensures listens { IfOk result ListensFirst }
     {
-        let shared = match self.made() {
-            Some(shared) => Arc::try_clone(shared),
-            None => self.first_share(rt, alloc),
+        let made = match self.made() {
+            Some(made) => made,
+            None => match self.make_queue(rt, alloc) {
+                Ok(made) => made,
+                Err(_) => return Err(ListenError::Memory),
+            },
         };
-        let Ok(shared) = shared else {
+        let Ok(shared) = Arc::try_clone(made) else {
             return Err(ListenError::Memory);
         };
         let Ok(runtime) = rt.clone() else {
@@ -117,28 +120,18 @@ impl<T> Event<T> {
         Ok(EventListener::new(shared, key, hand, runtime, alloc))
     }
 
-    // The queue, if there is one.
+    /// The queue, if there is one.
     #[inline(always)]
-    fn made(&self) -> Option<&Arc<Shared<T>>>
+    pub(crate) fn made(&self) -> Option<&Arc<Shared<T>>>
         ensures { IfSome result (λ shared. (arc_value shared.now).event_number ≡ self.now) }
     {
         self.shared.get()
     }
 
-    // Makes the queue, and a share of it. It is a function of its own, so that a share of a queue that is there is a few
-    // instructions.
+    /// Makes the queue. If two threads make it at once, the second drops its own and takes that of the first.
     #[cold]
     #[inline(never)]
-    fn first_share<R: Wait>(&self, rt: &R, alloc: Global) -> Result<Arc<Shared<T>>, AllocError>
-    where
-        T: Drop,
-        ensures { IfOk result (λ shared. (arc_value shared).event_number ≡ self.now) }
-    {
-        Arc::try_clone(self.make_queue(rt, alloc)?)
-    }
-
-    /// The queue, which is made if there is none.
-    pub(crate) fn queue<R: Wait>(
+    pub(crate) fn make_queue<R: Wait>(
         &self,
         rt: &R,
         alloc: Global,
@@ -147,21 +140,7 @@ impl<T> Event<T> {
         T: Drop,
         ensures { IfOk result (λ shared. (arc_value shared.now).event_number ≡ self.now) }
     {
-        match self.made() {
-            Some(shared) => Ok(shared),
-            None => self.make_queue(rt, alloc),
-        }
-    }
-
-    // Makes the queue. If two threads make it at once, the second drops its own and takes that of the first.
-    #[cold]
-    #[inline(never)]
-    fn make_queue<R: Wait>(&self, rt: &R, alloc: Global) -> Result<&Arc<Shared<T>>, AllocError>
-    where
-        T: Drop,
-        ensures { IfOk result (λ shared. (arc_value shared.now).event_number ≡ self.now) }
-    {
-        let made = Shared::new(alloc, self.id.number(), 0)?;
+        let made = Arc::new(alloc, Shared::new(alloc, self.id.number(), 0))?;
         match self.shared.try_set(made) {
             Ok(shared) => Ok(shared),
             Err(_second) => Ok(self.shared.wait(rt)),

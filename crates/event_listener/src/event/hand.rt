@@ -64,7 +64,11 @@ impl<T> Event<T> {
         ensures event { IfOk result (λ caller. caller.event_number ≡ self.now) }
         ensures knows { IfOk result (λ caller. caller.knows ≡ newcomer caller.knows.seen) }
     {
-        let shared = Arc::try_clone(self.queue(rt, alloc)?)?;
+        let made = match self.made() {
+            Some(made) => made,
+            None => self.make_queue(rt, alloc)?,
+        };
+        let shared = Arc::try_clone(made)?;
         let hand = shared.lock().hand();
         Ok(EventHand { shared, hand })
     }

@@ -1,14 +1,12 @@
 //! What the listeners of an event share.
-ghost use Rattle.std.specs.Prelude.{◌≡◌, IfOk};
-ghost use Rattle.std.specs.Arc.{arc_value};
+ghost use Rattle.std.specs.Prelude.{◌≡◌};
 
 use event_history::Lock;
 use event_queue::List;
 use event_slot::Fits;
 use event_wait::Task;
-use std::alloc::{AllocError, Global};
+use std::alloc::Global;
 use std::marker::Model;
-use std::sync::Arc;
 
 /// The queue of one event, under a lock that no other event has, with one history of all calls on it, and the number of the
 /// event, which is kept here once and not by each listener.
@@ -41,20 +39,16 @@ impl<T> Fits for Shared<T> {
 impl<T> Shared<T> {
     /// The queue of the event with this number, with no listeners. The first of them gets this serial number.
     ///
-    /// The call allocates, and returns an error if that fails.
-    pub(super) fn new(
-        alloc: Global,
-        event_number: u64,
-        first_serial: u64,
-    ) -> Result<Arc<Self>, AllocError>
+    /// The call does not allocate.
+    pub(super) fn new(alloc: Global, event_number: u64, first_serial: u64) -> Self
     where
         T: Drop,
-        ensures { IfOk result (λ shared. (arc_value shared).event_number ≡ event_number) }
+        ensures { result.event_number ≡ event_number }
     {
         let queue = List::starting_at(alloc, first_serial);
         let (lock, first) = Lock::new(queue, &());
         first.end();
-        Ok(Arc::new(alloc, Shared { lock, event_number })?)
+        Shared { lock, event_number }
     }
 
     /// The queue under its lock.

@@ -5,7 +5,7 @@ ghost use Rattle.futures.specs.Task.{Covers, Keeps};
 ghost use Rattle.event_listener.specs.Listening.{Known};
 ghost use Rattle.event_listener.specs.Polling.{IsPolled};
 ghost use Rattle.event_queue.specs.declared.reply.RegisterResult.TheVariants as register;
-ghost use Rattle.event_listener.specs.Waiting.{Finds, HandsBack, IfBack, PollsBy, RemovesAs, RemovesBy, WaitsBy, answered, reason_of, was_notified};
+ghost use Rattle.event_listener.specs.Waiting.{Finds, HandsBack, IfBack, PollsBy, RemovesAs, RemovesBy, WaitsBy, answered, reason_of};
 ghost use Rattle.event_wait.specs.declared.lock.limit.Limit.TheVariants.{Never};
 ghost use Rattle.event_history.specs.Hands.{IsOf, known_by};
 ghost use Rattle.event_history.specs.History.{Looks, both_views, newcomer};
@@ -261,26 +261,14 @@ impl<T, H: Hold<T>, R: Wait + Clock + Clone> QueueListener<T, H, R> {
             |step, queue, sink| { queue.remove_uncounted(step.key, step.propagate, sink) }
         );
         waking.finish_seldom();
-        (was_notified(former), hand)
-    }
-}
-
-// Whether a removal found the listener notified, whose tag or task it drops.
-#[inline(always)]
-fn was_notified<T: Drop>(former: Option<State<T, Task>>) -> bool
-    ensures { result ≡ was_notified former }
-{
-    match former {
-        Some(State::Notified { additional: _, tag } | State::Lost { additional: _, tag }) => {
-            drop(tag);
-            true
-        }
-        Some(State::Passed { to: _ }) => true,
-        Some(State::Task(task)) => {
-            drop(task);
-            false
-        }
-        Some(State::Created) | None => false,
+        // What was there is dropped in place: after a call it would be tested whether this is to end.
+        let told = match former {
+            Some(State::Notified { tag: _tag, .. } | State::Lost { tag: _tag, .. }) => true,
+            Some(State::Passed { to: _ }) => true,
+            Some(State::Task(_task)) => false,
+            Some(State::Created) | None => false,
+        };
+        (told, hand)
     }
 }
 
@@ -405,7 +393,9 @@ impl<T: Drop, H: Hold<T> + Drop, R: Wait + Clock + Clone> Listener<T> for QueueL
         ensures finished { self.standing.is_finished ≡ true → result ≡ false }
         ensures removed { self.standing.is_finished ≡ false → RemovesBy false self result }
     {
-        self.remove(false)
+        let (told, hand) = self.leave(false);
+        hand.end();
+        told
     }
 
     fn listens_to(&self, event: &Event<T>) -> bool {

@@ -42,18 +42,21 @@ impl<'ev, T> StackSlot<'ev, T> {
     /// was. It returns no other error.
     ///
     /// The call allocates the queue, if there is none yet. It may wait for a thread that is making the queue.
+    #[inline(always)]
     pub fn new<R: Wait>(rt: &R, alloc: Global, event: &'ev Event<T>) -> Result<Self, ListenError>
     where
         T: Drop,
         ensures event { IfOk result (λ slot. slot ≡ event.now) }
     {
-        let Ok(shared) = event.queue(rt, alloc) else {
-            return Err(ListenError::Memory);
+        let made = match event.made() {
+            Some(made) => made,
+            None => match event.make_queue(rt, alloc) {
+                Ok(made) => made,
+                Err(_) => return Err(ListenError::Memory),
+            },
         };
-        Ok(StackSlot {
-            shared: &**shared,
-            alloc,
-        })
+        let shared = &**made;
+        Ok(StackSlot { shared, alloc })
     }
 
     /// A new listener, which waits at the end of the queue. It starts waiting, whichever are notified already. It keeps
