@@ -1,10 +1,10 @@
 //! What is done on queues, and measured.
 mod stand;
 
-use crate::queues::{OnEvent, OnList, OnRecorded, Queue, events, waker_of};
+use crate::queues::{OnBorrowed, OnEvent, OnList, OnRecorded, Queue, events, waker_of};
+use crate::repeat;
 use crate::run::{OtherAnswer, Run, Runtime};
 use anyhow::Result;
-use calls_events::{Borrowing, ListenerKind, Sharing};
 use calls_records::{On, new_event};
 use event_listener::{Event, EventIds};
 use futures::task::Context;
@@ -69,25 +69,34 @@ fn measure_once<R: Runtime>(
     events: &[Event<()>],
     cx: &mut Context<'_>,
 ) -> Result<()> {
+    let (rt, alloc) = (run.rt, run.rt.alloc());
     match kind {
-        Kind::Shared => on_events::<Sharing, R>(run, act, events, cx),
-        Kind::Stack => on_events::<Borrowing, R>(run, act, events, cx),
+        Kind::Shared => on_events(run, act, events, &|event| OnEvent { event, rt, alloc }, cx),
+        Kind::Stack => on_events(
+            run,
+            act,
+            events,
+            &|event| OnBorrowed { event, rt, alloc },
+            cx,
+        ),
         Kind::Recorded => on_recorded(run, act, cx),
-        Kind::List => on_queue(run, act, OnList::new(run.rt.alloc()), cx),
+        Kind::List => on_queue(run, act, OnList::new(alloc), cx),
     }
 }
 
-fn on_events<'ev, K: ListenerKind<'ev, (), R>, R: Runtime>(
+fn on_events<'ev, Q: Queue, F: Fn(&'ev Event<()>) -> Q, R: Runtime>(
     run: &mut Run<'_, R>,
     act: &str,
     events: &'ev [Event<()>],
+    queue_of: &F,
     cx: &mut Context<'_>,
-) -> Result<()> {
-    let (rt, alloc) = (run.rt, run.rt.alloc());
+) -> Result<()>
+    requires { F.IsAlwaysCallable queue_of.now }
+{
+    let alloc = run.rt.alloc();
     let mut stands = Vec::new(alloc);
     for event in events {
-        let queue = OnEvent::<'_, '_, K, R>::new(rt, alloc, event);
-        stands.push(Stand::new(alloc, queue))?;
+        stands.push(Stand::new(alloc, queue_of(event)))?;
     }
     stand::measure(run, act, stands.as_mut_slice(), cx)
 }
@@ -117,7 +126,7 @@ fn on_queue<Q: Queue, R: Runtime>(
 pub fn make_wakers<R: Runtime>(run: &mut Run<'_, R>) -> Result<()> {
     let task = MockTask::new(run.rt)?;
     let rounds = run.rounds;
-    task.enter(|cx| run.alone(rounds, 1, || waker_of(cx).is_some()))
+    task.enter(|cx| run.alone(rounds, 1, repeat!(waker_of(cx).is_some())))
 }
 
 /// Calls on an event behind so many listeners, which tell nobody, or ask.
@@ -140,13 +149,13 @@ fn ask_behind<L: Drop, R: Runtime>(
     match run.name {
         "notify_none" => {
             drop(standing);
-            run.alone(rounds, 1, || event.notify(rt, 1).unwrap_or(1) == 0)
+            run.alone(rounds, 1, repeat!(event.notify(rt, 1).unwrap_or(1) == 0))
         }
         "notify_told" => {
             event.notify_relaxed(rt, 1);
-            run.alone(rounds, 1, || event.notify(rt, 1).unwrap_or(1) == 0)
+            run.alone(rounds, 1, repeat!(event.notify(rt, 1).unwrap_or(1) == 0))
         }
-        "is_notified" => run.alone(rounds, 1, || !event.is_notified(rt)),
-        _ => run.alone(rounds, 1, || event.total_listeners(rt) == n),
+        "is_notified" => run.alone(rounds, 1, repeat!(!event.is_notified(rt))),
+        _ => run.alone(rounds, 1, repeat!(event.total_listeners(rt) == n)),
     }
 }

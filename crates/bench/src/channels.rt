@@ -1,4 +1,5 @@
 //! Channels, through which messages pass.
+use crate::repeat;
 use crate::run::{Run, Runtime};
 use anyhow::Result;
 use event_channel::{Receiver, Recv, Sender, bounded, unbounded};
@@ -23,13 +24,13 @@ pub fn pass<R: Runtime>(run: &mut Run<'_, R>, capacity: Option<usize>) -> Result
     let n = run.n;
     let (sender, receiver) = channel(run.rt, capacity)?;
     let (sender, receiver) = (&sender, &receiver);
-    let work = |index: usize| {
+    let work = repeat!(as index => {
         if index % 2 == 0 {
             sender.send_blocking(MESSAGE).is_ok()
         } else {
             receiver.recv_blocking() == Ok(MESSAGE)
         }
-    };
+    });
     run.together(n.saturating_mul(2), n, &work)
 }
 
@@ -37,9 +38,9 @@ pub fn pass<R: Runtime>(run: &mut Run<'_, R>, capacity: Option<usize>) -> Result
 pub fn pass_alone<R: Runtime>(run: &mut Run<'_, R>) -> Result<()> {
     let (sender, receiver) = channel(run.rt, Some(128))?;
     let (sender, receiver) = (&sender, &receiver);
-    let work = |_: usize| {
+    let work = repeat!(as _index => {
         sender.try_send(MESSAGE).is_ok() & (receiver.try_recv() == Ok(MESSAGE))
-    };
+    });
     run.together(1, 1, &work)
 }
 
@@ -95,6 +96,6 @@ pub fn pass_in_tasks<R: Runtime>(run: &mut Run<'_, R>) -> Result<()> {
     run.alone(
         1,
         messages as usize,
-        || pass_awaited(rt, sender, receiver, messages),
+        |_| pass_awaited(rt, sender, receiver, messages),
     )
 }

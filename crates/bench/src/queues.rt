@@ -3,7 +3,7 @@ mod events;
 mod lists;
 mod recorded;
 
-pub use events::{OnEvent, events};
+pub use events::{OnBorrowed, OnEvent, events};
 use futures::task::{Context, Poll, Source, Waker};
 pub use lists::OnList;
 pub use recorded::OnRecorded;
@@ -22,7 +22,7 @@ pub trait Queue: Drop {
     /// Notifies so many, and answers how many were told.
     fn notify(&mut self, count: usize) -> usize;
 
-    /// Drops a listener.
+    /// Drops a listener: at the end of the scope, where it can be dropped, since a call of `drop` is never inlined.
     fn leave(&mut self, listener: Self::Listener);
 }
 

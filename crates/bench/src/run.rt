@@ -9,6 +9,21 @@ use std::thread::{self, Threads};
 use std::time::{Clock, Duration, Instant};
 use thiserror::Error;
 
+/// A closure that does the work so often as it is told, as the thread of that index where one is named, and answers whether the
+/// work was right each time. The loop stands in the closure, as it would in a caller: a call in each round would be counted.
+#[macro_export]
+macro_rules! repeat {
+    ($(as $index:ident =>)? $work:expr) => {
+        |$($index: usize,)? rounds: u64| {
+            let mut are_right = true;
+            for _ in 0..rounds {
+                are_right &= $work;
+            }
+            are_right
+        }
+    };
+}
+
 /// What a workload asks of its runtime value.
 pub trait Runtime: Threads + Wait + Clock + Clone + Sync + AllocGlobal + RandomSource {}
 
@@ -54,8 +69,8 @@ impl<'a, R: Runtime> Run<'a, R> {
         }
     }
 
-    /// Does work so often, so many operations each time. It answers whether its calls answered as they have to.
-    pub fn alone<F: FnMut() -> bool>(&mut self, rounds: u64, each: usize, work: F) -> Result<()>
+    /// Has work done so often, so many operations each time. It answers whether its calls answered as they have to.
+    pub fn alone<F: FnMut(u64) -> bool>(&mut self, rounds: u64, each: usize, work: F) -> Result<()>
         requires { F.IsAlwaysCallable work }
     {
         let began = Instant::now(self.rt)?;
@@ -64,21 +79,26 @@ impl<'a, R: Runtime> Run<'a, R> {
         expect(are_right)
     }
 
-    /// Does work once, and measures it if that is the workload.
-    pub fn part<F: FnMut() -> bool>(&mut self, name: &str, each: usize, mut work: F) -> Result<()>
+    /// Has work done once, and measures it if that is the workload.
+    pub fn part<F: FnMut(u64) -> bool>(
+        &mut self,
+        name: &str,
+        each: usize,
+        mut work: F,
+    ) -> Result<()>
         requires { F.IsAlwaysCallable work }
     {
         if self.name == name {
             self.alone(1, each, work)
         } else {
-            expect(work())
+            expect(work(1))
         }
     }
 
-    /// So many threads do work, each in all rounds. The work of a round by all threads is so many operations.
+    /// So many threads do work, each of all rounds. The work of a round by all threads is so many operations.
     pub fn together<F>(&mut self, threads: usize, each: usize, work: &F) -> Result<()>
     where
-        F: Fn(usize) -> bool + Sync,
+        F: Fn(usize, u64) -> bool + Sync,
         requires { F.IsAlwaysCallable work.now }
     {
         let (rt, rounds) = (self.rt, self.rounds);
@@ -113,27 +133,19 @@ impl<'a, R: Runtime> Run<'a, R> {
     }
 }
 
-// Both loops are never inlined, so that a profiler can be told to count inside them alone.
+// Both are never inlined, so that a profiler can be told to count inside them alone.
 #[inline(never)]
-fn region<F: FnMut() -> bool>(mut work: F, rounds: u64) -> bool
+fn region<F: FnMut(u64) -> bool>(mut work: F, rounds: u64) -> bool
     requires { F.IsAlwaysCallable work }
 {
-    let mut are_right = true;
-    for _ in 0..rounds {
-        are_right &= work();
-    }
-    are_right
+    work(rounds)
 }
 
 #[inline(never)]
-fn region_of_thread<F: Fn(usize) -> bool>(work: &F, index: usize, rounds: u64) -> bool
+fn region_of_thread<F: Fn(usize, u64) -> bool>(work: &F, index: usize, rounds: u64) -> bool
     requires { F.IsAlwaysCallable work.now }
 {
-    let mut are_right = true;
-    for _ in 0..rounds {
-        are_right &= work(index);
-    }
-    are_right
+    work(index, rounds)
 }
 
 /// What a run did, and what it gives, in tenths of a unit.

@@ -1,4 +1,5 @@
 //! What threads do together: they take locks and give them back, meet, and wait for each other.
+use crate::repeat;
 use crate::run::{Run, Runtime};
 use anyhow::Result;
 use event_listener::{Event, EventIds, Listener};
@@ -8,13 +9,13 @@ use std::sync::atomic::{AtomicU64, Ordering};
 pub fn lock_mutex<R: Runtime>(run: &mut Run<'_, R>) -> Result<()> {
     let (rt, alloc, n) = (run.rt, run.rt.alloc(), run.n);
     let mutex = &Mutex::new(alloc, 0u64);
-    let work = |_: usize| {
+    let work = repeat!(as _index => {
         let Ok(mut count) = mutex.lock(rt, alloc).wait() else {
             return false;
         };
         *count = count.wrapping_add(1);
         true
-    };
+    });
     run.together(n, n, &work)
 }
 
@@ -22,51 +23,55 @@ pub fn lock_mutex<R: Runtime>(run: &mut Run<'_, R>) -> Result<()> {
 pub fn try_mutex<R: Runtime>(run: &mut Run<'_, R>) -> Result<()> {
     let (rt, rounds) = (run.rt, run.rounds);
     let mutex = &Mutex::new(rt.alloc(), 0u64);
-    run.alone(rounds, 1, || {
+    let work = repeat!({
         let Some(mut count) = mutex.try_lock(rt) else {
             return false;
         };
         *count = count.wrapping_add(1);
         true
-    })
+    });
+    run.alone(rounds, 1, work)
 }
 
 pub fn acquire<R: Runtime>(run: &mut Run<'_, R>, permits: usize) -> Result<()> {
     let (rt, alloc, n) = (run.rt, run.rt.alloc(), run.n);
     let semaphore = &Semaphore::new(alloc, permits);
-    run.together(n, n, &|_| semaphore.acquire(rt, alloc).wait().is_ok())
+    let work = repeat!(as _index => semaphore.acquire(rt, alloc).wait().is_ok());
+    run.together(n, n, &work)
 }
 
 pub fn read<R: Runtime>(run: &mut Run<'_, R>) -> Result<()> {
     let (rt, alloc, n) = (run.rt, run.rt.alloc(), run.n);
     let lock = &RwLock::new(alloc, 0u64);
-    run.together(n, n, &|_| lock.read(rt, alloc).wait().is_ok())
+    let work = repeat!(as _index => lock.read(rt, alloc).wait().is_ok());
+    run.together(n, n, &work)
 }
 
 pub fn write<R: Runtime>(run: &mut Run<'_, R>) -> Result<()> {
     let (rt, alloc, n) = (run.rt, run.rt.alloc(), run.n);
     let lock = &RwLock::new(alloc, 0u64);
-    let work = |_: usize| {
+    let work = repeat!(as _index => {
         let Ok(mut count) = lock.write(rt, alloc).wait() else {
             return false;
         };
         *count = count.wrapping_add(1);
         true
-    };
+    });
     run.together(n, n, &work)
 }
 
 pub fn meet<R: Runtime>(run: &mut Run<'_, R>) -> Result<()> {
     let (rt, alloc, n) = (run.rt, run.rt.alloc(), run.n);
     let barrier = &Barrier::new(alloc, n);
-    run.together(n, 1, &|_| barrier.wait(rt, alloc).wait().is_ok())
+    let work = repeat!(as _index => barrier.wait(rt, alloc).wait().is_ok());
+    run.together(n, 1, &work)
 }
 
 /// Two threads wait for each other in turn, by semaphores. An operation is a round trip, as below.
 pub fn hand_over<R: Runtime>(run: &mut Run<'_, R>) -> Result<()> {
     let (rt, alloc) = (run.rt, run.rt.alloc());
     let (here, there) = (&Semaphore::new(alloc, 0), &Semaphore::new(alloc, 0));
-    let work = |index: usize| {
+    let work = repeat!(as index => {
         let (mine, other) = if index == 0 {
             (here, there)
         } else {
@@ -83,7 +88,7 @@ pub fn hand_over<R: Runtime>(run: &mut Run<'_, R>) -> Result<()> {
             other.add_permits(rt, 1);
         }
         true
-    };
+    });
     run.together(2, 1, &work)
 }
 
@@ -94,7 +99,7 @@ pub fn ping_pong<R: Runtime>(run: &mut Run<'_, R>) -> Result<()> {
     let ping = &Event::new(ids.next()?);
     let pong = &Event::new(ids.next()?);
     let turn = &AtomicU64::new(0);
-    let work = |index: usize| {
+    let work = repeat!(as index => {
         if index == 0 {
             end_turn(rt, turn, ping);
             wait_for_turn(rt, pong, turn, 0);
@@ -103,7 +108,7 @@ pub fn ping_pong<R: Runtime>(run: &mut Run<'_, R>) -> Result<()> {
             end_turn(rt, turn, pong);
         }
         true
-    };
+    });
     run.together(2, 1, &work)
 }
 

@@ -1,12 +1,13 @@
 //! Queues with their listeners, and what is done on them.
 use crate::queues::Queue;
+use crate::repeat;
 use crate::run::{Run, Runtime, expect};
 use anyhow::Result;
 use futures::task::Context;
 use std::alloc::Global;
 use std::collections::VecDeque;
 
-/// A queue with its listeners. A listener that left has left its place empty.
+/// A queue with places for its listeners. A place is empty before one listens and after it left.
 #[derive(Drop)]
 pub struct Stand<Q: Queue> {
     queue: Q,
@@ -31,7 +32,7 @@ pub fn measure<Q: Queue, R: Runtime>(
     cx: &mut Context<'_>,
 ) -> Result<()> {
     for stand in stands.iter_mut() {
-        stand.listeners.reserve(run.n)?;
+        stand.listeners.resize_with(run.n, || None)?;
     }
     match act {
         "listen_drop" => listen_drop(run, stands),
@@ -45,17 +46,18 @@ pub fn measure<Q: Queue, R: Runtime>(
 
 // Behind the others, one listens and is dropped.
 fn listen_drop<Q: Queue, R: Runtime>(run: &mut Run<'_, R>, stands: &mut [Stand<Q>]) -> Result<()> {
-    expect(listen(stands, run.n))?;
+    expect(listen(stands))?;
     let Some(stand) = stands.first_mut() else {
         return Ok(());
     };
-    run.alone(run.rounds, 1, || {
+    let listen_and_drop = repeat!({
         let Some(listener) = stand.queue.listen() else {
             return false;
         };
         stand.queue.leave(listener);
         true
-    })
+    });
+    run.alone(run.rounds, 1, listen_and_drop)
 }
 
 // Notifies one, polls the first, which is told, drops it, listens again and polls.
@@ -72,7 +74,7 @@ fn churn<Q: Queue, R: Runtime>(
     for _ in 0..run.n {
         expect(wait_in_line(queue, &mut listeners, cx))?;
     }
-    run.alone(run.rounds, 1, || {
+    let take_turns = repeat!({
         let mut are_right = queue.notify(1) == 1;
         if let Some(first) = listeners.pop_front() {
             let mut first = first;
@@ -80,7 +82,8 @@ fn churn<Q: Queue, R: Runtime>(
             queue.leave(first);
         }
         are_right & wait_in_line(queue, &mut listeners, cx)
-    })
+    });
+    run.alone(run.rounds, 1, take_turns)
 }
 
 // Listens and polls, behind the others.
@@ -104,16 +107,13 @@ fn burst<Q: Queue, R: Runtime>(
     cx: &mut Context<'_>,
 ) -> Result<()> {
     let n = run.n;
-    run.alone(run.rounds, n, || {
-        let mut are_right = listen(stands, n);
+    let come_and_go = repeat!({
+        let mut are_right = listen(stands);
         are_right &= notify(stands, n) == n;
         are_right &= poll(stands, cx) == n;
-        leave(stands);
-        for stand in stands.iter_mut() {
-            stand.listeners.clear();
-        }
-        are_right
-    })
+        are_right & leave(stands)
+    });
+    run.alone(run.rounds, n, come_and_go)
 }
 
 // Each part of a burst is done, and one of them is measured.
@@ -124,11 +124,11 @@ fn measure_part<Q: Queue, R: Runtime>(
 ) -> Result<()> {
     let n = run.n;
     let all = n.saturating_mul(stands.len());
-    run.part("burst_listen", all, || listen(stands, n))?;
-    run.part("burst_poll_pending", all, || poll(stands, cx) == 0)?;
-    run.part("burst_notify", all, || notify(stands, n) == all)?;
-    run.part("burst_poll_ready", all, || poll(stands, cx) == all)?;
-    run.part("burst_drop_finished", all, || leave(stands))
+    run.part("burst_listen", all, |_| listen(stands))?;
+    run.part("burst_poll_pending", all, |_| poll(stands, cx) == 0)?;
+    run.part("burst_notify", all, |_| notify(stands, n) == all)?;
+    run.part("burst_poll_ready", all, |_| poll(stands, cx) == all)?;
+    run.part("burst_drop_finished", all, |_| leave(stands))
 }
 
 // Drops untold listeners: the first first, or from the middle on, towards both ends in turn.
@@ -138,30 +138,27 @@ fn remove<Q: Queue, R: Runtime>(
     from_the_middle: bool,
 ) -> Result<()> {
     let all = run.n.saturating_mul(stands.len());
-    expect(listen(stands, run.n))?;
+    expect(listen(stands))?;
     if from_the_middle {
-        run.alone(1, all, || leave_from_the_middle(stands))?;
+        run.alone(1, all, |_| leave_from_the_middle(stands))?;
     } else {
-        run.alone(1, all, || leave(stands))?;
+        run.alone(1, all, |_| leave(stands))?;
     }
     // Nobody is left whom this could tell.
     expect(notify(stands, 1) == 0)
 }
 
-// So many listen at each queue.
+// One listens for each place.
 #[inline(always)]
-fn listen<Q: Queue>(stands: &mut [Stand<Q>], n: usize) -> bool {
+fn listen<Q: Queue>(stands: &mut [Stand<Q>]) -> bool {
+    let mut all_listen = true;
     for stand in stands.iter_mut() {
-        for _ in 0..n {
-            let Some(listener) = stand.queue.listen() else {
-                return false;
-            };
-            if stand.listeners.push(Some(listener)).is_err() {
-                return false;
-            }
+        for place in stand.listeners.iter_mut() {
+            *place = stand.queue.listen();
+            all_listen &= place.is_some();
         }
     }
-    true
+    all_listen
 }
 
 // Answers how many were told.
@@ -195,7 +192,9 @@ fn notify<Q: Queue>(stands: &mut [Stand<Q>], n: usize) -> usize {
 fn leave<Q: Queue>(stands: &mut [Stand<Q>]) -> bool {
     for stand in stands.iter_mut() {
         for place in stand.listeners.iter_mut() {
-            leave_place(&mut stand.queue, place);
+            if let Some(listener) = place.take() {
+                stand.queue.leave(listener);
+            }
         }
     }
     true

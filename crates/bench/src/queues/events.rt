@@ -1,31 +1,26 @@
-//! Events, with listeners of either kind.
+//! Events, with listeners of either kind. Each calls its event with nothing in between, as callers do.
 use super::Queue;
 use anyhow::Result;
-use calls_events::ListenerKind;
-use event_listener::{Event, EventIds, Listener};
+use event_listener::{Event, EventIds, EventListener, Listener, StackListener, StackSlot};
 use futures::task::{Context, Poll};
 use std::alloc::Global;
-use std::marker::PhantomData;
 use std::sync::Wait;
+use std::time::Clock;
 
-/// An event, and by which kind it is listened to.
+/// An event whose listeners share its queue.
 #[derive(Drop)]
-pub struct OnEvent<'ev, 'r, K, R> {
-    event: &'ev Event<()>,
-    rt: &'r R,
-    alloc: Global,
-    kind: PhantomData<K>,
+pub struct OnEvent<'ev, 'r, R> {
+    pub event: &'ev Event<()>,
+    pub rt: &'r R,
+    pub alloc: Global,
 }
 
-impl<'ev, 'r, K, R> OnEvent<'ev, 'r, K, R> {
-    pub fn new(rt: &'r R, alloc: Global, event: &'ev Event<()>) -> Self {
-        OnEvent {
-            event,
-            rt,
-            alloc,
-            kind: PhantomData,
-        }
-    }
+/// An event whose listeners borrow it.
+#[derive(Drop)]
+pub struct OnBorrowed<'ev, 'r, R> {
+    pub event: &'ev Event<()>,
+    pub rt: &'r R,
+    pub alloc: Global,
 }
 
 /// So many events.
@@ -39,16 +34,16 @@ pub fn events(alloc: Global, count: usize) -> Result<Vec<Event<()>>> {
     Ok(events)
 }
 
-impl<'ev, K: ListenerKind<'ev, (), R>, R: Wait> Queue for OnEvent<'ev, '_, K, R> {
-    type Listener = K::Listener;
+impl<R: Wait + Clock + Clone> Queue for OnEvent<'_, '_, R> {
+    type Listener = EventListener<(), R>;
 
     #[inline(always)]
-    fn listen(&mut self) -> Option<K::Listener> {
-        K::listen(self.rt, self.alloc, self.event).ok()
+    fn listen(&mut self) -> Option<EventListener<(), R>> {
+        self.event.listen(self.rt, self.alloc).ok()
     }
 
     #[inline(always)]
-    fn poll(&mut self, listener: &mut K::Listener, cx: &mut Context<'_>) -> bool {
+    fn poll(&mut self, listener: &mut EventListener<(), R>, cx: &mut Context<'_>) -> bool {
         matches!(listener.poll_in(cx), Ok(Poll::Ready(())))
     }
 
@@ -57,7 +52,29 @@ impl<'ev, K: ListenerKind<'ev, (), R>, R: Wait> Queue for OnEvent<'ev, '_, K, R>
         self.event.notify(self.rt, count).unwrap_or(0)
     }
 
-    // It is dropped at the end of the scope: a call of `drop` is never inlined.
     #[inline(always)]
-    fn leave(&mut self, _listener: K::Listener) {}
+    fn leave(&mut self, _listener: EventListener<(), R>) {}
+}
+
+impl<'ev, R: Wait + Clock + Clone> Queue for OnBorrowed<'ev, '_, R> {
+    type Listener = StackListener<'ev, (), R>;
+
+    #[inline(always)]
+    fn listen(&mut self) -> Option<StackListener<'ev, (), R>> {
+        let slot = StackSlot::new(self.rt, self.alloc, self.event).ok()?;
+        slot.listen(self.rt).ok()
+    }
+
+    #[inline(always)]
+    fn poll(&mut self, listener: &mut StackListener<'ev, (), R>, cx: &mut Context<'_>) -> bool {
+        matches!(listener.poll_in(cx), Ok(Poll::Ready(())))
+    }
+
+    #[inline(always)]
+    fn notify(&mut self, count: usize) -> usize {
+        self.event.notify(self.rt, count).unwrap_or(0)
+    }
+
+    #[inline(always)]
+    fn leave(&mut self, _listener: StackListener<'ev, (), R>) {}
 }

@@ -37,7 +37,6 @@ impl<C: HandCalls + Drop> Queue for OnRecorded<C> {
         }
     }
 
-    // It is dropped at the end of the scope: a call of `drop` is never inlined.
     #[inline(always)]
     fn leave(&mut self, _listener: C::Listener) {}
 }
