@@ -9,3 +9,4 @@ pub mod ChainLookups
 pub mod Calls
 pub mod Nodes
 pub mod Ring
+pub mod Numbers
