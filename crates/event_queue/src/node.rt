@@ -63,16 +63,23 @@ impl<A, B> Model for Chain<A, B> {
         chain.table.spares chain.before_len chain.after_len };
 }
 
-// Makes the ring with no entry where there is none.
-fn start<A, B>(entries: &mut Option<Entries<A, B>>, alloc: Global) -> Result<(), AllocError>
+// Makes the ring with no entry, and a table for `n` nodes, where there is none.
+fn start<A, B>(
+    entries: &mut Option<Entries<A, B>>,
+    table: &mut Table<A, B>,
+    n: usize,
+) -> Result<(), AllocError>
     ensures nodes { nodes_of entries.new ≡ nodes_of entries.old }
     ensures started { OnOk result (IsStarted entries.old entries.new) }
     ensures err { OnErr result (entries.new ≡ entries.old) }
+    ensures slots { table.new.slots.items ≡ table.old.slots.items }
+    ensures spares { table.new.spares ≡ table.old.spares }
 {
     if entries.is_some() {
         return Ok(());
     }
-    let new = Entries::new(alloc)?;
+    table.begin(n)?;
+    let new = Entries::new(table.allocator())?;
     match mem::replace(entries, Some(new)) {
         None => Ok(()),
         Some(_) => unreachable!(),
@@ -131,7 +138,7 @@ impl<A, B> Chain<A, B> {
         ensures slots_fit { length self.new.before + length
             self.new.after + self.new.spare < 2 ^ 64 }
     {
-        start(&mut self.entries, self.table.allocator())?;
+        start(&mut self.entries, &mut self.table, n)?;
         let mut blocks = Blocks::of(self.table.allocator());
         self.table.grow(n, &mut blocks)
     }

@@ -10,6 +10,9 @@ use super::ring::{Count, NodePtr, NodeRef, Ring, Room, Spares};
 use crate::key::Key;
 use std::alloc::{AllocError, Global};
 
+// How many slots a table has at first, at least.
+const FIRST_SLOTS: usize = 4;
+
 /// A slot: the serial of the entry that uses it, and the place of its node. While the node is spare the serial is
 /// `u64::MAX`, which no entry gets, so no key leads to the place.
 #[derive(Drop)]
@@ -53,6 +56,15 @@ impl<A, B> Table<A, B> {
             slots: Vec::new(alloc),
             spares: Spares::new(alloc),
         }
+    }
+
+    /// Makes room for the first `n` slots, and for a few more if they are few. To let a table grow that has no block costs
+    /// more.
+    pub(super) fn begin(&mut self, n: usize) -> Result<(), AllocError>
+        ensures slots { self.new.slots.items ≡ self.old.slots.items }
+        ensures spares { self.new.spares ≡ self.old.spares }
+    {
+        self.slots.reserve_exact(n.max(FIRST_SLOTS))
     }
 
     /// The allocator that the table was made with.
