@@ -27,8 +27,8 @@ pub(super) struct Entry<A, B> {
 pub(super) enum Packed<A, B> {
     Spare(u32),
     Before(u32, A),
-    AfterWithout(u32),
     After(u32, B),
+    AfterWithout(u32),
 }
 
 impl<A, B> Model for Entry<A, B> {
