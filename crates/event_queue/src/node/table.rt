@@ -186,9 +186,11 @@ impl<A, B> Table<A, B> {
         ensures granted { OnOk result (blocks.new.granted ≡ blocks.old.granted + 1) }
         ensures refused { OnErr result (blocks.new.granted ≡ blocks.old.granted) }
     {
-        let Ok(slot) = u32::try_from(self.slots.len()) else {
+        let len = self.slots.len();
+        if len > u32::MAX as usize {
             return Err(AllocError);
-        };
+        }
+        let slot = len as u32;
         let room = blocks.take()?;
         let place = self.spares.push(room, Entry::spare(slot));
         self.slots.push_reserved(Slot {
