@@ -206,22 +206,8 @@ impl<T, H: Hold<T>, R: Wait + Clock + Clone> QueueListener<T, H, R> {
         hand.into_hand()
     }
 
-    // Takes the listener out of the queue, if it is there, and returns whether it was notified. With `propagate` its
-    // notification is propagated.
-    #[inline(always)]
-    fn remove(self, propagate: bool) -> bool
-    where
-        T: Drop,
-        H: Drop,
-        ensures finished { self.standing.is_finished ≡ true → result ≡ false }
-        ensures removed { self.standing.is_finished ≡ false → RemovesBy propagate self result }
-    {
-        let (told, hand) = self.leave(propagate);
-        hand.end();
-        told
-    }
-
-    // The same, with the listener's hand, which has left none in the queue.
+    // Takes the listener out of the queue, if it is there, and returns whether it was notified, and the listener's hand, which
+    // has left none in the queue. With `propagate` its notification is propagated.
     #[inline(always)]
     pub(crate) fn leave(self, propagate: bool) -> (bool, QueueHand<T>)
     where
@@ -430,7 +416,8 @@ impl<T: Drop, H: Hold<T> + Drop, R: Wait + Clock + Clone> Drop for QueueListener
         ensures removed { self.standing.is_finished ≡ false → (told : Bool)
             × RemovesBy true self told }
     {
-        let _ = self.remove(true);
+        let (_, hand) = self.leave(true);
+        hand.end();
     }
 }
 
