@@ -2,9 +2,9 @@
 #
 # help       1 s       prints these lines
 # run        1 min     runs the worked rows, and proves nothing; V=1 shows their texts
-# test       30 min    proves the libraries, runs all tests and programs, and tries what must not compile
-# gate       2 h       proves all, and tries the wrong bodies, which must be refused; a merge asks for test and gate
-# prove      1 h       proves all, and runs tests and programs; JOBS=4 works on four crates at a time, in 10 GB
+# test       8 min     runs all tests and programs, with every check at run time, tries what must not compile, and proves nothing
+# prove      1 h       proves all, and runs tests and programs as they were proved; JOBS=4 works on four crates at a time, in 10 GB
+# gate       1 h       proves all from nothing, runs tests and programs, and tries edits, which must be refused; a merge asks for it
 # check      1 h       proves all but tests; after an edit it takes seconds or minutes
 # vectors    12 min    proves and runs the worked rows, and keeps the program as crates/vectors/out/vectors
 # refused    1 min     tries programs that must not compile, and some that must
@@ -32,7 +32,7 @@ help:
 run:
 	$(needs_rt)@echo "Compiling the worked rows, without proof. Each is a list of calls with the answers that they must give."
 	@(cd crates/vectors && rt try < /dev/null) | scripts/rows $(V)
-	@echo "Nothing was proved: the rows ran with every check at run time. 'make gate' proves all."
+	@echo "Nothing was proved: the rows ran with every check at run time. 'make prove' proves all."
 
 # A folder is called tests.
 test tests:
@@ -42,7 +42,8 @@ gate:
 	$(needs_rt)@rt ci
 
 prove:
-	$(needs_rt)@rt all test $(if $(JOBS),--jobs $(JOBS))
+	$(needs_rt)@echo "Proving all crates and their tests, the first time for about an hour; what is proved is kept for the next."
+	@rt all test $(if $(JOBS),--jobs $(JOBS))
 
 check:
 	$(needs_rt)@rt all check
