@@ -8,11 +8,12 @@
 //! | `limits` | calls that wait until a limit, and what comes while they look at the clock there |
 //! | `wakes` | threads that are blocked, and woken one by one; who is woken as one that was told is dropped, or comes to its limit |
 //! | `turns` | one that lost twice, by turns with others: it has the third, and newcomers what is not due; who is dropped, polled for another reason or at its limit then; a close |
+//! | `races` | threads that make their calls at the same time: the last two handles of a side dropped at once, and many of four threads; a last message as another thread receives, and many received at once as another takes one |
 //! | `threads` | 8 threads that send and 8 that receive, each in a way of its own, or many at once; handles made anew by weak ones; a close among them; calls that are given up |
 //!
 //! What is said of every way to send or to receive is written once, and run with each: `ways` has them, with what they
-//! answer, `waiting` futures and streams, each with a task of its own; `script` makes the calls of a table. Threads that
-//! race are tested in `test_channel_races`, refused memory in `test_channel_memory`.
+//! answer, `waiting` futures and streams, each with a task of its own; `script` makes the calls of a table. Refused memory is
+//! tested in `test_channel_memory`.
 #![tactic(auto)]
 
 #[cfg(test)]
@@ -21,6 +22,8 @@ mod answers;
 mod handles;
 #[cfg(test)]
 mod limits;
+#[cfg(test)]
+mod races;
 #[cfg(test)]
 mod script;
 #[cfg(test)]
