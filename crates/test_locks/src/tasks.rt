@@ -1,6 +1,9 @@
 //! Tasks that wait in each way, and are woken once they are let in. One that gives up hands on what it was handed, and lets in
 //! who waited for it alone.
+use crate::cases::{Case, each};
+use crate::kinds::{Kind, Sharing, numbers};
 use crate::support::{check, new_lock, new_semaphore, new_task};
+use crate::waits::{Refusal, Waits};
 use event_locks::{
     Barrier, LockError, Mutex, OnceCell, PollError, RwLock, RwLockCounts, RwLockWriteGuardArc,
     Semaphore, TryAcquireError,
@@ -10,7 +13,6 @@ use futures::test::MockTask;
 use std::sync::Arc;
 use std::thread;
 use std::time::Duration;
-use test_event_locks::{Case, Kind, Refusal, Sharing, Waits, each, numbers};
 use test_support::{Runtime, deadline_after};
 
 /// A wait that a task of its own polls.
@@ -243,14 +245,14 @@ macro_rules! reads_and_writes {
 
 #[test]
 fn a_guard_downgrades_and_upgrades(rt: HostRuntime) {
-    let lock = new_lock(&rt, 7);
+    let lock = new_lock(&rt, 7u64);
     let writer = lock.try_write(&rt).expect(&rt, "the value");
     reads_and_writes!(&rt, lock, writer);
 }
 
 #[test]
 fn an_owned_guard_downgrades_and_upgrades(rt: HostRuntime) {
-    let lock = Arc::new(rt.alloc(), new_lock(&rt, 7)).expect(&rt, "memory");
+    let lock = Arc::new(rt.alloc(), new_lock(&rt, 7u64)).expect(&rt, "memory");
     let writer = RwLock::try_write_arc(&lock, rt).expect(&rt, "a share");
     let writer = writer.expect(&rt, "the value");
     reads_and_writes!(&rt, lock, writer);
@@ -264,7 +266,7 @@ fn write_by<R: Runtime>(mut writer: RwLockWriteGuardArc<u64, R>, value: u64) {
 // A guard that shares its lock writes in another thread, and is dropped there, which lets in a reader that shares it too.
 #[test]
 fn an_owned_guard_goes_to_another_thread(rt: HostRuntime) {
-    let lock = Arc::new(rt.alloc(), new_lock(&rt, 7)).expect(&rt, "memory");
+    let lock = Arc::new(rt.alloc(), new_lock(&rt, 7u64)).expect(&rt, "memory");
     let writer = RwLock::try_write_arc(&lock, rt).expect(&rt, "a share");
     let writer = writer.expect(&rt, "the value");
     let reads = RwLock::read_arc(&lock, rt, rt.alloc()).expect(&rt, "a share");
@@ -287,7 +289,7 @@ fn a_lock_counts_who_has_it_and_who_waits(rt: HostRuntime) {
         readers_waiting: 0,
         writers_waiting: 0,
     };
-    let lock = new_lock(&rt, 7);
+    let lock = new_lock(&rt, 7u64);
     check(&rt, "counts", lock.counts(&rt), nobody);
     let readers = [lock.try_read(&rt), lock.try_read(&rt)];
     let writes = Polled::new(&rt, lock.write(&rt, rt.alloc()));
@@ -326,7 +328,7 @@ fn a_lock_counts_who_has_it_and_who_waits(rt: HostRuntime) {
 // Readers that share their lock read at once, also while a writer waits, and are counted as long as their guards are there.
 #[test]
 fn owned_readers_read_while_a_writer_waits(rt: HostRuntime) {
-    let lock = Arc::new(rt.alloc(), new_lock(&rt, 7)).expect(&rt, "memory");
+    let lock = Arc::new(rt.alloc(), new_lock(&rt, 7u64)).expect(&rt, "memory");
     let reader = RwLock::try_read_arc(&lock, rt).expect(&rt, "a share");
     let reader = reader.expect(&rt, "the value");
     let other = RwLock::try_read_arc(&lock, rt).expect(&rt, "a share");
@@ -345,7 +347,7 @@ fn owned_readers_read_while_a_writer_waits(rt: HostRuntime) {
 // A reader that was let in reads beside any other, before it is polled, too.
 #[test]
 fn one_reads_beside_a_reader_that_was_let_in(rt: HostRuntime) {
-    let shared = new_lock(&rt, 7);
+    let shared = new_lock(&rt, 7u64);
     let writer = shared.try_write(&rt);
     let let_in = Polled::new(&rt, shared.read(&rt, rt.alloc()));
     drop(writer);
@@ -360,7 +362,7 @@ fn one_reads_beside_a_reader_that_was_let_in(rt: HostRuntime) {
 
 #[test]
 fn a_reader_that_is_told_and_dropped_gives_way_to_a_writer(rt: HostRuntime) {
-    let shared = new_lock(&rt, 7);
+    let shared = new_lock(&rt, 7u64);
     let held = shared.try_write(&rt).expect(&rt, "the value");
     let reader = Polled::new(&rt, shared.read(&rt, rt.alloc()));
     let writer = Polled::new(&rt, shared.write(&rt, rt.alloc()));
@@ -373,7 +375,7 @@ fn a_reader_that_is_told_and_dropped_gives_way_to_a_writer(rt: HostRuntime) {
 #[test]
 fn readers_come_in_once_no_writer_waits(rt: HostRuntime) {
     for is_dropped in [true, false] {
-        let shared = new_lock(&rt, 7);
+        let shared = new_lock(&rt, 7u64);
         let reader = shared.try_read(&rt).expect(&rt, "the value");
         let writer = Polled::new(&rt, shared.write(&rt, rt.alloc())).into_waits();
         let mut first = Polled::new(&rt, shared.read(&rt, rt.alloc()));

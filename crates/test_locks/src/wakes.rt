@@ -1,6 +1,6 @@
 //! Threads that have parked, and calls that let them in which no other test makes with a thread behind.
 use crate::support::{check, new_lock, new_task};
-use crate::waits::Polled;
+use crate::tasks::Polled;
 use event_locks::{Barrier, Claim, OnceCell, RwLock};
 use futures::Future;
 use futures::task::{Context, Poll};
@@ -31,7 +31,7 @@ where
 
 #[test]
 fn a_writer_that_reads_lets_a_thread_in(rt: HostRuntime) {
-    let lock = &Arc::new(rt.alloc(), new_lock(&rt, 7)).expect(&rt, "memory");
+    let lock = &Arc::new(rt.alloc(), new_lock(&rt, 7u64)).expect(&rt, "memory");
     let writer = RwLock::try_write_arc(lock, rt).expect(&rt, "a share");
     let writer = writer.expect(&rt, "the value");
     let reads = || lock.read(&rt, rt.alloc()).wait().is_ok();

@@ -1,5 +1,5 @@
 //! Threads that wait in each way, and are woken once they are let in. That each lock wakes whom it lets in is tested by
-//! tasks, in `test_lock_waits`: a thread that is woken differs from a task in nothing else.
+//! `tasks`: a thread that is woken differs from a task in nothing else.
 use crate::support::{check, new_lock, new_task, wait_until};
 use crate::waits::Waits;
 use event_locks::RwLock;

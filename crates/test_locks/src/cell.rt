@@ -1,5 +1,5 @@
 //! A value that is made once: what a cell does in the order in which callers of other crates' cells use it, and tasks that make
-//! it, one at a time, and once that one is gone the next. `test_lock_waits` has threads that wait for it.
+//! it, one at a time, and once that one is gone the next. `wakes` has threads that wait for it.
 use crate::support::{check, new_task};
 use event_locks::{Claim, LockError, OnceCell, SetError, SetReason};
 use futures::Future;
