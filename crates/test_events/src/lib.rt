@@ -1,6 +1,7 @@
-//! Tests of events, listeners and recorded events by their public calls: what no clause says of who is told, and which wakers a
-//! poll keeps; of how listeners are made and what they show; of the lock of an event; and of recorded events. No clause can name
-//! what a lock held: these show that a call asked the queue at all.
+//! Tests of events, listeners and recorded events, and of attempts that are made until one succeeds, by their public calls: what
+//! no clause says of who is told, and which wakers a poll keeps; of how listeners are made and what they show; of the lock of an
+//! event; of when a wait ends, and that a thread parks until it is woken; and of recorded events. No clause can name what a lock
+//! held: these show that a call asked the queue at all.
 //!
 //! | Module | What it tests |
 //! |---|---|
@@ -11,11 +12,29 @@
 //! | `wakes` | a task and a parked thread behind a notification of a hand, a task behind a told listener that is dropped |
 //! | `making` | the macro `listener!`; slots; a refused clone; what is shown; what threads may share; listeners that outlive their event |
 //! | `records` | more hands than memory holds; hands of other events; each call of a recorded state succeeds |
+//! | `waits::limits` | a told listener gives its tag at once, without parking; a timed wait parks until its limit, and ends no earlier and soon after it, by clocks that are slow, go back, fail, can't be read or notify; a task that polls is woken only once its listener is told, and a finished listener does not wait |
+//! | `waits::wakes` | a notification and the drop of a told listener wake parked threads; a thread is told before it looks for its listener, before it parks, as it does so, or after |
+//! | `waits::threads` | eight threads with a hand each make one record, which has each of their calls and of their drops once; two threads tell each other by two recorded events |
+//! | `waits::awaited` | tasks that await listeners, and move between threads: that they are woken, and how often they are polled |
+//! | `until::attempts` | how many attempts are made, and which of them while a listener is in the queue; the last one at a deadline; a listener that is told and not needed passes its notification on; texts of errors |
+//! | `until::polls` | polls by hand: a poll that is not due attempts nothing and wakes nobody; told and dropped, or blocking from then on, or giving its attempt back |
+//! | `until::deadlines` | who is told at its deadline; a limit whose moment can't be represented |
+//! | `until::threads` | 10 threads that make 1,000 calls each, half of them as futures; how often their tasks are polled; who is woken finds the gate open, the latest value, the baton free |
 //!
 //! Events are tested with both kinds of listener. How many each notification tells, worked rows and `soak` show, which compares
-//! all calls that need no second thread, and their records, with a queue. Waits are tested in `test_waits`, and refused memory
-//! in `test_memory`. Not tested: a recorded queue whose serial numbers are used up. None can start late, since its record
-//! replays from the serial 0.
+//! all calls that need no second thread, and their records, with a queue. Refused memory is tested in `test_memory`. Not tested:
+//! a recorded queue whose serial numbers are used up. None can start late, since its record replays from the serial 0.
+//!
+//! A case of `waits` runs with listeners that share the queue of their event, with those that borrow their event, and with
+//! those of a recorded event. Of its modules `stage` is the event of a case, with the clock of its listeners, `trial` what a
+//! case makes its calls on, and `recorded` that of a recorded event, which each test closes with all its hands: their notes
+//! have to be those of its record. The tests of `until` are of `event_until`, and of the gate, the watch and the baton of
+//! `example_events`, which stand on it.
+//!
+//! The machine may be busy, so "soon" means that of up to twenty waits of 50 milliseconds one ends within 87. No contract
+//! says that a thread wakes: the tests show that it woke within ten seconds here. One that is not woken ends at a limit of
+//! 20 seconds, and fails. A wait that should end at once and does not, or that has no limit, fails at the limit that the
+//! toolchain has for every test. Threads that race do so for two seconds.
 //!
 //! What is calls and answers is text, in the language of `calls`, which costs the prover nothing. Any other test of both kinds
 //! is a generic function. To be proved quickly, calls that have to succeed end in `expect`, in helpers: a `?`, or a condition of
@@ -36,5 +55,9 @@ mod rows;
 mod support;
 #[cfg(test)]
 mod tags;
+#[cfg(test)]
+mod until;
+#[cfg(test)]
+mod waits;
 #[cfg(test)]
 mod wakes;

@@ -1,7 +1,7 @@
 //! What each call answers, which tasks wake, and what the record of an event has of it.
 //!
 //! A waker wakes its task when it is dropped, too. So these rows show that a call gives each task up before it returns,
-//! but not that it wakes one: those of `test_waits`, in which threads wait, show that.
+//! but not that it wakes one: those of `waits`, in which threads wait, show that.
 use crate::support::{Runtime, check, reads};
 use calls::{Difference, Row, Undisturbed};
 use calls_events::run_on_events;

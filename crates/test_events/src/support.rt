@@ -1,9 +1,10 @@
 //! What the tests share: the one assertion, and the calls that have to succeed. Each ends the test where it does not.
-use event_listener::{Event, EventIds, EventListener, Listener};
+use event_listener::{Event, EventId, EventIds, EventListener, Listener};
 use futures::test::MockTask;
 use std::alloc::{AllocError, AllocGlobal};
 use std::fmt::Debug;
 use std::process::Abort;
+use std::random::RandomSource;
 use std::sync::Wait;
 use test_support::ListenerKind;
 pub use test_support::Runtime;
@@ -30,13 +31,18 @@ pub fn shows<V: Debug, R: Abort + AllocGlobal>(rt: &R, value: &V, text: &str) {
     reads(rt, format!(in rt.alloc(); "{value:?}"), text);
 }
 
-/// A new event, the only one of its source.
-pub fn new_event<T, R: Abort>(rt: &R) -> Event<T> {
-    Event::with_tag(EventIds::new().next().expect(rt, "an identity"))
+/// The first identity of a source.
+pub fn new_id<R: Abort>(rt: &R) -> EventId {
+    EventIds::new().next().expect(rt, "an identity")
 }
 
-/// A new task.
-pub fn new_task<R: Runtime>(rt: &R) -> MockTask {
+/// A new event, the only one of its source.
+pub fn new_event<T, R: Abort>(rt: &R) -> Event<T> {
+    Event::with_tag(new_id(rt))
+}
+
+/// A task that is not woken.
+pub fn new_task<R: Abort + RandomSource + AllocGlobal>(rt: &R) -> MockTask {
     MockTask::new(rt).expect(rt, "a task")
 }
 

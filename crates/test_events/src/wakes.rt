@@ -1,4 +1,4 @@
-//! Calls that wake who waits next, be that a task or a thread that parks, and one that does not. `test_waits` has those of
+//! Calls that wake who waits next, be that a task or a thread that parks, and one that does not. `waits` has those of
 //! events and of listeners for threads.
 use crate::support::{Runtime, check, listen_as, new_event, new_task, sharing};
 use calls::Reply;

@@ -1,8 +1,9 @@
 //! What a case is, and what it makes its calls on.
-use crate::recorded::{OfRecorded, Recorded};
-use crate::stage::{AnyEvent, SharedRuntime, Stage, StageClock, check, moment_after};
-use crate::{limits, wakes};
-use event_listener::{Event, EventIds, Listener, WaitReason};
+use crate::support::{check, new_event};
+use crate::waits::recorded::{OfRecorded, Recorded};
+use crate::waits::stage::{AnyEvent, SharedRuntime, Stage, StageClock, moment_after};
+use crate::waits::{limits, wakes};
+use event_listener::{Event, Listener, WaitReason};
 use futures::task::{Context, Poll};
 use std::marker::PhantomData;
 use std::time::Duration;
@@ -71,11 +72,10 @@ pub trait Trial: Sync {
 
 /// Runs a case with each kind of listener. A test calls this alone: each place that names the kinds is slow to prove.
 pub fn all<R: SharedRuntime>(rt: &R, case: Case) {
-    let id = || EventIds::new().next().expect(rt, "an identity");
-    let stage = &Stage::new(rt, Event::with_tag(id()));
+    let stage = &Stage::new(rt, new_event(rt));
     let kind: PhantomData<Sharing> = PhantomData;
     run(&OfKind { stage, kind }, case);
-    let stage = &Stage::new(rt, Event::with_tag(id()));
+    let stage = &Stage::new(rt, new_event(rt));
     let kind: PhantomData<Borrowing> = PhantomData;
     run(&OfKind { stage, kind }, case);
     let stage = Stage::new(rt, Recorded::new(rt, 5));

@@ -1,5 +1,6 @@
 //! How many attempts are made, and when, and texts.
-use crate::support::{Notes, check, new_id, until_nth};
+use crate::support::{check, new_id};
+use crate::until::{Notes, until_nth};
 use event_listener::{Event, EventListener, ListenError, Listener, NeverInserted, WaitReason};
 use event_until::{Attempt, Until, UntilError};
 use std::alloc::{AllocGlobal, Global};

@@ -1,6 +1,6 @@
-//! The event of a case, with the clock of its listeners, and what the tests share besides.
+//! The event of a case, with the clock of its listeners, and what the tests of waits share besides.
+use crate::support::check;
 use event_listener::{Event, IntoTagged, RecordedReply};
-use std::fmt::Debug;
 use std::io;
 use std::process::Abort;
 use std::sync::atomic::{AtomicU32, Ordering};
@@ -14,17 +14,6 @@ use test_support::{Change, Changed, Runtime, deadline_after};
 pub trait SharedRuntime: Runtime + CpuClock + Threads + Send + Sync {}
 
 impl<R: Runtime + CpuClock + Threads + Send + Sync> SharedRuntime for R {}
-
-/// The answer is the expected one. Where it is not, the message has both, and what was asked. The assertion stands here
-/// once, in a generic function, and is proved once.
-pub fn check<A, V, R>(rt: &R, asked: A, answer: V, expected: V)
-where
-    A: Debug + Drop,
-    V: PartialEq + Debug + Drop,
-    R: Abort,
-{
-    assert_eq!(rt; answer, expected, "{asked:?}");
-}
 
 /// All waits.
 pub const WAITS: [WaitCall; 3] = [Timeout, Deadline, UntilTold];

@@ -1,5 +1,6 @@
 //! Polls by hand.
-use crate::support::{Notes, Nth, check, check_woken, new_id, new_task, until_nth};
+use crate::support::{check, new_id, new_task};
+use crate::until::{Notes, Nth, check_woken, until_nth};
 use event_listener::{Event, Listener};
 use event_until::Until;
 use futures::task::Poll;

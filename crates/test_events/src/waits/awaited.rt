@@ -2,9 +2,9 @@
 //! until it is told, with room for a wake or two; a task that spins is polled some hundred thousand times.
 ghost use Rattle.std.specs.Prelude.{All};
 
-use crate::stage::check;
+use crate::support::{check, listen_as, new_event};
 use event_listener::{
-    Event, EventIds, EventListener, IntoNotification, IntoTagged, NeverInserted, StackListener,
+    Event, EventListener, IntoNotification, IntoTagged, NeverInserted, StackListener,
 };
 use futures::Future;
 use futures::executor::{TaskSet, block_on};
@@ -16,20 +16,6 @@ use std::sync::atomic::{AtomicU32, Ordering};
 use std::thread::{self, Threads};
 use std::time::{Clock, Duration};
 use test_support::{Borrowing, ListenerKind, Runtime, Sharing};
-
-// A new event, the only one of its source.
-fn new_event<R: Abort>(rt: &R) -> Event<u32> {
-    Event::with_tag(EventIds::new().next().expect(rt, "an identity"))
-}
-
-// A new listener of this kind.
-fn listen_as<'ev, K, L, R>(rt: &R, event: &'ev Event<u32>) -> L
-where
-    K: ListenerKind<'ev, u32, R, Listener = L>,
-    R: Runtime,
-{
-    K::listen(rt, rt.alloc(), event).expect(rt, "a listener")
-}
 
 // A listener that can be awaited at any time.
 trait Awaited: Future<Output = Result<u32, NeverInserted>> {

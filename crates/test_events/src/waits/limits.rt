@@ -1,7 +1,8 @@
 //! When a wait ends, by the clock of its listener.
-use crate::stage::Habit::{self, Back, Exact, Fails, Notifies, Slow};
-use crate::stage::{AnyEvent, TIMED_WAITS, WAITS, check, ends_soon, greatest, limit, long, now};
-use crate::trial::{Case, Polled, Trial, all};
+use crate::support::{check, new_task};
+use crate::waits::stage::Habit::{self, Back, Exact, Fails, Notifies, Slow};
+use crate::waits::stage::{AnyEvent, TIMED_WAITS, WAITS, ends_soon, greatest, limit, long, now};
+use crate::waits::trial::{Case, Polled, Trial, all};
 use event_listener::{Former, RecordedReply, RegisterResult, WaitReason};
 use futures::task::Poll;
 use futures::test::MockTask;
@@ -77,7 +78,7 @@ fn gives_one_tag<S: Trial>(trial: &S, task: &MockTask, wait: WaitCall, limit: Du
 }
 
 pub fn is_told_once<S: Trial>(trial: &S) {
-    let task = MockTask::new(trial.rt()).expect(trial.rt(), "a task");
+    let task = new_task(trial.rt());
     for wait in WAITS {
         for limit in [Duration::ZERO, long(), Duration::MAX] {
             gives_one_tag(trial, &task, wait, limit);

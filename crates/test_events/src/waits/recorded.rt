@@ -1,8 +1,9 @@
 //! Recorded events with their hands, and listeners with theirs.
 ghost use Rattle.event_listener.specs.Noting.{Owns};
 
-use crate::stage::{AnyEvent, SharedRuntime, Stage, StageClock, check, moment_after};
-use crate::trial::{Polled, Trial, Waited};
+use crate::support::check;
+use crate::waits::stage::{AnyEvent, SharedRuntime, Stage, StageClock, moment_after};
+use crate::waits::trial::{Polled, Trial, Waited};
 use calls::Reply;
 use calls_records::{HandCalls, On, close, new_event};
 use event_listener::{

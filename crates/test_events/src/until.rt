@@ -1,35 +1,18 @@
-//! What the tests of attempts share: an attempt that notes what it sees, and the calls that have to succeed.
-use event_listener::{Event, EventId, EventIds};
+//! Attempts that are made until one succeeds. What their tests share is an attempt that notes what it sees.
+mod attempts;
+mod deadlines;
+mod polls;
+mod threads;
+
+use crate::support::check;
+use event_listener::Event;
 use event_until::{Attempt, Until};
 use futures::test::MockTask;
 use std::alloc::AllocGlobal;
 use std::cell::Cell;
-use std::fmt::Debug;
 use std::process::Abort;
-use std::random::RandomSource;
 use std::sync::Wait;
 use std::time::Clock;
-
-/// The answer is the expected one. Where it is not, the message has both, and what was asked. The assertion stands here
-/// once, in a generic function, and is proved once.
-pub fn check<A, V, R>(rt: &R, asked: A, answer: V, expected: V)
-where
-    A: Debug + Drop,
-    V: PartialEq + Debug + Drop,
-    R: Abort,
-{
-    assert_eq!(rt; answer, expected, "{asked:?}");
-}
-
-/// The first identity of a source.
-pub fn new_id<R: Abort>(rt: &R) -> EventId {
-    EventIds::new().next().expect(rt, "an identity")
-}
-
-/// A task that is not woken.
-pub fn new_task<R: Abort + RandomSource + AllocGlobal>(rt: &R) -> MockTask {
-    MockTask::new(rt).expect(rt, "a task")
-}
 
 /// Since its last poll the task was woken, or was not.
 pub fn check_woken<R: Abort>(rt: &R, task: &MockTask, expected: bool) {

@@ -1,5 +1,6 @@
 //! Threads with a hand each on one recorded event, and on two.
-use crate::stage::{SharedRuntime, check, now};
+use crate::support::check;
+use crate::waits::stage::{SharedRuntime, now};
 use calls::{Act, Reply};
 use calls_records::{HandCalls, On, close, new_event};
 use event_listener::{EventId, EventIds, Hand, RecordedEvent};

@@ -1,5 +1,6 @@
 //! Clocks that notify when they are read, so that who waits is told at its deadline.
-use crate::support::{Notes, check, new_id, until_nth};
+use crate::support::{check, new_id};
+use crate::until::{Notes, until_nth};
 use event_listener::Event;
 use example_events::until::Gate;
 use std::cell::Cell;

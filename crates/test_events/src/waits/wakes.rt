@@ -1,6 +1,7 @@
 //! Threads that park, and what wakes them; a thread that is told again and again, whatever it does by then.
-use crate::stage::{AnyEvent, WAITS, check, ends_soon, greatest, limit, now};
-use crate::trial::{Case, Trial, all};
+use crate::support::check;
+use crate::waits::stage::{AnyEvent, WAITS, ends_soon, greatest, limit, now};
+use crate::waits::trial::{Case, Trial, all};
 use std::sync::Wait;
 use std::sync::atomic::{AtomicU32, Ordering};
 use std::thread;
