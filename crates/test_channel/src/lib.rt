@@ -13,7 +13,7 @@
 //!
 //! What is said of every way to send or to receive is written once, and run with each: `ways` has them, with what they
 //! answer, `waiting` futures and streams, each with a task of its own; `script` makes the calls of a table. Refused memory is
-//! tested in `test_channel_memory`.
+//! tested in `test_memory`.
 #![tactic(auto)]
 
 #[cfg(test)]

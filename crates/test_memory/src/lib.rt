@@ -1,13 +1,14 @@
 //! Tests of libraries while requests for memory are refused: what no clause says of a refusal, and that calls which allocate
-//! nothing need none. Those of queues are in `test_queue_memory`, of channels in `test_channel_memory`, and of worked rows in
-//! `vectors`.
+//! nothing need none. Those of queues are in `test_queue_memory`, and of worked rows in `vectors`.
 //!
 //! | Module | What it tests |
 //! |---|---|
 //! | `events` | threads that are parked, and woken by one without memory: by a notification, and by the drop of a listener that was told |
 //! | `recorded` | calls on recorded events that have room for note and entry, or none for the note; each request of a wait |
 //! | `locks` | the locks, polled locks and semaphores of `example_events`, each of whose requests is refused while another one has them; the example programs, refused the counter, the flag or a thread |
+//! | `channels` | calls on channels that are refused a place in the queue, what a thread parks on, or room for a message; such as need none |
 //! | `leaks` | a thousand events, hands, listeners, waits, guards that have the last share of their lock, and permits that are forgotten, one after another where little memory is left: what is dropped gives its memory back |
+//! | `channels::leaks` | the same of receives that are late, and of channels with their handles and sends |
 //! | `until` | attempts whose wait is refused a listener, or what its thread parks on: it leaves no listener, and one that is told hands its notification on |
 //! | `waits` | waits for each lock of `event_locks`, each of whose requests is refused; calls of these locks without memory |
 //!
@@ -16,6 +17,8 @@
 //! `rt try --test`, which brings an allocator of its own, both are refused, and these tests fail.
 #![tactic(auto)]
 
+#[cfg(test)]
+mod channels;
 #[cfg(test)]
 mod events;
 #[cfg(test)]

@@ -1,4 +1,4 @@
-//! What is dropped gives its memory back: where little is left, it can be made and dropped again and again.
+//! What channels drop gives its memory back: where little is left, it can be made and dropped again and again.
 use crate::support::{Runtime, check, comes_back, new_task};
 use event_channel::{RecvTimeoutError, bounded};
 use std::sync::Wait;

@@ -1,4 +1,6 @@
 //! What channels leave where memory is refused: a message is in the channel or comes back, and is never lost.
+mod leaks;
+
 use crate::support::{Answer, Runtime, all_memory, check, count_refused, leave, new_task};
 use event_channel::{
     ChannelError, Receiver, RecvError, RecvTimeoutError, SendError, SendReason, Sender,
