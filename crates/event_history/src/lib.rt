@@ -37,8 +37,6 @@ mod request;
 mod rule;
 mod step;
 pub mod steps;
-#[cfg(test)]
-mod tests;
 mod traced;
 
 pub use hand::{Hand, IdleHand};

@@ -1,9 +1,8 @@
-//! What no clause sees: that a thread which sleeps for the state is woken, and that threads which meet all get it.
+//! A state under a lock of `event_history`: what no clause sees, that a thread which sleeps for the state is woken, and that
+//! threads which meet all get it.
 ghost use Rattle.std.specs.Prelude.{◌≡◌, ◌+◌, ◌%◌, ◌^◌, ⊤};
 
-use crate::history::Steps;
-use crate::step::Step;
-use crate::traced::Traced;
+use event_history::{Step, Steps, Traced};
 use std::sync::Wait;
 use std::test::Fail;
 use std::time::{Clock, Duration};
