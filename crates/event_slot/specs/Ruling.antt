@@ -1,5 +1,5 @@
 -- What a step may change, what it gains, and what it asks of the rule.
-use Rattle.std.specs.Prelude.{◌≡◌, ◌≢◌, ℕ, zero, suc, ◌+◌, ◌%◌, ◌^◌, ◌<◌, ◌≤◌, Bool, if◌then◌else◌, Option, List, [], ◌∷◌, ◌++◌, slice_set}
+use Rattle.std.specs.Prelude.{◌≡◌, ◌≢◌, ◌⊎◌, ℕ, zero, suc, ◌+◌, ◌%◌, ◌^◌, ◌<◌, ◌≤◌, Bool, true, if◌then◌else◌, Option, List, [], ◌∷◌, ◌++◌, slice_set}
 use mathlib.Core.Option.{some}
 use lib.ListN.{get_elem?}
 use Rattle.counted_slot.specs.Counting.{readers}
@@ -95,3 +95,19 @@ module _ {S W : Type 0} where
   Comes holds out f tells = (n : ℕ) (home : Option S) (views : List W) → holds n home views → n < 2 ^ 64
       → (w : W) × (change : Bool) × holds (f n) (if change then out else home) (views ++ w ∷ [])
       × tells n w (if change then home else out)
+
+-- What a step owes that wakes nobody, by whether a mark owes a wake, and whether a word announces that threads may sleep. What is due stays due.
+module _ {W : Type 0} (owes : W → Bool) where
+  -- a load: who owes a wake owes it still
+  abbrev pub OwesStill : W → (ℕ → W → Type 0) → Type 0
+  OwesStill v tells = owes v ≡ true → (n : ℕ) (w : W) → tells n w → owes w ≡ true
+
+  module _ (announces : ℕ → Bool) where
+    -- a wake is due where a mark knows v and the word is n: the mark owes it, or the word has whoever changes it owe it
+    abbrev pub IsDue : W → ℕ → Type 0
+    IsDue v n = (owes v ≡ true) ⊎ (announces n ≡ true)
+
+    -- A compare-exchange from one word to another. Where it found the one, a debt may pass to the word, and the word's to the mark; else who owes a wake owes it still.
+    pub record StaysDue {S : Type 0} (old new : ℕ) (v : W) (tells : ℕ → W → Option S → Type 0) : Type 0 where
+      pub made : (w : W) (out : Option S) → tells old w out → IsDue v old → IsDue w new
+      pub missed : (n : ℕ) (w : W) (out : Option S) → n ≢ old → tells n w out → owes v ≡ true → owes w ≡ true

@@ -2,7 +2,7 @@
 ghost use Rattle.std.specs.Prelude.{◌≡◌, ◌≢◌, ℕ, ◌==◌, Option, None, Some};
 ghost use prog.Atomic.{either};
 ghost use Rattle.std.specs.Coded.{coded_option};
-ghost use Rattle.event_slot.specs.Ruling.{MayTurn, Becomes, Comes, MayTrade};
+ghost use Rattle.event_slot.specs.Ruling.{MayTurn, Becomes, Comes, MayTrade, StaysDue};
 ghost use Rattle.event_slot.specs.Holding.{claim_owns, claim_shares};
 
 use crate::rule::{Mark, Ruled, Trades};
@@ -55,7 +55,7 @@ impl<'a, X: Ruled<S>, S> Claim<'a, X, S> {
     ///
     /// `MayTurn` lists the changes that one may make who has this right, and `Becomes` says which right that leads to. If the word
     /// was `old`, the state may be taken out, or put back if it is out. The rule has to hold afterwards, whether or not the word was
-    /// `old`.
+    /// `old`. A wake that the mark owed, or that `old` announced, the mark owes then, or `new` announces it.
     pub fn exchange<M: Trades<X::View, S>>(
         self,
         mark: &mut Mark<X::View>,
@@ -65,6 +65,8 @@ impl<'a, X: Ruled<S>, S> Claim<'a, X, S> {
         requires turn { MayTurn self.right (X.counts old) (X.counts new) }
         requires keeps { (mark.old.slot ≡ self.name)
             × MayTrade (X.holds self.key) mark.old.id mark.old.view self.state (λ n. either (n == old) new n)
+            (M.then old new mark.old.view self.state) }
+        requires owes { StaysDue X.owes X.announces old new mark.old.view
             (M.then old new mark.old.view self.state) }
         ensures becomes { (result.0 ≡ old → Becomes self.entry.right (X.counts old) (X.counts new) result.1.right)
             × (result.0 ≢ old → result.1.right ≡ self.entry.right) × (result.1.name ≡ self.entry.name)
@@ -87,6 +89,8 @@ impl<'a, X: Ruled<S>, S> Claim<'a, X, S> {
     ) -> (u64, Claim<'a, X, S>, Mark<X::View>)
         requires turn { MayTurn self.right (X.counts old) (X.counts new) }
         requires keeps { Comes (X.holds self.key) self.state (λ n. either (n == old) new n)
+            (M.then old new (X.first self.key) self.state) }
+        requires owes { StaysDue X.owes X.announces old new (X.first self.key)
             (M.then old new (X.first self.key) self.state) }
         ensures becomes { (result.0 ≡ old → Becomes self.entry.right (X.counts old) (X.counts new) result.1.right)
             × (result.0 ≢ old → result.1.right ≡ self.entry.right) × (result.1.name ≡ self.entry.name)

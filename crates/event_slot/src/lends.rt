@@ -24,7 +24,7 @@ impl<X: Ruled<S>, S> Slot<X, S> {
     pub fn get_mut(&mut self) -> &mut X
         ensures* writes_back { sem 𝓛
             (follows (slot_row X.row S.row X.View.row X.Key.row
-            (record { counts = X.counts; holds = X.holds; first = X.first })) X.row self.entry.ghost_name result.ghost_name (λ _. self.old)) }
+            (record { counts = X.counts; holds = X.holds; first = X.first; announces = X.announces; owes = X.owes; may_sleep = X.may_sleep })) X.row self.entry.ghost_name result.ghost_name (λ _. self.old)) }
     {
         &mut self.value
     }
@@ -36,7 +36,7 @@ impl<'a, X: Ruled<S>, S> Claim<'a, X, S> {
         requires { IsSome self.old.state }
         ensures* writes_back { sem 𝓛
             (follows (claim_row (record { mir = named 1; lft = [] }) X.row S.row X.View.row X.Key.row
-            (record { counts = X.counts; holds = X.holds; first = X.first })) S.row self.entry.ghost_name result.ghost_name (claim_with self.old)) }
+            (record { counts = X.counts; holds = X.holds; first = X.first; announces = X.announces; owes = X.owes; may_sleep = X.may_sleep })) S.row self.entry.ghost_name result.ghost_name (claim_with self.old)) }
         ensures state { Some result.now ≡ self.old.state }
     {
         unsafe { &mut *(&raw const (*self.slot).state as *mut S) }
@@ -55,7 +55,7 @@ impl<'a, X: Ruled<S>, S> Writing<'a, X, S> {
     pub fn get_mut(&mut self) -> &mut X
         ensures* writes_back { sem 𝓛
             (follows (the_row (record { mir = named 1; lft = [] }) X.row S.row X.View.row X.Key.row
-            (record { counts = X.counts; holds = X.holds; first = X.first })) X.row self.entry.ghost_name result.ghost_name (writing_with self.old)) }
+            (record { counts = X.counts; holds = X.holds; first = X.first; announces = X.announces; owes = X.owes; may_sleep = X.may_sleep })) X.row self.entry.ghost_name result.ghost_name (writing_with self.old)) }
         ensures value { result.now ≡ self.old.value }
     {
         unsafe { &mut *(&raw const (*self.slot).value as *mut X) }
@@ -74,7 +74,7 @@ impl<'a, X: Ruled<S>, S, L: Ties> Tied<'a, X, S, L> {
     pub fn get_mut(&mut self) -> &mut X
         ensures* writes_back { sem 𝓛
             (follows (tied_row (record { mir = named 1; lft = [] }) X.row S.row L.row X.View.row X.Key.row
-            (record { counts = X.counts; holds = X.holds; first = X.first })
+            (record { counts = X.counts; holds = X.holds; first = X.first; announces = X.announces; owes = X.owes; may_sleep = X.may_sleep })
             (record { ties = L.ties })) X.row self.entry.ghost_name result.ghost_name
             (tied_with self.old)) }
         ensures value { result.now ≡ self.old.value }
@@ -105,7 +105,7 @@ impl<T, X: Ruled<S>, S, A: Allocator> Owned<T, X, S, A> {
         requires { (self.old.right ≡ 2) × (self.old.state ≡ None) }
         ensures* writes_back { sem 𝓛
             (follows (owned_row T.row X.row S.row A.row X.View.row X.Key.row
-            (record { counts = X.counts; holds = X.holds; first = X.first }) A.Allocator) X.row self.entry.ghost_name result.ghost_name (owned_with self.old)) }
+            (record { counts = X.counts; holds = X.holds; first = X.first; announces = X.announces; owes = X.owes; may_sleep = X.may_sleep }) A.Allocator) X.row self.entry.ghost_name result.ghost_name (owned_with self.old)) }
         ensures value { Some result.now ≡ self.old.value }
     {
         unsafe { &mut *(&raw const (*self.slot).value as *mut X) }
@@ -116,7 +116,7 @@ impl<T, X: Ruled<S>, S, A: Allocator> Owned<T, X, S, A> {
         requires { IsSome self.old.state }
         ensures* writes_back { sem 𝓛
             (follows (owned_row T.row X.row S.row A.row X.View.row X.Key.row
-            (record { counts = X.counts; holds = X.holds; first = X.first }) A.Allocator) S.row self.entry.ghost_name result.ghost_name (owned_with_state self.old)) }
+            (record { counts = X.counts; holds = X.holds; first = X.first; announces = X.announces; owes = X.owes; may_sleep = X.may_sleep }) A.Allocator) S.row self.entry.ghost_name result.ghost_name (owned_with_state self.old)) }
         ensures state { Some result.now ≡ self.old.state }
     {
         unsafe { &mut *(&raw const (*self.slot).state as *mut S) }

@@ -2,7 +2,7 @@
 ghost use Rattle.std.specs.Prelude.{◌≡◌, ◌≢◌, ℕ, ◌<◌, ◌==◌, ◌++◌, Option, None, Some, IsSome};
 ghost use prog.Atomic.{either};
 ghost use Rattle.std.specs.Coded.{coded_option};
-ghost use Rattle.event_slot.specs.Ruling.{MayTurn, Becomes, MayTrade};
+ghost use Rattle.event_slot.specs.Ruling.{MayTurn, Becomes, MayTrade, StaysDue};
 ghost use Rattle.event_slot.specs.Holding.{Named};
 ghost use Rattle.event_slot.specs.Owning.{owned_owns, owned_shares};
 
@@ -95,6 +95,8 @@ impl<T, X: Ruled<S>, S, A: Allocator> Owned<T, X, S, A> {
         requires turn { MayTurn self.right (X.counts old) (X.counts new) }
         requires keeps { (mark.old.slot ≡ self.name)
             × MayTrade (X.holds self.key) mark.old.id mark.old.view self.state (λ n. either (n == old) new n)
+            (M.then old new mark.old.view self.state) }
+        requires owes { StaysDue X.owes X.announces old new mark.old.view
             (M.then old new mark.old.view self.state) }
         ensures becomes { (result.0 ≡ old → Becomes self.right (X.counts old) (X.counts new) result.1.right)
             × (result.0 ≢ old → result.1.right ≡ self.right) × (result.1.name ≡ self.name)

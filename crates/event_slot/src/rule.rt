@@ -1,5 +1,5 @@
 //! A rule over a word, the state behind it, and what its marks know.
-ghost use Rattle.std.specs.Prelude.{◌≡◌, ℕ, List, [], ◌∷◌, Option};
+ghost use Rattle.std.specs.Prelude.{◌≡◌, ℕ, Bool, List, [], ◌∷◌, Option};
 ghost use Rattle.atomic_table.specs.Marked.{mark_owns};
 
 use crate::rest::Rest;
@@ -22,6 +22,16 @@ pub trait Ruled<S> {
 
     // The view of the mark that a slot with this key is made with.
     ghost first: { Self.Key → Self.View };
+
+    /// Whether a word says that threads may sleep beside its slot, by the low half alone. None sleeps at another word.
+    ghost announces: { ℕ → Bool };
+
+    /// Whether whoever has a mark that knows this owes a wake to those that sleep. A thread that sleeps owes one from then on: when
+    /// it is woken, others may sleep still.
+    ghost owes: { Self.View → Bool };
+
+    /// Whether whoever has a mark that knows this may sleep.
+    ghost may_sleep: { Self.View → Type 0 };
 }
 
 /// What a load tells its caller.

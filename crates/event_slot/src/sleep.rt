@@ -1,5 +1,12 @@
-//! Sleeping beside a slot, and waking those who do. Neither changes the slot, so neither takes a mark.
-use crate::rule::Ruled;
+//! Sleeping beside a slot, and waking those who do.
+//!
+//! A thread sleeps while the word announces that, and owes a wake from then on. Of each other step a clause asks that a wake which is
+//! due stays due, as `StaysDue` says. So whoever owes one pays it by [`Slot::wake_one`] or [`Slot::wake_all`], or leaves a word that
+//! announces it.
+ghost use Rattle.std.specs.Prelude.{◌≡◌, true};
+ghost use Rattle.event_slot.specs.Ruling.{Keeps};
+
+use crate::rule::{Mark, Ruled, Tells};
 use crate::slot::Slot;
 use std::marker::Brand;
 use std::sync::Wait;
@@ -19,24 +26,49 @@ impl<X: Ruled<S>, S> Slot<X, S> {
     }
 
     /// Sleeps if the state and the count are `expected`, until a wake. It may also return for no reason.
-    /// A change of the high half is not seen.
-    pub fn park<R: Wait>(&self, rt: &R, expected: u32) {
+    /// A change of the high half is not seen. `expected` announces the sleep, and whoever sleeps owes a wake.
+    pub fn park<R: Wait>(&self, rt: &R, mark: &Mark<X::View>, expected: u32)
+        requires mark { mark.now.slot ≡ self.now.name }
+        requires announced { X.announces expected ≡ true }
+        requires owes { X.owes mark.now.view ≡ true }
+        requires may { X.may_sleep mark.now.view }
+    {
+        let _ = mark;
         self.sleep(rt, expected as u64, FOR_EVER, 0);
     }
 
     /// The same, for no longer than `dur`.
-    pub fn park_timeout<R: Wait>(&self, rt: &R, expected: u32, dur: Duration) {
+    pub fn park_timeout<R: Wait>(&self, rt: &R, mark: &Mark<X::View>, expected: u32, dur: Duration)
+        requires mark { mark.now.slot ≡ self.now.name }
+        requires announced { X.announces expected ≡ true }
+        requires owes { X.owes mark.now.view ≡ true }
+        requires may { X.may_sleep mark.now.view }
+    {
+        let _ = mark;
         let secs = dur.as_secs().min(FOR_EVER);
         self.sleep(rt, expected as u64, secs, dur.subsec_nanos() as u64);
     }
 
-    /// Wakes one thread that parks beside the slot, if there is one.
-    pub fn wake_one(&self) {
+    /// Wakes one thread that parks beside the slot, if there is one. Returns the word, by one load after that, with what that tells,
+    /// which may be that the mark owes no wake any more.
+    pub fn wake_one<M: Tells<X::View>>(&self, mark: &mut Mark<X::View>) -> u64
+        requires keeps { (mark.old.slot ≡ self.now.name)
+            × Keeps (X.holds self.now.key) mark.old.id mark.old.view (M.then mark.old.view) }
+        ensures { (mark.new.slot ≡ mark.old.slot) × (mark.new.id ≡ mark.old.id)
+            × M.then mark.old.view result mark.new.view }
+    {
         unsafe { raw::wake_one(self.address()) }
+        self.see::<M>(mark)
     }
 
-    /// Wakes every thread that parks beside the slot.
-    pub fn wake_all(&self) {
+    /// The same, of every thread that parks beside the slot.
+    pub fn wake_all<M: Tells<X::View>>(&self, mark: &mut Mark<X::View>) -> u64
+        requires keeps { (mark.old.slot ≡ self.now.name)
+            × Keeps (X.holds self.now.key) mark.old.id mark.old.view (M.then mark.old.view) }
+        ensures { (mark.new.slot ≡ mark.old.slot) × (mark.new.id ≡ mark.old.id)
+            × M.then mark.old.view result mark.new.view }
+    {
         unsafe { raw::wake_all(self.address()) }
+        self.see::<M>(mark)
     }
 }

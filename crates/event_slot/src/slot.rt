@@ -1,6 +1,6 @@
 //! The slot, and what its owner or anybody with a `&` to it may do.
-ghost use Rattle.std.specs.Prelude.{◌≡◌, ℕ, [], ◌∷◌, None, Some};
-ghost use Rattle.event_slot.specs.Ruling.{Keeps, Enters, MaySplit, MayJoin};
+ghost use Rattle.std.specs.Prelude.{◌≡◌, ◌⊎◌, ℕ, [], ◌∷◌, true, None, Some};
+ghost use Rattle.event_slot.specs.Ruling.{Keeps, Enters, MaySplit, MayJoin, OwesStill};
 ghost use Rattle.event_slot.specs.Holding.{Named, named_coded, slot_owns, slot_shares};
 
 use crate::claim::Claim;
@@ -54,8 +54,9 @@ impl<X: Ruled<S>, S> Slot<X, S> {
         }
     }
 
-    /// The word, by one load, with what that tells.
-    pub fn load<M: Tells<X::View>>(&self, mark: &mut Mark<X::View>) -> u64
+    // The word, by one load, with what that tells, whatever is owed.
+    #[inline(always)]
+    pub(crate) fn see<M: Tells<X::View>>(&self, mark: &mut Mark<X::View>) -> u64
         requires { (mark.old.slot ≡ self.now.name)
             × Keeps (X.holds self.now.key) mark.old.id mark.old.view (M.then mark.old.view) }
         ensures { (mark.new.slot ≡ mark.old.slot) × (mark.new.id ≡ mark.old.id)
@@ -64,9 +65,22 @@ impl<X: Ruled<S>, S> Slot<X, S> {
         unsafe { raw::load::<Brand>(&raw const self.word, SeqCst) }
     }
 
+    /// The word, by one load, with what that tells. Whoever owes a wake owes it still.
+    #[inline(always)]
+    pub fn load<M: Tells<X::View>>(&self, mark: &mut Mark<X::View>) -> u64
+        requires keeps { (mark.old.slot ≡ self.now.name)
+            × Keeps (X.holds self.now.key) mark.old.id mark.old.view (M.then mark.old.view) }
+        requires owes { OwesStill X.owes mark.old.view (M.then mark.old.view) }
+        ensures { (mark.new.slot ≡ mark.old.slot) × (mark.new.id ≡ mark.old.id)
+            × M.then mark.old.view result mark.new.view }
+    {
+        self.see::<M>(mark)
+    }
+
     /// The word, by one load that makes a mark, with what that tells.
     pub fn enter<M: Tells<X::View>>(&self) -> (u64, Mark<X::View>)
-        requires { Enters (X.holds self.now.key) (M.then (X.first self.now.key)) }
+        requires keeps { Enters (X.holds self.now.key) (M.then (X.first self.now.key)) }
+        requires owes { OwesStill X.owes (X.first self.now.key) (M.then (X.first self.now.key)) }
         ensures { (result.1.slot ≡ self.now.name)
             × M.then (X.first self.now.key) result.0 result.1.view }
     {
@@ -77,10 +91,11 @@ impl<X: Ruled<S>, S> Slot<X, S> {
         (found, mark)
     }
 
-    /// Cuts in two what a mark knows, by one load, which makes the mark that knows the second part.
+    /// Cuts in two what a mark knows, by one load, which makes the mark that knows the second part. The mark owes what it owed.
     pub fn split<M: Splits<X::View>>(&self, mark: &mut Mark<X::View>) -> Mark<X::View>
-        requires { (mark.old.slot ≡ self.now.name)
+        requires keeps { (mark.old.slot ≡ self.now.name)
             × MaySplit (X.holds self.now.key) mark.old.id mark.old.view (M.left mark.old.view) (M.right mark.old.view) }
+        requires owes { X.owes mark.old.view ≡ true → X.owes (M.left mark.old.view) ≡ true }
         ensures { (mark.new.slot ≡ mark.old.slot) × (mark.new.id ≡ mark.old.id)
             × (mark.new.view ≡ M.left mark.old.view) × (result.slot ≡ mark.old.slot)
             × (result.view ≡ M.right mark.old.view) }
@@ -101,11 +116,14 @@ impl<X: Ruled<S>, S> Slot<X, S> {
         unsafe { raw::load::<Brand>(&raw const self.word, SeqCst) };
     }
 
-    /// Makes one what two marks know, by one load. The other mark ends, and its view stays among the views as `M.spent`.
+    /// Makes one what two marks know, by one load. The other mark ends, and its view stays among the views as `M.spent`. What either
+    /// owed the mark owes.
     pub fn join<M: Joins<X::View>>(&self, mark: &mut Mark<X::View>, mut other: Mark<X::View>)
-        requires { (mark.old.slot ≡ self.now.name) × (other.slot ≡ self.now.name)
+        requires keeps { (mark.old.slot ≡ self.now.name) × (other.slot ≡ self.now.name)
             × MayJoin (X.holds self.now.key) mark.old.id mark.old.view other.id other.view
             (M.both mark.old.view other.view) M.spent }
+        requires owes { (X.owes mark.old.view ≡ true) ⊎ (X.owes other.view ≡ true)
+            → X.owes (M.both mark.old.view other.view) ≡ true }
         ensures { (mark.new.slot ≡ mark.old.slot) × (mark.new.id ≡ mark.old.id)
             × (mark.new.view ≡ M.both mark.old.view other.view) }
     {

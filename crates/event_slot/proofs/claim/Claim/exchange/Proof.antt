@@ -30,7 +30,7 @@ exchange_spec 𝓤 𝓛 𝓜 𝓡 wired X S Y Ky Z LX _ _ _ _ g d h d' _ _ =
     let x = a.1.0 in let m : Mr.Denot = x.now in let old : ℕ = a.1.1.0 in let new : ℕ = a.1.1.1.0 in let f : ℕ → ℕ = λ n. either (eqb n old) new n in let state : Option S.Denot = hc.state in let then = h.then old new m.view state in let τ : Lft = κs.1.1.0 in let τq : Share = qs.1.1.0 in let r : ℕ = hc.right in
     let y : (walk_of 𝓛 En hs c).Ghost = ((κs, qs, bounds, a, (pointing p ∷ [], (mut_vals x, (vint w64 old ∷ [], (vint w64 new ∷ [], tt))))), gh) in let Post : Val → SProp 𝓤 = (walk_of 𝓛 En hs c).post y in
     let others : Fml = fsep (flft κs.1.1.1.0 qs.1.1.1.0) (fsep (flft κs.1.1.1.1.0 qs.1.1.1.1.0) (fsep (flft κs.1.1.1.1.1.0 qs.1.1.1.1.1.0) (fsep (flft κs.1.1.1.1.1.1.0 qs.1.1.1.1.1.1.0) ftrue))) in
-    qed 𝓛 (((‵ (flft β q) ⊛ ‵ (flft κs.1.0 qs.1.0) ⊛ ‵ (flft τ τq) ⊛ ‵ others) ⊛ ‵ (owns (types_at En.signature.params κs) a y.0.4)) ∷ raw (shown 𝓤 (τ ⊑ X.lives)) ∷ raw (shown 𝓤 _) ∷ raw (shown 𝓤 _) ∷ raw (shown 𝓤 _) ∷ raw (shown 𝓤 _) ∷ given (MayTurn r (g.counts old) (g.counts new)) (‵ ftrue) ∷ given ((m.slot ≡ γ) × MayTrade (g.holds key) m.id m.view state f then) (‵ ftrue) ∷ []) ∵
+    qed 𝓛 (((‵ (flft β q) ⊛ ‵ (flft κs.1.0 qs.1.0) ⊛ ‵ (flft τ τq) ⊛ ‵ others) ⊛ ‵ (owns (types_at En.signature.params κs) a y.0.4)) ∷ raw (shown 𝓤 (τ ⊑ X.lives)) ∷ raw (shown 𝓤 _) ∷ raw (shown 𝓤 _) ∷ raw (shown 𝓤 _) ∷ raw (shown 𝓤 _) ∷ given (MayTurn r (g.counts old) (g.counts new)) (‵ ftrue) ∷ given ((m.slot ≡ γ) × MayTrade (g.holds key) m.id m.view state f then) (‵ ftrue) ∷ raw (shown 𝓤 _) ∷ []) ∵
     keep ! (6 ∷ 7 ∷ 1 ∷ 0 ∷ []) $ learn ! (λ turn. drop ! $ learn ! (λ asked. drop ! $ heard ! (τ ⊑ X.lives) (λ lives. split ! $ split3 ! $ move ! (2 ∷ []) $ split ! $ move ! (4 ∷ []) $ fsplit3 ! $ fsplit ! $ keep ! (1 ∷ 6 ∷ 2 ∷ 7 ∷ 4 ∷ 5 ∷ []) $
     -- [the claim; the slot's token; the mark; its token; a token of the value's lives; the other tokens]
     use1 𝓛 (given (InBlock p) (‵ (claim_owns cw.code γ R Q g.counts (g.holds key) β p r v state))) (fact_use 𝓤 _ (held_placed 𝓛 cw γ R Q g.counts (g.holds key) β p (λ i j t. fsep (right_to R i j t r v) (lies R Q i j t state))) (guard_i 𝓤 (InBlock p) (sem 𝓛 (claim_owns cw.code γ R Q g.counts (g.holds key) β p r v state)))) $ learn ! (λ inb. let at : p ≡ block_ptr b o = at_block p inb in

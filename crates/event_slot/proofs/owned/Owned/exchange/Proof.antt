@@ -41,7 +41,7 @@ exchange_spec 𝓤 𝓛 𝓜 𝓡 wired T X S A' Y Ky Z LT LX _ LA _ _ _ g d f d
     let others : Fml = fsep (flft κs.1.1.1.1.0 qs.1.1.1.1.0) (fsep (flft κs.1.1.1.1.1.0 qs.1.1.1.1.1.0) (fsep (flft κs.1.1.1.1.1.1.0 qs.1.1.1.1.1.1.0) (fsep (flft κs.1.1.1.1.1.1.1.0 qs.1.1.1.1.1.1.1.0) ftrue))) in
     subst (λ (w : (walk_of 𝓛 En hs c).Ghost). ent 𝓤 ((walk_of 𝓛 En hs c).pre w) (WpFn 𝓤 H 𝓣.C 𝓣.Λ fn ((walk_of 𝓛 En hs c).args w) ((walk_of 𝓛 En hs c).post w))) (λ j. ((κs, qs, z.0.2, a, (vs, (sym is_x j, (sym is_old j, (sym is_new j, tt))))), z.1))
     (qed 𝓛 (((‵ (flft κ κq) ⊛ ‵ (flft τ τq) ⊛ ‵ (flft χ χq) ⊛ ‵ (flft σ σq) ⊛ ‵ others) ⊛ ‵ (owns (types_at En.signature.params κs) a y.0.4)) ∷ raw (shown 𝓤 (τ ⊑ T.lives)) ∷ raw (shown 𝓤 (χ ⊑ X.lives)) ∷ raw (shown 𝓤 (σ ⊑ S.lives)) ∷ raw (shown 𝓤 _) ∷ raw (shown 𝓤 _) ∷ raw (shown 𝓤 _) ∷ raw (shown 𝓤 _)
-    ∷ given (MayTurn r (g.counts old) (g.counts new)) (‵ ftrue) ∷ given ((m.slot ≡ γ) × MayTrade (g.holds key) m.id m.view state up then) (‵ ftrue) ∷ []) ∵
+    ∷ given (MayTurn r (g.counts old) (g.counts new)) (‵ ftrue) ∷ given ((m.slot ≡ γ) × MayTrade (g.holds key) m.id m.view state up then) (‵ ftrue) ∷ raw (shown 𝓤 _) ∷ []) ∵
     keep ! (8 ∷ 9 ∷ 1 ∷ 2 ∷ 3 ∷ 0 ∷ []) $ learn ! (λ turn. drop ! $ learn ! (λ asked. drop ! $ heard ! (τ ⊑ T.lives) (λ lt. heard ! (χ ⊑ X.lives) (λ lives. heard ! (σ ⊑ S.lives) (λ ls. split ! $ split ! $ move ! (1 ∷ []) $ split3 ! $ move ! (2 ∷ []) $ split ! $
     -- [the state's token; others; the arc's value's; the value's; the mark's; what is given]
     move ! (5 ∷ []) $ fsplit ! $ fsplit ! $ move ! (2 ∷ []) $ fsplit ! $ keep ! (2 ∷ 3 ∷ 0 ∷ 4 ∷ 5 ∷ 6 ∷ 7 ∷ 8 ∷ []) $

@@ -24,7 +24,7 @@ split_spec 𝓤 𝓛 𝓜 𝓡 wired X S Y Ky Z _ _ _ _ _ g d h d' _ _ =
     let b : ℕ = a.0.ref_ptr.0 in let o : ℕ = a.0.ref_ptr.1 in let κ : Lft = κs.0 in let q : Share = qs.0 in let γ : ℕ = a.0.now.name in let key : Ky.Denot = a.0.now.key in let x = a.1.0 in let m : Mr.Denot = x.now in let lv : Y.Denot = h.left m.view in let rv : Y.Denot = h.right m.view in
     let y : (walk_of 𝓛 En hs c).Ghost = ((κs, qs, bounds, a, (vptr b o ∷ [], (mut_vals x, tt))), gh) in let Post : Val → SProp 𝓤 = (walk_of 𝓛 En hs c).post y in
     let others : Fml = fsep (flft κs.1.1.0 qs.1.1.0) (fsep (flft κs.1.1.1.0 qs.1.1.1.0) (fsep (flft κs.1.1.1.1.0 qs.1.1.1.1.0) (fsep (flft κs.1.1.1.1.1.0 qs.1.1.1.1.1.0) (fsep (flft κs.1.1.1.1.1.1.0 qs.1.1.1.1.1.1.0) ftrue)))) in
-    qed 𝓛 (((‵ (flft κ q) ⊛ ‵ (flft κs.1.0 qs.1.0) ⊛ ‵ others) ⊛ ‵ (owns (types_at En.signature.params κs) a y.0.4)) ∷ raw (shown 𝓤 _) ∷ raw (shown 𝓤 _) ∷ raw (shown 𝓤 _) ∷ raw (shown 𝓤 _) ∷ raw (shown 𝓤 _) ∷ given ((m.slot ≡ γ) × MaySplit (g.holds key) m.id m.view lv rv) (‵ ftrue) ∷ []) ∵
+    qed 𝓛 (((‵ (flft κ q) ⊛ ‵ (flft κs.1.0 qs.1.0) ⊛ ‵ others) ⊛ ‵ (owns (types_at En.signature.params κs) a y.0.4)) ∷ raw (shown 𝓤 _) ∷ raw (shown 𝓤 _) ∷ raw (shown 𝓤 _) ∷ raw (shown 𝓤 _) ∷ raw (shown 𝓤 _) ∷ given ((m.slot ≡ γ) × MaySplit (g.holds key) m.id m.view lv rv) (‵ ftrue) ∷ raw (shown 𝓤 _) ∷ []) ∵
     keep ! (6 ∷ 0 ∷ []) $ learn ! (λ asked. drop ! $ split ! $ split3 ! $ move ! (3 ∷ []) $ fsplit3 ! $ fsplit ! $ keep ! (1 ∷ 4 ∷ 2 ∷ 5 ∷ 6 ∷ []) $
     -- [the slot; its token; the mark; its token; the other tokens]
     enter ! 𝓣.C 𝓣.Λ fn (vptr b o ∷ vptr x.ref_ptr.0 x.ref_ptr.1 ∷ []) Post $ alloc_all ! (λ l. pass_all ! refl ((tt, tt), ((tt, tt), tt)) $ let Ev = env fn.locals l in

@@ -1,4 +1,4 @@
--- `load` is one load, by which the mark moves.
+-- `see` is one load, by which the mark moves.
 use Rattle.event_slot.proofs.Names.{◌≡◌, ℕ, ◌+◌, ◌^◌, List, [], ◌∷◌, refl, lit<, w64, a_type, named, dcons, dnil, Val, vint, vptr, inst_fn, Coded, SProp, wand, emp, all, via, apply∗, Lft, Share, Fml, ftrue, fsep, flft, shown, fact_i, tables, ‵, raw, ◌⊛◌, some, given, later, mean, at_ret, ◌$◌, ◌∵◌, !, qed, by, move, keep, drop, split, split3, join, fsplit, fsplit3, fjoin, fpick, pick, learn, use0, use2, use3, await, feq_i, flt_i, stop, fld, addr, lit, of_opd, no_more, and_then, first, blocks, exec, Calls-last, returns, enter, alloc_all, pass_all, free_all, look_at, get, through, sets, lands_last, env, agg, yes, RattleType, owns, types_at, plain, block_ptr, nothing, unhide, param, bounded, RefOf, shr_vals, shr_Tells, mut_vals, mut_Tells, Stays, stay_dropped, stay_ref, walk_of, Goes-dropped, Goes-ref, tail, proved, leaves}
 use Rattle.atomic_table.proofs.Calls.{fm, seq_cst, found, finds, loads}
 use Rattle.atomic_table.specs.Marked.{mark_owns}
@@ -7,13 +7,13 @@ use Rattle.event_slot.specs.contracts.slot.Slot as slot
 use Rattle.event_slot.specs.contracts.rule.Mark as mark
 use Rattle.event_slot.proofs.Entering.{J, reaches, Back, Marked, knowing, takes_mark, homes}
 use Rattle.event_slot.proofs.Steps.{moved, keeps, looks_on}
-use Rattle.event_slot.specs.contracts.slot.Slot.load.{ended, clauses}
-use Rattle.event_slot.specs.contracts.slot.Slot.load.Key.{name as #self}
-use Rattle.event_slot.proofs.slot.Slot.load.Statement.{statement}
-use Rattle.event_slot.proofs.slot.Slot.load.Code as code
+use Rattle.event_slot.specs.contracts.slot.Slot.see.{ended, clauses}
+use Rattle.event_slot.specs.contracts.slot.Slot.see.Key.{name as #self}
+use Rattle.event_slot.proofs.slot.Slot.see.Statement.{statement}
+use Rattle.event_slot.proofs.slot.Slot.see.Code as code
 
-pub load_spec : {M : Type 1} → statement M
-load_spec 𝓤 𝓛 𝓜 𝓡 wired X S Y Ky Z _ _ _ _ _ g d h d' _ _ =
+pub see_spec : {M : Type 1} → statement M
+see_spec 𝓤 𝓛 𝓜 𝓡 wired X S Y Ky Z _ _ _ _ _ g d h d' _ _ =
     let H = 𝓛.H in let A = 𝓛.A in let 𝓣 = tables 𝓤 H 𝓜 𝓡 𝓡.env in let R : RattleType = param 0 X in let Q : RattleType = param 1 S in let V : RattleType = param 2 Y in let Kr : RattleType = param 3 Ky in let En = ended X S Y Ky Z g d h d' in let c = clauses X S Y Ky Z g d h d' 𝓛 𝓜.mem 𝓡.returns in
     let inst = bounded (a_type ∷ a_type ∷ a_type ∷ a_type ∷ a_type ∷ []) (X, (S, (Y, (Ky, (Z, tt))))) (dcons d (dcons d' dnil)) in let fn = inst_fn inst code.function in let cw : Coded Y.Denot = V.coded in
     let Row : RattleType = slot.the_row R Q V Kr g in let Mr : RattleType = mark.the_row V in let self = RefOf (0 ∷ []) tt (plain (λ _. Row)) (λ _. tt) in let marked = plain (λ _. Mr) in
