@@ -1,5 +1,5 @@
 //! What holds between any two steps of any threads, and what each kind of step tells.
-ghost use Rattle.std.specs.Prelude.{[]};
+ghost use Rattle.std.specs.Prelude.{◌≡◌, ◌==◌, []};
 ghost use Rattle.event_history.specs.History.{both_views, machine_from, machine_of, newcomer};
 ghost use Rattle.event_history.specs.Rule.{Kept, arrived, awaited, entered, looked, put_awaited, put_back, spent_view, taken, taken_awaited, woke};
 
@@ -23,6 +23,12 @@ impl<S: Steps> Ruled<S> for Rule {
     ghost holds = { λ start. Kept (machine_of S.Steps start) };
 
     ghost first = { λ _. newcomer [] };
+
+    ghost announces = { λ word. word == 2 };
+
+    ghost owes = { λ v. v.owes };
+
+    ghost may_sleep = { λ v. v.out ≡ [] };
 }
 
 // A new hand looks at the history.

@@ -118,7 +118,7 @@ impl<S: Steps> Traced<S> {
     {
         let (_, claim) = self.slot.claim().exchange::<Await>(mark, TAKEN, AWAITED);
         claim.done();
-        self.slot.park(rt, AWAITED as u32);
+        self.slot.park(rt, mark, AWAITED as u32);
     }
 
     /// Gives the state back, after the call that `K` picks of its answer and of who made it.
@@ -161,6 +161,7 @@ impl<S: Steps> Traced<S> {
         requires step { (c : S.Call) × (q : S) × (r : S) × K.made c
             × (mark.old.view.out ≡ q ∷ []) × (claim.state ≡ Some r) × S.goes q c r
             × (mark.old.view.spent ≡ false) × AreAmong (S.rests c) mark.old.view.mine }
+        requires owes { mark.old.view.owes ≡ false }
         ensures mark { (mark.new.slot ≡ mark.old.slot) × (mark.new.id ≡ mark.old.id) }
         ensures puts { result ≡ None
             → PutsBack (machine_from S.Steps B.begins) K.made mark.old.view claim.entry.state
@@ -210,8 +211,7 @@ impl<S: Steps> Traced<S> {
         ensures { (mark.new.slot ≡ mark.old.slot) × (mark.new.id ≡ mark.old.id)
             × (mark.new.view ≡ owing false mark.old.view) }
     {
-        self.slot.wake_one();
-        self.slot.load::<Wake>(mark);
+        self.slot.wake_one::<Wake>(mark);
     }
 
     /// A new hand, which has seen as much as this one. It is one load.
