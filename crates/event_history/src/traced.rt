@@ -90,6 +90,7 @@ impl<S: Steps> Traced<S> {
     }
 
     // Takes the state out, if no other hand has it, and says that others may sleep, whom the hand may owe a wake.
+    #[tactic(auto, using(crate::proofs::Keeps::locks))]
     fn take_awaited(&self, mark: &mut Mark<View<S, S::Call>>) -> Option<Claim<'_, Rule, S>>
         requires { (mark.old.slot ≡ self.now.slot.name) × (mark.old.view.spent ≡ false) }
         ensures mark { (mark.new.slot ≡ mark.old.slot) × (mark.new.id ≡ mark.old.id) }
@@ -110,6 +111,7 @@ impl<S: Steps> Traced<S> {
     }
 
     // Says that one waits, and sleeps while the word says so. Whoever is woken owes others a wake: they may sleep still.
+    #[tactic(auto, using(crate::proofs::Keeps::waits))]
     fn sleep<R: Wait>(&self, rt: &R, mark: &mut Mark<View<S, S::Call>>)
         requires { (mark.old.slot ≡ self.now.slot.name) × (mark.old.view.spent ≡ false)
             × (mark.old.view.out ≡ []) }
@@ -205,6 +207,7 @@ impl<S: Steps> Traced<S> {
     // Wakes one that sleeps, to whom the hand owed that.
     #[cold]
     #[inline(never)]
+    #[tactic(auto, using(crate::proofs::Keeps::turns))]
     fn wake_one(&self, mark: &mut Mark<View<S, S::Call>>)
         requires { (mark.old.slot ≡ self.now.slot.name) × (mark.old.view.spent ≡ false)
             × (mark.old.view.out ≡ []) }

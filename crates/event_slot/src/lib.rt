@@ -13,6 +13,9 @@
 //! knows, as [`Trades`] and [`Tells`] say. Marks are made by steps, too, and cut in two or joined, as [`Splits`] and [`Joins`] say. A mark
 //! that no step is made with may lie in a [`Rest`].
 //!
+//! Threads may sleep beside a slot while its word announces it, [`Ruled::announces`]. Whoever sleeps owes a wake, [`Ruled::owes`], and
+//! so does whoever takes that from the word; it pays by [`Slot::wake_one`] or [`Slot::wake_all`], or leaves a word that announces it.
+//!
 //! A guard over a writer has a mark besides, which has to be of the same slot. It is a [`Tied`], so that it can lend `&mut T`.
 //!
 //! A guard that keeps its lock by an `Arc` has no lifetime. It has an [`Owned`], an `Arc` with a claim on the slot in its value, which

@@ -6,11 +6,12 @@ use lib.ListN.{get_elem?}
 use mathlib.Core.Logic.{dite}
 use native.Mathlib.Decide.{ℕ_discrete}
 use prog.Atomic.{either}
-use Rattle.atomic_table.proofs.Lists.{exchanged, at_set, set_again, set_here, at_longer, at_snoc}
-use Rattle.event_slot.specs.Ruling.{Keeps, MayTrade, Comes, Enters, Becomes, MayTurn}
+use Rattle.std.proofs.lemmas.Bool.{eqb-true, ne_eqb}
+use Rattle.atomic_table.proofs.Lists.{exchanged, at_set, set_again, set_else, set_here, at_longer, at_snoc}
+use Rattle.event_slot.specs.Ruling.{Keeps, MayTrade, Comes, Enters, Becomes, MayTurn, OwesStill, StaysDue}
 use Rattle.event_word.specs.declared.word.rule.View.{View}
 use Rattle.event_word.specs.Rules.{Rules}
-use Rattle.event_word.specs.Word.{number_of, IsOut, Eases, EasesFrom, AtHome, IsAway, StateIn, Holds, Changes, Passes, Takes, Stays, counts_of, entered, looked, seen_again, took, changed, moved, put, nothing, numbered}
+use Rattle.event_word.specs.Word.{number_of, IsOut, Eases, EasesFrom, AtHome, IsAway, StateIn, Holds, Changes, Passes, Takes, Stays, counts_of, announces, owes_with, owes, owing, entered, looked, slept, seen_again, took, changed, moved, put, woke, nothing, numbered}
 
 -- of each view after one was set
 all_set : (K : ℕ → View → Type 0) (vs : List View) (i : ℕ) (a : View) → K i a → ((j : ℕ) (b : View) → j ≢ i → get_elem? vs j ≡ some b → K j b) → (j : ℕ) (b : View) → get_elem? (set vs i a) j ≡ some b → K j b
@@ -29,10 +30,45 @@ not_out owner number by (Some n) h ne = absurd (ne h.0)
 some_is_none : (n : ℕ) → Some n ≡ None → ⊥
 some_is_none n e = cc
 
+false_is_true : false ≡ true → ⊥
+false_is_true e = cc
+
+-- the views are the same
+same_view : (v w : View) → some v ≡ some w → v ≡ w
+same_view v w e = cc
+
 at_below : {A : Type 0} (vs : List A) (j : ℕ) (b : A) → get_elem? vs j ≡ some b → j < length vs
 at_below [] j b e = absurd (some-ne-none b (sym e))
 at_below (x ∷ xs) zero b e = omega arith
 at_below (x ∷ xs) (suc j) b e = omega (arith, at_below xs j b e)
+
+-- who has the state out is another
+not_owner : (id owner number : ℕ) (v : View) (vs : List View) → v.number ≡ None → get_elem? vs id ≡ some v → get_elem? vs owner ≡ some (numbered number) → owner ≢ id
+not_owner id owner number v vs has me there same =
+    let two : v ≡ numbered number = same_view v (numbered number) (sym me ∙ ap (λ (i : ℕ). get_elem? vs i) (sym same) ∙ there) in
+    some_is_none number (sym (ap (λ (u : View). u.number) two) ∙ has)
+
+-- it owes a wake of itself, or has the state out
+owes_by : (v : View) (b : ℕ) → v.number ≡ Some b → owes v ≡ true → ⊥
+owes_by v b has due = false_is_true (sym (ap (λ (o : Option ℕ). owes_with o v.owes) has) ∙ due)
+
+-- a seat that owes nothing may take the state with the word as it likes
+pub due_none : (v : View) (new : ℕ) → v ≡ nothing → owes v ≡ true → new % 4 ≡ 3
+due_none v new is due = absurd (false_is_true (sym (ap owes is) ∙ due))
+
+-- a word at home announces nothing
+quiet_home : (w : ℕ) → w % 2 ≡ 0 → announces w ≡ true → ⊥
+quiet_home w even loud = omega (arith, even, eqb-true (w % 4) 3 loud)
+
+pub loud : (w : ℕ) → w % 4 ≡ 3 → announces w ≡ true
+loud w is = ap (λ (m : ℕ). eqb m 3) is
+
+-- where the word announced nothing, nothing is owed
+pub quiet : (v : View) (w : ℕ) → v ≡ owing (announces w) → w % 4 ≢ 3 → v ≡ nothing
+quiet v w is isnt = is ∙ ap owing (ne_eqb (w % 4) 3 isnt)
+
+as_loud : (old new : ℕ) → new % 4 ≡ old % 4 → announces old ≡ true → announces new ≡ true
+as_loud old new code is = ap (λ (m : ℕ). eqb m 3) code ∙ is
 
 odd_is_not_even : (w : ℕ) → w % 2 ≡ 1 → w % 2 ≡ 0 → ⊥
 odd_is_not_even w odd even = omega (arith, odd, even)
@@ -243,10 +279,11 @@ module _ {S : Type 0} (rules : Rules S) where
   puts_some : (id : ℕ) (v : View) (q : S) (old new b : ℕ) → v.number ≡ Some b → AtHome rules new q → rules.fits (number_of new) → MayTrade Law id v (Some q) (λ n. either (eqb n old) new n) (put old new v (Some q))
   puts_some id v q old new b has at_home fit n home vs k me small = exchanged n old new (Goes n home vs id (Some q) (put old new v (Some q)))
       (λ hit.
-      let t = owned n id b v home vs has me k.state in (
-        nothing,
+      let t = owned n id b v home vs has me k.state in
+      let u : View = owing (announces old) in (
+        u,
         true,
-        record { fits = fit; state = (at_home, all_set (λ _ u. u.number ≡ None) vs id nothing refl t.others) },
+        record { fits = fit; state = (at_home, all_set (λ _ x. x.number ≡ None) vs id u refl t.others) },
         ((λ _. (refl, t.none)), λ miss. absurd (miss hit)),
       ))
       (λ miss. (v, false, unmoved n id v home vs me k, ((λ hit. absurd (miss hit)), λ _. (refl, refl))))
@@ -255,9 +292,77 @@ module _ {S : Type 0} (rules : Rules S) where
   pub puts : (id : ℕ) (v : View) (out : Option S) (q : S) (old new b : ℕ) → v.number ≡ Some b → out ≡ Some q → AtHome rules new q → rules.fits (number_of new) → MayTrade Law id v out (λ n. either (eqb n old) new n) (put old new v out)
   puts id v out q old new b has is at_home fit = subst (λ (o : Option S). MayTrade Law id v o (λ n. either (eqb n old) new n) (put old new v o)) (sym is) (puts_some id v q old new b has at_home fit)
 
+  -- a seat that has nothing out owes a wake, or not
+  state_owing : (w id : ℕ) (debt : Bool) (v : View) (home : Option S) (vs : Vs) → v.number ≡ None → get_elem? vs id ≡ some v → StateIn rules w home vs → StateIn rules w home (set vs id (owing debt))
+  state_owing w id debt v None vs has me h = record {
+    away = h.away;
+    owner = h.owner;
+    number = h.number;
+    remembers = set_else vs id h.owner (owing debt) (not_owner id h.owner h.number v vs has me h.remembers) ∙ h.remembers;
+    eases = h.eases;
+    alone = all_set (λ by u. IsOut h.owner h.number by u.number) vs id (owing debt) tt (λ by u _ at. h.alone by u at);
+  }
+  state_owing w id debt v (Some q) vs has me h = (h.0, all_set (λ _ u. u.number ≡ None) vs id (owing debt) refl (λ by u _ at. h.1 by u at))
+
+  -- a seat looks at the word, and its thread may sleep
+  pub sleeps : (id : ℕ) (v : View) → v.number ≡ None → Keeps Law id v (slept rules v)
+  sleeps id v has n home vs k me small = (owing true, record { fits = k.fits; state = state_owing n id true v home vs has me k.state }, (refl, k.fits))
+
+  -- a seat has woken one that slept
+  pub wakes : (id : ℕ) (v : View) → v.number ≡ None → Keeps Law id v (woke v)
+  wakes id v has n home vs k me small = (nothing, record { fits = k.fits; state = state_owing n id false v home vs has me k.state }, refl)
+
+  -- What is due stays due: where a seat looks,
+  pub due_enters : OwesStill owes nothing (entered rules nothing)
+  due_enters due n u told = absurd (false_is_true due)
+
+  pub due_looks : (v : View) → OwesStill owes v (looked rules v)
+  due_looks v due n u told = subst (λ (x : View). owes x ≡ true) (sym told.0) due
+
+  pub due_sleeps : (v : View) → OwesStill owes v (slept rules v)
+  due_sleeps v due n u told = subst (λ (x : View). owes x ≡ true) (sym told.0) refl
+
+  pub due_sees_again : (v : View) (b : ℕ) → v.number ≡ Some b → OwesStill owes v (seen_again rules v)
+  due_sees_again v b has due n u told = absurd (owes_by v b has due)
+
+  -- where the number changes, with the code or not,
+  pub due_changes : (v : View) (out : Option S) (old new : ℕ) → Changes rules old new → StaysDue owes announces old new v (changed rules old new v out)
+  due_changes v out old new c = record {
+    made = λ u out' told due. ⊎_elim (λ (d : owes v ≡ true). inl (subst (λ (x : View). owes x ≡ true) (sym told.0) d)) (λ (d : announces old ≡ true). inr (as_loud old new c.code d)) due;
+    missed = λ n u out' ne told due. subst (λ (x : View). owes x ≡ true) (sym told.0) due;
+  }
+
+  pub due_awaits : (v : View) (out : Option S) (old new : ℕ) → new % 4 ≡ 3 → StaysDue owes announces old new v (changed rules old new v out)
+  due_awaits v out old new is = record { made = λ u out' told due. inr (loud new is); missed = λ n u out' ne told due. subst (λ (x : View). owes x ≡ true) (sym told.0) due }
+
+  -- where the state is taken out, with the word marked if the seat owes a wake,
+  pub due_takes : (v : View) (out : Option S) (old new : ℕ) → old % 2 ≡ 0 → (owes v ≡ true → new % 4 ≡ 3) → StaysDue owes announces old new v (took rules old new v out)
+  due_takes v out old new even marks = record {
+    made = λ u out' told due. ⊎_elim (λ (d : owes v ≡ true). inr (loud new (marks d))) (λ (d : announces old ≡ true). absurd (quiet_home old even d)) due;
+    missed = λ n u out' ne told due. subst (λ (x : View). owes x ≡ true) (sym (told.1 ne).0) due;
+  }
+
+  pub due_takes_none : (v : View) (out : Option S) (old new : ℕ) → old % 2 ≡ 0 → v ≡ nothing → StaysDue owes announces old new v (took rules old new v out)
+  due_takes_none v out old new even is = due_takes v out old new even (λ due. absurd (false_is_true (sym (ap owes is) ∙ due)))
+
   -- a new lock
   pub opens : (w : ℕ) (q : S) → w % 4 ≡ 0 → rules.fits (number_of w) → rules.stands (number_of w) q → rules.quiet q → Law w (Some q) (nothing ∷ [])
   opens w q code fits stands quiet = record {
     fits = fits;
     state = (record { home = omega (arith, code); stands = stands; quiet = λ _. quiet }, all_more (λ _ v. v.number ≡ None) [] (λ _. refl) (λ j b at. absurd (some-ne-none b (sym at))));
+  }
+
+module _ {S : Type 0} where
+  -- where whoever has the state out changes the number, and not the code,
+  pub due_moves : (v : View) (out : Option S) (old new b : ℕ) → v.number ≡ Some b → new % 4 ≡ old % 4 → StaysDue owes announces old new v (moved old new v out)
+  due_moves v out old new b has code = record {
+    made = λ u out' told due. ⊎_elim (λ (d : owes v ≡ true). absurd (owes_by v b has d)) (λ (d : announces old ≡ true). inr (as_loud old new code d)) due;
+    missed = λ n u out' ne told due. subst (λ (x : View). owes x ≡ true) (sym (told.1 ne)) due;
+  }
+
+  -- and where it is put back: then the seat owes what the word announced
+  pub due_puts : (v : View) (out : Option S) (old new b : ℕ) → v.number ≡ Some b → StaysDue owes announces old new v (put old new v out)
+  due_puts v out old new b has = record {
+    made = λ u out' told due. ⊎_elim (λ (d : owes v ≡ true). absurd (owes_by v b has d)) (λ (d : announces old ≡ true). inl (subst (λ (x : View). owes x ≡ true) (sym (told.0 refl).0) d)) due;
+    missed = λ n u out' ne told due. subst (λ (x : View). owes x ≡ true) (sym (told.1 ne).0) due;
   }

@@ -1,5 +1,5 @@
 -- A lock on one word. The word is four times the lock's number, and a code: 0 while the state is at home and nobody waits, 2 while it is at home and somebody may wait, 1 while a thread has it out, and 3 while one has it out and others may sleep until it is back.
-use Rattle.std.specs.Prelude.{◌≡◌, ◌≢◌, ℕ, ◌/◌, ◌%◌, Bool, true, false, Option, Some, None, List}
+use Rattle.std.specs.Prelude.{◌≡◌, ◌≢◌, ℕ, ◌/◌, ◌%◌, eqb, Bool, true, false, Option, Some, None, List}
 use mathlib.Core.Option.{some}
 use lib.ListN.{get_elem?}
 use Rattle.event_slot.specs.Ruling.{MayTurn, Becomes}
@@ -14,13 +14,30 @@ abbrev pub count : Bool → ℕ
 count true = 1
 count false = 0
 
--- it has nothing out
+-- it has nothing out, and owes nothing
 abbrev pub nothing : View
-nothing = record { number = None }
+nothing = record { number = None; owes = false }
 
 -- it has the state out, and saw or left this number last
 abbrev pub numbered : ℕ → View
-numbered n = record { number = Some n }
+numbered n = record { number = Some n; owes = false }
+
+-- the word says that threads may sleep until the state is back
+abbrev pub announces : ℕ → Bool
+announces w = eqb (w % 4) 3
+
+-- of those that sleep, whoever has the state out owes what the word announces alone
+abbrev pub owes_with : Option ℕ → Bool → Bool
+owes_with None debt = debt
+owes_with (Some n) debt = false
+
+-- the seat owes a wake
+abbrev pub owes : View → Bool
+owes v = owes_with v.number v.owes
+
+-- it has nothing out, and owes a wake or not
+abbrev pub owing : Bool → View
+owing debt = record { number = None; owes = debt }
 
 -- only the owner of the state remembers a number, and it is this one
 abbrev pub IsOut : ℕ → ℕ → ℕ → Option ℕ → Type 0
@@ -96,6 +113,10 @@ module _ {S : Type 0} (rules : Rules S) where
   abbrev pub looked : View → ℕ → View → Type 0
   looked v r u = (u ≡ v) × rules.fits (number_of r)
 
+  -- the same before its thread sleeps: when that is woken, others may sleep still
+  abbrev pub slept : View → ℕ → View → Type 0
+  slept v r u = (u ≡ owing true) × rules.fits (number_of r)
+
   -- whoever has the state out looks at the number, and remembers it
   abbrev pub seen_again : View → ℕ → View → Type 0
   seen_again v r u = (u ≡ numbered (number_of r)) × rules.fits (number_of r) × (r % 2 ≡ 1) × EasesFrom v.number (number_of r)
@@ -115,6 +136,10 @@ module _ {S : Type 0} where
   abbrev pub moved : ℕ → ℕ → View → Option S → ℕ → View → Option S → Type 0
   moved old new v out r u out' = (r ≡ old → u ≡ numbered (number_of new)) × (r ≢ old → u ≡ v) × (out' ≡ out)
 
-  -- the state is back
+  -- the state is back, and a wake is owed that the word announced
   abbrev pub put : ℕ → ℕ → View → Option S → ℕ → View → Option S → Type 0
-  put old new v out r u out' = (r ≡ old → (u ≡ nothing) × (out' ≡ None)) × (r ≢ old → (u ≡ v) × (out' ≡ out))
+  put old new v out r u out' = (r ≡ old → (u ≡ owing (announces old)) × (out' ≡ None)) × (r ≢ old → (u ≡ v) × (out' ≡ out))
+
+-- it owes none any more
+abbrev pub woke : View → ℕ → View → Type 0
+woke v r u = u ≡ nothing

@@ -6,6 +6,9 @@
 //! by a compare-exchange that fails where the word has changed: then it notifies again. What is out can't be dropped. Word, state and
 //! value lie in place, in a [`Slot`](event_slot::Slot), so making a lock takes no memory.
 //!
+//! A thread that finds the state out at last sleeps, once it has marked the word. Whoever puts the state back wakes one that sleeps; the
+//! woken one marks the word as it takes the state, since others may sleep still.
+//!
 //! What a lock says of its number and its state is its [`Kept::rules`]. [`Competing`] is the state of a semaphore and a mutex,
 //! whose queue is a fair one; [`Queues`] is that of a read-write lock, to which one comes by a [`Right`]. Nobody needs this crate
 //! to use a lock: [`event_locks`](../../event_locks/README.md) has them.

@@ -82,7 +82,7 @@ impl<S: Kept, V> Word<S, V> {
 
     /// The word, and a new seat. It is one load.
     #[inline(always)]
-    #[tactic(auto, using(crate::proofs::WordKeeps::sits))]
+    #[tactic(auto, using(crate::proofs::WordKeeps::sits, crate::proofs::WordKeeps::due_enters))]
     pub fn look(&self) -> (u64, Seat)
         ensures seat { (result.1.slot ≡ self.now.slot.name) × (result.1.view ≡ nothing) }
         ensures fits { S.rules.fits (number_of result.0) }
@@ -92,7 +92,7 @@ impl<S: Kept, V> Word<S, V> {
 
     /// Looks at the word again.
     #[inline(always)]
-    #[tactic(auto, using(crate::proofs::WordKeeps::looks))]
+    #[tactic(auto, using(crate::proofs::WordKeeps::looks, crate::proofs::WordKeeps::due_looks))]
     pub fn look_again(&self, seat: &mut Seat) -> u64
         requires { seat.old.slot ≡ self.now.slot.name }
         ensures seat { (seat.new.slot ≡ seat.old.slot) × (seat.new.view ≡ seat.old.view) }

@@ -82,7 +82,7 @@ impl<T, R: Wait> Drop for Reading<'_, T, R> {
             let (found, left) = claim.exchange::<Stays>(&mut mark, seen, seen - ONE_READER);
             if found == seen {
                 left.done();
-                lock.slot.wake_all();
+                lock.wake_all();
                 return;
             }
             claim = left;
@@ -142,7 +142,7 @@ impl<'a, T, R: Wait> Changing<'a, T, R> {
             let (found, left) = claim.exchange::<Closes>(&mut mark, seen, new);
             if found == seen {
                 left.done();
-                lock.slot.wake_all();
+                lock.wake_all();
                 return mark;
             }
             claim = left;
@@ -178,7 +178,7 @@ impl<T, R: Wait> Drop for Changing<'_, T, R> {
             let (found, left) = claim.exchange::<Stays>(&mut mark, seen, new);
             if found == seen {
                 left.done();
-                lock.slot.wake_all();
+                lock.wake_all();
                 return;
             }
             claim = left;

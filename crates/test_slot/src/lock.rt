@@ -79,7 +79,8 @@ impl<T> Lock<T> {
                 return None;
             }
             if seen != PRESENT {
-                self.slot.park(rt, seen as u32);
+                let mark = self.mark();
+                self.slot.park(rt, &mark, seen as u32);
             }
         }
         unreachable!()
@@ -121,6 +122,13 @@ impl<T> Lock<T> {
         ensures { result.slot ≡ self.now.slot.name }
     {
         self.slot.enter::<Looks>().1
+    }
+
+    // Wakes every thread that waits.
+    #[tactic(auto, using(crate::proofs::Closing::looks))]
+    pub(crate) fn wake_all(&self) {
+        let mut mark = self.mark();
+        self.slot.wake_all::<Looks>(&mut mark);
     }
 
     /// A mark that knows as much as this one.

@@ -1,5 +1,5 @@
 //! The rule: whoever knows that the lock is closed is right, and the word shows whether the tally is at home, and what it is.
-ghost use Rattle.std.specs.Prelude.{false};
+ghost use Rattle.std.specs.Prelude.{⊤, false, true};
 ghost use Rattle.test_slot.specs.Closed.{Right, Stay, Look, Close, TakesOut, PutsBack, both, nothing};
 
 use event_slot::{Joins, Ruled, Splits, Tells, Trades};
@@ -31,6 +31,13 @@ impl<T> Ruled<Tally> for Held<T> {
     ghost holds = { λ _. Right };
 
     ghost first = { λ _. record { closed = false } };
+
+    // A thread may sleep at any word: whoever gives the value back wakes all, which no clause says.
+    ghost announces = { λ _. true };
+
+    ghost owes = { λ _. true };
+
+    ghost may_sleep = { λ _. ⊤ };
 }
 
 /// A step that tells nothing, and neither takes the tally nor puts it back.

@@ -30,7 +30,7 @@ fn leave<T: Drop>(owned: Owned<Lock<T>, Held<T>, Tally, Global>)
     requires { (owned.right ≡ 0) × (owned.state ≡ None) }
 {
     let lock = owned.done();
-    lock.slot.wake_all();
+    lock.wake_all();
 }
 
 /// The value, to be read.

@@ -1,6 +1,10 @@
 //! What no clause sees: that a step wins where nobody is in the way, and that threads that meet change one value and one tally.
+ghost use Rattle.std.specs.Prelude.{◌≡◌};
+
 use crate::lock::Lock;
+use crate::rule::{Looks, View};
 use crate::shared::{Owning, Sharing};
+use event_slot::Mark;
 use std::sync::{Arc, Wait};
 use std::test::Fail;
 use std::thread;
@@ -73,13 +77,21 @@ fn what_marks_know_is_copied_and_joined(rt: HostRuntime) {
     assert!(rt; lock.is_closed(&mut mark) && lock.is_closed(&mut newcomer));
 }
 
+#[tactic(auto, using(crate::proofs::Closing::looks))]
+fn wake(lock: &Lock<u64>, mark: &mut Mark<View>)
+    requires { mark.old.slot ≡ lock.now.slot.name }
+{
+    lock.slot.wake_one::<Looks>(mark);
+    lock.slot.wake_all::<Looks>(mark);
+}
+
 #[test]
 fn a_thread_parks_only_beside_the_expected_word(rt: HostRuntime) {
-    let (lock, _mark) = Lock::new(5u64);
-    lock.slot.park(&rt, 0);
-    lock.slot.park_timeout(&rt, 1, Duration::from_millis(1));
-    lock.slot.wake_one();
-    lock.slot.wake_all();
+    let (lock, mut mark) = Lock::new(5u64);
+    lock.slot.park(&rt, &mark, 0);
+    lock.slot
+        .park_timeout(&rt, &mark, 1, Duration::from_millis(1));
+    wake(&lock, &mut mark);
     assert!(rt; lock.slot.peek() == 1);
 }
 

@@ -17,7 +17,7 @@ use std::sync::{Arc, Wait};
 pub type OwnedRight<L, V> = Owned<L, Place<V>, Queues<Task>, Global>;
 
 // The word of a lock, and a new seat.
-#[tactic(auto, using(crate::proofs::WordKeeps::sits))]
+#[tactic(auto, using(crate::proofs::WordKeeps::sits, crate::proofs::WordKeeps::due_enters))]
 fn look<L: Inside<Place<V>, Queues<Task>>, V>(lock: &L) -> (u64, Seat)
     ensures seat { result.1.slot ≡ (L.finds lock.now).name }
     ensures fits { IsCount (number_of result.0) }

@@ -5,7 +5,7 @@ ghost use Rattle.event_wait.specs.declared.lock.task.Task.{Task};
 ghost use Rattle.event_word.specs.Leaving.{IfGoing, IfTaking, becomes};
 ghost use Rattle.event_word.specs.Queues.{Admits, CountsAsReader, CountsAsWriter, CountsMore, IsExclusive, MayUpgrade, Recounts, RecountsAndTakes, given, if_any, lock_rules};
 ghost use Rattle.event_word.specs.Held.{HasState, IsOf};
-ghost use Rattle.event_word.specs.Word.{EasesFrom, number_of};
+ghost use Rattle.event_word.specs.Word.{EasesFrom, nothing, number_of};
 
 use super::number::{self, Leaving, READER, WRITER};
 use super::queues::Queues;
@@ -130,13 +130,13 @@ impl<V> Word<Queues<Task>, V> {
         leaving: Leaving,
     ) -> Result<(), (Grant<'a, K, V>, Seat)>
         requires own { grant.claim.name ≡ self.now.slot.name }
-        requires seat { (seat.slot ≡ self.now.slot.name) × (seat.view.number ≡ None) }
+        requires seat { (seat.slot ≡ self.now.slot.name) × (seat.view ≡ nothing) }
         requires going { IfGoing leaving (Recounts K.RIGHT 0 seen) }
         requires taking { IfTaking leaving (RecountsAndTakes K.RIGHT 0 seen) }
         requires last { IfTaking leaving (λ new. number_of new ≡ 0) }
         requires ends { K.ends (number_of seen) (number_of (becomes leaving)) }
         ensures { IfErr result (λ again. (again.0.claim.name ≡ self.now.slot.name)
-            × (again.1.slot ≡ seat.slot) × (again.1.view.number ≡ None)) }
+            × (again.1.slot ≡ seat.slot) × (again.1.view ≡ nothing)) }
     {
         match leaving {
             Leaving::Going(new) => match self.dismiss(grant, &mut seat, seen, new) {

@@ -22,6 +22,7 @@ impl<S: Kept, V> Held<'_, S, V> {
         requires seat { IsOf word.now.slot.name self.old }
         requires state { HasState (λ _ _. ⊤) self.old }
         ensures seat { IsOf word.now.slot.name self.new }
+        ensures same { self.new.seat.id ≡ self.old.seat.id }
         ensures state { (self.new.claim.state ≡ self.old.claim.state)
             × (self.new.seat.view.number ≡ Some (number_of result)) }
         ensures word { (result % 2 ≡ 1) × S.rules.fits (number_of result) }

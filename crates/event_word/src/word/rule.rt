@@ -1,13 +1,16 @@
 //! What holds of a lock's word and state between any two steps of any threads, and what each kind of step tells.
-ghost use Rattle.event_word.specs.Word.{Holds, changed, counts_of, entered, looked, moved, nothing, put, seen_again, took};
+ghost use Rattle.std.specs.Prelude.{◌≡◌, None};
+ghost use Rattle.event_word.specs.Word.{Holds, announces, changed, counts_of, entered, looked, moved, nothing, owes, put, seen_again, slept, took, woke};
 
 use super::kept::Kept;
 use event_slot::{Ruled, Tells, Trades};
 use std::marker::PhantomData;
 
-/// What a seat knows: the number that it saw or left last while it has the state out.
+/// What a seat knows: the number that it saw or left last while it has the state out, and whether it owes a wake to those that sleep,
+/// while it has not.
 pub struct View {
     pub number: Option<u64>,
+    pub owes: bool,
 }
 
 /// A lock's value, where it lies.
@@ -26,6 +29,12 @@ impl<S: Kept, V> Ruled<S> for Place<V> {
     ghost holds = { λ _. Holds S.rules };
 
     ghost first = { λ _. nothing };
+
+    ghost announces = { announces };
+
+    ghost owes = { owes };
+
+    ghost may_sleep = { λ v. v.number ≡ None };
 }
 
 // A new seat.
@@ -53,6 +62,22 @@ pub struct LookAgain<S> {
 
 impl<S: Kept> Tells<View> for LookAgain<S> {
     ghost then = { seen_again S.rules };
+}
+
+// A seat looks at the word, and its thread sleeps maybe.
+pub struct Sleep<S> {
+    of: PhantomData<S>,
+}
+
+impl<S: Kept> Tells<View> for Sleep<S> {
+    ghost then = { slept S.rules };
+}
+
+// A seat woke one that slept.
+pub struct Wake;
+
+impl Tells<View> for Wake {
+    ghost then = { woke };
 }
 
 // The number changes.

@@ -1,7 +1,7 @@
 //! Steps on the number of a word.
 ghost use Rattle.std.specs.Prelude.{◌≡◌, ◌%◌, ⊤, None, Some, IfErr, IfOk, IfSome, MatchOption};
 ghost use Rattle.event_word.specs.Held.{HasState, IsOf};
-ghost use Rattle.event_word.specs.Word.{Changes, Stays, Takes, number_of};
+ghost use Rattle.event_word.specs.Word.{Changes, Stays, Takes, nothing, number_of};
 
 use super::held::Held;
 use super::kept::Kept;
@@ -34,7 +34,7 @@ impl Step {
 impl<S: Kept, V> Word<S, V> {
     /// Changes the number where nobody has to be notified, if the word is as it was seen.
     #[inline(always)]
-    #[tactic(auto, using(crate::proofs::WordKeeps::changes, crate::proofs::WordKeeps::stays_may, crate::proofs::WordKeeps::stays_none))]
+    #[tactic(auto, using(crate::proofs::WordKeeps::changes, crate::proofs::WordKeeps::due_changes, crate::proofs::WordKeeps::stays_may, crate::proofs::WordKeeps::stays_none))]
     pub fn change(&self, seat: &mut Seat, seen: u64, new: u64) -> Option<Step>
         requires seat { seat.old.slot ≡ self.now.slot.name }
         requires changes { Changes S.rules seen new × Stays S.rules seen new }
@@ -56,8 +56,9 @@ impl<S: Kept, V> Word<S, V> {
 
     /// Takes the state out where it is at home, and changes the number by the same step. An error has the seat where the word
     /// was another.
+    #[tactic(auto, using(crate::proofs::WordKeeps::due_none))]
     pub fn try_take(&self, seat: Seat, seen: u64, new: u64) -> Result<(Step, Held<'_, S, V>), Seat>
-        requires seat { (seat.slot ≡ self.now.slot.name) × (seat.view.number ≡ None) }
+        requires seat { (seat.slot ≡ self.now.slot.name) × (seat.view ≡ nothing) }
         requires home { seen % 2 ≡ 0 }
         requires takes { Takes S.rules seen new × Stays S.rules seen new }
         ensures ok { IfOk result (λ taken. IsOf self.now.slot.name taken.1
@@ -83,6 +84,7 @@ impl<S: Kept, V> Held<'_, S, V> {
         requires seat { IsOf word.now.slot.name self.old }
         requires state { HasState (λ _ _. ⊤) self.old }
         requires takes { Takes S.rules seen new × Stays S.rules seen new }
+        requires code { new % 4 ≡ seen % 4 }
         ensures seat { IsOf word.now.slot.name self.new }
         ensures state { self.new.claim.state ≡ self.old.claim.state }
         ensures changes { MatchOption result (self.new.seat.view ≡ self.old.seat.view)

@@ -1,11 +1,11 @@
 //! Taking the state out from behind its word, and putting it back.
-ghost use Rattle.std.specs.Prelude.{◌≡◌, ◌*◌, ◌%◌, ◌^◌, ◌<◌, None, false, IfErr, IfOk};
+ghost use Rattle.std.specs.Prelude.{◌≡◌, ◌*◌, ◌%◌, ◌^◌, ◌<◌, None, false, true, IfErr, IfOk, MatchResult};
 ghost use Rattle.event_word.specs.Held.{HasState, IsOf};
-ghost use Rattle.event_word.specs.Word.{Stays, Takes, number_of};
+ghost use Rattle.event_word.specs.Word.{Stays, Takes, nothing, number_of, owes, owing};
 
 use super::held::Held;
 use super::kept::Kept;
-use super::rule::{Change, Put, Take};
+use super::rule::{Change, Put, Sleep, Take, Wake};
 use super::{AWAITED, CROWDED, ONE, OUT, Seat, Word};
 use event_wait::{DeferredWake, PAUSES, pause};
 use std::sync::Wait;
@@ -14,14 +14,16 @@ use std::sync::Wait;
 const PARKED_BITS: u64 = 0x1_0000_0000;
 
 impl<S: Kept, V> Word<S, V> {
-    #[tactic(auto, using(crate::proofs::WordKeeps::takes_out, crate::proofs::WordKeeps::stays_may, crate::proofs::WordKeeps::stays_none))]
+    #[tactic(auto, using(crate::proofs::WordKeeps::takes_out, crate::proofs::WordKeeps::due_takes, crate::proofs::WordKeeps::stays_may, crate::proofs::WordKeeps::stays_none))]
     pub(super) fn take_step(&self, seat: Seat, seen: u64, new: u64) -> Result<Held<'_, S, V>, Seat>
         requires seat { (seat.slot ≡ self.now.slot.name) × (seat.view.number ≡ None) }
         requires home { seen % 2 ≡ 0 }
         requires takes { Takes S.rules seen new × Stays S.rules seen new }
+        requires announced { owes seat.view ≡ true → new % 4 ≡ 3 }
         ensures ok { IfOk result (λ held. IsOf self.now.slot.name held
             × HasState (λ n q. (n ≡ number_of new) × S.rules.stands (number_of seen) q) held) }
         ensures err { IfErr result (λ again. (again.slot ≡ seat.slot) × (again.view ≡ seat.view)) }
+        ensures same { MatchResult result (λ held. held.seat.id ≡ seat.id) (λ again. again.id ≡ seat.id) }
     {
         let mut seat = seat;
         let (found, claim) = self.slot.claim().exchange::<Take>(&mut seat, seen, new);
@@ -36,6 +38,7 @@ impl<S: Kept, V> Word<S, V> {
     /// ever more seldom, and sleeps at last. It does not allocate.
     #[cold]
     #[inline(never)]
+    #[tactic(auto, using(crate::proofs::WordKeeps::due_none))]
     pub fn take<R: Wait>(&self, rt: &R) -> (u64, Held<'_, S, V>)
         ensures held { IsOf self.now.slot.name result.1 }
         ensures stands { S.rules.fits result.0
@@ -55,20 +58,23 @@ impl<S: Kept, V> Word<S, V> {
         self.sleep_to_take(rt, seat)
     }
 
-    // Whoever slept can't know whether others sleep still.
+    // Whoever slept can't know whether others sleep still, so it owes them a wake: it takes the state with the word marked, and puts it
+    // back by the same seat.
+    #[tactic(auto, using(crate::proofs::WordKeeps::loud))]
     fn sleep_to_take<R: Wait>(&self, rt: &R, seat: Seat) -> (u64, Held<'_, S, V>)
         requires seat { (seat.slot ≡ self.now.slot.name) × (seat.view.number ≡ None) }
         ensures held { IsOf self.now.slot.name result.1 }
+        ensures same { result.1.seat.id ≡ seat.id }
         ensures stands { S.rules.fits result.0
             × HasState (λ n q. (n ≡ result.0) × S.rules.stands n q) result.1 }
     {
         let mut seat = seat;
         for _ in rt.forever() {
-            let seen = self.look_again(&mut seat);
+            let seen = self.look_to_sleep(&mut seat);
             let awaited = seen - seen % 4 + AWAITED;
             if seen % 2 == 1 {
                 if seen == awaited || self.await_step(&mut seat, seen, awaited) {
-                    self.slot.park(rt, (awaited % PARKED_BITS) as u32);
+                    self.slot.park(rt, &seat, (awaited % PARKED_BITS) as u32);
                 }
                 continue;
             }
@@ -80,12 +86,24 @@ impl<S: Kept, V> Word<S, V> {
         unreachable!()
     }
 
+    // Looks at the word, after which the thread may sleep.
+    #[tactic(auto, using(crate::proofs::WordKeeps::sleeps, crate::proofs::WordKeeps::due_sleeps))]
+    fn look_to_sleep(&self, seat: &mut Seat) -> u64
+        requires { (seat.old.slot ≡ self.now.slot.name) × (seat.old.view.number ≡ None) }
+        ensures seat { (seat.new.slot ≡ seat.old.slot) × (seat.new.id ≡ seat.old.id)
+            × (seat.new.view ≡ owing true) }
+        ensures fits { S.rules.fits (number_of result) }
+    {
+        self.slot.load::<Sleep<S>>(seat)
+    }
+
     // Marks the word, so that whoever puts the state back wakes one that sleeps.
-    #[tactic(auto, using(crate::proofs::WordKeeps::awaits, crate::proofs::WordKeeps::stays_put, crate::proofs::WordKeeps::stays_may, crate::proofs::WordKeeps::stays_none))]
+    #[tactic(auto, using(crate::proofs::WordKeeps::awaits, crate::proofs::WordKeeps::due_awaits, crate::proofs::WordKeeps::stays_put, crate::proofs::WordKeeps::stays_may, crate::proofs::WordKeeps::stays_none))]
     fn await_step(&self, seat: &mut Seat, seen: u64, awaited: u64) -> bool
         requires seat { seat.old.slot ≡ self.now.slot.name }
-        requires away { (seen % 2 ≡ 1) × (awaited % 2 ≡ 1) × (number_of awaited ≡ number_of seen) }
-        ensures { (seat.new.slot ≡ seat.old.slot) × (seat.new.view ≡ seat.old.view) }
+        requires away { (seen % 2 ≡ 1) × (awaited % 4 ≡ 3) × (number_of awaited ≡ number_of seen) }
+        ensures { (seat.new.slot ≡ seat.old.slot) × (seat.new.id ≡ seat.old.id)
+            × (seat.new.view ≡ seat.old.view) }
     {
         let (found, claim) = self.slot.claim().exchange::<Change>(seat, seen, awaited);
         claim.done();
@@ -104,7 +122,7 @@ impl<S: Kept, V> Word<S, V> {
         let mut waking = DeferredWake::new();
         for _ in rt.forever() {
             match self.try_to_put_back(held, &mut waking) {
-                Ok(()) => {
+                Ok(_) => {
                     waking.finish();
                     return;
                 }
@@ -114,14 +132,16 @@ impl<S: Kept, V> Word<S, V> {
         unreachable!()
     }
 
-    // An error has the state where the number changed meanwhile.
+    // Returns the seat that had the state, which owes nobody a wake any more. An error has the state where the number changed meanwhile.
+    #[tactic(auto, using(crate::proofs::WordKeeps::quiet))]
     fn try_to_put_back<'a>(
         &self,
         held: Held<'a, S, V>,
         waking: &mut DeferredWake,
-    ) -> Result<(), Held<'a, S, V>>
+    ) -> Result<Seat, Held<'a, S, V>>
         requires seat { IsOf self.now.slot.name held }
         requires promised { HasState S.rules.promised held }
+        ensures pays { IfOk result (λ seat. (seat.id ≡ held.entry.seat.id) × (seat.view ≡ nothing)) }
         ensures again { IfErr result (λ again. IsOf self.now.slot.name again
             × HasState S.rules.promised again) }
     {
@@ -141,10 +161,20 @@ impl<S: Kept, V> Word<S, V> {
             return Err(Held { claim, seat });
         }
         claim.done();
-        if seen % 4 == AWAITED {
-            self.slot.wake_one();
+        if seen % 4 != AWAITED {
+            return Ok(seat);
         }
-        Ok(())
+        self.wake_one(&mut seat);
+        Ok(seat)
+    }
+
+    // Wakes one that sleeps.
+    #[tactic(auto, using(crate::proofs::WordKeeps::wakes))]
+    fn wake_one(&self, seat: &mut Seat)
+        requires { (seat.old.slot ≡ self.now.slot.name) × (seat.old.view.number ≡ None) }
+        ensures { (seat.new.id ≡ seat.old.id) × (seat.new.view ≡ nothing) }
+    {
+        self.slot.wake_one::<Wake>(seat);
     }
 
     // Whoever has the state out looks at the word, and remembers its number.
@@ -152,6 +182,7 @@ impl<S: Kept, V> Word<S, V> {
         requires seat { IsOf self.now.slot.name held.old }
         requires promised { HasState S.rules.promised held.old }
         ensures seat { IsOf self.now.slot.name held.new }
+        ensures same { held.new.seat.id ≡ held.old.seat.id }
         ensures word { (result % 2 ≡ 1) × S.rules.fits (number_of result) }
         ensures promised { HasState (λ n q. (n ≡ number_of result) × S.rules.promised n q) held.new }
     {
@@ -164,6 +195,7 @@ impl<S: Kept, V> Word<S, V> {
         requires number { (number < 2 ^ 62) × S.rules.fits number }
         requires promised { HasState (λ n q. (n ≡ number) × S.rules.promised n q) held.old }
         ensures seat { IsOf self.now.slot.name held.new }
+        ensures same { held.new.seat.id ≡ held.old.seat.id }
         ensures number { (result < 2 ^ 62) × S.rules.fits result
             × Stays S.rules (number * 4) (result * 4) }
         ensures promised { HasState (λ n q. (n ≡ number) × S.rules.promised number q
@@ -176,6 +208,7 @@ impl<S: Kept, V> Word<S, V> {
     fn renumber(&self, held: &mut Held<'_, S, V>, seen: u64, new: u64)
         requires seat { IsOf self.now.slot.name held.old }
         requires takes { Takes S.rules seen new × Stays S.rules seen new }
+        requires code { new % 4 ≡ seen % 4 }
         requires promised { HasState (λ _ q. S.rules.promised (number_of seen) q
             × S.rules.promised (number_of new) q) held.old }
         requires number { HasState (λ n _. n ≡ number_of seen) held.old }
@@ -192,6 +225,7 @@ impl<S: Kept, V> Word<S, V> {
         requires promised { HasState (λ n q. (n ≡ number) × S.rules.promised number q
             × S.rules.tells number q) held.old }
         ensures seat { IsOf self.now.slot.name held.new }
+        ensures same { held.new.seat.id ≡ held.old.seat.id }
         ensures stands { HasState (λ n q. (n ≡ number) × S.rules.stands number q
             × (result ≡ false → S.rules.quiet q)) held.new }
     {

@@ -13,7 +13,7 @@ use event_slot::Claim;
 impl<S: Kept, V> Word<S, V> {
     // Makes the word another, if it is as it was seen, and nobody has to be notified. Returns whether it was, and what one has then.
     #[inline(always)]
-    #[tactic(auto, using(crate::proofs::WordKeeps::changes))]
+    #[tactic(auto, using(crate::proofs::WordKeeps::changes, crate::proofs::WordKeeps::due_changes))]
     pub(crate) fn turn<'a>(
         &self,
         claim: Claim<'a, Place<V>, S>,
@@ -37,7 +37,7 @@ impl<S: Kept, V> Word<S, V> {
 
     // The same by a step that makes a seat, and with the word as it was.
     #[inline(always)]
-    #[tactic(auto, using(crate::proofs::WordKeeps::comes))]
+    #[tactic(auto, using(crate::proofs::WordKeeps::comes, crate::proofs::WordKeeps::due_changes))]
     pub(crate) fn turn_at<'a>(
         &self,
         claim: Claim<'a, Place<V>, S>,
@@ -58,7 +58,7 @@ impl<S: Kept, V> Word<S, V> {
 
     // The same by a step that takes the state out where it is at home, and with which the right ends. An error has the claim and the
     // seat where the word was another.
-    #[tactic(auto, using(crate::proofs::WordKeeps::takes_out))]
+    #[tactic(auto, using(crate::proofs::WordKeeps::takes_out, crate::proofs::WordKeeps::due_takes_none))]
     pub(crate) fn turn_out<'a>(
         &self,
         claim: Claim<'a, Place<V>, S>,
@@ -67,7 +67,7 @@ impl<S: Kept, V> Word<S, V> {
         new: u64,
     ) -> Result<Held<'a, S, V>, (Claim<'a, Place<V>, S>, Seat)>
         requires own { (claim.name ≡ self.now.slot.name) × (claim.state ≡ None) }
-        requires seat { (seat.slot ≡ self.now.slot.name) × (seat.view.number ≡ None) }
+        requires seat { (seat.slot ≡ self.now.slot.name) × (seat.view ≡ nothing) }
         requires home { seen % 2 ≡ 0 }
         requires takes { Takes S.rules seen new × Passes S.rules claim.right 0 seen new }
         ensures ok { IfOk result (λ held. IsOf self.now.slot.name held
@@ -97,6 +97,7 @@ impl<S: Kept, V> Held<'_, S, V> {
         requires seat { IsOf word.now.slot.name self.old }
         requires state { HasState (λ _ _. ⊤) self.old }
         requires takes { Takes S.rules seen new }
+        requires code { new % 4 ≡ seen % 4 }
         requires own { (claim.name ≡ word.now.slot.name) × (claim.state ≡ None) }
         requires may { MayTurn claim.right (counts_of S.rules seen) (counts_of S.rules new) }
         ensures seat { IsOf word.now.slot.name self.new }

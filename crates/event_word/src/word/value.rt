@@ -127,7 +127,7 @@ impl<S: Kept, V> Word<S, V> {
         new: u64,
     ) -> Result<Held<'a, S, V>, (Lent<'a, S, V>, Seat)>
         requires own { lent.name ≡ self.now.slot.name }
-        requires seat { (seat.slot ≡ self.now.slot.name) × (seat.view.number ≡ None) }
+        requires seat { (seat.slot ≡ self.now.slot.name) × (seat.view ≡ nothing) }
         requires home { seen % 2 ≡ 0 }
         requires takes { Takes S.rules seen new × Passes S.rules 2 0 seen new }
         ensures ok { IfOk result (λ held. IsOf self.now.slot.name held
@@ -148,6 +148,7 @@ impl<S: Kept, V> Held<'_, S, V> {
         requires seat { IsOf word.now.slot.name self.old }
         requires state { HasState (λ _ _. ⊤) self.old }
         requires takes { Takes S.rules seen new × Passes S.rules 0 2 seen new }
+        requires code { new % 4 ≡ seen % 4 }
         ensures seat { IsOf word.now.slot.name self.new }
         ensures state { self.new.claim.state ≡ self.old.claim.state }
         ensures changes { MatchOption result (self.new.seat.view ≡ self.old.seat.view)

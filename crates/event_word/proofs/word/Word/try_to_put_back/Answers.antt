@@ -1,6 +1,6 @@
 use Rattle.std.proofs.Common.{rules, arith, inl, inr, ◌≡◌, ◌⊎◌, ◌*◌, ◌+◌, ◌/◌, ◌<◌, subst}
 use Rattle.event_word.specs.Word.{number_of}
-use Rattle.event_word.proofs.WordKeeps.{puts, home_with, is_number}
+use Rattle.event_word.proofs.WordKeeps.{puts, due_puts, home_with, is_number}
 use Rattle.event_word.proofs.word.Word.try_to_put_back.Goals.{then-waits, else-waits}
 use Rattle.event_word.proofs.word.Word.try_to_put_back.Goals as goal
 
@@ -16,3 +16,6 @@ exchange-found-requires-clause-keeps g c =
     let low : code < 4 = elim turn [ inl is ↦ omega (arith, is) | inr is ↦ omega (arith, is.0) ] in
     let is : number ≡ number_of (number * 4 + code) = is_number number code low in
     (search rules, puts kept _ _ _ t.1 _ _ _ t.2 t.3 (home_with kept number code t.1 turn h.1) (subst kept.fits is c.see-seen.ensures.word.1))
+
+pub exchange-found-requires-clause-owes : goal.exchange-found-requires-clause-owes
+exchange-found-requires-clause-owes g c = due_puts _ _ _ _ _ c.settle-waits.ensures.stands.2

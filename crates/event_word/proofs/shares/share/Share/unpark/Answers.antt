@@ -1,7 +1,7 @@
 use Rattle.std.proofs.Common.{◌≡◌, ◌∙◌, arith}
 use Rattle.event_wait.specs.declared.lock.task.Task.{Task}
 use Rattle.event_word.specs.Queues.{lock_rules}
-use Rattle.event_word.proofs.WordKeeps.{changes, passed}
+use Rattle.event_word.proofs.WordKeeps.{changes, due_changes, passed}
 use Rattle.event_word.proofs.shares.share.Share.unpark.Goals as goal
 
 pub exchange-found-requires-clause-keeps : goal.exchange-found-requires-clause-keeps
@@ -15,3 +15,6 @@ pub returns-then-found-seen-clause-lends : goal.returns-then-found-seen-clause-l
 returns-then-found-seen-clause-lends g c = λ some.
     let right : c.exchange-found.result.1.right ≡ g.K.Right.RIGHT = passed (lock_rules {W = Task}) 0 g.K.Right.RIGHT _ _ _ _ c.in-Some-word_unparked.ensures.step.passes c.new.ensures.3 (c.exchange-found.ensures.becomes.0 c.if-found-seen.true) in
     c.exchange-found.ensures.has (omega (arith, right, some))
+
+pub exchange-found-requires-clause-owes : goal.exchange-found-requires-clause-owes
+exchange-found-requires-clause-owes g c = due_changes (lock_rules {W = Task}) _ _ _ _ c.in-Some-word_unparked.ensures.step.changes
