@@ -8,6 +8,7 @@
 # check      1 h       proves all but tests; after an edit it takes seconds or minutes
 # vectors    12 min    proves and runs the worked rows, and keeps the program as crates/vectors/out/vectors
 # refused    1 min     tries programs that must not compile, and some that must
+# wrong      TIME      tries all wrong bodies, each of which must be refused by the goal that it names; CRATE=event_word tries its own
 # quoted     1 s       compares what pages quote, and the API pages, with the sources
 # api        1 s       writes the API pages
 # explore    1 min     shows a run of a world: RUN='mutex 2: 0:2 1:5', or its input; PROVED=1 proves the program first
@@ -17,7 +18,7 @@
 # fmt        1 min     formats the files
 # bench      30 min    measures events, locks and channels, beside Rust crates with ORACLE=FOLDER (scripts/bench)
 # diff       10 min    compares the queue with the Rust crate's answers in ORACLE=FOLDER (crates/replies)
-.PHONY: help run test tests gate prove vectors check refused quoted api explore fuzz soak starved fmt bench diff
+.PHONY: help run test tests gate prove vectors check refused wrong quoted api explore fuzz soak starved fmt bench diff
 
 # So that a target fails where the first command of a pipe does.
 SHELL := bash
@@ -53,6 +54,9 @@ vectors:
 
 refused:
 	$(needs_rt)@scripts/refused
+
+wrong:
+	$(needs_rt)@scripts/wrong $(CRATE)
 
 quoted:
 	@scripts/pages
