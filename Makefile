@@ -8,7 +8,7 @@
 # check      1 h       proves all but tests; after an edit it takes seconds or minutes
 # vectors    12 min    proves and runs the worked rows, and keeps the program as crates/vectors/out/vectors
 # refused    1 min     tries programs that must not compile, and some that must
-# wrong      TIME      tries all wrong bodies, each of which must be refused by the goal that it names; CRATE=event_word tries its own
+# wrong      30 min    tries all wrong bodies, each of which must be refused by the goal that it names; CRATE=event_word tries its own
 # quoted     1 s       compares what pages quote, and the API pages, with the sources
 # api        1 s       writes the API pages
 # explore    1 min     shows a run of a world: RUN='mutex 2: 0:2 1:5', or its input; PROVED=1 proves the program first
