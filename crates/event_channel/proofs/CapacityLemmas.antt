@@ -8,9 +8,11 @@ use Rattle.event_wait.specs.declared.request.Attempted.TheVariants.{Done, Waits,
 use Rattle.event_channel.specs.declared.call.ChannelCall.{ChannelCall}
 use Rattle.event_channel.specs.declared.call.ChannelCall.TheVariants as call
 use Rattle.event_channel.specs.declared.error.SendReason.TheVariants.{Closed, Full}
-use Rattle.event_channel.specs.Calls.{LeavesReceivers, calls, channel_machine}
+use Rattle.event_channel.specs.Calls.{LeavesReceivers, calls, channel_machine, receiver_key}
 use Rattle.event_channel.specs.Messages.{State, PlacesAreDue, limit_of, room_for_newcomers}
-use Rattle.event_channel.specs.Sent.{ChannelLog, sent_by, out_by, all_of}
+use Rattle.event_channel.specs.Turns.{Starving}
+use Rattle.event_channel.proofs.ForbearLemmas.{forborne, forborne_for, forborne_sending, refused_for}
+use Rattle.event_channel.specs.Sent.{ChannelLog, WasBefore, sent_by, out_by, all_of}
 use Rattle.event_channel.proofs.HistoryLemmas.{in_order_from_start, leads_as_seen, moves}
 
 none_more : (n room sent out : ℕ) → sent ≡ 0 → n ≤ room → n + sent ≤ room + out
@@ -55,7 +57,7 @@ module _ {T W : Type 0} where
 
   keeps : (before after : State T W) (c : ChannelCall T) → calls before c after → Keeps before c after
   keeps before after (call.Send message (Ok sent)) h = pushed before after (call.Send message (Ok sent)) refl h.0.has_room (both _ _ h.0.rest)
-  keeps before after (call.Send message (Err reason)) h = idle before after (call.Send message (Err reason)) refl (both _ _ h.1)
+  keeps before after (call.Send message (Err reason)) h = idle before after (call.Send message (Err reason)) refl (both _ _ (refused_for reason None before after h.1))
   keeps before after (call.ForceSend message (Ok None)) h = pushed before after (call.ForceSend message (Ok None)) refl h.has_room (both _ _ h.rest)
   keeps before after (call.ForceSend message (Ok (Some first))) h =
       let same : Alike before after = both _ _ h.rest in (same.0, inr same.1, one_for_one (length before.messages) before.capacity)
@@ -63,29 +65,29 @@ module _ {T W : Type 0} where
   keeps before after (call.SendOrWait message key (Done (Ok sent))) h = pushed before after (call.SendOrWait message key (Done (Ok sent))) refl h.2.1.has_room (both _ _ h.2.1.rest)
   keeps before after (call.SendOrWait message key (Done (Err reason))) h = idle before after (call.SendOrWait message key (Done (Err reason))) refl (both _ _ h.2.1)
   keeps before after (call.SendOrWait message key (Waits waits)) h = idle before after (call.SendOrWait message key (Waits waits)) refl (both _ _ h.2.2)
-  keeps before after (call.SendOrWait message key Absent) h = idle before after (call.SendOrWait message key Absent) refl (both _ _ h.2.1)
+  keeps before after (call.SendOrWait message key Absent) h = idle before after (call.SendOrWait message key Absent) refl (both _ _ (forborne_sending before after h.2.0.4))
   keeps before after (call.SendOrWait message key (Refused error)) h = idle before after (call.SendOrWait message key (Refused error)) refl (both _ _ h.2.2)
   keeps before after (call.SendOrLeave message key (Ok sent)) h =
       pushed before after (call.SendOrLeave message key (Ok sent)) refl h.1.0.has_room (via before h.0 after (both _ _ h.1.0.rest) (both _ _ h.2.0))
   keeps before after (call.SendOrLeave message key (Err reason)) h =
-      idle before after (call.SendOrLeave message key (Err reason)) refl (via before h.0 after (both _ _ h.1.1) (both _ _ h.2.0))
+      idle before after (call.SendOrLeave message key (Err reason)) refl (via before h.0 after (both _ _ (refused_for reason key before h.0 h.1.1)) (both _ _ h.2.0))
   keeps before after (call.LeaveSenders key) h = idle before after (call.LeaveSenders key) refl (both _ _ h.0)
   keeps before after (call.Receive (Ok message)) h = idle before after (call.Receive (Ok message)) refl (both _ _ h.0.rest)
-  keeps before after (call.Receive (Err error)) h = idle before after (call.Receive (Err error)) refl (both _ _ h.1)
+  keeps before after (call.Receive (Err error)) h = idle before after (call.Receive (Err error)) refl (both _ _ (forborne before after h.1))
   keeps before after (call.ReceiveOrWait false key (Done (Some message))) h = idle before after (call.ReceiveOrWait false key (Done (Some message))) refl (both _ _ h.2.1.rest)
   keeps before after (call.ReceiveOrWait false key (Done None)) h = idle before after (call.ReceiveOrWait false key (Done None)) refl (both _ _ h.2.2)
   keeps before after (call.ReceiveOrWait false key (Waits waits)) h = idle before after (call.ReceiveOrWait false key (Waits waits)) refl (both _ _ h.2.2)
-  keeps before after (call.ReceiveOrWait false key Absent) h = absurd h.2
+  keeps before after (call.ReceiveOrWait false key Absent) h = idle before after (call.ReceiveOrWait false key Absent) refl (both _ _ (forborne before after h.2.4))
   keeps before after (call.ReceiveOrWait false key (Refused error)) h = idle before after (call.ReceiveOrWait false key (Refused error)) refl (both _ _ h.2.2)
   keeps before after (call.ReceiveOrWait true key (Done (Some message))) h = idle before after (call.ReceiveOrWait true key (Done (Some message))) refl (both _ _ h.1.rest)
   keeps before after (call.ReceiveOrWait true key (Done None)) h = idle before after (call.ReceiveOrWait true key (Done None)) refl (both _ _ h.2)
   keeps before after (call.ReceiveOrWait true key (Waits waits)) h = idle before after (call.ReceiveOrWait true key (Waits waits)) refl (both _ _ h.2)
-  keeps before after (call.ReceiveOrWait true key Absent) h = absurd h
+  keeps before after (call.ReceiveOrWait true key Absent) h = idle before after (call.ReceiveOrWait true key Absent) refl (both _ _ (forborne before (record after { streams = h.3.0 }) h.3.1))
   keeps before after (call.ReceiveOrWait true key (Refused error)) h = idle before after (call.ReceiveOrWait true key (Refused error)) refl (both _ _ h.2)
   keeps before after (call.ReceiveOrLeave is_stream key (Ok message)) h =
       idle before after (call.ReceiveOrLeave is_stream key (Ok message)) refl (via before h.0 after (both _ _ h.1.0.rest) (left is_stream key h.0 after h.2))
   keeps before after (call.ReceiveOrLeave is_stream key (Err error)) h =
-      idle before after (call.ReceiveOrLeave is_stream key (Err error)) refl (via before h.0 after (both _ _ h.1.1) (left is_stream key h.0 after h.2))
+      idle before after (call.ReceiveOrLeave is_stream key (Err error)) refl (via before h.0 after (both _ _ (forborne_for (receiver_key is_stream key) before h.0 h.1.1)) (left is_stream key h.0 after h.2))
   keeps before after (call.ReceiveMany [] key) h = absurd h.1
   keeps before after (call.ReceiveMany (message ∷ messages) key) h =
       idle before after (call.ReceiveMany (message ∷ messages) key) refl
@@ -135,7 +137,7 @@ module _ {T W : Type 0} where
   full_or_due : (s : State T W) → s.is_closed ≡ false → room_for_newcomers s ≡ 0 → (s.capacity ≤ length s.messages) ⊎ PlacesAreDue s
   full_or_due s is_open none = by_keys s.starving_senders refl
     where
-      by_keys : (keys : List Key) → s.starving_senders ≡ keys → (s.capacity ≤ length s.messages) ⊎ PlacesAreDue s
+      by_keys : (keys : List Starving) → s.starving_senders ≡ keys → (s.capacity ≤ length s.messages) ⊎ PlacesAreDue s
       by_keys [] is = let full : s.capacity - length s.messages ≡ 0 = rw (is_open, is) at none in inl (omega (arith, full))
       by_keys (key ∷ keys) is =
           let some : (length (key ∷ keys) == 0) ≡ false = grind arith in
@@ -143,16 +145,19 @@ module _ {T W : Type 0} where
           inr (record { is_open = is_open; starves = rw is (omega arith); few = omega (arith, due) })
 
   pub full : (capacity : Option ℕ) (v w : View (State T W) (ChannelCall T)) (message : T) → Extends (channel_machine capacity) v (call.Send message (Err Full)) w
-      → (q : State T W) × LeadsTo (channel_machine capacity) w.seen q × ((length q.messages ≡ limit_of capacity) ⊎ PlacesAreDue q)
+      → ((q : State T W) × LeadsTo (channel_machine capacity) w.seen q × (length q.messages ≡ limit_of capacity)) ⊎ WasBefore capacity (λ (q : State T W). PlacesAreDue q) w.seen
   full capacity v w message (before, after, led) =
       let leads = leads_as_seen capacity v w (call.Send message (Err Full)) before after led in
       let is = kept capacity w.seen after leads in
       ⊎_elim
       (λ (many : before.capacity ≤ length before.messages).
-      let is_full : after.capacity ≤ length after.messages = subst (λ (s : State T W). s.capacity ≤ length s.messages) (sym led.step.1) many in
+      let left = forborne_sending before after led.step.1 in
+      let as_many_there : length after.messages ≡ length before.messages = ap (λ (s : State T W). length s.messages) left in
+      let same_capacity : after.capacity ≡ before.capacity = ap (λ (s : State T W). s.capacity) left in
+      let is_full : after.capacity ≤ length after.messages = omega (arith, many, as_many_there, same_capacity) in
       let least : limit_of capacity ≤ length after.messages = subst (λ (n : ℕ). n ≤ length after.messages) is.0 is_full in
-      (after, leads, inl (as_many (length after.messages) (limit_of capacity) is.1 least)))
-      (λ (due : PlacesAreDue before). (after, leads, inr (subst (λ (s : State T W). PlacesAreDue s) (sym led.step.1) due)))
+      inl (after, leads, as_many (length after.messages) (limit_of capacity) is.1 least))
+      (λ (due : PlacesAreDue before). inr (v.seen ++ led.between, entry led.number (call.Send message (Err Full)), led.seen, before, led.runs, due))
       (full_or_due before led.step.0.0 led.step.0.1)
 
   -- where a send finds it closed, a call has closed it
@@ -164,10 +169,9 @@ module _ {T W : Type 0} where
 
   -- so many more were sent than went out
   pub full_was_sent : (capacity : Option ℕ) (v w : View (State T W) (ChannelCall T)) (message : T) → Extends (channel_machine capacity) v (call.Send message (Err Full)) w
-      → (length (all_of sent_by w.seen) ≡ length (all_of out_by w.seen) + limit_of capacity) ⊎ ((q : State T W) × LeadsTo (channel_machine capacity) w.seen q × PlacesAreDue q)
+      → (length (all_of sent_by w.seen) ≡ length (all_of out_by w.seen) + limit_of capacity) ⊎ WasBefore capacity (λ (q : State T W). PlacesAreDue q) w.seen
   full_was_sent capacity v w message called =
-      let (q, leads, found) = full capacity v w message called in
       ⊎_elim
-      (λ many. inl (ap length (in_order_from_start capacity w.seen q leads) ∙ length-append (all_of out_by w.seen) q.messages ∙ ap (λ (n : ℕ). length (all_of out_by w.seen) + n) many))
-      (λ due. inr (q, leads, due))
-      found
+      (λ t. inl (ap length (in_order_from_start capacity w.seen t.0 t.1) ∙ length-append (all_of out_by w.seen) t.0.messages ∙ ap (λ (n : ℕ). length (all_of out_by w.seen) + n) t.2))
+      (λ due. inr due)
+      (full capacity v w message called)

@@ -9,12 +9,14 @@ use Rattle.event_queue.specs.declared.key.Key.{Key}
 use Rattle.event_wait.specs.declared.request.Attempted.TheVariants.{Done, Waits, Absent, Refused}
 use Rattle.event_channel.specs.declared.call.ChannelCall.{ChannelCall}
 use Rattle.event_channel.specs.declared.call.ChannelCall.TheVariants as call
-use Rattle.event_channel.specs.Calls.{LeavesReceivers, calls, channel_machine}
+use Rattle.event_channel.specs.Calls.{LeavesReceivers, calls, channel_machine, receiver_key}
 use Rattle.event_channel.specs.Messages.{State, AreDue, for_newcomers}
+use Rattle.event_channel.specs.Turns.{Starving}
+use Rattle.event_channel.proofs.ForbearLemmas.{forborne, forborne_for, forborne_sending, refused_for}
 use Rattle.event_channel.specs.declared.error.TryRecvError.{TryRecvError}
 use Rattle.event_channel.specs.declared.error.TryRecvError.TheVariants.{Empty, Closed}
 use Rattle.event_channel.specs.Steps.{FindsNone}
-use Rattle.event_channel.specs.Sent.{ChannelLog, sent_by, received_by, forced_out_by, out_by, all_of}
+use Rattle.event_channel.specs.Sent.{ChannelLog, WasBefore, sent_by, received_by, forced_out_by, out_by, all_of}
 
 module _ {T W : Type 0} where
   alike : (before after : State T W) → after ≡ before → after.messages ≡ before.messages
@@ -30,36 +32,36 @@ module _ {T W : Type 0} where
   -- each call sends behind all others, and receives from the front
   pub moves : (before after : State T W) (c : ChannelCall T) → calls before c after → before.messages ++ sent_by c ≡ out_by c ++ after.messages
   moves before after (call.Send message (Ok sent)) h = sym (ap (λ (s : State T W). s.messages) h.0.rest)
-  moves before after (call.Send message (Err reason)) h = stays before after (alike before after h.1)
+  moves before after (call.Send message (Err reason)) h = stays before after (ap (λ (s : State T W). s.messages) (refused_for reason None before after h.1))
   moves before after (call.ForceSend message (Ok None)) h = sym (ap (λ (s : State T W). s.messages) h.rest)
   moves before after (call.ForceSend message (Ok (Some first))) h = h.moves
   moves before after (call.ForceSend message (Err reason)) h = stays before after (alike before after h.1)
   moves before after (call.SendOrWait message key (Done (Ok sent))) h = sym (ap (λ (s : State T W). s.messages) h.2.1.rest)
   moves before after (call.SendOrWait message key (Done (Err reason))) h = stays before after (ap (λ (s : State T W). s.messages) h.2.1)
   moves before after (call.SendOrWait message key (Waits waits)) h = stays before after (ap (λ (s : State T W). s.messages) h.2.2)
-  moves before after (call.SendOrWait message key Absent) h = stays before after (ap (λ (s : State T W). s.messages) h.2.1)
+  moves before after (call.SendOrWait message key Absent) h = stays before after (ap (λ (s : State T W). s.messages) (forborne_sending before after h.2.0.4))
   moves before after (call.SendOrWait message key (Refused error)) h = stays before after (ap (λ (s : State T W). s.messages) h.2.2)
   moves before after (call.SendOrLeave message key (Ok sent)) h =
       sym (ap (λ (s : State T W). s.messages) h.2.0 ∙ ap (λ (s : State T W). s.messages) h.1.0.rest)
   moves before after (call.SendOrLeave message key (Err reason)) h =
-      stays before after (ap (λ (s : State T W). s.messages) h.2.0 ∙ ap (λ (s : State T W). s.messages) h.1.1)
+      stays before after (ap (λ (s : State T W). s.messages) h.2.0 ∙ ap (λ (s : State T W). s.messages) (refused_for reason key before h.0 h.1.1))
   moves before after (call.LeaveSenders key) h = stays before after (ap (λ (s : State T W). s.messages) h.0)
   moves before after (call.Receive (Ok message)) h = append-nil before.messages ∙ h.0.first
-  moves before after (call.Receive (Err error)) h = stays before after (alike before after h.1)
+  moves before after (call.Receive (Err error)) h = stays before after (ap (λ (s : State T W). s.messages) (forborne before after h.1))
   moves before after (call.ReceiveOrWait false key (Done (Some message))) h = append-nil before.messages ∙ h.2.1.first
   moves before after (call.ReceiveOrWait false key (Done None)) h = stays before after (ap (λ (s : State T W). s.messages) h.2.2)
   moves before after (call.ReceiveOrWait false key (Waits waits)) h = stays before after (ap (λ (s : State T W). s.messages) h.2.2)
-  moves before after (call.ReceiveOrWait false key Absent) h = absurd h.2
+  moves before after (call.ReceiveOrWait false key Absent) h = stays before after (ap (λ (s : State T W). s.messages) (forborne before after h.2.4))
   moves before after (call.ReceiveOrWait false key (Refused error)) h = stays before after (ap (λ (s : State T W). s.messages) h.2.2)
   moves before after (call.ReceiveOrWait true key (Done (Some message))) h = append-nil before.messages ∙ h.1.first
   moves before after (call.ReceiveOrWait true key (Done None)) h = stays before after (ap (λ (s : State T W). s.messages) h.2)
   moves before after (call.ReceiveOrWait true key (Waits waits)) h = stays before after (ap (λ (s : State T W). s.messages) h.2)
-  moves before after (call.ReceiveOrWait true key Absent) h = absurd h
+  moves before after (call.ReceiveOrWait true key Absent) h = stays before after (ap (λ (s : State T W). s.messages) (forborne before (record after { streams = h.3.0 }) h.3.1))
   moves before after (call.ReceiveOrWait true key (Refused error)) h = stays before after (ap (λ (s : State T W). s.messages) h.2)
   moves before after (call.ReceiveOrLeave is_stream key (Ok message)) h =
       append-nil before.messages ∙ h.1.0.first ∙ ap (λ ms. message ∷ ms) (sym (left is_stream key h.0 after h.2))
   moves before after (call.ReceiveOrLeave is_stream key (Err error)) h =
-      stays before after (left is_stream key h.0 after h.2 ∙ ap (λ (s : State T W). s.messages) h.1.1)
+      stays before after (left is_stream key h.0 after h.2 ∙ ap (λ (s : State T W). s.messages) (forborne_for (receiver_key is_stream key) before h.0 h.1.1))
   moves before after (call.ReceiveMany [] key) h = absurd h.1
   moves before after (call.ReceiveMany (message ∷ messages) key) h =
       append-nil before.messages ∙ h.1.1.first ∙ ap (λ ms. message ∷ ms) (h.1.2.first ∙ ap (λ ms. messages ++ ms) (sym (left false key h.0 after h.2)))
@@ -151,7 +153,7 @@ none_or_due : {T W : Type 0} (q : State T W) (error : TryRecvError) → FindsNon
 none_or_due q Closed h = inl h.0
 none_or_due {T} {W} q Empty h = by_keys q.starving_receivers refl
   where
-    by_keys : (keys : List Key) → q.starving_receivers ≡ keys → (q.messages ≡ []) ⊎ AreDue q
+    by_keys : (keys : List Starving) → q.starving_receivers ≡ keys → (q.messages ≡ []) ⊎ AreDue q
     by_keys [] is = inl (no_length q.messages (rw (h.1, is) at h.0))
     by_keys (key ∷ keys) is =
         let some : (length (key ∷ keys) == 0) ≡ false = grind arith in
@@ -163,15 +165,15 @@ module _ {T W : Type 0} (capacity : Option ℕ) (v w : View (State T W) (Channel
   went_out : (before after : State T W) → Leads (channel_machine capacity) v (call.Receive (Err error)) before after w → before.messages ≡ [] → all_of sent_by w.seen ≡ all_of out_by w.seen
   went_out before after led none =
       in_order_from_start capacity w.seen after (leads_as_seen capacity v w (call.Receive (Err error)) before after led)
-      ∙ ap (λ ms. all_of out_by w.seen ++ ms) (alike before after led.step.1 ∙ none)
+      ∙ ap (λ ms. all_of out_by w.seen ++ ms) (ap (λ (s : State T W). s.messages) (forborne before after led.step.1) ∙ none)
       ∙ append-nil (all_of out_by w.seen)
 
-  -- where it found none for newcomers, that is so, or each that waits is due
+  -- where it found none for newcomers, that is so, or each that waited before it was due
   pub none_waits : Extends (channel_machine capacity) v (call.Receive (Err error)) w
-      → (all_of sent_by w.seen ≡ all_of out_by w.seen) ⊎ ((q : State T W) × LeadsTo (channel_machine capacity) w.seen q × AreDue q)
+      → (all_of sent_by w.seen ≡ all_of out_by w.seen) ⊎ WasBefore capacity (λ (q : State T W). AreDue q) w.seen
   none_waits (before, after, led) = ⊎_elim
       (λ none. inl (went_out before after led none))
-      (λ due. inr (after, leads_as_seen capacity v w (call.Receive (Err error)) before after led, subst (λ (s : State T W). AreDue s) (sym led.step.1) due))
+      (λ due. inr (v.seen ++ led.between, entry led.number (call.Receive (Err error)), led.seen, before, led.runs, due))
       (none_or_due before error led.step.0)
 
 -- where it found the end, all that was sent went out

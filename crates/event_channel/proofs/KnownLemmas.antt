@@ -18,7 +18,7 @@ use Rattle.event_channel.specs.declared.error.TryRecvError.{TryRecvError}
 use Rattle.event_channel.specs.Calls.{answer_of, channel_machine}
 use Rattle.event_channel.specs.Hands.{EndsUnsent, IsReceive, IsReceiveGivenUp, IsSend, IsSendGivenUp, IsVainReceive, IsVainSend, MakesAtLast, MakesSome, ReceivesBlocking, SendsBlocking}
 use Rattle.event_channel.specs.Messages.{AreDue, State}
-use Rattle.event_channel.specs.Sent.{ChannelLog, all_of, out_by, sent_by}
+use Rattle.event_channel.specs.Sent.{ChannelLog, WasBefore, all_of, out_by, sent_by}
 use Rattle.event_channel.proofs.HistoryLemmas.{none_waits, seen_to_be_sent}
 
 -- what a hand knows
@@ -107,7 +107,7 @@ module _ {T W : Type 0} (capacity : Option ℕ) where
   -- what a hand sent that another one absorbed, which then finds no message, went out, or each that waits is due
   pub sent : (u v w x y : Seen T W) (message : T) (answer : Result (Unit {0}) (SendError T)) (reply : Result T TryRecvError)
       → Extends (channel_machine capacity) u (call.Send message (answer_of answer)) v → Looks (channel_machine capacity) (both_views w v) x → Extends (channel_machine capacity) x (call.Receive reply) y
-      → IfOk answer (λ done. IfErr reply (λ error. IsAmong message (all_of out_by y.seen) ⊎ ((q : State T W) × LeadsTo (channel_machine capacity) y.seen q × AreDue q)))
+      → IfOk answer (λ done. IfErr reply (λ error. IsAmong message (all_of out_by y.seen) ⊎ WasBefore capacity (λ (q : State T W). AreDue q) y.seen))
   sent u v w x y message (Err error) reply sends absorbs receives = tt
   sent u v w x y message (Ok done) (Ok other) sends absorbs receives = tt
   sent u v w x y message (Ok done) (Err error) sends absorbs receives =

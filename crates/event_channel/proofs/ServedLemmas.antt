@@ -12,9 +12,13 @@ use Rattle.event_channel.specs.declared.call.ChannelCall.{ChannelCall}
 use Rattle.event_channel.specs.declared.call.ChannelCall.TheVariants as call
 use Rattle.event_channel.specs.Calls.{LeavesReceivers, LeavesSenders, receiver_key}
 use Rattle.event_channel.specs.Messages.{State, for_newcomers, for_one, room_for_newcomers, room_for_one, room_in}
+use Rattle.event_channel.specs.Forbearing.{Forbears, ForbearsFor, ForbearsSending, ForbearsSendingFor, ForbearsSendingUnless, ForbearsUnless, ForbearsWithReceiver, ForbearsWithSender, RefusedFor}
+use Rattle.event_channel.specs.declared.error.SendReason.{SendReason}
+use Rattle.event_channel.specs.declared.error.SendReason.TheVariants.{Closed, Full, TimedOut, Memory, WaitFailed}
+use Rattle.event_channel.proofs.ForbearLemmas.{forborne, forborne_for, forborne_sending, refused_for}
 use Rattle.event_channel.specs.Served.{LosesByThose, NoMoreInVain, NoMoreSendersInVain, OneStarves, SenderLosesByThose, receivers_in_vain, senders_in_vain}
 use Rattle.event_channel.specs.Steps.{Closes, Pushes, Replaces, Takes}
-use Rattle.event_channel.specs.Turns.{CannotWaitInTurn, is_told}
+use Rattle.event_channel.specs.Turns.{CannotWaitInTurn, Starving, is_told, struck_off}
 use Rattle.event_channel.specs.Waits.{but_receivers, but_receivers_and_streams, but_senders}
 
 module _ {X : Type 0} where
@@ -82,7 +86,7 @@ module _ {T W : Type 0} where
   newcomers_leave : (s : State T W) → s.is_closed ≡ false → 0 < length s.starving_receivers → for_newcomers s ≡ length s.messages - length s.receivers.told
   newcomers_leave s is_open starves = by_keys s.starving_receivers refl
     where
-      by_keys : (keys : List Key) → s.starving_receivers ≡ keys → for_newcomers s ≡ length s.messages - length s.receivers.told
+      by_keys : (keys : List Starving) → s.starving_receivers ≡ keys → for_newcomers s ≡ length s.messages - length s.receivers.told
       by_keys [] is = absurd (let none : length s.starving_receivers ≡ 0 = ap length is in omega (arith, starves, none))
       by_keys (key ∷ keys) is = let some : (length (key ∷ keys) == 0) ≡ false = grind arith in rw (is_open, is, some) refl
 
@@ -177,29 +181,62 @@ module _ {T W : Type 0} where
   cannot_wait told key losses error before line (inl h) = left_fewer key before.receivers line h.leaves
   cannot_wait told key losses error before line (inr h) = left_fewer key before.receivers line h.3
 
+  -- one was refused for the sake of those that starve: one that is struck off may be notified no more, and the next is in its place
+  with_receiver : (key : Option Key) (before after : State T W) → ForbearsWithReceiver key before after → receivers_in_vain after ≤ receivers_in_vain before
+  with_receiver None before after h = as_before before after (ap (λ (s : State T W). s.messages) h) (ap (λ (s : State T W). s.receivers) h)
+  with_receiver (Some key) before after h = by (is_told (Some key) before.receivers) refl
+    where
+      same : length after.messages ≡ length before.messages
+      same = ap (λ (s : State T W). length s.messages) h.rest
+
+      by : (b : Bool) → is_told (Some key) before.receivers ≡ b → receivers_in_vain after ≤ receivers_in_vain before
+      by true is = left_then_told (Some key) (length after.messages) (length before.messages) (length before.receivers.told) before.receivers after.receivers (h.told is) (omega arith) (omega (arith, same))
+      by false is = as_before before after (ap (λ (s : State T W). s.messages) h.rest) (h.waits is)
+
+  unless : (none : Bool) (before after : State T W) → ForbearsUnless none before after → receivers_in_vain after ≤ receivers_in_vain before
+  unless true before after h = alike before after h
+  unless false before after h = with_receiver (struck_off before.starving_receivers) before after h
+
+  forborne_in_vain : (before after : State T W) → Forbears before after → receivers_in_vain after ≤ receivers_in_vain before
+  forborne_in_vain before after h = unless (length before.messages == 0) before after h
+
+  forborne_in_vain_for : (key : Option Key) (before after : State T W) → ForbearsFor key before after → receivers_in_vain after ≤ receivers_in_vain before
+  forborne_in_vain_for None before after h = forborne_in_vain before after h
+  forborne_in_vain_for (Some key) before after h = alike before after h
+
+  sender_refused : (reason : SendReason) (key : Option Key) (before after : State T W) → RefusedFor reason key before after → receivers_in_vain after ≤ receivers_in_vain before
+  sender_refused reason key before after h =
+      let left = refused_for reason key before after h in
+      as_before before after (ap (λ (s : State T W). s.messages) left) (ap (λ (s : State T W). s.receivers) left)
+
+  sender_forborne : (before after : State T W) → ForbearsSending before after → receivers_in_vain after ≤ receivers_in_vain before
+  sender_forborne before after h =
+      let left = forborne_sending before after h in
+      as_before before after (ap (λ (s : State T W). s.messages) left) (ap (λ (s : State T W). s.receivers) left)
+
   closed_by : (before after : State T W) → Closes before after → after.is_closed ≡ true
   closed_by before after h = ap (λ (s : State T W). s.is_closed) h.rest
 
   pub no_more_in_vain : (before after : State T W) (c : ChannelCall T) → NoMoreInVain c before after
   no_more_in_vain before after (call.Send message (Ok sent)) h starves = pushed message before after h.0
-  no_more_in_vain before after (call.Send message (Err reason)) h starves = alike before after h.1
+  no_more_in_vain before after (call.Send message (Err reason)) h starves = sender_refused reason None before after h.1
   no_more_in_vain before after (call.ForceSend message (Ok None)) h starves = pushed message before after h
   no_more_in_vain before after (call.ForceSend message (Ok (Some first))) h starves = replaced message first before after h
   no_more_in_vain before after (call.ForceSend message (Err reason)) h starves = alike before after h.1
   no_more_in_vain before after (call.SendOrWait message key (Done (Ok sent))) (losses, losses', h) starves = pushed message before (but_senders before after) h.1
   no_more_in_vain before after (call.SendOrWait message key (Done (Err reason))) (losses, losses', h) starves = alike before (but_senders before after) h.1
   no_more_in_vain before after (call.SendOrWait message key (Waits waits)) (losses, losses', h) starves = alike before (but_senders before after) h.2
-  no_more_in_vain before after (call.SendOrWait message key Absent) (losses, losses', h) starves = alike before (but_senders before after) h.1
+  no_more_in_vain before after (call.SendOrWait message key Absent) (losses, losses', h) starves = sender_forborne before after h.0.4
   no_more_in_vain before after (call.SendOrWait message key (Refused error)) (losses, losses', h) starves = alike before (but_senders before after) h.2
   no_more_in_vain before after (call.SendOrLeave message key (Ok sent)) h starves =
       let first = pushed message before h.0 h.1.0 in let last = sender_left key h.0 after h.2 in omega (arith, first, last)
   no_more_in_vain before after (call.SendOrLeave message key (Err reason)) h starves =
-      let first = alike before h.0 h.1.1 in let last = sender_left key h.0 after h.2 in omega (arith, first, last)
+      let first = sender_refused reason key before h.0 h.1.1 in let last = sender_left key h.0 after h.2 in omega (arith, first, last)
   no_more_in_vain before after (call.LeaveSenders key) h starves = sender_left key before after h
   no_more_in_vain before after (call.Receive (Ok message)) h starves =
       let is_open = sym (same_gate (message ∷ []) before after h.0) ∙ starves.1 in
       one_out None message before after (length after.messages) after.receivers h.0 refl h.1 (same_line (message ∷ []) before after h.0) is_open starves.0
-  no_more_in_vain before after (call.Receive (Err error)) h starves = alike before after h.1
+  no_more_in_vain before after (call.Receive (Err error)) h starves = forborne_in_vain before after h.1
   no_more_in_vain before after (call.ReceiveOrWait false key (Done (Some message))) (losses, losses', h) starves =
       let is_open = sym (same_gate (message ∷ []) before (but_receivers_and_streams before after) h.1) ∙ starves.1 in
       one_out key message before (but_receivers_and_streams before after) (length after.messages) after.receivers h.1 refl h.0 h.2.left is_open starves.0
@@ -208,7 +245,7 @@ module _ {T W : Type 0} where
       left_then_told key (length after.messages) (length before.messages) (length before.receivers.told) before.receivers after.receivers h.3.left (omega arith) (omega (arith, same))
   no_more_in_vain before after (call.ReceiveOrWait false key (Waits waits)) (losses, losses', h) starves =
       waits_still key before after.receivers (length after.messages) h.3.told (ap (λ (s : State T W). length s.messages) h.2)
-  no_more_in_vain before after (call.ReceiveOrWait false key Absent) (losses, losses', h) starves = absurd h
+  no_more_in_vain before after (call.ReceiveOrWait false key Absent) (losses, losses', h) starves = forborne_in_vain before after h.4
   no_more_in_vain before after (call.ReceiveOrWait false key (Refused error)) (losses, losses', h) starves =
       no_other before after (ap (λ (s : State T W). length s.messages) h.2) (cannot_wait (is_told key before.receivers) key losses error before after.receivers h.3)
   no_more_in_vain before after (call.ReceiveOrWait true key (Done (Some message))) h starves =
@@ -217,12 +254,12 @@ module _ {T W : Type 0} where
       one_out None message before rest (length after.messages) after.receivers h.1 refl h.0 (same_line (message ∷ []) before rest h.1) is_open starves.0
   no_more_in_vain before after (call.ReceiveOrWait true key (Done None)) h starves = alike before (record after { streams = before.streams }) h.2
   no_more_in_vain before after (call.ReceiveOrWait true key (Waits waits)) h starves = alike before (record after { streams = before.streams }) h.2
-  no_more_in_vain before after (call.ReceiveOrWait true key Absent) h starves = absurd h
+  no_more_in_vain before after (call.ReceiveOrWait true key Absent) h starves = forborne_in_vain before (record after { streams = h.3.0 }) h.3.1
   no_more_in_vain before after (call.ReceiveOrWait true key (Refused error)) h starves = alike before (record after { streams = before.streams }) h.2
   no_more_in_vain before after (call.ReceiveOrLeave is_stream key (Ok message)) h starves =
       one_out_then_left is_stream key message before h.0 after h.1.0 h.1.1 h.2 starves
   no_more_in_vain before after (call.ReceiveOrLeave is_stream key (Err error)) h starves =
-      let first = alike before h.0 h.1.1 in let last = left is_stream key h.0 after h.2 in omega (arith, first, last)
+      let first = forborne_in_vain_for (receiver_key is_stream key) before h.0 h.1.1 in let last = left is_stream key h.0 after h.2 in omega (arith, first, last)
   no_more_in_vain before after (call.ReceiveMany [] key) h starves = absurd h.1
   no_more_in_vain before after (call.ReceiveMany (message ∷ messages) key) h starves =
       let some = h.1 in
@@ -250,7 +287,7 @@ module _ {T W : Type 0} where
   newcomers_leave_places : (s : State T W) → s.is_closed ≡ false → 0 < length s.starving_senders → room_for_newcomers s ≡ room_in s - length s.senders.told
   newcomers_leave_places s is_open starves = by_keys s.starving_senders refl
     where
-      by_keys : (keys : List Key) → s.starving_senders ≡ keys → room_for_newcomers s ≡ room_in s - length s.senders.told
+      by_keys : (keys : List Starving) → s.starving_senders ≡ keys → room_for_newcomers s ≡ room_in s - length s.senders.told
       by_keys [] is = absurd (let none : length s.starving_senders ≡ 0 = ap length is in omega (arith, starves, none))
       by_keys (key ∷ keys) is = let some : (length (key ∷ keys) == 0) ≡ false = grind arith in rw (is_open, is, some) refl
 
@@ -330,10 +367,49 @@ module _ {T W : Type 0} where
   cannot_wait_there told key losses error before line (inl h) = left_fewer key before.senders line h.leaves
   cannot_wait_there told key losses error before line (inr h) = left_fewer key before.senders line h.3
 
+  with_sender : (key : Option Key) (before after : State T W) → ForbearsWithSender key before after → senders_in_vain after ≤ senders_in_vain before
+  with_sender None before after h = alike_there before after (ap (λ (s : State T W). room_in s) h) (ap (λ (s : State T W). s.senders) h)
+  with_sender (Some key) before after h = by (is_told (Some key) before.senders) refl
+    where
+      same : room_in after ≡ room_in before
+      same = ap (λ (s : State T W). room_in s) h.rest
+
+      by : (b : Bool) → is_told (Some key) before.senders ≡ b → senders_in_vain after ≤ senders_in_vain before
+      by true is = left_then_told (Some key) (room_in after) (room_in before) (length before.senders.told) before.senders after.senders (h.told is) (omega arith) (omega (arith, same))
+      by false is = alike_there before after same (h.waits is)
+
+  sending_unless : (none : Bool) (before after : State T W) → ForbearsSendingUnless none before after → senders_in_vain after ≤ senders_in_vain before
+  sending_unless true before after h = same_there before after h
+  sending_unless false before after h = with_sender (struck_off before.starving_senders) before after h
+
+  forborne_there : (before after : State T W) → ForbearsSending before after → senders_in_vain after ≤ senders_in_vain before
+  forborne_there before after h = sending_unless (room_in before == 0) before after h
+
+  forborne_there_for : (key : Option Key) (before after : State T W) → ForbearsSendingFor key before after → senders_in_vain after ≤ senders_in_vain before
+  forborne_there_for None before after h = forborne_there before after h
+  forborne_there_for (Some key) before after h = same_there before after h
+
+  refused_there : (reason : SendReason) (key : Option Key) (before after : State T W) → RefusedFor reason key before after → senders_in_vain after ≤ senders_in_vain before
+  refused_there Closed key before after h = same_there before after h
+  refused_there Full key before after h = forborne_there_for key before after h
+  refused_there TimedOut key before after h = same_there before after h
+  refused_there Memory key before after h = same_there before after h
+  refused_there (WaitFailed error) key before after h = same_there before after h
+
+  receiver_forborne : (before after : State T W) → Forbears before after → senders_in_vain after ≤ senders_in_vain before
+  receiver_forborne before after h =
+      let left = forborne before after h in
+      alike_there before after (ap (λ (s : State T W). room_in s) left) (ap (λ (s : State T W). s.senders) left)
+
+  receiver_forborne_for : (key : Option Key) (before after : State T W) → ForbearsFor key before after → senders_in_vain after ≤ senders_in_vain before
+  receiver_forborne_for key before after h =
+      let left = forborne_for key before after h in
+      alike_there before after (ap (λ (s : State T W). room_in s) left) (ap (λ (s : State T W). s.senders) left)
+
   pub no_more_senders_in_vain : (before after : State T W) (c : ChannelCall T) → NoMoreSendersInVain c before after
   no_more_senders_in_vain before after (call.Send message (Ok sent)) h starves fits other =
       one_in None message before after (room_in after) after.senders h.0 refl h.1 (ap (λ (s : State T W). s.senders) h.0.rest) h.0.is_open starves.0
-  no_more_senders_in_vain before after (call.Send message (Err reason)) h starves fits other = same_there before after h.1
+  no_more_senders_in_vain before after (call.Send message (Err reason)) h starves fits other = refused_there reason None before after h.1
   no_more_senders_in_vain before after (call.ForceSend message (Ok None)) h starves fits other = absurd (false≢true (sym other))
   no_more_senders_in_vain before after (call.ForceSend message (Ok (Some first))) h starves fits other = absurd (false≢true (sym other))
   no_more_senders_in_vain before after (call.ForceSend message (Err reason)) h starves fits other = same_there before after h.1
@@ -344,33 +420,31 @@ module _ {T W : Type 0} where
       left_then_told key (room_in after) (room_in before) (length before.senders.told) before.senders after.senders h.2.left (omega arith) (omega (arith, same))
   no_more_senders_in_vain before after (call.SendOrWait message key (Waits waits)) (losses, losses', h) starves fits other =
       waits_there key before after.senders (room_in after) h.3.told (ap (λ (s : State T W). room_in s) h.2)
-  no_more_senders_in_vain before after (call.SendOrWait message key Absent) (losses, losses', h) starves fits other =
-      let same : room_in after ≡ room_in before = ap (λ (s : State T W). room_in s) h.1 in
-      left_then_told key (room_in after) (room_in before) (length before.senders.told) before.senders after.senders h.2.left (omega arith) (omega (arith, same))
+  no_more_senders_in_vain before after (call.SendOrWait message key Absent) (losses, losses', h) starves fits other = forborne_there before after h.0.4
   no_more_senders_in_vain before after (call.SendOrWait message key (Refused error)) (losses, losses', h) starves fits other =
       let same : room_in after ≡ room_in before = ap (λ (s : State T W). room_in s) h.2 in
       let few = cannot_wait_there (is_told key before.senders) key losses error before after.senders h.3 in
       omega (arith, same, few)
   no_more_senders_in_vain before after (call.SendOrLeave message key (Ok sent)) h starves fits other = one_in_then_left key message before h.0 after h.1.0 h.1.1 h.2 h.1.0.is_open starves.0
   no_more_senders_in_vain before after (call.SendOrLeave message key (Err reason)) h starves fits other =
-      let first = same_there before h.0 h.1.1 in let last = left_there key h.0 after h.2 in omega (arith, first, last)
+      let first = refused_there reason key before h.0 h.1.1 in let last = left_there key h.0 after h.2 in omega (arith, first, last)
   no_more_senders_in_vain before after (call.LeaveSenders key) h starves fits other = left_there key before after h
   no_more_senders_in_vain before after (call.Receive (Ok message)) h starves fits other = taken_there (message ∷ []) before after h.0 fits
-  no_more_senders_in_vain before after (call.Receive (Err error)) h starves fits other = same_there before after h.1
+  no_more_senders_in_vain before after (call.Receive (Err error)) h starves fits other = receiver_forborne before after h.1
   no_more_senders_in_vain before after (call.ReceiveOrWait false key (Done (Some message))) (losses, losses', h) starves fits other = taken_there (message ∷ []) before (but_receivers_and_streams before after) h.1 fits
   no_more_senders_in_vain before after (call.ReceiveOrWait false key (Done None)) (losses, losses', h) starves fits other = same_there before (but_receivers_and_streams before after) h.2
   no_more_senders_in_vain before after (call.ReceiveOrWait false key (Waits waits)) (losses, losses', h) starves fits other = same_there before (but_receivers before after) h.2
-  no_more_senders_in_vain before after (call.ReceiveOrWait false key Absent) (losses, losses', h) starves fits other = absurd h
+  no_more_senders_in_vain before after (call.ReceiveOrWait false key Absent) (losses, losses', h) starves fits other = receiver_forborne before after h.4
   no_more_senders_in_vain before after (call.ReceiveOrWait false key (Refused error)) (losses, losses', h) starves fits other = same_there before (but_receivers before after) h.2
   no_more_senders_in_vain before after (call.ReceiveOrWait true key (Done (Some message))) h starves fits other = taken_there (message ∷ []) before (record after { streams = before.streams }) h.1 fits
   no_more_senders_in_vain before after (call.ReceiveOrWait true key (Done None)) h starves fits other = same_there before (record after { streams = before.streams }) h.2
   no_more_senders_in_vain before after (call.ReceiveOrWait true key (Waits waits)) h starves fits other = same_there before (record after { streams = before.streams }) h.2
-  no_more_senders_in_vain before after (call.ReceiveOrWait true key Absent) h starves fits other = absurd h
+  no_more_senders_in_vain before after (call.ReceiveOrWait true key Absent) h starves fits other = receiver_forborne before (record after { streams = h.3.0 }) h.3.1
   no_more_senders_in_vain before after (call.ReceiveOrWait true key (Refused error)) h starves fits other = same_there before (record after { streams = before.streams }) h.2
   no_more_senders_in_vain before after (call.ReceiveOrLeave is_stream key (Ok message)) h starves fits other =
       let first = taken_there (message ∷ []) before h.0 h.1.0 fits in let last = receiver_left is_stream key h.0 after h.2 in omega (arith, first, last)
   no_more_senders_in_vain before after (call.ReceiveOrLeave is_stream key (Err error)) h starves fits other =
-      let first = same_there before h.0 h.1.1 in let last = receiver_left is_stream key h.0 after h.2 in omega (arith, first, last)
+      let first = receiver_forborne_for (receiver_key is_stream key) before h.0 h.1.1 in let last = receiver_left is_stream key h.0 after h.2 in omega (arith, first, last)
   no_more_senders_in_vain before after (call.ReceiveMany [] key) h starves fits other = absurd h.1
   no_more_senders_in_vain before after (call.ReceiveMany (message ∷ messages) key) h starves fits other =
       let some = h.1 in

@@ -1,5 +1,5 @@
 -- What a function of the state does, as a call of a history.
-use Rattle.std.proofs.Common.{◌≡◌, ◌⊎◌, ◌+◌, ◌<◌, ◌≤◌, ◌==◌, ◌||◌, ℕ, suc, min, take, arith, Bool, true, false, [], ◌∷◌, length, refl, sym, ap, ◌∙◌, subst, inl, inr, Option, Some, None, Result, Ok, Err, IfOk, IfErr}
+use Rattle.std.proofs.Common.{◌≡◌, ◌⊎◌, ◌+◌, ◌<◌, ◌≤◌, ◌==◌, ◌||◌, ℕ, suc, min, take, arith, Bool, true, false, List, [], ◌∷◌, length, refl, sym, ap, ◌∙◌, subst, inl, inr, Option, Some, None, Result, Ok, Err, IfOk, IfErr}
 use Rattle.std.specs.Prelude.{◌↔◌, OnErr, OnOk, IsTrue, IsFalse}
 use Rattle.std.proofs.lemmas.Bool.{false≢true}
 use Rattle.std.proofs.lemmas.List.{length-take-le}
@@ -17,6 +17,7 @@ use Rattle.event_channel.specs.declared.error.SendReason.{SendReason}
 use Rattle.event_channel.specs.declared.error.SendReason.TheVariants.{Full}
 use Rattle.event_channel.specs.declared.error.TryRecvError.{TryRecvError}
 use Rattle.event_channel.specs.declared.error.TryRecvError.TheVariants.{Empty, Closed}
+use Rattle.event_channel.specs.Forbearing.{Forbears, ForbearsFor, ForbearsUnless, RefusedFor}
 use Rattle.event_channel.specs.Messages.{State, for_newcomers, room_for_newcomers, room_for_one}
 use Rattle.event_channel.proofs.TurnLemmas.{most_for_newcomers}
 use Rattle.event_channel.specs.Steps.{Pushes, Refuses, RefusesAt, Forces, Takes, IsEmptyFor, Closes}
@@ -36,10 +37,10 @@ one_more : (n : ℕ) → suc n ≡ 1 + n
 one_more n = omega arith
 
 module _ {T W : Type 0} (old new : State T W) where
-  pub sends_one : (X : Type 0) (message : T) (reply : Result (Unit {0}) (SendError T)) → IfOk reply (λ _. Pushes message old new) → OnOk reply (0 < room_for_newcomers old) → OnErr reply ((new ≡ old) × X)
+  pub sends_one : (message : T) (reply : Result (Unit {0}) (SendError T)) → IfOk reply (λ _. Pushes message old new) → OnOk reply (0 < room_for_newcomers old) → IfErr reply (λ error. RefusedFor error.reason None old new)
       → IfErr reply (λ error. Refuses old error.reason) → SendsOne None message (answer_of reply) old new
-  sends_one X message (Ok sent) pushed may refused reason = (pushed, may)
-  sends_one X message (Err error) pushed may refused reason = (reason, refused.0)
+  sends_one message (Ok sent) pushed may refused reason = (pushed, may)
+  sends_one message (Err error) pushed may refused reason = (reason, refused)
 
   pub forces_one : (X : Type 0) (message : T) (reply : Result (Option T) (SendError T)) → IfOk reply (λ out. Forces message out old new) → OnErr reply ((new ≡ old) × X) → IfErr reply (λ error. Refuses old error.reason)
       → ForcesOne message (answer_of reply) old new
@@ -56,16 +57,17 @@ module _ {T W : Type 0} (old new : State T W) where
       left_with_nothing same = subst (λ (s : State T W). LeavesSenders None old s) (sym same) (refl, record { left = refl; struck = refl })
 
   -- a send that was refused for this reason found the channel full
-  pub found_it_full : (key : Option Key) (message : T) (why : SendReason) → why ≡ Full → RefusesAt (room_for_one key old) old why → new ≡ old → SendsOne key message (Err Full) old new
-  found_it_full key message why full refuses same = (subst (λ (r : SendReason). RefusesAt (room_for_one key old) old r) full refuses, same)
+  pub found_it_full : (key : Option Key) (message : T) (why : SendReason) → why ≡ Full → RefusesAt (room_for_one key old) old why → RefusedFor why key old new → SendsOne key message (Err Full) old new
+  found_it_full key message why full refuses left =
+      (subst (λ (r : SendReason). RefusesAt (room_for_one key old) old r) full refuses, subst (λ (r : SendReason). RefusedFor r key old new) full left)
 
   pub receives_one : (is_stream : Bool) (answer : Option (Option T)) → DoesReceive None (received_at_once answer) old new → (c : ChannelCall T) × TriesToReceive is_stream answer c × calls old c new
   receives_one is_stream answer does = (call.Receive (received_at_once answer), refl, does)
 
-  pub receives_none : (is_stream : Bool) (answer : Option (Option T)) (why said : TryRecvError) → why ≡ said → received_at_once answer ≡ Err said → IsEmptyFor old why → new ≡ old
+  pub receives_none : (is_stream : Bool) (answer : Option (Option T)) (why said : TryRecvError) → why ≡ said → received_at_once answer ≡ Err said → IsEmptyFor old why → Forbears old new
       → (c : ChannelCall T) × TriesToReceive is_stream answer c × calls old c new
-  receives_none is_stream answer why said is says empty same =
-      receives_one is_stream answer (subst (λ (reply : Result T TryRecvError). DoesReceive None reply old new) (sym says) (subst (λ (w : TryRecvError). IsEmptyFor old w) is empty, same))
+  receives_none is_stream answer why said is says empty left =
+      receives_one is_stream answer (subst (λ (reply : Result T TryRecvError). DoesReceive None reply old new) (sym says) (subst (λ (w : TryRecvError). IsEmptyFor old w) is empty, left))
 
 module _ {W C : Type 0} (exchanged : C → Option W → W → C → Type 0) where
   any_waits : (key : Option Key) (old : Queue (Unit {0}) W) (on : C) (waits : Key) (new : Queue (Unit {0}) W) (on' : C) → WaitsBy exchanged key old on waits new on' → WaitsBy with_any_task key old tt waits new tt
@@ -77,7 +79,7 @@ module _ {T W C : Type 0} (exchanged : C → Option W → W → C → Type 0) wh
   any_sends message key before losses on (Done (Ok sent)) after losses' on' h = (h.0, h.1, h.2, h.3, refl)
   any_sends message key before losses on (Done (Err reason)) after losses' on' h = (h.0, h.1, h.2, h.3, refl)
   any_sends message key before losses on (Waits waits) after losses' on' h = (h.0, h.1, h.2, any_waits exchanged key before.senders on waits after.senders on' h.3, h.4)
-  any_sends message key before losses on Absent after losses' on' h = (h.0, h.1, h.2, h.3, refl)
+  any_sends message key before losses on Absent after losses' on' h = (h.0, h.1, refl)
   any_sends message key before losses on (Refused error) after losses' on' h = (h.0, h.1, h.2, h.3, h.4, h.5, refl)
 
   any_receives : (key : Option Key) (before : State T W) (old : Queue (Unit {0}) W) (on : C) (answer : Received T) (rest : State T W) (new : Queue (Unit {0}) W) (on' : C)
@@ -85,7 +87,7 @@ module _ {T W C : Type 0} (exchanged : C → Option W → W → C → Type 0) wh
   any_receives key before old on (Done (Some message)) rest new on' h = (h.0, h.1, h.2, refl)
   any_receives key before old on (Done None) rest new on' h = (h.0, h.1, h.2, h.3, refl)
   any_receives key before old on (Waits waits) rest new on' h = (h.0, h.1, h.2, any_waits exchanged key old on waits new on' h.3)
-  any_receives key before old on Absent rest new on' h = elim h [ ]
+  any_receives key before old on Absent rest new on' h = (h.0, h.1, h.2, h.3, refl)
   any_receives key before old on (Refused error) rest new on' h = (h.0, h.1, h.2, h.3, refl)
 
   any_in_turn : (key : Option Key) (before : State T W) (losses : ℕ) (on : C) (answer : Received T) (after : State T W) (losses' : ℕ) (on' : C)
@@ -93,7 +95,7 @@ module _ {T W C : Type 0} (exchanged : C → Option W → W → C → Type 0) wh
   any_in_turn key before losses on (Done (Some message)) after losses' on' h = (h.0, h.1, h.2, h.3, refl)
   any_in_turn key before losses on (Done None) after losses' on' h = (h.0, h.1, h.2, h.3, h.4, refl)
   any_in_turn key before losses on (Waits waits) after losses' on' h = (h.0, h.1, h.2, any_waits exchanged key before.receivers on waits after.receivers on' h.3, h.4)
-  any_in_turn key before losses on Absent after losses' on' h = elim h [ ]
+  any_in_turn key before losses on Absent after losses' on' h = (h.0, h.1, h.2, h.3, h.4, h.5, refl)
   any_in_turn key before losses on (Refused error) after losses' on' h = (h.0, h.1, h.2, h.3, h.4, h.5, refl)
 
   -- one that sends or waits
@@ -104,7 +106,7 @@ module _ {T W C : Type 0} (exchanged : C → Option W → W → C → Type 0) wh
       rw is (call.SendOrWait message key answer, (key, refl), (losses, losses', any_sends (Some message) key old losses on answer new losses' on' does))
   sends_or_waits before None key old new losses losses' on on' answer is does absent =
       let left = subst (λ (a : Sent). SendsInTurn exchanged None key old losses on a new losses' on') (absent refl) does in
-      rw is (call.LeaveSenders key, (absent refl, key, refl), (ap (λ (s : State T W). record s { senders = new.senders; starving_senders = new.starving_senders }) left.1, left.2))
+      rw is (call.LeaveSenders key, (absent refl, key, refl), (ap (λ (s : State T W). record s { senders = new.senders; starving_senders = new.starving_senders }) left.0.0, left.0.1))
 
   -- one that receives or waits, in either queue
   pub receives_or_waits : (is_stream : Bool) (key : Option Key) (old new : State T W) (losses losses' : ℕ) (on on' : C) (answer : Received T) → is_stream ≡ false
@@ -154,19 +156,21 @@ module _ {T W : Type 0} where
   receives_or_leaves before is_stream answer key old between new same does left =
       rw same (call.ReceiveOrLeave is_stream key (received_at_once answer), (key, refl), (between, does, left))
 
+  -- where it found the end nothing changed, whoever it is
+  at_the_end : (key : Option Key) (old new : State T W) → DoesReceive None (Err Closed) old new → ForbearsFor key old new
+  at_the_end None old new h = h.1
+  at_the_end (Some key) old new h = subst (λ (none : Bool). ForbearsUnless none old new) (ap (λ (ms : List T). length ms == 0) h.0.0) h.1
+
   pub many_then_leaves : (answer : Option (Option ℕ)) (key : Option Key) (old between new : State T W)
-      → (c : ChannelCall T) × ReceivesMany None answer c × calls old c between → LeavesReceivers false key between new
+      → (c : ChannelCall T) × ReceivesMany None answer c × calls old c between → (answer ≡ None → between ≡ old) → LeavesReceivers false key between new
       → (c : ChannelCall T) × ReceivesMany key answer c × calls old c new
-  many_then_leaves None key old between new (c, inl is, does) left =
+  many_then_leaves None key old between new made nothing left =
+      (call.LeaveReceivers false key, inr refl, subst (λ (s : State T W). LeavesReceivers false key s new) (nothing refl) left)
+  many_then_leaves (Some None) key old between new (c, is, does) nothing left =
       let h = subst (λ (c : ChannelCall T). calls old c between) is does in
-      (call.LeaveReceivers false key, inr refl, subst (λ (s : State T W). LeavesReceivers false key s new) (left_none false h.0 between h.2 ∙ h.1.1) left)
-  many_then_leaves None key old between new (c, inr is, does) left =
-      let h = subst (λ (c : ChannelCall T). calls old c between) is does in
-      (call.LeaveReceivers false key, inr refl, subst (λ (s : State T W). LeavesReceivers false key s new) (left_none false old between h) left)
-  many_then_leaves (Some None) key old between new (c, is, does) left =
-      let h = subst (λ (c : ChannelCall T). calls old c between) is does in
-      (call.ReceiveOrLeave false key (Err Closed), refl, (h.0, h.1, subst (λ (s : State T W). LeavesReceivers false key s new) (left_none false h.0 between h.2) left))
-  many_then_leaves (Some (Some count)) key old between new (c, is, does) left =
+      let mid = left_none false h.0 between h.2 in
+      (call.ReceiveOrLeave false key (Err Closed), refl, (h.0, (h.1.0, at_the_end key old h.0 h.1), subst (λ (s : State T W). LeavesReceivers false key s new) mid left))
+  many_then_leaves (Some (Some count)) key old between new (c, is, does) nothing left =
       let h = subst (λ (c : ChannelCall T). calls old c between) is.2 does in
       (call.ReceiveMany is.0 key, (is.0, is.1, refl), (h.0, h.1, subst (λ (s : State T W). LeavesReceivers false key s new) (left_none false h.0 between h.2) left))
 
@@ -177,12 +181,12 @@ module _ {T W : Type 0} where
       → (c : ChannelCall T) × GivesUpReceiving before c × calls old c new
   gives_up_receiving before is_stream key old new same left = rw same (call.LeaveReceivers is_stream key, (key, refl), left)
 
-  -- one that is to receive many has room for none
+  -- one that is to receive many found none, and nobody is refused
   pub many_without_room : (state : State T W) → (c : ChannelCall T) × ReceivesMany None None c × calls state c state
   many_without_room state = (call.LeaveReceivers false None, inr refl, (refl, record { left = refl; struck = refl; streams = refl }))
 
-  pub many_of_none : (old new : State T W) (why : TryRecvError) → why ≡ Empty → IsEmptyFor old why → new ≡ old → (c : ChannelCall T) × ReceivesMany None None c × calls old c new
-  many_of_none old new why is empty same = (call.ReceiveOrLeave false None (Err Empty), inl refl, (new, (subst (λ (w : TryRecvError). IsEmptyFor old w) is empty, same), (refl, record { left = refl; struck = refl; streams = refl })))
+  pub many_of_none : (old new : State T W) (why : TryRecvError) → why ≡ Empty → IsEmptyFor old why → Forbears old new → (c : ChannelCall T) × ReceivesMany None None c × calls old c new
+  many_of_none old new why is empty left = (call.ReceiveOrLeave false None (Err Empty), inl refl, (new, (subst (λ (w : TryRecvError). IsEmptyFor old w) is empty, left), (refl, record { left = refl; struck = refl; streams = refl })))
 
   pub many_taken : (old between new : State T W) (message : T) (count limit room : ℕ) → Takes (message ∷ []) old between → 0 < for_newcomers old
       → count ≡ min limit (min room (for_newcomers between)) → Takes (take count between.messages) between new
@@ -202,57 +206,51 @@ module _ {T W : Type 0} where
       → (c : ChannelCall T) × ReceivesMany None (Some output) c × calls old c between → LeavesReceivers false key between new
       → (c : ChannelCall T) × ((key : Option Key) × (ReceivesMany key (Some output) c ⊎ ReceivesOne key output c)) × calls old c new
   many_taken_then_leaves output key old between new taken left =
-      let (c, is, does) = many_then_leaves (Some output) key old between new taken left in (c, (key, inl is), does)
+      let (c, is, does) = many_then_leaves (Some output) key old between new taken (λ none. absurd (cc)) left in (c, (key, inl is), does)
 
   pub many_or_leaves : (answer : Option (Option ℕ)) (key : Option Key) (old between new : State T W)
-      → (c : ChannelCall T) × ReceivesMany None answer c × calls old c between → LeavesReceivers false key between new
+      → (c : ChannelCall T) × ReceivesMany None answer c × calls old c between → (answer ≡ None → between ≡ old) → LeavesReceivers false key between new
       → (c : ChannelCall T) × ((key : Option Key) × ReceivesMany key answer c) × calls old c new
-  many_or_leaves answer key old between new taken left =
-      let (c, is, does) = many_then_leaves answer key old between new taken left in (c, (key, is), does)
-
-  -- where it got nothing, nothing changed
-  nothing_came : (old new : State T W) → (c : ChannelCall T) × ReceivesMany None None c × calls old c new → new ≡ old
-  nothing_came old new (c, inl is, does) =
-      let h = subst (λ (c : ChannelCall T). calls old c new) is does in left_none false h.0 new h.2 ∙ h.1.1
-  nothing_came old new (c, inr is, does) = left_none false old new (subst (λ (c : ChannelCall T). calls old c new) is does)
+  many_or_leaves answer key old between new taken nothing left =
+      let (c, is, does) = many_then_leaves answer key old between new taken nothing left in (c, (key, is), does)
 
   pub many_leaves : (key : Option Key) (old between new : State T W)
-      → (c : ChannelCall T) × ReceivesMany None None c × calls old c between → LeavesReceivers false key between new
+      → between ≡ old → LeavesReceivers false key between new
       → (c : ChannelCall T) × ((key : Option Key) × (((Memory ≡ Memory) × (c ≡ call.LeaveReceivers false key)) ⊎ (c ≡ call.ReceiveOrWait false key (Refused Memory)))) × calls old c new
   many_leaves key old between new nothing left =
-      (call.LeaveReceivers false key, (key, inl (refl, refl)), subst (λ (s : State T W). LeavesReceivers false key s new) (nothing_came old between nothing) left)
+      (call.LeaveReceivers false key, (key, inl (refl, refl)), subst (λ (s : State T W). LeavesReceivers false key s new) nothing left)
 
   waits_from : (old between new : State T W) (answer : Received T)
-      → (c : ChannelCall T) × ReceivesMany None None c × calls old c between → (c : ChannelCall T) × ReceivesOrWaits false answer c × calls between c new
+      → between ≡ old → (c : ChannelCall T) × ReceivesOrWaits false answer c × calls between c new
       → (c : ChannelCall T) × ReceivesOrWaits false answer c × calls old c new
-  waits_from old between new answer nothing (c, is, does) = (c, is, subst (λ (s : State T W). calls s c new) (nothing_came old between nothing) does)
+  waits_from old between new answer nothing (c, is, does) = (c, is, subst (λ (s : State T W). calls s c new) nothing does)
 
   pub one_taken : (old between new : State T W) (output : Option T) (message : T) → output ≡ Some message
-      → (c : ChannelCall T) × ReceivesMany None None c × calls old c between → (c : ChannelCall T) × ReceivesOrWaits false (Done output) c × calls between c new
+      → between ≡ old → (c : ChannelCall T) × ReceivesOrWaits false (Done output) c × calls between c new
       → (c : ChannelCall T) × ((key : Option Key) × (ReceivesMany key (Some (Some 1)) c ⊎ ReceivesOne key (Some 1) c)) × calls old c new
   one_taken old between new output message is nothing does =
       let (c, how, goes) = waits_from old between new (Done (Some message)) nothing (subst (λ (o : Option T). (c : ChannelCall T) × ReceivesOrWaits false (Done o) c × calls between c new) is does) in
       (c, (how.0, inr (refl, message, how.1)), goes)
 
   pub no_more_come : (old between new : State T W) (output : Option T) → output ≡ None
-      → (c : ChannelCall T) × ReceivesMany None None c × calls old c between → (c : ChannelCall T) × ReceivesOrWaits false (Done output) c × calls between c new
+      → between ≡ old → (c : ChannelCall T) × ReceivesOrWaits false (Done output) c × calls between c new
       → (c : ChannelCall T) × ((key : Option Key) × (ReceivesMany key (Some None) c ⊎ ReceivesOne key None c)) × calls old c new
   no_more_come old between new output is nothing does =
       let (c, how, goes) = waits_from old between new (Done None) nothing (subst (λ (o : Option T). (c : ChannelCall T) × ReceivesOrWaits false (Done o) c × calls between c new) is does) in
       (c, (how.0, inr how.1), goes)
 
   pub many_waits : (old between new : State T W) (key : Key)
-      → (c : ChannelCall T) × ReceivesMany None None c × calls old c between → (c : ChannelCall T) × ReceivesOrWaits false (Waits key) c × calls between c new
+      → between ≡ old → (c : ChannelCall T) × ReceivesOrWaits false (Waits key) c × calls between c new
       → (c : ChannelCall T) × ((before : Option Key) × (c ≡ call.ReceiveOrWait false before (Waits key))) × calls old c new
   many_waits old between new key nothing does = waits_from old between new (Waits key) nothing does
 
   pub many_absent : (old between new : State T W)
-      → (c : ChannelCall T) × ReceivesMany None None c × calls old c between → (c : ChannelCall T) × ReceivesOrWaits false Absent c × calls between c new
+      → between ≡ old → (c : ChannelCall T) × ReceivesOrWaits false Absent c × calls between c new
       → (c : ChannelCall T) × ((key : Option Key) × (c ≡ call.ReceiveOrWait false key Absent)) × calls old c new
   many_absent old between new nothing does = waits_from old between new Absent nothing does
 
   pub many_refused : (old between new : State T W) (error : ListenError)
-      → (c : ChannelCall T) × ReceivesMany None None c × calls old c between → (c : ChannelCall T) × ReceivesOrWaits false (Refused error) c × calls between c new
+      → between ≡ old → (c : ChannelCall T) × ReceivesOrWaits false (Refused error) c × calls between c new
       → (c : ChannelCall T) × ((key : Option Key) × (((error ≡ Memory) × (c ≡ call.LeaveReceivers false key)) ⊎ (c ≡ call.ReceiveOrWait false key (Refused error)))) × calls old c new
   many_refused old between new error nothing does =
       let (c, how, goes) = waits_from old between new (Refused error) nothing does in (c, (how.0, inr how.1), goes)

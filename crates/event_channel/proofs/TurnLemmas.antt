@@ -9,7 +9,7 @@ use Rattle.event_queue.specs.Queue.{Queue}
 use Rattle.event_wait.specs.Line.{CannotWait, Leaves, WaitsBy, others_of}
 use Rattle.std.proofs.lemmas.Bool.{false≢true}
 use Rattle.event_channel.specs.Messages.{State, IsKept, for_newcomers, room_in}
-use Rattle.event_channel.specs.Turns.{is_told, left_for_newcomers}
+use Rattle.event_channel.specs.Turns.{Starving, is_told, left_for_newcomers}
 
 -- there are no more for newcomers than there are, and no more of fewer
 pub most_for_newcomers : (all_is : Bool) (told there : ℕ) → left_for_newcomers all_is told there ≤ there
@@ -52,7 +52,7 @@ module _ {W : Type 0} where
 
 -- one found nothing, and the queue of the receivers is another one now: still nobody waits in vain
 module _ {T W : Type 0} where
-  pub kept-waiting : (old : State T W) (line : Queue (Unit {0}) W) (keys : List Key) (places : ℕ) (told : Bool) → IsKept old places → old.is_closed ≡ false → length old.messages ≤ length old.receivers.told
+  pub kept-waiting : (old : State T W) (line : Queue (Unit {0}) W) (keys : List Starving) (places : ℕ) (told : Bool) → IsKept old places → old.is_closed ≡ false → length old.messages ≤ length old.receivers.told
       → (told ≡ true → old.messages ≡ []) → (told ≡ false → length line.told ≡ length old.receivers.told) → (told ≡ false → keys ≡ old.starving_receivers) → (told ≡ false → for_newcomers old ≡ 0)
       → IsKept (record old { receivers = line; starving_receivers = keys }) places
   kept-waiting old line keys places told kept is_open due none as_many same newcomers = record {
@@ -80,7 +80,7 @@ module _ {T W : Type 0} where
           omega (arith, was, newcomers is)
 
   -- the same of the queue of the senders
-  pub kept-waiting_to_send : (old : State T W) (line : Queue (Unit {0}) W) (keys : List Key) (places : ℕ) (told : Bool) → IsKept old places → old.is_closed ≡ false → room_in old ≤ length old.senders.told
+  pub kept-waiting_to_send : (old : State T W) (line : Queue (Unit {0}) W) (keys : List Starving) (places : ℕ) (told : Bool) → IsKept old places → old.is_closed ≡ false → room_in old ≤ length old.senders.told
       → (told ≡ true → room_in old ≡ 0) → (told ≡ false → length line.told ≡ length old.senders.told) → IsKept (record old { senders = line; starving_senders = keys }) places
   kept-waiting_to_send old line keys places told kept is_open due none as_many = record {
     waits = record {

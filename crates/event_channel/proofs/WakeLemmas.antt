@@ -5,9 +5,10 @@ use Rattle.event_queue.proofs.TellingLemmas.{FoldsTo-append}
 use Rattle.event_queue.specs.declared.key.Key.{Key}
 use Rattle.event_wait.specs.Line.{woken_at_once, woken_by_leaving}
 use Rattle.event_wait.specs.declared.request.Attempted.TheVariants.{Done}
+use Rattle.event_channel.specs.Forbearing.{woken_streams}
 use Rattle.event_channel.specs.Messages.{State, for_newcomers, room_in}
 use Rattle.event_channel.specs.Steps.{KeepsAllButReceivers, KeepsAllButSenders, KeepsAllButStreams, Pushes, Takes, woken_by_pushing, woken_by_taking}
-use Rattle.event_channel.specs.Waits.{woken_by_receiver, woken_by_receiver_leaving, woken_by_receiving, woken_by_sending, woken_streams}
+use Rattle.event_channel.specs.Waits.{woken_by_receiver, woken_by_receiver_leaving, woken_by_receiving, woken_by_sending}
 
 module _ {T W K : Type 0} (woke : K → W → K → Type 0) (key : Option Key) (message : T) (old mid new : State T W) (before between after : K) where
   same_streams : (gone : Option Key) → mid.streams ≡ old.streams → woken_streams gone mid new ≡ woken_streams gone old new
@@ -31,8 +32,8 @@ module _ {T W K : Type 0} (woke : K → W → K → Type 0) (key : Option Key) (
       rw room (FoldsTo-append _ _ _ _ _ _ first (rw line at last))
 
   pub wakes_as_sender : Pushes message old mid → FoldsTo woke before (woken_by_pushing old mid) between → KeepsAllButSenders mid new
-      → FoldsTo woke between (woken_by_leaving key (room_in new) mid.senders) after → FoldsTo woke before (woken_by_sending key old (Done (Ok tt)) new) after
-  wakes_as_sender pushes first keeps last =
+      → FoldsTo woke between (woken_by_leaving key (room_in new) mid.senders) after → (slot : Option T) → FoldsTo woke before (woken_by_sending slot key old (Done (Ok tt)) new) after
+  wakes_as_sender pushes first keeps last slot =
       let count = sym (ap (λ (s : State T W). length s.messages) keeps) in
       let line = ap (λ (s : State T W). s.senders) pushes.rest in
       FoldsTo-append _ _ _ _ _ _ (rw count at first) (rw line at last)

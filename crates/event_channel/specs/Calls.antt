@@ -11,6 +11,7 @@ use Rattle.event_channel.specs.declared.error.SendReason.TheVariants.{Full}
 use Rattle.event_channel.specs.declared.error.TryRecvError.{TryRecvError}
 use Rattle.event_channel.specs.declared.error.TryRecvError.TheVariants.{Empty, Closed}
 use Rattle.event_channel.specs.Messages.{State, IsFull, for_newcomers, for_one, limit_of, new_state, room_for_one}
+use Rattle.event_channel.specs.Forbearing.{ForbearsFor, RefusedFor}
 use Rattle.event_channel.specs.Steps.{Pushes, Refuses, RefusesAt, Forces, Takes, FindsNone, Closes, KeepsAllButSenders, KeepsAllButReceivers, KeepsAllButStreams}
 use Rattle.event_channel.specs.Waits.{ReceiverLeaves, Receives, ReceivesInTurn, Received, SenderLeaves, SendsInTurn}
 
@@ -49,10 +50,10 @@ module _ {T W : Type 0} where
   is_new capacity s = s ≡ new_state (limit_of capacity)
 
   -- the message of this one, which may have a place in the queue, was put behind all others, and there was room for it; or it
-  -- was refused and nothing changed
+  -- was refused, for the sake of those that starve or else with nothing changed
   abbrev pub SendsOne : Option Key → T → Result (Unit {0}) SendReason → State T W → State T W → Type 0
   SendsOne key message (Ok sent) before after = Pushes message before after × (0 < room_for_one key before)
-  SendsOne key message (Err reason) before after = RefusesAt (room_for_one key before) before reason × (after ≡ before)
+  SendsOne key message (Err reason) before after = RefusesAt (room_for_one key before) before reason × RefusedFor reason key before after
 
   -- the message was put behind all others, and if the channel was full the first of all went out; or it was refused
   abbrev pub ForcesOne : T → Result (Option T) SendReason → State T W → State T W → Type 0
@@ -60,10 +61,10 @@ module _ {T W : Type 0} where
   ForcesOne message (Err reason) before after = Refuses before reason × (after ≡ before)
 
   -- the message was in front of all others, and there for this one, which may have a place in the queue; or there was none for
-  -- it, and nothing changed
+  -- it: none at all, and nothing changed, or it was refused for the sake of those that starve
   abbrev pub ReceivesOne : Option Key → Result T TryRecvError → State T W → State T W → Type 0
   ReceivesOne key (Ok message) before after = Takes (message ∷ []) before after × (0 < for_one key before)
-  ReceivesOne key (Err error) before after = FindsNone (for_one key before) before error × (after ≡ before)
+  ReceivesOne key (Err error) before after = FindsNone (for_one key before) before error × ForbearsFor key before after
 
   -- these messages were in front of all others, and there for newcomers: senders are notified of the first, and then of the
   -- rest

@@ -1,6 +1,7 @@
 pub mod Asking
 pub mod Calls
 pub mod Errors
+pub mod Forbearing
 pub mod Handle
 pub mod Hands
 pub mod Iter

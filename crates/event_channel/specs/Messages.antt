@@ -2,11 +2,11 @@
 use Rattle.std.specs.Prelude.{◌≡◌, ℕ, ◌+◌, ◌<◌, ◌≤◌, ◌^◌, ◌-◌, ◌==◌, ◌||◌, Bool, true, false, List, [], length, Option, Some, None}
 use Rattle.event_queue.specs.declared.key.Key.{Key}
 use Rattle.event_queue.specs.Queue.{Queue}
-use Rattle.event_channel.specs.Turns.{is_told, left_for_newcomers}
+use Rattle.event_channel.specs.Turns.{Starving, is_told, left_for_newcomers}
 
 -- the messages, first the one that is received next; how many there may be at most; whether the channel is closed; and the
--- queues of those that wait: to send, to receive one message, and to receive all as a stream; and the keys of the senders and
--- of the receivers in their queues that starve
+-- queues of those that wait: to send, to receive one message, and to receive all as a stream; and the senders and the receivers
+-- in their queues that starve, first the one that has longest
 pub record State (T W : Type 0) : Type 0 where
   pub messages : List T
   pub capacity : ℕ
@@ -14,8 +14,8 @@ pub record State (T W : Type 0) : Type 0 where
   pub senders : Queue (Unit {0}) W
   pub receivers : Queue (Unit {0}) W
   pub streams : Queue (Unit {0}) W
-  pub starving_senders : List Key
-  pub starving_receivers : List Key
+  pub starving_senders : List Starving
+  pub starving_receivers : List Starving
 
 -- how many messages there may be at most: without a limit the greatest `usize`
 abbrev pub limit_of : Option ℕ → ℕ

@@ -1,13 +1,23 @@
 -- What the calls of one history sent and received.
-use Rattle.std.specs.Prelude.{List, [], ◌∷◌, ◌++◌, Some, Ok}
+use Rattle.std.specs.Prelude.{◌≡◌, ℕ, List, [], ◌∷◌, ◌++◌, Option, Some, Ok}
+use Rattle.event_history.specs.History.{LeadsTo}
 use Rattle.event_history.specs.declared.history.Entry.{Entry}
 use Rattle.event_wait.specs.declared.request.Attempted.TheVariants.{Done}
 use Rattle.event_channel.specs.declared.call.ChannelCall.{ChannelCall}
 use Rattle.event_channel.specs.declared.call.ChannelCall.TheVariants as call
+use Rattle.event_channel.specs.Calls.{channel_machine}
+use Rattle.event_channel.specs.Messages.{State}
 
 -- a history of a channel
 abbrev pub ChannelLog : Type 0 → Type 0
 ChannelLog T = List (Entry (ChannelCall T))
+
+module _ {T W : Type 0} where
+  -- before the last call of this history the state was one of which this is said
+  abbrev pub WasBefore : Option ℕ → (State T W → Type 0) → ChannelLog T → Type 0
+  WasBefore capacity is log =
+      (earlier : ChannelLog T) × (last : Entry (ChannelCall T)) × (log ≡ earlier ++ last ∷ [])
+      × (q : State T W) × LeadsTo (channel_machine capacity) earlier q × is q
 
 module _ {T : Type 0} where
   -- the message that a call sent

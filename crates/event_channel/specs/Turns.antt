@@ -1,22 +1,46 @@
 -- Those in a queue that starve: each was notified and found nothing, twice at least.
-use Rattle.std.specs.Prelude.{◌≡◌, ◌⊎◌, ℕ, ◌+◌, ◌-◌, ◌≤◌, min, Bool, true, false, if◌then◌else◌, Option, Some, None, is_some, List, [], ◌∷◌, ◌++◌}
+use Rattle.std.specs.Prelude.{◌≡◌, ◌⊎◌, ℕ, ◌+◌, ◌-◌, ◌*◌, ◌^◌, ◌≤◌, ◌==◌, min, not, Bool, true, false, if◌then◌else◌, Option, Some, None, is_some, List, [], ◌∷◌, ◌++◌, filter}
 use Rattle.std.specs.Map.{lookup}
 use Rattle.event_queue.specs.declared.key.Key.{Key}
 use Rattle.event_queue.specs.declared.reply.ListenError.{ListenError}
 use Rattle.event_queue.specs.declared.reply.ListenError.TheVariants.{Memory}
-use Rattle.event_queue.specs.Key.{is_key, without}
+use Rattle.event_queue.specs.Key.{is_key}
 use Rattle.event_queue.specs.Queue.{Queue}
 use Rattle.event_wait.specs.Line.{CannotWait, Leaves}
 
--- these keys but this one, if it is one
-abbrev pub but : Option Key → List Key → List Key
-but None keys = keys
-but (Some key) keys = without key keys
+-- one that starves, and for how many newcomers beside the last it is forborne with: so many are refused for its sake
+abbrev pub Starving : Type 0
+Starving = Key × ℕ
+
+-- those that starve but this one, if it is one
+abbrev pub but : Option Key → List Starving → List Starving
+but None starving = starving
+but (Some key) starving = filter (λ one. not (is_key key one.0)) starving
+
+-- for how many newcomers beside the last one is forborne with that has lost so often: 64 with it, twice as many after each loss more,
+-- and a million at most
+abbrev pub forborne_with : ℕ → ℕ
+forborne_with losses = 64 * 2 ^ min (losses - 2) 14 - 1
+
+-- the first of those that starve once a newcomer was refused for its sake: forborne with for one fewer
+abbrev pub less_forborne : List Starving → List Starving
+less_forborne [] = []
+less_forborne (one ∷ others) = (one.0, one.1 - 1) ∷ others
+
+-- the first, if that newcomer is the last one
+abbrev pub struck_off : List Starving → Option Key
+struck_off [] = None
+struck_off (one ∷ others) = if one.1 == 0 then Some one.0 else None
+
+-- how many newcomers are refused at most for the sake of these
+abbrev pub refusals_for : List Starving → ℕ
+refusals_for [] = 0
+refusals_for (one ∷ others) = one.1 + 1 + refusals_for others
 
 -- those that starve once one that was notified is in the queue no more; one that was not is not there
-abbrev pub struck : Bool → Option Key → List Key → List Key
-struck true key keys = but key keys
-struck false key keys = keys
+abbrev pub struck : Bool → Option Key → List Starving → List Starving
+struck true key starving = but key starving
+struck false key starving = starving
 
 -- how often one has lost whose attempt finds nothing now: once more if it was notified
 abbrev pub losses_with : Bool → ℕ → ℕ
@@ -29,10 +53,10 @@ left_for_newcomers all_is told there = if all_is then there else there - told
 
 -- One found nothing, and waits by this key now. If it was notified it has lost once more, and is counted among those that
 -- starve if that is twice at least. One that was not is counted as it was.
-pub record Counts (told : Bool) (key : Option Key) (waits : Key) (losses : ℕ) (old : List Key) (losses' : ℕ) (new : List Key) : Type 0 where
+pub record Counts (told : Bool) (key : Option Key) (waits : Key) (losses : ℕ) (old : List Starving) (losses' : ℕ) (new : List Starving) : Type 0 where
   pub lost : losses' ≡ losses_with told losses
   pub untold : told ≡ false → new ≡ old
-  pub starves : told ≡ true → 2 ≤ losses' → new ≡ but key old ++ waits ∷ []
+  pub starves : told ≡ true → 2 ≤ losses' → new ≡ but key old ++ (waits, forborne_with losses') ∷ []
   pub patient : told ≡ true → losses' ≤ 1 → new ≡ but key old
 
 module _ {W : Type 0} where

@@ -1,13 +1,14 @@
 -- What became of one that was to send or to receive, or else to wait.
-use Rattle.std.specs.Prelude.{◌≡◌, ℕ, ◌<◌, ◌==◌, if◌then◌else◌, List, [], ◌∷◌, ◌++◌, Option, Some, None, Result, Ok, Err, true, false, length}
+use Rattle.std.specs.Prelude.{◌≡◌, ℕ, ◌<◌, List, [], ◌∷◌, ◌++◌, Option, Some, None, Result, Ok, Err, true, false, length}
 use Rattle.event_queue.specs.declared.key.Key.{Key}
 use Rattle.event_queue.specs.declared.reply.ListenError.{ListenError}
 use Rattle.event_queue.specs.Queue.{Queue}
-use Rattle.event_wait.specs.Line.{LeavesThenTells, TellsAll, WaitsBy, CannotWait, woken_at_once, woken_by_leaving}
+use Rattle.event_wait.specs.Line.{Leaves, LeavesThenTells, WaitsBy, CannotWait, woken_by_leaving}
 use Rattle.event_wait.specs.declared.request.Attempted.{Attempted}
 use Rattle.event_wait.specs.declared.request.Attempted.TheVariants.{Done, Waits, Absent, Refused}
 use Rattle.event_channel.specs.Errors.{IsUnsent}
-use Rattle.event_channel.specs.Messages.{State, for_newcomers, for_one, room_for_one, room_in}
+use Rattle.event_channel.specs.Forbearing.{Forbears, ForbearsSending, StreamsFollow, woken_by_forbearing, woken_by_forbearing_sending, woken_streams}
+use Rattle.event_channel.specs.Messages.{State, for_newcomers, for_one, room_for_newcomers, room_for_one, room_in}
 use Rattle.event_channel.specs.Steps.{Pushes, RefusesAt, Takes, woken_by_pushing, woken_by_taking}
 use Rattle.event_channel.specs.Turns.{CannotWaitInTurn, Counts, but, is_told, struck}
 use Rattle.event_channel.specs.declared.error.SendReason.{SendReason}
@@ -38,7 +39,8 @@ module _ {T W : Type 0} where
 
 module _ {T W C : Type 0} (exchanged : C → Option W → W → C → Type 0) where
   -- Of a stream, by its queue before and after, and by the state but for that queue: the message was in front of all others, and
-  -- there for newcomers; or none was, and it waits, or is in the queue no more.
+  -- there for newcomers; or none was, and it waits, or is in the queue no more. Where messages are there, each due to others, it is
+  -- in the queue no more and comes again.
   abbrev pub Receives : Option Key → State T W → Queue (Unit {0}) W → C → Received T → State T W → Queue (Unit {0}) W → C → Type 0
   Receives key before line on (Done (Some message)) rest line' on' =
       (0 < for_newcomers before) × Takes (message ∷ []) before rest × LeavesThenTells key (length rest.messages) line line' × (on' ≡ on)
@@ -46,7 +48,9 @@ module _ {T W C : Type 0} (exchanged : C → Option W → W → C → Type 0) wh
       (before.messages ≡ []) × (before.is_closed ≡ true) × (rest ≡ before) × LeavesThenTells key (length rest.messages) line line' × (on' ≡ on)
   Receives key before line on (Waits waits) rest line' on' =
       (for_newcomers before ≡ 0) × (before.is_closed ≡ false) × (rest ≡ before) × WaitsBy exchanged key line on waits line' on'
-  Receives key before line on Absent rest line' on' = ⊥
+  Receives key before line on Absent rest line' on' =
+      (for_newcomers before ≡ 0) × (before.is_closed ≡ false) × (0 < length before.messages)
+      × ((told : Queue (Unit {0}) W) × Forbears (record before { streams = line }) (record rest { streams = told }) × Leaves key told line') × (on' ≡ on)
   Receives key before line on (Refused error) rest line' on' =
       (for_newcomers before ≡ 0) × (before.is_closed ≡ false) × (rest ≡ before) × CannotWait key error line line' × (on' ≡ on)
 
@@ -68,12 +72,7 @@ module _ {T W : Type 0} where
     pub left : LeavesThenTells key (room_in after) before.senders after.senders
     pub struck : after.starving_senders ≡ but key before.starving_senders
 
-  -- all streams were notified if there is a message for newcomers, and else none
-  pub record StreamsFollow (before after : State T W) : Type 0 where
-    pub tells : 0 < for_newcomers after → TellsAll before.streams after.streams
-    pub stay : for_newcomers after ≡ 0 → after.streams ≡ before.streams
-
-  -- so it is where one leaves the queue of the receivers
+  -- where one leaves the queue of the receivers the streams follow
   abbrev pub StreamsGoOn : Option Key → State T W → State T W → Type 0
   StreamsGoOn None before after = after.streams ≡ before.streams
   StreamsGoOn (Some key) before after = StreamsFollow before after
@@ -84,9 +83,17 @@ module _ {T W : Type 0} where
     pub struck : after.starving_receivers ≡ but key before.starving_receivers
     pub streams : StreamsGoOn key before after
 
+  -- There was no message to send, and one that was in the queue has left it. Or one that is in none found room, each place of which is
+  -- due to others: it comes again.
+  abbrev pub NotSent : Option T → Option Key → State T W → State T W → Type 0
+  NotSent None key before after = (but_senders before after ≡ before) × SenderLeaves key before after
+  NotSent (Some message) key before after =
+      (key ≡ None) × (room_for_newcomers before ≡ 0) × (before.is_closed ≡ false) × (0 < room_in before) × ForbearsSending before after
+
 module _ {T W C : Type 0} (exchanged : C → Option W → W → C → Type 0) where
   -- Of one that was to send, by how often it lost: the message was put behind all others, and there was room for it; or it was
-  -- refused; or there was no room for it, and it waits and is counted, or is in the queue no more; or there was no message.
+  -- refused; or there was no room for it, and it waits and is counted, or is in the queue no more; or there was no message, or room
+  -- that is due to others.
   abbrev pub SendsInTurn : Option T → Option Key → State T W → ℕ → C → Sent → State T W → ℕ → C → Type 0
   SendsInTurn message key before losses on (Done (Ok sent)) after losses' on' =
       (0 < room_for_one key before) × PushesFrom message before (but_senders before after) × SenderLeaves key before after × (losses' ≡ losses) × (on' ≡ on)
@@ -97,14 +104,15 @@ module _ {T W C : Type 0} (exchanged : C → Option W → W → C → Type 0) wh
       × WaitsBy exchanged key before.senders on waits after.senders on'
       × Counts (is_told key before.senders) key waits losses before.starving_senders losses' after.starving_senders
   SendsInTurn message key before losses on Absent after losses' on' =
-      (message ≡ None) × (but_senders before after ≡ before) × SenderLeaves key before after × (losses' ≡ losses) × (on' ≡ on)
+      NotSent message key before after × (losses' ≡ losses) × (on' ≡ on)
   SendsInTurn message key before losses on (Refused error) after losses' on' =
       (room_for_one key before ≡ 0) × (before.is_closed ≡ false) × (but_senders before after ≡ before)
       × CannotWaitInTurn (is_told key before.senders) key losses error before.senders after.senders
       × (after.starving_senders ≡ struck (is_told key before.senders) key before.starving_senders) × (losses' ≡ losses) × (on' ≡ on)
 
   -- Of one that was to receive one message, likewise: the message was in front of all others, and there for it; or there is none,
-  -- and none will come; or none was there for it, and it waits and is counted, or is in the queue no more.
+  -- and none will come; or none was there for it, and it waits and is counted, or is in the queue no more. One that is in no queue
+  -- comes again where messages are there, each due to others.
   abbrev pub ReceivesInTurn : Option Key → State T W → ℕ → C → Received T → State T W → ℕ → C → Type 0
   ReceivesInTurn key before losses on (Done (Some message)) after losses' on' =
       (0 < for_one key before) × Takes (message ∷ []) before (but_receivers_and_streams before after) × ReceiverLeaves key before after × (losses' ≡ losses) × (on' ≡ on)
@@ -114,27 +122,30 @@ module _ {T W C : Type 0} (exchanged : C → Option W → W → C → Type 0) wh
       (for_one key before ≡ 0) × (before.is_closed ≡ false) × (but_receivers before after ≡ before)
       × WaitsBy exchanged key before.receivers on waits after.receivers on'
       × Counts (is_told key before.receivers) key waits losses before.starving_receivers losses' after.starving_receivers
-  ReceivesInTurn key before losses on Absent after losses' on' = ⊥
+  ReceivesInTurn key before losses on Absent after losses' on' =
+      (key ≡ None) × (for_newcomers before ≡ 0) × (before.is_closed ≡ false) × (0 < length before.messages) × Forbears before after
+      × (losses' ≡ losses) × (on' ≡ on)
   ReceivesInTurn key before losses on (Refused error) after losses' on' =
       (for_one key before ≡ 0) × (before.is_closed ≡ false) × (but_receivers before after ≡ before)
       × CannotWaitInTurn (is_told key before.receivers) key losses error before.receivers after.receivers
       × (after.starving_receivers ≡ struck (is_told key before.receivers) key before.starving_receivers) × (losses' ≡ losses) × (on' ≡ on)
 
 module _ {T W : Type 0} where
+  -- the tasks that are woken where nothing was sent
+  abbrev pub woken_by_sending_none : Option T → Option Key → State T W → State T W → List W
+  woken_by_sending_none None key before after = woken_by_leaving key (room_in after) before.senders
+  woken_by_sending_none (Some message) key before after = woken_by_forbearing_sending before after
+
   -- the tasks that this wakes: of those that wait for the message, and of senders if one that was notified has left
-  abbrev pub woken_by_sending : Option Key → State T W → Sent → State T W → List W
-  woken_by_sending key before (Done (Ok sent)) after =
+  abbrev pub woken_by_sending : Option T → Option Key → State T W → Sent → State T W → List W
+  woken_by_sending message key before (Done (Ok sent)) after =
       woken_by_pushing before after ++ woken_by_leaving key (room_in after) before.senders
-  woken_by_sending key before (Done (Err reason)) after = woken_by_leaving key (room_in after) before.senders
-  woken_by_sending key before (Waits waits) after = []
-  woken_by_sending key before Absent after = woken_by_leaving key (room_in after) before.senders
-  woken_by_sending key before (Refused error) after = []
+  woken_by_sending message key before (Done (Err reason)) after = woken_by_leaving key (room_in after) before.senders
+  woken_by_sending message key before (Waits waits) after = []
+  woken_by_sending message key before Absent after = woken_by_sending_none message key before after
+  woken_by_sending message key before (Refused error) after = []
 
   -- the tasks that are woken where one leaves the queue of the receivers: of the next ones, and of streams
-  abbrev pub woken_streams : Option Key → State T W → State T W → List W
-  woken_streams None before after = []
-  woken_streams (Some key) before after = if for_newcomers after == 0 then [] else woken_at_once before.streams
-
   abbrev pub woken_by_receiver_leaving : Option Key → State T W → State T W → List W
   woken_by_receiver_leaving key before after =
       woken_by_leaving key (length after.messages) before.receivers ++ woken_streams key before after
@@ -145,7 +156,7 @@ module _ {T W : Type 0} where
       woken_by_taking 1 before after ++ woken_by_receiver_leaving key before after
   woken_by_receiver key before (Done None) after = woken_by_receiver_leaving key before after
   woken_by_receiver key before (Waits waits) after = []
-  woken_by_receiver key before Absent after = []
+  woken_by_receiver key before Absent after = woken_by_forbearing before after
   woken_by_receiver key before (Refused error) after = []
 
   -- the tasks that a stream wakes: of senders, and of those that wait in the same queue if one that was notified has left
@@ -154,5 +165,5 @@ module _ {T W : Type 0} where
       woken_by_taking 1 before after ++ woken_by_leaving key (length after.messages) line
   woken_by_receiving key before line (Done None) after = woken_by_leaving key (length after.messages) line
   woken_by_receiving key before line (Waits waits) after = []
-  woken_by_receiving key before line Absent after = []
+  woken_by_receiving key before line Absent after = woken_by_forbearing before after
   woken_by_receiving key before line (Refused error) after = []

@@ -5,7 +5,7 @@ ghost use Rattle.event_channel.specs.Hands.{ReceivesBlocking, SendsBlocking};
 ghost use Rattle.event_channel.specs.Messages.{AreDue, PlacesAreDue, State, limit_of};
 ghost use Rattle.event_channel.specs.Served.{LosesByThose, NoMoreInVain, NoMoreSendersInVain, SenderLosesByThose};
 ghost use Rattle.event_queue.specs.declared.key.Key.{Key};
-ghost use Rattle.event_channel.specs.Sent.{ChannelLog, all_of, forced_out_by, out_by, received_by, sent_by};
+ghost use Rattle.event_channel.specs.Sent.{ChannelLog, WasBefore, all_of, forced_out_by, out_by, received_by, sent_by};
 ghost use Rattle.event_channel.specs.declared.call.ChannelCall.{ChannelCall};
 ghost use Rattle.event_channel.specs.declared.call.ChannelCall.TheVariants as call;
 ghost use Rattle.event_channel.specs.declared.error.RecvError.{RecvError};
@@ -47,7 +47,7 @@ pub fn sent_is_received_in_order<T, W>()
         (error : TryRecvError)
         → Extends (channel_machine capacity) v (call.Receive (Err error)) w
         → (all_of sent_by w.seen ≡ all_of out_by w.seen)
-        ⊎ ((q : State T W) × LeadsTo (channel_machine capacity) w.seen q × AreDue q) }
+        ⊎ WasBefore capacity (λ (q : State T W). AreDue q) w.seen }
     ensures finds_the_end { (capacity : Option ℕ) (v w : View (State T W) (ChannelCall T))
         → Extends (channel_machine capacity) v (call.Receive (Err WasClosed)) w
         → all_of sent_by w.seen ≡ all_of out_by w.seen }
@@ -70,7 +70,7 @@ pub fn no_message_is_lost<T, W>()
         → Looks (channel_machine capacity) (both_views w v) x
         → Extends (channel_machine capacity) x (call.Receive reply) y
         → IfOk sent (λ done. IfErr reply (λ error. IsAmong message (all_of out_by y.seen)
-        ⊎ ((q : State T W) × LeadsTo (channel_machine capacity) y.seen q × AreDue q))) }
+        ⊎ WasBefore capacity (λ (q : State T W). AreDue q) y.seen)) }
 {}
 
 /// A hand knows what it sent by its own call, and what another hand knew to be sent that it takes in. What it knew to be sent
@@ -121,13 +121,14 @@ pub fn capacity_is_kept<T, W>()
         → LeadsTo (channel_machine capacity) log q → length q.messages ≤ limit_of capacity }
     ensures full { (capacity : Option ℕ) (v w : View (State T W) (ChannelCall T)) (message : T)
         → Extends (channel_machine capacity) v (call.Send message (Err Full)) w
-        → (q : State T W) × LeadsTo (channel_machine capacity) w.seen q
-        × ((length q.messages ≡ limit_of capacity) ⊎ PlacesAreDue q) }
+        → ((q : State T W) × LeadsTo (channel_machine capacity) w.seen q
+        × (length q.messages ≡ limit_of capacity))
+        ⊎ WasBefore capacity (λ (q : State T W). PlacesAreDue q) w.seen }
     ensures full_was_sent { (capacity : Option ℕ) (v w : View (State T W) (ChannelCall T))
         (message : T)
         → Extends (channel_machine capacity) v (call.Send message (Err Full)) w
         → (length (all_of sent_by w.seen) ≡ length (all_of out_by w.seen) + limit_of capacity)
-        ⊎ ((q : State T W) × LeadsTo (channel_machine capacity) w.seen q × PlacesAreDue q) }
+        ⊎ WasBefore capacity (λ (q : State T W). PlacesAreDue q) w.seen }
     ensures closed_was_closed { (capacity : Option ℕ) (v w : View (State T W) (ChannelCall T))
         (message : T)
         → Extends (channel_machine capacity) v (call.Send message (Err Closed)) w

@@ -30,7 +30,7 @@ pub use laws::{
     capacity_is_kept, no_message_is_lost, sent_is_known, sent_is_received_in_order,
     starving_receivers_are_served, starving_senders_are_served,
 };
-pub use messages::{Messages, PATIENCE, received_in_order};
+pub use messages::{FORBEARANCE, Messages, PATIENCE, received_in_order};
 pub use receiver::{Receiver, WeakReceiver};
 pub use recv::Recv;
 pub use send::Send;

@@ -1,9 +1,10 @@
 //! The state under the lock of a channel.
-ghost use Rattle.std.specs.Prelude.{◌≡◌, ◌+◌, ◌-◌, ◌<◌, ◌≤◌, ◌↔◌, min, true, false, [], ◌∷◌, ◌++◌, take, drop, length, vec_len, vec_capacity, IfOk, IfErr, OnOk, OnErr, IsTrue, IsFalse};
+ghost use Rattle.std.specs.Prelude.{◌≡◌, ◌+◌, ◌-◌, ◌<◌, ◌≤◌, ◌↔◌, min, true, false, [], ◌∷◌, ◌++◌, Some, None, take, drop, length, vec_len, vec_capacity, IfOk, IfErr, OnOk, OnErr, IsTrue, IsFalse};
 ghost use Rattle.std.specs.List.{FoldsTo};
 ghost use Rattle.std.specs.VecDeque.{deque_capacity};
 ghost use Rattle.event_wait.specs.Line.{woken_at_once};
 ghost use Rattle.event_channel.specs.Errors.{IsUnsent, IsUnsentAtOnce};
+ghost use Rattle.event_channel.specs.Forbearing.{Forbears, ForbearsSending, ReceiverStruckOff, RefusedFor, SenderStruckOff, woken_by_forbearing, woken_by_forbearing_sending, woken_by_refusal_for, woken_by_striking, woken_by_striking_sender};
 ghost use Rattle.event_channel.specs.Messages.{NobodyWaitsInVain, IsFull, for_newcomers, for_one, limit_of, new_state, room_for_newcomers, room_for_one, room_in};
 ghost use Rattle.event_channel.specs.Order.{IsReceivedInOrder};
 ghost use Rattle.event_channel.specs.Steps.{Pushes, Refuses, RefusesAt, Forces, Takes, FindsNone, IsEmptyFor, Closes, woken_by_forcing, woken_by_pushing, woken_by_taking};
@@ -18,8 +19,8 @@ use event_wait::waiters::{tell_all, tell_more};
 use std::alloc::{AllocError, AllocFailed, Global};
 use std::collections::VecDeque;
 use std::marker::Model;
-pub use turns::PATIENCE;
-use turns::{is_told, left_for_newcomers};
+pub use turns::{FORBEARANCE, PATIENCE};
+use turns::{forbear, is_told, left_for_newcomers, strike};
 pub(crate) use waits::{key_after, put_back};
 
 /// The state of a channel, with no lock and no thread: the messages that were sent and not received, first the one that is
@@ -43,8 +44,8 @@ pub struct Messages<T, W> {
     senders: List<(), W>,
     receivers: List<(), W>,
     streams: List<(), W>,
-    starving_senders: Vec<Key, Global>,
-    starving_receivers: Vec<Key, Global>,
+    starving_senders: Vec<(Key, u32), Global>,
+    starving_receivers: Vec<(Key, u32), Global>,
 }
 
 impl<T, W> Model for Messages<T, W> {
@@ -107,7 +108,7 @@ fn move_first<T>(items: &mut VecDeque<T>, into: &mut Vec<T>, count: usize)
     }
 }
 
-impl<T, W> Messages<T, W> {
+impl<T, W: Drop> Messages<T, W> {
     /// An open channel without messages. Where there is a limit it allocates a place for each message that there may be,
     /// and else nothing.
     pub fn new(alloc: Global, capacity: Option<usize>) -> Result<Self, AllocError>
@@ -150,19 +151,22 @@ impl<T, W> Messages<T, W> {
         ensures wakes { IfOk result (λ _.
             FoldsTo S.woke sink.old (woken_by_pushing self.old self.new) sink.new) }
         ensures returned { IfErr result (λ error. error.message ≡ message) }
-        ensures refused { OnErr result ((self.new ≡ self.old) × (sink.new ≡ sink.old)) }
+        ensures refused { IfErr result (λ error. RefusedFor error.reason None self.old self.new) }
+        ensures forbears { IfErr result (λ error.
+            FoldsTo S.woke sink.old (woken_by_refusal_for error.reason self.old self.new) sink.new) }
         ensures reason { IfErr result (λ error. Refuses self.old error.reason) }
         ensures at_once { IfErr result (λ error. IsUnsentAtOnce error.reason) }
         ensures due { IfErr result (λ error. error.reason ≡ SendReason.Full
             → room_in self.old ≤ length self.old.senders.told) }
     {
         if self.starving_senders.len() != 0 && self.places_are_due() {
+            self.forbear_sending(sink);
             return Err(SendError::new(message, SendReason::Full));
         }
         self.push_any(message, sink)
     }
 
-    // `push` of one that may have a place in the queue of the senders.
+    // `push` of one that may have a place in the queue of the senders; of those that are refused nobody is counted.
     #[inline(always)]
     fn push_as<S: WakeSink<W>>(
         &mut self,
@@ -199,6 +203,34 @@ impl<T, W> Messages<T, W> {
             ↔ ((self.now.is_closed ≡ false) × (room_for_newcomers self.now ≡ 0)) }
     {
         !self.is_closed && self.room_for_newcomers() == 0
+    }
+
+    // A newcomer found no room: if there is some, it was refused for the sake of the first that starves.
+    #[cold]
+    #[inline(never)]
+    fn forbear_sending<S: WakeSink<W>>(&mut self, sink: &mut S)
+        ensures forbears { ForbearsSending self.old self.new }
+        ensures wakes { FoldsTo S.woke sink.old
+            (woken_by_forbearing_sending self.old self.new) sink.new }
+    {
+        if self.is_full() {
+            return;
+        }
+        if let Some(key) = forbear(&mut self.starving_senders) {
+            self.strike_sender(key, sink);
+        }
+    }
+
+    // Has a sender starve no more. If it was notified it leaves the queue, and the next is notified in its place.
+    fn strike_sender<S: WakeSink<W>>(&mut self, key: Key, sink: &mut S)
+        ensures off { SenderStruckOff key self.old self.new }
+        ensures wakes { FoldsTo S.woke sink.old
+            (woken_by_striking_sender (Some key) self.old self.new) sink.new }
+    {
+        if is_told(&self.senders, Some(key)) {
+            return self.cancel_sender(Some(key), sink);
+        }
+        strike(&mut self.starving_senders, Some(key));
     }
 
     // Puts a message behind all others, if the channel is open and not full, on a place that is due to others or not, and wakes a
@@ -271,16 +303,26 @@ impl<T, W> Messages<T, W> {
         ensures may { OnOk result (0 < for_newcomers self.old) }
         ensures wakes { IfOk result (λ _.
             FoldsTo S.woke sink.old (woken_by_taking 1 self.old self.new) sink.new) }
-        ensures empty { OnErr result ((self.new ≡ self.old) × (sink.new ≡ sink.old)) }
+        ensures empty { OnErr result (Forbears self.old self.new) }
+        ensures forbears { OnErr result
+            (FoldsTo S.woke sink.old (woken_by_forbearing self.old self.new) sink.new) }
         ensures reason { IfErr result (IsEmptyFor self.old) }
         ensures due { OnErr result (length self.old.messages ≤ length self.old.receivers.told) }
     {
-        self.pop_as(None, sink)
+        if self.starving_receivers.len() != 0 && self.messages_are_due() {
+            self.forbear_receiving(sink);
+            return Err(TryRecvError::Empty);
+        }
+        self.pop_any(sink)
     }
 
-    // `pop` of one that may have a place in the queue of the receivers.
+    // `pop` of one that may have a place in the queue of the receivers; of those that are refused nobody is counted.
     #[inline(always)]
-    fn pop_as<S: WakeSink<W>>(&mut self, key: Option<Key>, sink: &mut S) -> Result<T, TryRecvError>
+    pub(crate) fn pop_as<S: WakeSink<W>>(
+        &mut self,
+        key: Option<Key>,
+        sink: &mut S,
+    ) -> Result<T, TryRecvError>
         ensures popped { IfOk result (λ message. Takes (message ∷ []) self.old self.new) }
         ensures may { OnOk result (0 < for_one key self.old) }
         ensures wakes { IfOk result (λ _.
@@ -295,6 +337,19 @@ impl<T, W> Messages<T, W> {
         if starve && !is_told(&self.receivers, key) && self.messages_are_due() {
             return Err(TryRecvError::Empty);
         }
+        self.pop_any(sink)
+    }
+
+    // Takes the first message, due to others or not, and wakes a sender.
+    #[inline(always)]
+    fn pop_any<S: WakeSink<W>>(&mut self, sink: &mut S) -> Result<T, TryRecvError>
+        ensures popped { IfOk result (λ message. Takes (message ∷ []) self.old self.new) }
+        ensures wakes { IfOk result (λ _.
+            FoldsTo S.woke sink.old (woken_by_taking 1 self.old self.new) sink.new) }
+        ensures empty { OnErr result ((self.new ≡ self.old) × (sink.new ≡ sink.old)) }
+        ensures reason { IfErr result (FindsNone (length self.old.messages) self.old) }
+        ensures none { OnErr result (self.old.messages ≡ []) }
+    {
         match self.items.pop_front() {
             Some(message) => {
                 let room = self.capacity - self.items.len();
@@ -314,6 +369,36 @@ impl<T, W> Messages<T, W> {
             ↔ ((self.now.is_closed ≡ false) × (for_newcomers self.now ≡ 0)) }
     {
         !self.is_closed && self.for_newcomers() == 0
+    }
+
+    // A newcomer found no message: if there is one, it was refused for the sake of the first that starves.
+    #[cold]
+    #[inline(never)]
+    fn forbear_receiving<S: WakeSink<W>>(&mut self, sink: &mut S)
+        ensures forbears { Forbears self.old self.new }
+        ensures wakes { FoldsTo S.woke sink.old (woken_by_forbearing self.old self.new) sink.new }
+    {
+        if self.is_empty() {
+            return;
+        }
+        if let Some(key) = forbear(&mut self.starving_receivers) {
+            self.strike_receiver(key, sink);
+        }
+    }
+
+    // Has a receiver starve no more. If it was notified it leaves the queue, and the next is notified in its place.
+    fn strike_receiver<S: WakeSink<W>>(&mut self, key: Key, sink: &mut S)
+        ensures off { ReceiverStruckOff key self.old self.new }
+        ensures wakes { FoldsTo S.woke sink.old (woken_by_striking
+            (is_told (Some key) self.old.receivers) key self.old self.new) sink.new }
+    {
+        if is_told(&self.receivers, Some(key)) {
+            return self.cancel_receiver(Some(key), sink);
+        }
+        strike(&mut self.starving_receivers, Some(key));
+        if left_for_newcomers(self.is_closed, &self.starving_receivers, &self.receivers, self.items.len()) > 0 {
+            tell_all(&mut self.streams, sink);
+        }
     }
 
     /// Takes the first messages, `limit` at most and no more than are there for newcomers and `into` has room for, puts them

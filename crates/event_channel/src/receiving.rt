@@ -1,9 +1,10 @@
 //! Receives that wait for a message.
-ghost use Rattle.std.specs.Prelude.{◌≡◌, true, false};
+ghost use Rattle.std.specs.Prelude.{◌≡◌, None, true, false};
 ghost use Rattle.event_channel.specs.Calls.{LeavesReceivers, ReceivesOne, calls, received_at_once, receiver_key};
-ghost use Rattle.event_channel.specs.Requests.{ReceivesOrWaits};
+ghost use Rattle.event_channel.specs.Many.{Collects};
+ghost use Rattle.event_channel.specs.Requests.{ReceivesMany, ReceivesOrWaits};
 ghost use Rattle.event_channel.specs.declared.call.ChannelCall.{ChannelCall};
-ghost use Rattle.event_wait.specs.Attempted.{Attempts};
+ghost use Rattle.event_wait.specs.Attempted.{Attempts, LeavesBy};
 
 use crate::error::TryRecvError;
 use crate::messages::{Messages, key_after};
@@ -238,6 +239,33 @@ impl<T> ReceivingMany<T> {
     }
 }
 
+impl<T> ReceivingMany<T> {
+    // Takes the first message and as many more as it may, if one is there for newcomers. Nobody is refused by it.
+    fn take<K: WakeSink<Task>>(
+        &mut self,
+        state: &mut Messages<T, Task>,
+        sink: &mut K,
+    ) -> Option<Option<usize>>
+        ensures collects { LeavesBy Collects self.old.asked result self.new.asked }
+        ensures key { self.new.key ≡ self.old.key }
+        ensures takes { (call : ChannelCall T) × ReceivesMany None result call
+            × calls state.old call state.new }
+        ensures nothing { result ≡ None → state.new ≡ state.old }
+    {
+        if self.into.len() == self.into.capacity() {
+            return None;
+        }
+        match state.pop_as(None, sink) {
+            Ok(message) => {
+                self.into.push_reserved(message);
+                Some(Some(1 + state.pop_into(&mut self.into, self.more, sink)))
+            }
+            Err(TryRecvError::Empty) => None,
+            Err(TryRecvError::Closed) => Some(None),
+        }
+    }
+}
+
 impl<T> Request<Messages<T, Task>> for ReceivingMany<T> {
     // How many messages, or the end.
     type Output = Option<usize>;
@@ -269,7 +297,7 @@ impl<T> Request<Messages<T, Task>> for ReceivingMany<T> {
         sink: &mut K,
     ) -> Attempted<Option<usize>, ListenError> {
         let key = self.key;
-        if let Some(output) = self.attempt(state, sink) {
+        if let Some(output) = self.take(state, sink) {
             state.cancel_receiver(key, sink);
             self.key = None;
             return Attempted::Done(output);
@@ -305,7 +333,7 @@ impl<T> Request<Messages<T, Task>> for ReceivingMany<T> {
         state: &mut Messages<T, Task>,
         sink: &mut K,
     ) -> Result<Option<Option<usize>>, ListenError> {
-        let received = self.attempt(state, sink);
+        let received = self.take(state, sink);
         state.cancel_receiver(self.key.take(), sink);
         Ok(received)
     }

@@ -14,7 +14,7 @@ pub(crate) struct Push<T> {
     pub(crate) message: T,
 }
 
-impl<T: Drop, W, K: WakeSink<W>> Step<Messages<T, W>, K> for Push<T> {
+impl<T: Drop, W: Drop, K: WakeSink<W>> Step<Messages<T, W>, K> for Push<T> {
     type Reply = Result<(), SendError<T>>;
 
     ghost call = { λ step reply. call.Send step.message (answer_of reply) };
@@ -34,7 +34,7 @@ pub(crate) struct PushForced<T> {
     pub(crate) message: T,
 }
 
-impl<T, W, K: WakeSink<W>> Step<Messages<T, W>, K> for PushForced<T> {
+impl<T, W: Drop, K: WakeSink<W>> Step<Messages<T, W>, K> for PushForced<T> {
     type Reply = Result<Option<T>, SendError<T>>;
 
     ghost call = { λ step reply. call.ForceSend step.message (answer_of reply) };
@@ -52,7 +52,7 @@ impl<T, W, K: WakeSink<W>> Step<Messages<T, W>, K> for PushForced<T> {
 #[derive(Drop)]
 pub(crate) struct Pop;
 
-impl<T, W, K: WakeSink<W>> Step<Messages<T, W>, K> for Pop {
+impl<T, W: Drop, K: WakeSink<W>> Step<Messages<T, W>, K> for Pop {
     type Reply = Result<T, TryRecvError>;
 
     ghost call = { λ _ reply. call.Receive reply };
@@ -69,7 +69,7 @@ impl<T, W, K: WakeSink<W>> Step<Messages<T, W>, K> for Pop {
 #[derive(Drop)]
 pub(crate) struct Close;
 
-impl<T, W, K: WakeSink<W>> Step<Messages<T, W>, K> for Close {
+impl<T, W: Drop, K: WakeSink<W>> Step<Messages<T, W>, K> for Close {
     type Reply = bool;
 
     ghost call = { λ _ reply. call.Close reply };
@@ -85,7 +85,7 @@ impl<T, W, K: WakeSink<W>> Step<Messages<T, W>, K> for Close {
 #[derive(Drop)]
 pub(crate) struct IsClosed;
 
-impl<T, W> Step<Messages<T, W>, ()> for IsClosed {
+impl<T, W: Drop> Step<Messages<T, W>, ()> for IsClosed {
     type Reply = bool;
 
     ghost call = { λ _ reply. call.IsClosed reply };
@@ -101,7 +101,7 @@ impl<T, W> Step<Messages<T, W>, ()> for IsClosed {
 #[derive(Drop)]
 pub(crate) struct IsFull;
 
-impl<T, W> Step<Messages<T, W>, ()> for IsFull {
+impl<T, W: Drop> Step<Messages<T, W>, ()> for IsFull {
     type Reply = bool;
 
     ghost call = { λ _ reply. call.IsFull reply };
@@ -117,7 +117,7 @@ impl<T, W> Step<Messages<T, W>, ()> for IsFull {
 #[derive(Drop)]
 pub(crate) struct Len;
 
-impl<T, W> Step<Messages<T, W>, ()> for Len {
+impl<T, W: Drop> Step<Messages<T, W>, ()> for Len {
     type Reply = usize;
 
     ghost call = { λ _ reply. call.Len reply };

@@ -5,6 +5,7 @@
 //! |---|---|
 //! | `answers` | tables: what calls answer and whom they wake; polls for another reason, and who is dropped; sends by force; a close; many that are received at once, and an iterator of what waits |
 //! | `handles` | clones, weak handles, such as are refused, the last of a side, a closed channel; that a channel and its messages are freed; what handles and errors say |
+//! | `left` | one that starves and is left alone: how many newcomers are refused for its sake, that others go on then, and that it comes as one of them |
 //! | `limits` | calls that wait until a limit, and what comes while they look at the clock there |
 //! | `wakes` | threads that are blocked, and woken one by one; who is woken as one that was told is dropped, or comes to its limit |
 //! | `turns` | one that lost twice, by turns with others: it has the third, and newcomers what is not due; who is dropped, polled for another reason or at its limit then; a close |
@@ -20,6 +21,8 @@
 mod answers;
 #[cfg(test)]
 mod handles;
+#[cfg(test)]
+mod left;
 #[cfg(test)]
 mod limits;
 #[cfg(test)]

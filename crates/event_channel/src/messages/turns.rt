@@ -1,8 +1,7 @@
 //! Those in a queue that starve, for which newcomers leave what is due to them.
-ghost use Rattle.std.specs.Prelude.{◌≡◌, ◌==◌, ◌||◌, true, false, length, IfErr, IfOk, OnErr};
+ghost use Rattle.std.specs.Prelude.{◌≡◌, ◌≢◌, ◌==◌, ◌||◌, true, false, length, None, Some, IfErr, IfOk, OnErr};
 ghost use Rattle.event_wait.specs.Line.{WaitsBy};
-ghost use Rattle.event_channel.specs.Turns.{CannotWaitInTurn, Counts, but, is_told, left_for_newcomers, struck};
-ghost use Rattle.event_queue.specs.Key.{without};
+ghost use Rattle.event_channel.specs.Turns.{CannotWaitInTurn, Counts, Starving, but, forborne_with, is_told, left_for_newcomers, less_forborne, struck, struck_off};
 ghost use Rattle.event_queue.specs.Queue.{IsQueue};
 
 use event_queue::{Key, List, ListenError, TaskExchange};
@@ -11,6 +10,20 @@ use std::alloc::Global;
 
 /// How often one is notified and finds nothing before newcomers leave it what is due to it.
 pub const PATIENCE: u32 = 2;
+
+/// How many newcomers are refused for the sake of one that starves before it is struck off, if it lost [`PATIENCE`] times: after
+/// each loss more twice as many, and about a million at most.
+pub const FORBEARANCE: u32 = 64;
+
+// How often it is doubled at most.
+const DOUBLED: u32 = 14;
+
+// For how many newcomers beside the last one is forborne with that has lost so often.
+fn forborne_with(losses: u32) -> u32
+    ensures { result ≡ forborne_with losses }
+{
+    (FORBEARANCE << losses.saturating_sub(PATIENCE).min(DOUBLED)) - 1
+}
 
 // Whether this one is in the queue, and notified.
 #[inline(always)]
@@ -27,7 +40,7 @@ pub(crate) fn is_told<W>(line: &List<(), W>, key: Option<Key>) -> bool
 // queue that are notified.
 pub(crate) fn left_for_newcomers<W>(
     is_closed: bool,
-    starving: &Vec<Key, Global>,
+    starving: &Vec<(Key, u32), Global>,
     line: &List<(), W>,
     there: usize,
 ) -> usize
@@ -42,7 +55,7 @@ pub(crate) fn left_for_newcomers<W>(
 
 // Takes this one, if it is one, out of those that starve.
 #[inline(always)]
-pub(crate) fn strike(starving: &mut Vec<Key, Global>, key: Option<Key>)
+pub(crate) fn strike(starving: &mut Vec<(Key, u32), Global>, key: Option<Key>)
     ensures { starving.new.items ≡ but key starving.old.items }
 {
     if let Some(key) = key {
@@ -54,10 +67,25 @@ pub(crate) fn strike(starving: &mut Vec<Key, Global>, key: Option<Key>)
 
 #[cold]
 #[inline(never)]
-fn strike_off(starving: &mut Vec<Key, Global>, key: Key)
-    ensures { starving.new.items ≡ without key starving.old.items }
+fn strike_off(starving: &mut Vec<(Key, u32), Global>, key: Key)
+    ensures { starving.new.items ≡ but (Some key) starving.old.items }
 {
-    starving.retain(|other| key != *other);
+    starving.retain(|one| key != one.0);
+}
+
+// Counts one newcomer more that is refused for the sake of the first that starves. Returns its key if that is the last one.
+pub(crate) fn forbear(starving: &mut Vec<(Key, u32), Global>) -> Option<Key>
+    ensures off { result ≡ struck_off starving.old.items }
+    ensures less { result ≡ None → starving.new.items ≡ less_forborne starving.old.items }
+    ensures same { result ≢ None → starving.new.items ≡ starving.old.items }
+    ensures count { length starving.new.items ≡ length starving.old.items }
+{
+    let (key, more) = *starving.get(0)?;
+    if more == 0 {
+        return Some(key);
+    }
+    starving[0] = (key, more - 1);
+    None
 }
 
 // Has one wait that found nothing: at its place, or at the end of the queue if it was notified or is new. One that was
@@ -66,7 +94,7 @@ fn strike_off(starving: &mut Vec<Key, Global>, key: Key)
 #[inline(always)]
 pub(crate) fn wait_in_turn<W: Drop, C, X: TaskExchange<W, C>>(
     line: &mut List<(), W>,
-    starving: &mut Vec<Key, Global>,
+    starving: &mut Vec<(Key, u32), Global>,
     key: Option<Key>,
     losses: &mut u32,
     exchange: &X,
@@ -98,7 +126,7 @@ pub(crate) fn wait_in_turn<W: Drop, C, X: TaskExchange<W, C>>(
 #[inline(never)]
 fn wait_after_loss<W: Drop, C, X: TaskExchange<W, C>>(
     line: &mut List<(), W>,
-    starving: &mut Vec<Key, Global>,
+    starving: &mut Vec<(Key, u32), Global>,
     key: Option<Key>,
     losses: &mut u32,
     exchange: &X,
@@ -122,7 +150,7 @@ fn wait_after_loss<W: Drop, C, X: TaskExchange<W, C>>(
     let waits = wait_in_line(line, key, exchange, on)?;
     *losses = lost;
     if lost >= PATIENCE {
-        starving.push_reserved(waits);
+        starving.push_reserved((waits, forborne_with(lost)));
     }
     Ok(waits)
 }

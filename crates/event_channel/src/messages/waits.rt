@@ -14,7 +14,7 @@ use super::turns::{left_for_newcomers, strike, wait_in_turn};
 use crate::error::{SendError, SendReason, TryRecvError};
 use event_queue::{Key, ListenError, TaskExchange, WakeSink};
 use event_wait::Attempted;
-use event_wait::waiters::{leave_then_tell, tell_all, wait_in_line};
+use event_wait::waiters::{leave, leave_then_tell, tell_all, wait_in_line};
 
 // Puts back what was taken out.
 pub(crate) fn put_back<T>(slot: &mut Option<T>, value: T)
@@ -41,7 +41,8 @@ pub(crate) fn key_after<G>(key: Option<Key>, attempted: &Attempted<G, ListenErro
 impl<T, W: Drop> Messages<T, W> {
     /// [`push`](Messages::push) of the message in a slot; one that was notified takes a place that is due to it, too. Where there
     /// is no room for it its sender waits, with the task that the exchange makes. A message that is not sent stays in its slot;
-    /// one whose slot is empty is absent. It tries each time, notified or not; one that was notified in vain goes to the end of
+    /// one whose slot is empty is absent, and so is one in no queue where there is room, but each place is due to others: it tries
+    /// again. It tries each time, notified or not; one that was notified in vain goes to the end of
     /// the queue, and has lost once more: it starves if that is [`PATIENCE`](super::PATIENCE) times. One that does not wait is in
     /// the queue no more, and another is notified in its place if one is due. One that is new or starves may allocate.
     pub fn push_or_wait<C, X: TaskExchange<W, C>, S: WakeSink<W>>(
@@ -61,7 +62,7 @@ impl<T, W: Drop> Messages<T, W> {
         ensures refused { OnRefused result (message.new ≡ message.old) }
         ensures exchanges { Attempts (X.exchanged exchange.now) on.old result on.new }
         ensures wakes { FoldsTo S.woke sink.old
-            (woken_by_sending key self.old result self.new) sink.new }
+            (woken_by_sending message.old key self.old result self.new) sink.new }
     {
         let Some(unsent) = message.take() else {
             self.cancel_sender(key, sink);
@@ -76,6 +77,10 @@ impl<T, W: Drop> Messages<T, W> {
                 let reason = error.reason;
                 put_back(message, error.into_inner());
                 match reason {
+                    SendReason::Full if key.is_none() && !self.is_full() => {
+                        self.forbear_sending(sink);
+                        Attempted::Absent
+                    }
                     SendReason::Full => {
                         let line = &mut self.senders;
                         let starving = &mut self.starving_senders;
@@ -94,8 +99,8 @@ impl<T, W: Drop> Messages<T, W> {
     }
 
     /// [`pop`](Messages::pop); one that was notified takes what is due to it, too. One for whom there is no message waits, as
-    /// a sender does: if it was notified it has lost once more, and starves if that is [`PATIENCE`](super::PATIENCE) times.
-    /// `None` is the end: there is no message, and the channel is closed, so none will come.
+    /// a sender does: if it was notified it has lost once more, and starves if that is [`PATIENCE`](super::PATIENCE) times. One in
+    /// no queue is absent where there are messages, but each is due to others: it tries again. `None` is the end: there is no message, and the channel is closed, so none will come.
     pub fn pop_or_wait<C, X: TaskExchange<W, C>, S: WakeSink<W>>(
         &mut self,
         key: Option<Key>,
@@ -115,6 +120,10 @@ impl<T, W: Drop> Messages<T, W> {
                 self.cancel_receiver(key, sink);
                 Attempted::Done(Some(message))
             }
+            Err(TryRecvError::Empty) if key.is_none() && !self.is_empty() => {
+                self.forbear_receiving(sink);
+                Attempted::Absent
+            }
             Err(TryRecvError::Empty) => {
                 let line = &mut self.receivers;
                 let starving = &mut self.starving_receivers;
@@ -131,7 +140,7 @@ impl<T, W: Drop> Messages<T, W> {
     }
 
     /// [`pop_or_wait`](Messages::pop_or_wait) for a stream, which waits in the queue of the streams. It takes what is there for
-    /// newcomers.
+    /// newcomers, and never waits where there are messages that are due to others: it leaves its queue then, and tries again.
     pub fn next_or_wait<C, X: TaskExchange<W, C>, S: WakeSink<W>>(
         &mut self,
         key: Option<Key>,
@@ -145,10 +154,15 @@ impl<T, W: Drop> Messages<T, W> {
         ensures wakes { FoldsTo S.woke sink.old
             (woken_by_receiving key self.old self.old.streams result self.new) sink.new }
     {
-        match self.pop(sink) {
+        match self.pop_as(None, sink) {
             Ok(message) => {
                 self.cancel_stream(key, sink);
                 Attempted::Done(Some(message))
+            }
+            Err(TryRecvError::Empty) if !self.is_empty() => {
+                self.forbear_receiving(sink);
+                leave(&mut self.streams, key);
+                Attempted::Absent
             }
             Err(TryRecvError::Empty) => {
                 match wait_in_line(&mut self.streams, key, exchange, on) {
@@ -175,7 +189,10 @@ impl<T, W: Drop> Messages<T, W> {
         ensures returned { IfErr result (λ error. error.message ≡ message) }
         ensures at_once { IfErr result (λ error. IsUnsentAtOnce error.reason) }
     {
-        self.push_as(key, message, sink)
+        match key {
+            Some(_) => self.push_as(key, message, sink),
+            None => self.push(message, sink),
+        }
     }
 
     /// Takes this sender, if it is one, out of its queue: it starves no more. If now fewer are notified than there are places
@@ -201,7 +218,10 @@ impl<T, W: Drop> Messages<T, W> {
     ) -> Result<T, TryRecvError>
         ensures receives { ReceivesOne key result self.old self.new }
     {
-        self.pop_as(key, sink)
+        match key {
+            Some(_) => self.pop_as(key, sink),
+            None => self.pop(sink),
+        }
     }
 
     /// Takes this receiver, if it is one, out of its queue: it starves no more. If now fewer are notified than there are

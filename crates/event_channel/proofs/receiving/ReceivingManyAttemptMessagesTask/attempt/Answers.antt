@@ -8,4 +8,4 @@ pub returns-in-Ok-clause-goes : goal.returns-in-Ok-clause-goes
 returns-in-Ok-clause-goes g c = resting (many_taken _ _ _ _ _ _ _ c.in-Ok.ensures.popped c.in-Ok.ensures.may c.pop_into.ensures.count c.pop_into.ensures.popped)
 
 pub returns-in-Err-Empty-clause-goes : goal.returns-in-Err-Empty-clause-goes
-returns-in-Err-Empty-clause-goes g c = resting (many_of_none _ _ _ c.in-Err-Empty.field-0-is c.in-Err-Empty.ensures.reason c.in-Err-Empty.ensures.empty.0)
+returns-in-Err-Empty-clause-goes g c = resting (many_of_none _ _ _ c.in-Err-Empty.field-0-is c.in-Err-Empty.ensures.reason c.in-Err-Empty.ensures.empty)

@@ -1,5 +1,5 @@
-use Rattle.event_channel.proofs.StepLemmas.{many_or_leaves, resting, unresting}
+use Rattle.event_channel.proofs.StepLemmas.{many_or_leaves, resting}
 use Rattle.event_channel.proofs.receiving.ReceivingManyRequestMessagesTask.leave.Goals as goal
 
 pub returns-clause-goes : goal.returns-clause-goes
-returns-clause-goes g c = resting (many_or_leaves _ c.take.result _ _ _ (unresting c.attempt-received.ensures.goes) (c.cancel_receiver.ensures.others, c.cancel_receiver.ensures.left))
+returns-clause-goes g c = resting (many_or_leaves _ c.take.result _ _ _ c.take-received.ensures.takes c.take-received.ensures.nothing (c.cancel_receiver.ensures.others, c.cancel_receiver.ensures.left))
