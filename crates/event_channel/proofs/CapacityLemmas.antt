@@ -11,7 +11,7 @@ use Rattle.event_channel.specs.declared.error.SendReason.TheVariants.{Closed, Fu
 use Rattle.event_channel.specs.Calls.{LeavesReceivers, calls, channel_machine, receiver_key}
 use Rattle.event_channel.specs.Messages.{State, PlacesAreDue, limit_of, room_for_newcomers}
 use Rattle.event_channel.specs.Turns.{Starving}
-use Rattle.event_channel.proofs.ForbearLemmas.{forborne, forborne_for, forborne_sending, refused_for}
+use Rattle.event_channel.proofs.ForbearLemmas.{forborne, forborne_for, forborne_sending, refused_for, sending_for}
 use Rattle.event_channel.specs.Sent.{ChannelLog, WasBefore, sent_by, out_by, all_of}
 use Rattle.event_channel.proofs.HistoryLemmas.{in_order_from_start, leads_as_seen, moves}
 
@@ -65,7 +65,7 @@ module _ {T W : Type 0} where
   keeps before after (call.SendOrWait message key (Done (Ok sent))) h = pushed before after (call.SendOrWait message key (Done (Ok sent))) refl h.2.1.has_room (both _ _ h.2.1.rest)
   keeps before after (call.SendOrWait message key (Done (Err reason))) h = idle before after (call.SendOrWait message key (Done (Err reason))) refl (both _ _ h.2.1)
   keeps before after (call.SendOrWait message key (Waits waits)) h = idle before after (call.SendOrWait message key (Waits waits)) refl (both _ _ h.2.2)
-  keeps before after (call.SendOrWait message key Absent) h = idle before after (call.SendOrWait message key Absent) refl (both _ _ (forborne_sending before after h.2.0.4))
+  keeps before after (call.SendOrWait message key Absent) h = idle before after (call.SendOrWait message key Absent) refl (both _ _ (sending_for key before after h.2.0.4))
   keeps before after (call.SendOrWait message key (Refused error)) h = idle before after (call.SendOrWait message key (Refused error)) refl (both _ _ h.2.2)
   keeps before after (call.SendOrLeave message key (Ok sent)) h =
       pushed before after (call.SendOrLeave message key (Ok sent)) refl h.1.0.has_room (via before h.0 after (both _ _ h.1.0.rest) (both _ _ h.2.0))
@@ -77,7 +77,7 @@ module _ {T W : Type 0} where
   keeps before after (call.ReceiveOrWait false key (Done (Some message))) h = idle before after (call.ReceiveOrWait false key (Done (Some message))) refl (both _ _ h.2.1.rest)
   keeps before after (call.ReceiveOrWait false key (Done None)) h = idle before after (call.ReceiveOrWait false key (Done None)) refl (both _ _ h.2.2)
   keeps before after (call.ReceiveOrWait false key (Waits waits)) h = idle before after (call.ReceiveOrWait false key (Waits waits)) refl (both _ _ h.2.2)
-  keeps before after (call.ReceiveOrWait false key Absent) h = idle before after (call.ReceiveOrWait false key Absent) refl (both _ _ (forborne before after h.2.4))
+  keeps before after (call.ReceiveOrWait false key Absent) h = idle before after (call.ReceiveOrWait false key Absent) refl (both _ _ (forborne_for key before after h.2.4))
   keeps before after (call.ReceiveOrWait false key (Refused error)) h = idle before after (call.ReceiveOrWait false key (Refused error)) refl (both _ _ h.2.2)
   keeps before after (call.ReceiveOrWait true key (Done (Some message))) h = idle before after (call.ReceiveOrWait true key (Done (Some message))) refl (both _ _ h.1.rest)
   keeps before after (call.ReceiveOrWait true key (Done None)) h = idle before after (call.ReceiveOrWait true key (Done None)) refl (both _ _ h.2)

@@ -43,7 +43,7 @@ module _ {T W : Type 0} where
   pub forborne_sending : (before after : State T W) → ForbearsSending before after → KeepsAllButSenders before after
   forborne_sending before after h = sending_unless (room_in before == 0) before after h
 
-  sending_for : (key : Option Key) (before after : State T W) → ForbearsSendingFor key before after → KeepsAllButSenders before after
+  pub sending_for : (key : Option Key) (before after : State T W) → ForbearsSendingFor key before after → KeepsAllButSenders before after
   sending_for None before after h = forborne_sending before after h
   sending_for (Some key) before after h = same_but_senders before after h
 

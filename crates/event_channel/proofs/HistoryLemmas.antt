@@ -12,7 +12,7 @@ use Rattle.event_channel.specs.declared.call.ChannelCall.TheVariants as call
 use Rattle.event_channel.specs.Calls.{LeavesReceivers, calls, channel_machine, receiver_key}
 use Rattle.event_channel.specs.Messages.{State, AreDue, for_newcomers}
 use Rattle.event_channel.specs.Turns.{Starving}
-use Rattle.event_channel.proofs.ForbearLemmas.{forborne, forborne_for, forborne_sending, refused_for}
+use Rattle.event_channel.proofs.ForbearLemmas.{forborne, forborne_for, refused_for, sending_for}
 use Rattle.event_channel.specs.declared.error.TryRecvError.{TryRecvError}
 use Rattle.event_channel.specs.declared.error.TryRecvError.TheVariants.{Empty, Closed}
 use Rattle.event_channel.specs.Steps.{FindsNone}
@@ -39,7 +39,7 @@ module _ {T W : Type 0} where
   moves before after (call.SendOrWait message key (Done (Ok sent))) h = sym (ap (λ (s : State T W). s.messages) h.2.1.rest)
   moves before after (call.SendOrWait message key (Done (Err reason))) h = stays before after (ap (λ (s : State T W). s.messages) h.2.1)
   moves before after (call.SendOrWait message key (Waits waits)) h = stays before after (ap (λ (s : State T W). s.messages) h.2.2)
-  moves before after (call.SendOrWait message key Absent) h = stays before after (ap (λ (s : State T W). s.messages) (forborne_sending before after h.2.0.4))
+  moves before after (call.SendOrWait message key Absent) h = stays before after (ap (λ (s : State T W). s.messages) (sending_for key before after h.2.0.4))
   moves before after (call.SendOrWait message key (Refused error)) h = stays before after (ap (λ (s : State T W). s.messages) h.2.2)
   moves before after (call.SendOrLeave message key (Ok sent)) h =
       sym (ap (λ (s : State T W). s.messages) h.2.0 ∙ ap (λ (s : State T W). s.messages) h.1.0.rest)
@@ -51,7 +51,7 @@ module _ {T W : Type 0} where
   moves before after (call.ReceiveOrWait false key (Done (Some message))) h = append-nil before.messages ∙ h.2.1.first
   moves before after (call.ReceiveOrWait false key (Done None)) h = stays before after (ap (λ (s : State T W). s.messages) h.2.2)
   moves before after (call.ReceiveOrWait false key (Waits waits)) h = stays before after (ap (λ (s : State T W). s.messages) h.2.2)
-  moves before after (call.ReceiveOrWait false key Absent) h = stays before after (ap (λ (s : State T W). s.messages) (forborne before after h.2.4))
+  moves before after (call.ReceiveOrWait false key Absent) h = stays before after (ap (λ (s : State T W). s.messages) (forborne_for key before after h.2.4))
   moves before after (call.ReceiveOrWait false key (Refused error)) h = stays before after (ap (λ (s : State T W). s.messages) h.2.2)
   moves before after (call.ReceiveOrWait true key (Done (Some message))) h = append-nil before.messages ∙ h.1.first
   moves before after (call.ReceiveOrWait true key (Done None)) h = stays before after (ap (λ (s : State T W). s.messages) h.2)

@@ -15,7 +15,7 @@ use Rattle.event_channel.specs.Messages.{State, for_newcomers, for_one, room_for
 use Rattle.event_channel.specs.Forbearing.{Forbears, ForbearsFor, ForbearsSending, ForbearsSendingFor, ForbearsSendingUnless, ForbearsUnless, ForbearsWithReceiver, ForbearsWithSender, RefusedFor}
 use Rattle.event_channel.specs.declared.error.SendReason.{SendReason}
 use Rattle.event_channel.specs.declared.error.SendReason.TheVariants.{Closed, Full, TimedOut, Memory, WaitFailed}
-use Rattle.event_channel.proofs.ForbearLemmas.{forborne, forborne_for, forborne_sending, refused_for}
+use Rattle.event_channel.proofs.ForbearLemmas.{forborne, forborne_for, refused_for, sending_for}
 use Rattle.event_channel.specs.Served.{LosesByThose, NoMoreInVain, NoMoreSendersInVain, OneStarves, SenderLosesByThose, receivers_in_vain, senders_in_vain}
 use Rattle.event_channel.specs.Steps.{Closes, Pushes, Replaces, Takes}
 use Rattle.event_channel.specs.Turns.{CannotWaitInTurn, Starving, is_told, struck_off}
@@ -209,9 +209,9 @@ module _ {T W : Type 0} where
       let left = refused_for reason key before after h in
       as_before before after (ap (λ (s : State T W). s.messages) left) (ap (λ (s : State T W). s.receivers) left)
 
-  sender_forborne : (before after : State T W) → ForbearsSending before after → receivers_in_vain after ≤ receivers_in_vain before
-  sender_forborne before after h =
-      let left = forborne_sending before after h in
+  sender_forborne : (key : Option Key) (before after : State T W) → ForbearsSendingFor key before after → receivers_in_vain after ≤ receivers_in_vain before
+  sender_forborne key before after h =
+      let left = sending_for key before after h in
       as_before before after (ap (λ (s : State T W). s.messages) left) (ap (λ (s : State T W). s.receivers) left)
 
   closed_by : (before after : State T W) → Closes before after → after.is_closed ≡ true
@@ -226,7 +226,7 @@ module _ {T W : Type 0} where
   no_more_in_vain before after (call.SendOrWait message key (Done (Ok sent))) (losses, losses', h) starves = pushed message before (but_senders before after) h.1
   no_more_in_vain before after (call.SendOrWait message key (Done (Err reason))) (losses, losses', h) starves = alike before (but_senders before after) h.1
   no_more_in_vain before after (call.SendOrWait message key (Waits waits)) (losses, losses', h) starves = alike before (but_senders before after) h.2
-  no_more_in_vain before after (call.SendOrWait message key Absent) (losses, losses', h) starves = sender_forborne before after h.0.4
+  no_more_in_vain before after (call.SendOrWait message key Absent) (losses, losses', h) starves = sender_forborne key before after h.0.4
   no_more_in_vain before after (call.SendOrWait message key (Refused error)) (losses, losses', h) starves = alike before (but_senders before after) h.2
   no_more_in_vain before after (call.SendOrLeave message key (Ok sent)) h starves =
       let first = pushed message before h.0 h.1.0 in let last = sender_left key h.0 after h.2 in omega (arith, first, last)
@@ -245,7 +245,7 @@ module _ {T W : Type 0} where
       left_then_told key (length after.messages) (length before.messages) (length before.receivers.told) before.receivers after.receivers h.3.left (omega arith) (omega (arith, same))
   no_more_in_vain before after (call.ReceiveOrWait false key (Waits waits)) (losses, losses', h) starves =
       waits_still key before after.receivers (length after.messages) h.3.told (ap (λ (s : State T W). length s.messages) h.2)
-  no_more_in_vain before after (call.ReceiveOrWait false key Absent) (losses, losses', h) starves = forborne_in_vain before after h.4
+  no_more_in_vain before after (call.ReceiveOrWait false key Absent) (losses, losses', h) starves = forborne_in_vain_for key before after h.4
   no_more_in_vain before after (call.ReceiveOrWait false key (Refused error)) (losses, losses', h) starves =
       no_other before after (ap (λ (s : State T W). length s.messages) h.2) (cannot_wait (is_told key before.receivers) key losses error before after.receivers h.3)
   no_more_in_vain before after (call.ReceiveOrWait true key (Done (Some message))) h starves =
@@ -420,7 +420,7 @@ module _ {T W : Type 0} where
       left_then_told key (room_in after) (room_in before) (length before.senders.told) before.senders after.senders h.2.left (omega arith) (omega (arith, same))
   no_more_senders_in_vain before after (call.SendOrWait message key (Waits waits)) (losses, losses', h) starves fits other =
       waits_there key before after.senders (room_in after) h.3.told (ap (λ (s : State T W). room_in s) h.2)
-  no_more_senders_in_vain before after (call.SendOrWait message key Absent) (losses, losses', h) starves fits other = forborne_there before after h.0.4
+  no_more_senders_in_vain before after (call.SendOrWait message key Absent) (losses, losses', h) starves fits other = forborne_there_for key before after h.0.4
   no_more_senders_in_vain before after (call.SendOrWait message key (Refused error)) (losses, losses', h) starves fits other =
       let same : room_in after ≡ room_in before = ap (λ (s : State T W). room_in s) h.2 in
       let few = cannot_wait_there (is_told key before.senders) key losses error before after.senders h.3 in
@@ -434,7 +434,7 @@ module _ {T W : Type 0} where
   no_more_senders_in_vain before after (call.ReceiveOrWait false key (Done (Some message))) (losses, losses', h) starves fits other = taken_there (message ∷ []) before (but_receivers_and_streams before after) h.1 fits
   no_more_senders_in_vain before after (call.ReceiveOrWait false key (Done None)) (losses, losses', h) starves fits other = same_there before (but_receivers_and_streams before after) h.2
   no_more_senders_in_vain before after (call.ReceiveOrWait false key (Waits waits)) (losses, losses', h) starves fits other = same_there before (but_receivers before after) h.2
-  no_more_senders_in_vain before after (call.ReceiveOrWait false key Absent) (losses, losses', h) starves fits other = receiver_forborne before after h.4
+  no_more_senders_in_vain before after (call.ReceiveOrWait false key Absent) (losses, losses', h) starves fits other = receiver_forborne_for key before after h.4
   no_more_senders_in_vain before after (call.ReceiveOrWait false key (Refused error)) (losses, losses', h) starves fits other = same_there before (but_receivers before after) h.2
   no_more_senders_in_vain before after (call.ReceiveOrWait true key (Done (Some message))) h starves fits other = taken_there (message ∷ []) before (record after { streams = before.streams }) h.1 fits
   no_more_senders_in_vain before after (call.ReceiveOrWait true key (Done None)) h starves fits other = same_there before (record after { streams = before.streams }) h.2

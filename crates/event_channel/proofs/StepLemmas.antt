@@ -86,7 +86,7 @@ module _ {T W C : Type 0} (exchanged : C → Option W → W → C → Type 0) wh
       → Receives exchanged key before old on answer rest new on' → Receives with_any_task key before old tt answer rest new tt
   any_receives key before old on (Done (Some message)) rest new on' h = (h.0, h.1, h.2, refl)
   any_receives key before old on (Done None) rest new on' h = (h.0, h.1, h.2, h.3, refl)
-  any_receives key before old on (Waits waits) rest new on' h = (h.0, h.1, h.2, any_waits exchanged key old on waits new on' h.3)
+  any_receives key before old on (Waits waits) rest new on' h = (h.0, h.1, h.2, any_waits exchanged key old on waits new on' h.3, h.4)
   any_receives key before old on Absent rest new on' h = (h.0, h.1, h.2, h.3, refl)
   any_receives key before old on (Refused error) rest new on' h = (h.0, h.1, h.2, h.3, refl)
 

@@ -63,7 +63,7 @@ module _ {T W : Type 0} where
   abbrev pub ForbearsSending : State T W → State T W → Type 0
   ForbearsSending before after = ForbearsSendingUnless (room_in before == 0) before after
 
-  -- one that has a place in the queue is no newcomer
+  -- one that has a place in the queue, or had, counts as no newcomer
   abbrev pub ForbearsFor : Option Key → State T W → State T W → Type 0
   ForbearsFor None before after = Forbears before after
   ForbearsFor (Some key) before after = after ≡ before
@@ -103,6 +103,14 @@ module _ {T W : Type 0} where
   abbrev pub woken_by_forbearing_sending : State T W → State T W → List W
   woken_by_forbearing_sending before after =
       if room_in before == 0 then [] else woken_by_striking_sender (struck_off before.starving_senders) before after
+
+  abbrev pub woken_by_forbearing_for : Option Key → State T W → State T W → List W
+  woken_by_forbearing_for None before after = woken_by_forbearing before after
+  woken_by_forbearing_for (Some key) before after = []
+
+  abbrev pub woken_by_forbearing_sending_for : Option Key → State T W → State T W → List W
+  woken_by_forbearing_sending_for None before after = woken_by_forbearing_sending before after
+  woken_by_forbearing_sending_for (Some key) before after = []
 
   abbrev pub woken_by_refusal_for : SendReason → State T W → State T W → List W
   woken_by_refusal_for Closed before after = []

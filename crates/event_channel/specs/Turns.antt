@@ -6,7 +6,9 @@ use Rattle.event_queue.specs.declared.reply.ListenError.{ListenError}
 use Rattle.event_queue.specs.declared.reply.ListenError.TheVariants.{Memory}
 use Rattle.event_queue.specs.Key.{is_key}
 use Rattle.event_queue.specs.Queue.{Queue}
-use Rattle.event_wait.specs.Line.{CannotWait, Leaves}
+use Rattle.event_wait.specs.Line.{CannotWait, Leaves, WaitsBy, waits_untold}
+use Rattle.event_wait.specs.declared.request.Attempted.{Attempted}
+use Rattle.event_wait.specs.declared.request.Attempted.TheVariants.{Done, Waits, Absent, Refused}
 
 -- one that starves, and for how many newcomers beside the last it is forborne with: so many are refused for its sake
 abbrev pub Starving : Type 0
@@ -65,7 +67,20 @@ module _ {W : Type 0} where
   is_told None q = false
   is_told (Some key) q = is_some (lookup (is_key key) q.told)
 
+  -- this one has no place in the queue
+  abbrev pub IsNewcomer : Option Key → Queue (Unit {0}) W → Type 0
+  IsNewcomer key q = (is_told key q ≡ false) × (waits_untold key q ≡ false)
+
   -- one could not be put at the end of the queue, or could not be counted among those that starve, and is in it no more
   abbrev pub CannotWaitInTurn : Bool → Option Key → ℕ → ListenError → Queue (Unit {0}) W → Queue (Unit {0}) W → Type 0
   CannotWaitInTurn told key losses error old new =
       CannotWait key error old new ⊎ ((told ≡ true) × (1 ≤ losses) × (error ≡ Memory) × Leaves key old new)
+
+module _ {W C G E : Type 0} (exchanged : C → Option W → W → C → Type 0) where
+  -- one waits on at its place, or has none
+  abbrev pub WaitsAtPlace : Key → Queue (Unit {0}) W → C → Attempted G E → Queue (Unit {0}) W → C → Type 0
+  WaitsAtPlace key old on (Done output) new on' = ⊥
+  WaitsAtPlace key old on (Waits waits) new on' =
+      (waits ≡ key) × WaitsBy exchanged (Some key) old on key new on' × (waits_untold (Some key) old ≡ true)
+  WaitsAtPlace key old on Absent new on' = IsNewcomer (Some key) old × (new ≡ old) × (on' ≡ on)
+  WaitsAtPlace key old on (Refused error) new on' = ⊥

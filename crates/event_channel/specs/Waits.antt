@@ -3,14 +3,14 @@ use Rattle.std.specs.Prelude.{◌≡◌, ℕ, ◌<◌, List, [], ◌∷◌, ◌+
 use Rattle.event_queue.specs.declared.key.Key.{Key}
 use Rattle.event_queue.specs.declared.reply.ListenError.{ListenError}
 use Rattle.event_queue.specs.Queue.{Queue}
-use Rattle.event_wait.specs.Line.{Leaves, LeavesThenTells, WaitsBy, CannotWait, woken_by_leaving}
+use Rattle.event_wait.specs.Line.{Leaves, LeavesThenTells, WaitsBy, CannotWait, waits_untold, woken_by_leaving}
 use Rattle.event_wait.specs.declared.request.Attempted.{Attempted}
 use Rattle.event_wait.specs.declared.request.Attempted.TheVariants.{Done, Waits, Absent, Refused}
 use Rattle.event_channel.specs.Errors.{IsUnsent}
-use Rattle.event_channel.specs.Forbearing.{Forbears, ForbearsSending, StreamsFollow, woken_by_forbearing, woken_by_forbearing_sending, woken_streams}
+use Rattle.event_channel.specs.Forbearing.{Forbears, ForbearsFor, ForbearsSendingFor, StreamsFollow, woken_by_forbearing, woken_by_forbearing_for, woken_by_forbearing_sending_for, woken_streams}
 use Rattle.event_channel.specs.Messages.{State, for_newcomers, for_one, room_for_newcomers, room_for_one, room_in}
 use Rattle.event_channel.specs.Steps.{Pushes, RefusesAt, Takes, woken_by_pushing, woken_by_taking}
-use Rattle.event_channel.specs.Turns.{CannotWaitInTurn, Counts, but, is_told, struck}
+use Rattle.event_channel.specs.Turns.{CannotWaitInTurn, Counts, IsNewcomer, but, is_told, struck}
 use Rattle.event_channel.specs.declared.error.SendReason.{SendReason}
 
 -- what an attempt to send leads to, and one to receive: a message, or the end of them
@@ -48,6 +48,7 @@ module _ {T W C : Type 0} (exchanged : C → Option W → W → C → Type 0) wh
       (before.messages ≡ []) × (before.is_closed ≡ true) × (rest ≡ before) × LeavesThenTells key (length rest.messages) line line' × (on' ≡ on)
   Receives key before line on (Waits waits) rest line' on' =
       (for_newcomers before ≡ 0) × (before.is_closed ≡ false) × (rest ≡ before) × WaitsBy exchanged key line on waits line' on'
+      × (length before.messages ≡ 0)
   Receives key before line on Absent rest line' on' =
       (for_newcomers before ≡ 0) × (before.is_closed ≡ false) × (0 < length before.messages)
       × ((told : Queue (Unit {0}) W) × Forbears (record before { streams = line }) (record rest { streams = told }) × Leaves key told line') × (on' ≡ on)
@@ -88,12 +89,13 @@ module _ {T W : Type 0} where
   abbrev pub NotSent : Option T → Option Key → State T W → State T W → Type 0
   NotSent None key before after = (but_senders before after ≡ before) × SenderLeaves key before after
   NotSent (Some message) key before after =
-      (key ≡ None) × (room_for_newcomers before ≡ 0) × (before.is_closed ≡ false) × (0 < room_in before) × ForbearsSending before after
+      IsNewcomer key before.senders × (room_for_newcomers before ≡ 0) × (before.is_closed ≡ false) × (0 < room_in before)
+      × ForbearsSendingFor key before after
 
 module _ {T W C : Type 0} (exchanged : C → Option W → W → C → Type 0) where
   -- Of one that was to send, by how often it lost: the message was put behind all others, and there was room for it; or it was
   -- refused; or there was no room for it, and it waits and is counted, or is in the queue no more; or there was no message, or room
-  -- that is due to others.
+  -- that is due to others: only one that waits already waits on behind that.
   abbrev pub SendsInTurn : Option T → Option Key → State T W → ℕ → C → Sent → State T W → ℕ → C → Type 0
   SendsInTurn message key before losses on (Done (Ok sent)) after losses' on' =
       (0 < room_for_one key before) × PushesFrom message before (but_senders before after) × SenderLeaves key before after × (losses' ≡ losses) × (on' ≡ on)
@@ -103,6 +105,7 @@ module _ {T W C : Type 0} (exchanged : C → Option W → W → C → Type 0) wh
       (room_for_one key before ≡ 0) × (before.is_closed ≡ false) × (but_senders before after ≡ before)
       × WaitsBy exchanged key before.senders on waits after.senders on'
       × Counts (is_told key before.senders) key waits losses before.starving_senders losses' after.starving_senders
+      × (0 < room_in before → waits_untold key before.senders ≡ true)
   SendsInTurn message key before losses on Absent after losses' on' =
       NotSent message key before after × (losses' ≡ losses) × (on' ≡ on)
   SendsInTurn message key before losses on (Refused error) after losses' on' =
@@ -122,8 +125,10 @@ module _ {T W C : Type 0} (exchanged : C → Option W → W → C → Type 0) wh
       (for_one key before ≡ 0) × (before.is_closed ≡ false) × (but_receivers before after ≡ before)
       × WaitsBy exchanged key before.receivers on waits after.receivers on'
       × Counts (is_told key before.receivers) key waits losses before.starving_receivers losses' after.starving_receivers
+      × (0 < length before.messages → waits_untold key before.receivers ≡ true)
   ReceivesInTurn key before losses on Absent after losses' on' =
-      (key ≡ None) × (for_newcomers before ≡ 0) × (before.is_closed ≡ false) × (0 < length before.messages) × Forbears before after
+      IsNewcomer key before.receivers × (for_newcomers before ≡ 0) × (before.is_closed ≡ false) × (0 < length before.messages)
+      × ForbearsFor key before after
       × (losses' ≡ losses) × (on' ≡ on)
   ReceivesInTurn key before losses on (Refused error) after losses' on' =
       (for_one key before ≡ 0) × (before.is_closed ≡ false) × (but_receivers before after ≡ before)
@@ -134,7 +139,7 @@ module _ {T W : Type 0} where
   -- the tasks that are woken where nothing was sent
   abbrev pub woken_by_sending_none : Option T → Option Key → State T W → State T W → List W
   woken_by_sending_none None key before after = woken_by_leaving key (room_in after) before.senders
-  woken_by_sending_none (Some message) key before after = woken_by_forbearing_sending before after
+  woken_by_sending_none (Some message) key before after = woken_by_forbearing_sending_for key before after
 
   -- the tasks that this wakes: of those that wait for the message, and of senders if one that was notified has left
   abbrev pub woken_by_sending : Option T → Option Key → State T W → Sent → State T W → List W
@@ -156,7 +161,7 @@ module _ {T W : Type 0} where
       woken_by_taking 1 before after ++ woken_by_receiver_leaving key before after
   woken_by_receiver key before (Done None) after = woken_by_receiver_leaving key before after
   woken_by_receiver key before (Waits waits) after = []
-  woken_by_receiver key before Absent after = woken_by_forbearing before after
+  woken_by_receiver key before Absent after = woken_by_forbearing_for key before after
   woken_by_receiver key before (Refused error) after = []
 
   -- the tasks that a stream wakes: of senders, and of those that wait in the same queue if one that was notified has left

@@ -3,7 +3,7 @@ ghost use Rattle.std.specs.Prelude.{◌≡◌, ◌⊎◌, ◌≤◌, ◌+◌, �
 ghost use Rattle.event_channel.specs.Calls.{answer_of, calls, channel_machine};
 ghost use Rattle.event_channel.specs.Hands.{ReceivesBlocking, SendsBlocking};
 ghost use Rattle.event_channel.specs.Messages.{AreDue, PlacesAreDue, State, limit_of};
-ghost use Rattle.event_channel.specs.Served.{LosesByThose, NoMoreInVain, NoMoreSendersInVain, SenderLosesByThose};
+ghost use Rattle.event_channel.specs.Served.{LosesByThose, NoMoreInVain, NoMoreSendersInVain, RefusesFewer, RefusesFewerSends, RefusesNoMore, RefusesNoMoreSends, SenderLosesByThose};
 ghost use Rattle.event_queue.specs.declared.key.Key.{Key};
 ghost use Rattle.event_channel.specs.Sent.{ChannelLog, WasBefore, all_of, forced_out_by, out_by, received_by, sent_by};
 ghost use Rattle.event_channel.specs.declared.call.ChannelCall.{ChannelCall};
@@ -21,8 +21,8 @@ ghost use Rattle.event_history.specs.declared.history.View.{View};
 /// wait. From any state on, those that waited there come first. Where no forced send found the channel full, all that went
 /// out were received. So it is of the history that a hand has seen after a call. And what was received was sent: of the history
 /// that a hand has seen after a call that received a message, some call sent it. Where a receive of a hand finds no message,
-/// all that was sent has gone out, or each that waits is due: a receiver starves, and as many are notified as there are
-/// messages. Where it finds the end, all has gone out.
+/// all that was sent has gone out, or each that waited before it was due: a receiver starved, and as many were notified as
+/// there were messages. Where it finds the end, all has gone out.
 pub fn sent_is_received_in_order<T, W>()
     ensures in_order { (capacity : Option ℕ) (log : ChannelLog T) (q : State T W)
         → LeadsTo (channel_machine capacity) log q
@@ -54,8 +54,8 @@ pub fn sent_is_received_in_order<T, W>()
 {}
 
 /// No message is made up between two hands, and none is lost. What one receives was sent. Where one sent a message, and another
-/// takes that hand in and then finds none, the message has gone out, or each that waits is due to a receiver that was
-/// notified, while one starves.
+/// takes that hand in and then finds none, the message has gone out, or each that waited was due to a receiver that was
+/// notified, while one starved.
 pub fn no_message_is_lost<T, W>()
     ensures received { (capacity : Option ℕ) (v w : View (State T W) (ChannelCall T))
         (reply : Result T TryRecvError)
@@ -109,8 +109,8 @@ pub fn sent_is_known<T, W>()
 
 /// A channel has the capacity that it was made with from its first state, which is open and has no message, to its last, and
 /// never more messages than that. Where a send finds it full, by a call of a hand, it has just as many: so many more were sent
-/// by calls of the history than went out; or a sender starves, and as many are notified as there are places free. Where a send
-/// finds it closed, a call of the history closed it.
+/// by calls of the history than went out; or before it a sender starved, and as many were notified as there were places free.
+/// Where a send finds it closed, a call of the history closed it.
 ///
 /// Without a limit the capacity is the greatest `usize`. That a send of one's own finds room does not follow, since no clause
 /// says that nobody else has a handle.
@@ -153,4 +153,19 @@ pub fn starving_senders_are_served<T, W>()
         → NoMoreSendersInVain c before after }
     ensures fewer_by_a_loss { (before after : State T W) (message : T) (key : Option Key)
         (waits : Key) → SenderLosesByThose message key waits before after }
+{}
+
+/// Newcomers are refused for the sake of those that starve only so often, and then go on. Each one that gets nothing though a
+/// message or room is there is the last, or one fewer is refused from then on; and no other call has more refused, but that
+/// of one that was notified in vain and waits anew: it lost once more, and then it may starve. So as often as
+/// [`FORBEARANCE`](crate::FORBEARANCE) says for each of those that starve newcomers are refused, whether these come or not.
+pub fn newcomers_go_on<T, W>()
+    ensures fewer_receives { (before after : State T W) (c : ChannelCall T)
+        → RefusesFewer c before after }
+    ensures no_more_receives { (before after : State T W) (c : ChannelCall T)
+        → RefusesNoMore c before after }
+    ensures fewer_sends { (before after : State T W) (c : ChannelCall T)
+        → RefusesFewerSends c before after }
+    ensures no_more_sends { (before after : State T W) (c : ChannelCall T)
+        → RefusesNoMoreSends c before after }
 {}

@@ -30,12 +30,17 @@ pub(crate) use waits::{key_after, put_back};
 /// messages than there may be. Where there is a limit below `usize::MAX`, each has its place from the beginning.
 ///
 /// One that is notified has no message or place of its own: it looks, and waits again if another one came before. A message
-/// notifies one receiver more and all streams, so whoever was notified before and is left alone keeps it from nobody. A
-/// message that is taken does the same for the senders.
+/// notifies one receiver more and all streams, so whoever was notified before and is left alone keeps it from nobody for good.
+/// A message that is taken does the same for the senders.
 ///
 /// A receiver that was notified and found nothing [`PATIENCE`] times starves. While one in the queue does, newcomers take only
 /// messages that are not due to notified ones: so many more than those as there are. A stream is a newcomer. So it is with
 /// senders and places. What comes by force takes any place.
+///
+/// What is due has a bound, so that one that is left alone stops nobody. Of those that starve the first is struck off when
+/// [`FORBEARANCE`] newcomers were refused though a message or place was there, or twice as many for each time that it lost
+/// since. It starves no more then. If it was notified it is in the queue no more, and the next is notified in its place: when it
+/// comes, it is a newcomer. The last one is refused, too. No newcomer waits behind what is due to others: it tries again.
 #[derive(Drop)]
 pub struct Messages<T, W> {
     items: VecDeque<T>,

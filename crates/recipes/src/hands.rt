@@ -18,7 +18,7 @@ pub struct Exchange {
 }
 
 /// Has another thread send a number, and then receives one. What is received was sent. And no message is lost: where the
-/// number was sent and none is received, it has gone out before, or each that waits is due to a receive that was notified,
+/// number was sent and none is received, it has gone out before, or each that waited was due to a receive that was notified,
 /// while one starves. The call may wait for the other thread, and for the lock of the channel. Without a limit the channel may
 /// allocate.
 pub fn send_then_receive<R>(

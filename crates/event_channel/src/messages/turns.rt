@@ -1,10 +1,11 @@
 //! Those in a queue that starve, for which newcomers leave what is due to them.
 ghost use Rattle.std.specs.Prelude.{◌≡◌, ◌≢◌, ◌==◌, ◌||◌, true, false, length, None, Some, IfErr, IfOk, OnErr};
 ghost use Rattle.event_wait.specs.Line.{WaitsBy};
-ghost use Rattle.event_channel.specs.Turns.{CannotWaitInTurn, Counts, Starving, but, forborne_with, is_told, left_for_newcomers, less_forborne, struck, struck_off};
+ghost use Rattle.event_channel.specs.Turns.{CannotWaitInTurn, Counts, Starving, WaitsAtPlace, but, forborne_with, is_told, left_for_newcomers, less_forborne, struck, struck_off};
 ghost use Rattle.event_queue.specs.Queue.{IsQueue};
 
-use event_queue::{Key, List, ListenError, TaskExchange};
+use event_queue::{Key, List, ListenError, RegisterResult, TaskExchange};
+use event_wait::Attempted;
 use event_wait::waiters::{join_line, leave, wait_in_line};
 use std::alloc::Global;
 
@@ -86,6 +87,27 @@ pub(crate) fn forbear(starving: &mut Vec<(Key, u32), Global>) -> Option<Key>
     }
     starving[0] = (key, more - 1);
     None
+}
+
+// Has one that was not notified wait on at its place. One that has none comes again: all that is there is due to others.
+#[cold]
+#[inline(never)]
+pub(crate) fn wait_at_place<W, G, C, X: TaskExchange<W, C>>(
+    line: &mut List<(), W>,
+    key: Key,
+    exchange: &X,
+    on: &mut C,
+) -> Attempted<G, ListenError>
+    requires untold { is_told (Some key) line.old ≡ false }
+    ensures waits { WaitsAtPlace (X.exchanged exchange.now) key line.old on.old result
+        line.new on.new }
+    ensures as_many { length line.new.told ≡ length line.old.told }
+{
+    match line.register_with_uncounted(key, exchange, on) {
+        RegisterResult::Registered => Attempted::Waits(key),
+        RegisterResult::NeverInserted => Attempted::Absent,
+        RegisterResult::Notified(()) => unreachable!(),
+    }
 }
 
 // Has one wait that found nothing: at its place, or at the end of the queue if it was notified or is new. One that was

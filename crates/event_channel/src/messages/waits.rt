@@ -10,7 +10,7 @@ ghost use Rattle.event_channel.specs.Steps.{KeepsAllButSenders, KeepsAllButRecei
 ghost use Rattle.event_channel.specs.Waits.{Empties, ReceiverLeaves, Receives, ReceivesInTurn, SenderLeaves, SendsInTurn, woken_by_receiver, woken_by_receiver_leaving, woken_by_receiving, woken_by_sending};
 
 use super::Messages;
-use super::turns::{left_for_newcomers, strike, wait_in_turn};
+use super::turns::{left_for_newcomers, strike, wait_at_place, wait_in_turn};
 use crate::error::{SendError, SendReason, TryRecvError};
 use event_queue::{Key, ListenError, TaskExchange, WakeSink};
 use event_wait::Attempted;
@@ -77,10 +77,13 @@ impl<T, W: Drop> Messages<T, W> {
                 let reason = error.reason;
                 put_back(message, error.into_inner());
                 match reason {
-                    SendReason::Full if key.is_none() && !self.is_full() => {
-                        self.forbear_sending(sink);
-                        Attempted::Absent
-                    }
+                    SendReason::Full if !self.is_full() => match key {
+                        Some(key) => wait_at_place(&mut self.senders, key, exchange, on),
+                        None => {
+                            self.forbear_sending(sink);
+                            Attempted::Absent
+                        }
+                    },
                     SendReason::Full => {
                         let line = &mut self.senders;
                         let starving = &mut self.starving_senders;
@@ -120,10 +123,13 @@ impl<T, W: Drop> Messages<T, W> {
                 self.cancel_receiver(key, sink);
                 Attempted::Done(Some(message))
             }
-            Err(TryRecvError::Empty) if key.is_none() && !self.is_empty() => {
-                self.forbear_receiving(sink);
-                Attempted::Absent
-            }
+            Err(TryRecvError::Empty) if !self.is_empty() => match key {
+                Some(key) => wait_at_place(&mut self.receivers, key, exchange, on),
+                None => {
+                    self.forbear_receiving(sink);
+                    Attempted::Absent
+                }
+            },
             Err(TryRecvError::Empty) => {
                 let line = &mut self.receivers;
                 let starving = &mut self.starving_receivers;
