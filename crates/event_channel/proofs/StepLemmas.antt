@@ -78,7 +78,7 @@ module _ {T W C : Type 0} (exchanged : C → Option W → W → C → Type 0) wh
       → SendsInTurn exchanged message key before losses on answer after losses' on' → SendsInTurn with_any_task message key before losses tt answer after losses' tt
   any_sends message key before losses on (Done (Ok sent)) after losses' on' h = (h.0, h.1, h.2, h.3, refl)
   any_sends message key before losses on (Done (Err reason)) after losses' on' h = (h.0, h.1, h.2, h.3, refl)
-  any_sends message key before losses on (Waits waits) after losses' on' h = (h.0, h.1, h.2, any_waits exchanged key before.senders on waits after.senders on' h.3, h.4)
+  any_sends message key before losses on (Waits waits) after losses' on' h = (h.0, h.1, h.2, any_waits exchanged key before.senders on waits after.senders on' h.3, h.4, h.5)
   any_sends message key before losses on Absent after losses' on' h = (h.0, h.1, refl)
   any_sends message key before losses on (Refused error) after losses' on' h = (h.0, h.1, h.2, h.3, h.4, h.5, refl)
 
@@ -94,7 +94,7 @@ module _ {T W C : Type 0} (exchanged : C → Option W → W → C → Type 0) wh
       → ReceivesInTurn exchanged key before losses on answer after losses' on' → ReceivesInTurn with_any_task key before losses tt answer after losses' tt
   any_in_turn key before losses on (Done (Some message)) after losses' on' h = (h.0, h.1, h.2, h.3, refl)
   any_in_turn key before losses on (Done None) after losses' on' h = (h.0, h.1, h.2, h.3, h.4, refl)
-  any_in_turn key before losses on (Waits waits) after losses' on' h = (h.0, h.1, h.2, any_waits exchanged key before.receivers on waits after.receivers on' h.3, h.4)
+  any_in_turn key before losses on (Waits waits) after losses' on' h = (h.0, h.1, h.2, any_waits exchanged key before.receivers on waits after.receivers on' h.3, h.4, h.5)
   any_in_turn key before losses on Absent after losses' on' h = (h.0, h.1, h.2, h.3, h.4, h.5, refl)
   any_in_turn key before losses on (Refused error) after losses' on' h = (h.0, h.1, h.2, h.3, h.4, h.5, refl)
 
@@ -184,6 +184,9 @@ module _ {T W : Type 0} where
   -- one that is to receive many found none, and nobody is refused
   pub many_without_room : (state : State T W) → (c : ChannelCall T) × ReceivesMany None None c × calls state c state
   many_without_room state = (call.LeaveReceivers false None, inr refl, (refl, record { left = refl; struck = refl; streams = refl }))
+
+  pub many_found_none : (old new : State T W) → new ≡ old → (c : ChannelCall T) × ReceivesMany None None c × calls old c new
+  many_found_none old new same = subst (λ (s : State T W). (c : ChannelCall T) × ReceivesMany None None c × calls old c s) (sym same) (many_without_room old)
 
   pub many_of_none : (old new : State T W) (why : TryRecvError) → why ≡ Empty → IsEmptyFor old why → Forbears old new → (c : ChannelCall T) × ReceivesMany None None c × calls old c new
   many_of_none old new why is empty left = (call.ReceiveOrLeave false None (Err Empty), inl refl, (new, (subst (λ (w : TryRecvError). IsEmptyFor old w) is empty, left), (refl, record { left = refl; struck = refl; streams = refl })))

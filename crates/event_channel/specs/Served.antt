@@ -1,5 +1,5 @@
 -- How those are served that starve.
-use Rattle.std.specs.Prelude.{◌≡◌, ℕ, ◌-◌, ◌<◌, ◌≤◌, Bool, true, false, Option, None, Err, length}
+use Rattle.std.specs.Prelude.{◌≡◌, ℕ, ◌-◌, ◌<◌, ◌≤◌, ◌||◌, Bool, true, false, not, Option, is_some, Err, length}
 use Rattle.event_queue.specs.declared.key.Key.{Key}
 use Rattle.event_wait.specs.declared.request.Attempted.TheVariants.{Absent, Waits}
 use Rattle.event_channel.specs.declared.call.ChannelCall.{ChannelCall}
@@ -58,8 +58,7 @@ module _ {T W : Type 0} where
 -- a receive is refused that a newcomer makes, at once, or to wait, or as a stream
 abbrev pub is_refused : {T : Type 0} → ChannelCall T → Bool
 is_refused (call.Receive (Err error)) = true
-is_refused (call.ReceiveOrWait false None Absent) = true
-is_refused (call.ReceiveOrWait true key Absent) = true
+is_refused (call.ReceiveOrWait is_stream key Absent) = is_stream || not (is_some key)
 is_refused _ = false
 
 -- a receive waits on, or anew
@@ -70,7 +69,7 @@ is_wait _ = false
 -- a send of a newcomer is refused for want of room
 abbrev pub is_send_refused : {T : Type 0} → ChannelCall T → Bool
 is_send_refused (call.Send message (Err Full)) = true
-is_send_refused (call.SendOrWait message None Absent) = true
+is_send_refused (call.SendOrWait message key Absent) = not (is_some key)
 is_send_refused _ = false
 
 abbrev pub is_send_wait : {T : Type 0} → ChannelCall T → Bool

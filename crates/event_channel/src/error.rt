@@ -27,16 +27,16 @@ pub enum SendReason {
     Closed,
     /// As many messages wait as may, or each free place is due to a send that was notified, while one
     /// [starves](crate::PATIENCE). Only [`try_send`](crate::Sender::try_send) returns this.
-    #[error("the channel is full")]
+    #[error("there is no room for the message")]
     Full,
-    /// The channel was full until the limit of the wait.
-    #[error("the channel was full for too long")]
+    /// There was no room for it until the limit of the wait.
+    #[error("there was no room for the message in time")]
     TimedOut,
     /// There was no memory for the message. A channel with a limit never returns this: it has room for its messages from
     /// the beginning.
     #[error("no memory for a message")]
     Memory,
-    /// The channel is full, and waiting for room was refused.
+    /// There is no room for it, and waiting for room was refused.
     #[error("{0}")]
     WaitFailed(#[from] WaitError),
 }
@@ -52,7 +52,7 @@ pub struct SendError<T> {
 #[derive(Clone, Copy, Debug, PartialEq, Eq, Error)]
 pub enum TryRecvError {
     /// No message waits, or each that does is due to a receive that was notified, while one [starves](crate::PATIENCE).
-    #[error("the channel is empty")]
+    #[error("there is no message to receive")]
     Empty,
     /// No message waits, and the channel is closed, so none will come.
     #[error("the channel is empty and closed")]
@@ -65,7 +65,7 @@ pub enum RecvError {
     /// No message waits, and the channel is closed, so none will come.
     #[error("the channel is empty and closed")]
     Closed,
-    /// The channel is empty, and waiting for a message was refused.
+    /// There is none to receive, and waiting for one was refused.
     #[error("{0}")]
     WaitFailed(#[from] WaitError),
 }
@@ -73,13 +73,13 @@ pub enum RecvError {
 /// Why no message was received in time.
 #[derive(Clone, Copy, Debug, PartialEq, Eq, Error)]
 pub enum RecvTimeoutError {
-    /// The channel was empty until then.
-    #[error("no message came in time")]
+    /// There was none to receive until then.
+    #[error("there was no message to receive in time")]
     TimedOut,
     /// No message waits, and the channel is closed, so none will come.
     #[error("the channel is empty and closed")]
     Closed,
-    /// The channel is empty, and waiting for a message was refused.
+    /// There is none to receive, and waiting for one was refused.
     #[error("{0}")]
     WaitFailed(#[from] WaitError),
 }
@@ -99,7 +99,7 @@ impl<T> SendError<T> {
         self.message
     }
 
-    /// Whether the channel was full.
+    /// Whether there was no room for it.
     pub fn is_full(&self) -> bool
         ensures { IsTrue result ↔ (self.now.reason ≡ SendReason.Full) }
     {
@@ -115,7 +115,7 @@ impl<T> SendError<T> {
 }
 
 impl TryRecvError {
-    /// Whether the channel was empty, and open.
+    /// Whether there was none to receive, and the channel was open.
     pub fn is_empty(&self) -> bool
         ensures { IsTrue result ↔ (self.now ≡ TryRecvError.Empty) }
     {

@@ -138,7 +138,8 @@ pub fn capacity_is_kept<T, W>()
 
 /// While a receiver starves no call has more receivers notified above the messages, and one that is notified and finds nothing
 /// makes them fewer. So one that starves loses at most as often as more were notified than there were messages
-/// when it began to: where each that is notified comes, it has the next message that it is notified of.
+/// when it began to: where each that is notified comes, it has the next message that it is notified of. One that does not come
+/// starves only so long ([`newcomers_go_on`]).
 pub fn starving_receivers_are_served<T, W>()
     ensures no_more_in_vain { (before after : State T W) (c : ChannelCall T)
         → NoMoreInVain c before after }

@@ -112,7 +112,8 @@ impl<T: Drop, R: Wait + Clock + Clone> Receiver<T, R> {
     }
 
     /// Receives the first message, if one waits. While a receive [starves](crate::PATIENCE) a message that is due to a notified one
-    /// is not there for this call: then it answers `Empty` although messages wait. The call does not allocate.
+    /// is not there for this call: then it answers `Empty` although messages wait, [so often](crate::FORBEARANCE) at most for the
+    /// sake of each. The call does not allocate.
     #[inline(always)]
     pub fn try_recv(&self) -> Result<T, TryRecvError> {
         let mut hand = self.hand();

@@ -21,6 +21,9 @@ use std::time::{Clock, Duration, Instant};
 ///
 /// Each poll attempts to receive. It may be polled again after it was ready, and then receives another message. No message
 /// is lost if it is dropped.
+///
+/// Poll it or drop it once its task is woken. Left alone it stops nobody for good: if it [starves](crate::PATIENCE) others are refused
+/// what is due to it [so often](crate::FORBEARANCE), and then it waits anew when it comes.
 #[must_use = "nothing is received before it is polled"]
 pub struct Recv<'a, T: Drop, R: Wait + Clock + Clone> {
     channel: &'a Channel<T>,

@@ -20,6 +20,9 @@ use std::time::{Clock, Duration, Instant};
 /// A message that is sent once there is room: the future of [`send`](crate::Sender::send).
 ///
 /// It may be polled until it is ready, and each poll attempts to send. Dropped before, it drops its message.
+///
+/// Poll it or drop it once its task is woken. Left alone it stops nobody for good: if it [starves](crate::PATIENCE) others are refused
+/// the place that is due to it [so often](crate::FORBEARANCE), and then it waits anew when it comes.
 #[must_use = "nothing is sent before it is polled"]
 pub struct Send<'a, T: Drop, R: Wait + Clock + Clone> {
     channel: &'a Channel<T>,

@@ -144,7 +144,7 @@ impl<T: Drop, R: Wait + Clock + Clone> Sender<T, R> {
     }
 
     /// Sends a message if the channel is open and has a free place. While a send [starves](crate::PATIENCE) a place that is due to a
-    /// notified one is not free for this call.
+    /// notified one is not free for this call: it answers `Full`, [so often](crate::FORBEARANCE) at most for the sake of each.
     ///
     /// An error hands the message back. The call allocates if the channel has no limit and no room.
     #[inline(always)]
