@@ -401,7 +401,8 @@ impl<T, W: Drop> Messages<T, W> {
             return self.cancel_receiver(Some(key), sink);
         }
         strike(&mut self.starving_receivers, Some(key));
-        if left_for_newcomers(self.is_closed, &self.starving_receivers, &self.receivers, self.items.len()) > 0 {
+        let starving = &self.starving_receivers;
+        if left_for_newcomers(self.is_closed, starving, &self.receivers, self.items.len()) > 0 {
             tell_all(&mut self.streams, sink);
         }
     }

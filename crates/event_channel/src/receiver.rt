@@ -12,7 +12,7 @@ use crate::call::{ChannelHand, RestingHand};
 use crate::channel::{Link, wait_error};
 use crate::error::{RecvError, RecvTimeoutError, TryRecvError, WaitError};
 use crate::receiving::{Receiving, ReceivingMany};
-use crate::recv::{Recv, received};
+use crate::recv::{Recv, received, received_in_time};
 use crate::steps::Pop;
 use event_history::perform;
 use event_queue::ListenError;
@@ -48,18 +48,6 @@ impl<T: Drop, R: Wait + Clock + Clone> Model for Receiver<T, R> {
 
     ghost invariant = { λ receiver. IsOneHand receiver.link.channel.table
         receiver.hand.rest.slot receiver.hand.rest.views };
-}
-
-// What a wait with a limit received.
-fn received_in_time<T>(
-    waited: Result<Option<Option<T>>, Refused<ListenError>>,
-) -> Result<T, RecvTimeoutError> {
-    match waited {
-        Ok(Some(Some(message))) => Ok(message),
-        Ok(Some(None)) => Err(RecvTimeoutError::Closed),
-        Ok(None) => Err(RecvTimeoutError::TimedOut),
-        Err(error) => Err(RecvTimeoutError::WaitFailed(wait_error(error))),
-    }
 }
 
 impl<T: Drop, R: Wait + Clock + Clone> Receiver<T, R> {

@@ -4,7 +4,7 @@ ghost use Rattle.event_channel.specs.Hands.{Says};
 
 use crate::call::RestingHand;
 use crate::channel::{Channel, wait_error};
-use crate::error::{RecvError, WaitError};
+use crate::error::{RecvError, RecvTimeoutError, WaitError};
 use crate::receiving::Receiving;
 use event_queue::ListenError;
 use event_wait::{Limit, Refused};
@@ -49,15 +49,15 @@ pub(crate) fn received<T>(
     }
 }
 
-// The same of a wait with a limit: nothing, if that has passed.
-fn received_in_time<T>(
+// The same of a wait with a limit.
+pub(crate) fn received_in_time<T>(
     waited: Result<Option<Option<T>>, Refused<ListenError>>,
-) -> Result<Option<T>, RecvError> {
+) -> Result<T, RecvTimeoutError> {
     match waited {
-        Ok(None) => Ok(None),
-        Ok(Some(Some(message))) => Ok(Some(message)),
-        Ok(Some(None)) => Err(RecvError::Closed),
-        Err(error) => Err(RecvError::WaitFailed(wait_error(error))),
+        Ok(Some(Some(message))) => Ok(message),
+        Ok(Some(None)) => Err(RecvTimeoutError::Closed),
+        Ok(None) => Err(RecvTimeoutError::TimedOut),
+        Err(error) => Err(RecvTimeoutError::WaitFailed(wait_error(error))),
     }
 }
 
@@ -95,16 +95,16 @@ impl<'a, T: Drop, R: Wait + Clock + Clone> Recv<'a, T, R> {
         received(self.end(Limit::Never))
     }
 
-    /// Blocks the calling thread until then, or until so much time has passed: then it is `None`. With a timeout of zero, too,
-    /// it is attempted.
-    pub fn wait_timeout(self, timeout: Duration) -> Result<Option<T>, RecvError> {
+    /// Blocks the calling thread until then, or until so much time has passed: then it is an error, as of
+    /// [`recv_timeout`](crate::Receiver::recv_timeout). With a timeout of zero, too, it is attempted.
+    pub fn wait_timeout(self, timeout: Duration) -> Result<T, RecvTimeoutError> {
         let limit = Limit::after(self.rt, timeout);
         received_in_time(self.end(limit))
     }
 
-    /// Blocks the calling thread until then, or until this moment: then it is `None`. With one that has passed, too, it is
+    /// Blocks the calling thread until then, or until this moment, with the same error. With one that has passed, too, it is
     /// attempted.
-    pub fn wait_deadline(self, deadline: Instant) -> Result<Option<T>, RecvError> {
+    pub fn wait_deadline(self, deadline: Instant) -> Result<T, RecvTimeoutError> {
         received_in_time(self.end(Limit::At(deadline)))
     }
 

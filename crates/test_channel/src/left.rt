@@ -65,7 +65,12 @@ fn starve_send<'a, R: Runtime>(
 // So many receives by newcomers are refused.
 fn refuse<R: Runtime>(rt: &R, receiver: &Receiver<usize, R>, count: u32) {
     for _ in 0..count {
-        check(rt, "a receive", Way::AtOnce.receive(rt, receiver, long()), Late);
+        check(
+            rt,
+            "a receive",
+            Way::AtOnce.receive(rt, receiver, long()),
+            Late,
+        );
     }
 }
 

@@ -1,6 +1,6 @@
 //! Many threads and tasks at once: each message that is sent is received once, and those of one sender in order.
 use crate::support::{Runtime, SharedRuntime, check, sides};
-use crate::ways::{Answer, WAYS, of_recv_in_time};
+use crate::ways::{Answer, WAYS, of_recv};
 use event_channel::{Receiver, Sender};
 use std::alloc::AllocGlobal;
 use std::thread;
@@ -65,7 +65,7 @@ fn receive_all<R: Runtime>(
     for _ in rt.forever() {
         let answer = if number == 0 {
             let many = receiver.recv_many(&mut messages, 5);
-            of_recv_in_time(many.map(|_| messages.pop()))
+            of_recv(many.map(|_| messages.pop().expect(rt, "a message")))
         } else {
             way.receive(rt, &receiver, patience)
         };

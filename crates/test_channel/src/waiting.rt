@@ -3,7 +3,7 @@ ghost use Rattle.std.specs.Prelude.{IsSome};
 ghost use Rattle.std.proofs.Props.{props};
 
 use crate::support::Runtime;
-use crate::ways::{Answer, of_item, of_recv, of_recv_in_time, of_send};
+use crate::ways::{Answer, of_item, of_recv, of_send, of_timed_recv};
 use event_channel::{Receiver, Recv, Send, Sender};
 use futures::StreamExt;
 use futures::task::Poll;
@@ -102,7 +102,7 @@ impl<'a, R: Runtime> Waiting<'a, R> {
     pub fn end(&mut self) -> Answer {
         match mem::replace(&mut self.awaited, Awaited::Over) {
             Awaited::Send(Unsent { send }) => of_send(send.wait_timeout(Duration::ZERO)),
-            Awaited::Receive(recv) => of_recv_in_time(recv.wait_timeout(Duration::ZERO)),
+            Awaited::Receive(recv) => of_timed_recv(recv.wait_timeout(Duration::ZERO)),
             Awaited::Stream(_) | Awaited::Over => Answer::Failed,
         }
     }

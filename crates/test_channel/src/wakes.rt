@@ -2,7 +2,7 @@
 //! to wake it, so each test is made with longer and longer pauses before the call that wakes.
 use crate::support::{SharedRuntime, check, sides};
 use crate::waiting::Waiting;
-use crate::ways::{Answer, Way, of_recv_in_time};
+use crate::ways::{Answer, Way, of_timed_recv};
 use event_channel::{Receiver, Sender};
 use futures::test::MockTask;
 use std::thread;
@@ -55,7 +55,7 @@ fn waits_at_its_place<R: SharedRuntime>(rt: &R, pause: u64) {
     check(rt, "a poll", task.poll(&mut first).is_pending(), true);
     let mut second = Waiting::receive(rt, receiver);
     check(rt, "a poll", second.poll(), Answer::Waits);
-    let blocked = || of_recv_in_time(first.wait_timeout(limit()));
+    let blocked = || of_timed_recv(first.wait_timeout(limit()));
     let wakes = || {
         thread::sleep(rt, Duration::from_millis(pause));
         check(rt, "a send", sender.try_send(7), Ok(()));

@@ -104,8 +104,8 @@ impl Way {
             Way::Timed => of_timed_recv(receiver.recv_timeout(limit)),
             Way::Due => of_timed_recv(receiver.recv_deadline(moment)),
             Way::Waited => of_recv(receiver.recv().wait()),
-            Way::WaitedTimed => of_recv_in_time(receiver.recv().wait_timeout(limit)),
-            Way::WaitedDue => of_recv_in_time(receiver.recv().wait_deadline(moment)),
+            Way::WaitedTimed => of_timed_recv(receiver.recv().wait_timeout(limit)),
+            Way::WaitedDue => of_timed_recv(receiver.recv().wait_deadline(moment)),
             Way::Awaited => of_recv(block_on(rt, receiver.recv()).expect(rt, "an executor")),
             Way::Streamed => {
                 let mut stream = receiver.clone().expect(rt, "a receiver");
@@ -153,20 +153,15 @@ fn of_try_recv(answer: Result<usize, TryRecvError>) -> Answer {
 }
 
 pub fn of_recv(answer: Result<usize, RecvError>) -> Answer {
-    of_recv_in_time(answer.map(Some))
-}
-
-/// What a receive answered that waited in time, or was late.
-pub fn of_recv_in_time(answer: Result<Option<usize>, RecvError>) -> Answer {
     match answer {
-        Ok(Some(message)) => Answer::Received(message),
-        Ok(None) => Answer::Late,
+        Ok(message) => Answer::Received(message),
         Err(RecvError::Closed) => Answer::Closed,
         Err(RecvError::WaitFailed(_)) => Answer::Failed,
     }
 }
 
-fn of_timed_recv(answer: Result<usize, RecvTimeoutError>) -> Answer {
+/// What a receive answered that waited in time, or was late.
+pub fn of_timed_recv(answer: Result<usize, RecvTimeoutError>) -> Answer {
     match answer {
         Ok(message) => Answer::Received(message),
         Err(RecvTimeoutError::TimedOut) => Answer::Late,
