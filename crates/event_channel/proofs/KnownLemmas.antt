@@ -2,7 +2,7 @@
 use Rattle.std.proofs.Common.{◌⊎◌, inr, List, [], ◌∷◌, ◌++◌, ℕ, zero, suc, refl, sym, subst, inl, ⊎_elim, Option, Some, None, false, Result, Ok, Err, IfErr, IfOk}
 use Rattle.event_wait.specs.Rounds.{Rounds}
 use Rattle.event_wait.specs.declared.request.Attempted.TheVariants.{Done}
-use Rattle.event_history.specs.History.{Extends, IsAmong, LeadsTo, Looks, Makes, StartsWith, both_views, entry, met_of}
+use Rattle.event_history.specs.History.{Extends, IsAmong, Looks, Makes, StartsWith, both_views, entry, met_of}
 use Rattle.event_history.proofs.HandLemmas.{begins_last}
 use Rattle.event_history.proofs.RestsOnLemmas.{among_back, among_either, among_front}
 use Rattle.event_history.specs.declared.history.Entry.{Entry}

@@ -1,5 +1,5 @@
 -- Newcomers are refused only so often for the sake of those that starve.
-use Rattle.std.proofs.Common.{◌≡◌, ℕ, ◌+◌, ◌-◌, ◌<◌, ◌≤◌, ◌==◌, ◌||◌, Bool, true, false, not, if◌then◌else◌, List, [], ◌∷◌, length, refl, sym, ap, ◌∙◌, subst, arith, Option, Some, None, Ok, Err, filter}
+use Rattle.std.proofs.Common.{◌≡◌, ℕ, ◌-◌, ◌<◌, ◌≤◌, ◌==◌, ◌||◌, Bool, true, false, if◌then◌else◌, List, [], ◌∷◌, length, refl, sym, ap, ◌∙◌, subst, arith, Option, Some, None, Ok, Err}
 use Rattle.std.proofs.lemmas.Bool.{false≢true}
 use Rattle.event_queue.specs.declared.key.Key.{Key}
 use Rattle.event_queue.specs.Key.{is_key}
@@ -14,7 +14,6 @@ use Rattle.event_channel.specs.Forbearing.{Forbears, ForbearsFor, ForbearsSendin
 use Rattle.event_channel.specs.Messages.{State, for_newcomers, room_for_newcomers, room_in}
 use Rattle.event_channel.specs.Served.{RefusesFewer, RefusesFewerSends, RefusesNoMore, RefusesNoMoreSends, refusals_left, sends_refused}
 use Rattle.event_channel.specs.Turns.{Starving, but, less_forborne, refusals_for, struck, struck_off}
-use Rattle.event_channel.specs.Waits.{but_receivers, but_receivers_and_streams, but_senders}
 use Rattle.event_channel.proofs.ForbearLemmas.{forborne, forborne_for, refused_for, sending_for as sender_kept}
 
 -- those that are left have no more refused

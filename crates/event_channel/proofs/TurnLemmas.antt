@@ -1,5 +1,5 @@
 -- One that was not notified leaves as many notified as there were.
-use Rattle.std.proofs.Common.{◌≡◌, ℕ, ◌+◌, ◌<◌, ◌≤◌, ◌==◌, ◌||◌, Bool, true, false, List, [], ◌∷◌, length, refl, sym, ap, ◌∙◌, arith, Option, Some, None, is_some, Result, Ok, Err}
+use Rattle.std.proofs.Common.{◌≡◌, ℕ, ◌<◌, ◌≤◌, Bool, true, false, List, [], ◌∷◌, length, refl, ap, arith, Option, Some, None, is_some, Result, Ok, Err}
 use Rattle.std.specs.Prelude.{IfOk, IfErr}
 use Rattle.std.specs.Map.{lookup, remove_entry}
 use Rattle.event_queue.specs.declared.key.Key.{Key}
@@ -7,9 +7,7 @@ use Rattle.event_queue.specs.declared.reply.ListenError.{ListenError}
 use Rattle.event_queue.specs.Key.{is_key}
 use Rattle.event_queue.specs.Queue.{Queue}
 use Rattle.event_wait.specs.Line.{CannotWait, Leaves, WaitsBy, others_of}
-use Rattle.std.proofs.lemmas.Bool.{false≢true}
-use Rattle.event_channel.specs.Messages.{State, IsKept, for_newcomers, room_in}
-use Rattle.event_channel.specs.Turns.{Starving, is_told, left_for_newcomers}
+use Rattle.event_channel.specs.Turns.{is_told, left_for_newcomers}
 
 -- there are no more for newcomers than there are, and no more of fewer
 pub most_for_newcomers : (all_is : Bool) (told there : ℕ) → left_for_newcomers all_is told there ≤ there

@@ -1,5 +1,5 @@
 -- What becomes of those that starve as newcomers are refused for their sake.
-use Rattle.std.specs.Prelude.{◌≡◌, ℕ, ◌<◌, ◌==◌, ◌++◌, if◌then◌else◌, Bool, true, false, List, [], Option, Some, None, length}
+use Rattle.std.specs.Prelude.{◌≡◌, ◌<◌, ◌==◌, ◌++◌, if◌then◌else◌, Bool, true, false, List, [], Option, Some, None, length}
 use Rattle.event_queue.specs.declared.key.Key.{Key}
 use Rattle.event_wait.specs.Line.{LeavesThenTells, TellsAll, woken_at_once, woken_by_leaving}
 use Rattle.event_channel.specs.declared.error.SendReason.{SendReason}

@@ -1,6 +1,3 @@
-use Rattle.std.proofs.Common.{◌≡◌, ◌≤◌, ◌==◌, ◌||◌, [], length, true, false, rules}
-use Rattle.event_channel.specs.Turns.{is_told, left_for_newcomers}
-use Rattle.event_channel.proofs.TurnLemmas.{kept-waiting}
 use Rattle.event_channel.proofs.WakeLemmas.{wakes_as_receiver}
 use Rattle.event_channel.proofs.messages.Messages.pop_or_wait.Goals as goal
 

@@ -1,7 +1,4 @@
-use Rattle.std.proofs.Common.{◌≡◌, ◌-◌, ◌≤◌, length, true, false, None, rules}
-use Rattle.event_channel.specs.declared.error.SendReason.TheVariants.{Full}
-use Rattle.event_channel.specs.Turns.{is_told}
-use Rattle.event_channel.proofs.TurnLemmas.{kept-waiting_to_send}
+use Rattle.std.proofs.Common.{None}
 use Rattle.event_channel.proofs.WakeLemmas.{wakes_as_sender}
 use Rattle.event_channel.proofs.messages.Messages.push_or_wait.Goals as goal
 
