@@ -27,7 +27,7 @@ impl<'a, A: Attempt, R: Wait + Clock + Clone> Until<'a, A, R> {
             SucceedsOrFails A.fails A.succeeds self.old.attempt output self.new.attempt) }
         ensures pending { OnPending result (SomeFail A.fails self.old.attempt self.new.attempt) }
 
-        // If no listener was left, a pending poll has attempted before it listened, and again after that.
+        // If no listener was left, a pending poll has attempted twice at least. No clause says that it listened in between.
         ensures attempted { self.old.listener ≡ None
             → OnPending result (FailsAtLeast A.fails 2 self.old.attempt self.new.attempt) }
 
