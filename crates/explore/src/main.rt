@@ -68,6 +68,8 @@
 #![tactic(auto)]
 
 mod all;
+#[cfg(test)]
+mod crowds;
 mod lines;
 mod table;
 #[cfg(test)]
