@@ -11,6 +11,7 @@
 //! | `meetings` | threads that sleep for the lock of an event: each is woken, and uses no processor time until then |
 //! | `wakes` | a task and a parked thread behind a notification of a hand, a task behind a told listener that is dropped |
 //! | `making` | the macro `listener!`; slots; a refused clone; what is shown; what threads may share; listeners that outlive their event |
+//! | `order`, as text | in which order tasks wake on a recorded event; 2,000 listeners on one event of each kind: how many are notified and in which order, and what the event says then |
 //! | `records` | more hands than memory holds; hands of other events; each call of a recorded state succeeds |
 //! | `history` | a state under a lock of `event_history`, below events: threads that meet add in one history, one that sleeps for the state is woken, a hand at rest is shared |
 //! | `waits::limits` | a told listener gives its tag at once, without parking; a timed wait parks until its limit, and ends no earlier and soon after it, by clocks that are slow, go back, fail, can't be read or notify; a task that polls is woken only once its listener is told, and a finished listener does not wait |
@@ -50,6 +51,8 @@ mod locks;
 mod making;
 #[cfg(test)]
 mod meetings;
+#[cfg(test)]
+mod order;
 #[cfg(test)]
 mod records;
 #[cfg(test)]

@@ -84,8 +84,8 @@ drop 5 -> dropped wakes 7
 poll 6 8 -> ready wakes 8
 total -> total 0";
 
-// How a row differs on its subject, with each kind of listener where that is an event.
-fn made<'t, R: Runtime>(rt: &R, row: Row<'t>) -> Result<(), Difference<'t>> {
+/// How a row differs on its subject, with each kind of listener where that is an event.
+pub fn made<'t, R: Runtime>(rt: &R, row: Row<'t>) -> Result<(), Difference<'t>> {
     match run_on_events(row, rt, &mut Undisturbed) {
         Some(made) => made,
         None => run_on_records(row, rt, &mut Undisturbed).expect(rt, "a subject"),

@@ -100,7 +100,9 @@ fn make_one_record<R: SharedRuntime>(rt: &R) {
 
 #[test]
 fn eight_hands_on_one_record(rt: HostRuntime) {
-    make_one_record(&rt);
+    for _ in 0..20 {
+        make_one_record(&rt);
+    }
 }
 
 // How often a thread notifies at most until somebody is told.
