@@ -4,7 +4,7 @@
 //! - `hooks`: [`Refusing`] refuses each request for memory in its turn, [`Starving`] each that must not be made.
 //! - `memory`: a hog refuses every request until it is dropped; a budget grants what it says, and no more.
 //! - `queue`: what is dropped within a call, and with the queue, which gives every node back; a `reserve` that is refused in the
-//!   middle, and keeps what it made; keys of another queue; 100,000 listeners, which leave in four orders, and whose slots are
+//!   middle, and keeps what it made; keys of another queue; 300,000 listeners, which leave in four orders, and whose slots are
 //!   used again; texts.
 //!
 //! What calls of a queue answer, and how many visits they count, clauses say, and worked rows show, with memory refused

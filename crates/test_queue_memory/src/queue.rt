@@ -279,7 +279,7 @@ fn a_key_of_another_list_is_that_of_the_listener_with_its_slot_and_serial(rt: Ho
     check(&rt, "equal", equal, 4);
 }
 
-const MANY: usize = 100_000;
+const MANY: usize = 300_000;
 
 // Many listeners come, and leave in this order of their places. Then as many come again, into the slots that were left.
 fn many_leave<F: Fn(usize) -> usize, R: Abort + AllocGlobal>(rt: &R, place_of: F)
@@ -316,7 +316,7 @@ fn many_listeners_leave_in_any_order_and_their_slots_are_used_again(rt: HostRunt
         0 => (MANY / 2).wrapping_add(step / 2),
         _ => (MANY / 2 - 1).wrapping_sub(step / 2),
     });
-    many_leave(&rt, |step| step.wrapping_mul(61_803) % MANY);
+    many_leave(&rt, |step| step.wrapping_mul(185_411) % MANY);
 }
 
 // A function that makes tags.
