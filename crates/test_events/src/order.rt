@@ -45,7 +45,10 @@ fn come(lines: &mut String, first: usize) -> Result<(), AllocError> {
         write!(lines, "listen -> listener {number}\n")?;
         write!(lines, "poll {number} {number} -> pending\n")?;
     }
-    write!(lines, "total -> total {CROWD}\nisnotified -> isnotified false\n")
+    write!(
+        lines,
+        "total -> total {CROWD}\nisnotified -> isnotified false\n"
+    )
 }
 
 // So many are told by this call, from this number on. Their tasks wake in order of listening.
@@ -55,7 +58,10 @@ fn told(lines: &mut String, call: &str, first: usize, count: usize) -> Result<()
         let word = if number == first { " wakes" } else { "" };
         write!(lines, "{word} {number}")?;
     }
-    write!(lines, "\ntotal -> total {CROWD}\nisnotified -> isnotified true\n")
+    write!(
+        lines,
+        "\ntotal -> total {CROWD}\nisnotified -> isnotified true\n"
+    )
 }
 
 // As many were told, from this number on, and leave.
