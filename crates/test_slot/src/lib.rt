@@ -4,7 +4,7 @@
 //! counts. Its rule: whoever knows that the lock is closed is right, and the word shows what the tally is while it is at home. Who
 //! comes has a mark, which the compare-exchange makes by which it came. [`Owning`] and [`Sharing`] are guards without a lifetime.
 //!
-//! All is compiled and proved with the tests alone, since no other crate uses it.
+//! All but the rule, which its specs cite, is compiled and proved with the tests alone, since no other crate uses it.
 //!
 //! | Module | What it tests |
 //! |---|---|
@@ -18,7 +18,6 @@ mod guard;
 mod lock;
 #[cfg(test)]
 mod once;
-#[cfg(test)]
 mod rule;
 #[cfg(test)]
 mod shared;
@@ -31,7 +30,6 @@ pub use guard::{Changing, Counting, Kept, Reading};
 pub use lock::Lock;
 #[cfg(test)]
 pub use once::{AtLeast, settles};
-#[cfg(test)]
 pub use rule::{Adds, Closes, Copies, Held, Looks, Puts, Stays, Takes, Tally, View};
 #[cfg(test)]
 pub use shared::{Owning, Sharing};
