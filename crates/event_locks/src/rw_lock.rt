@@ -14,6 +14,7 @@ use event_word::{Queues, Reading, Right, RwLockCounts, Share, Word, Writing, is_
 use std::alloc::{AllocError, Global};
 use std::fmt;
 use std::fmt::{Debug, Formatter};
+use std::marker::Model;
 use std::sync::{Arc, Wait};
 use std::time::Clock;
 
@@ -24,15 +25,27 @@ use std::time::Clock;
 /// that wait; after them it is a writer's turn. So neither is passed over.
 #[derive(Drop)]
 pub struct RwLock<T> {
-    word: Word<Queues<Task>, T>,
+    word: Word<Queues<Task>, Hidden<T>>,
     source: WakerSource,
+}
+
+// The value of a read-write lock. Its type is private: else whoever has the lock could reach the slot that it lies in, by `Inside`.
+#[derive(Drop)]
+pub(crate) struct Hidden<T> {
+    value: T,
+}
+
+impl<T> Model for Hidden<T> {
+    ghost Value = { T };
+
+    ghost view = { λ hidden. hidden.value };
 }
 
 impl<T> RwLock<T> {
     /// A lock round this value, which nobody has. It takes no memory: its queues do from `alloc`, once one waits.
     pub fn new(alloc: Global, value: T) -> Self {
         RwLock {
-            word: Word::new(0, Queues::new(alloc), value),
+            word: Word::new(0, Queues::new(alloc), Hidden { value }),
             source: WakerSource::new(),
         }
     }
@@ -147,13 +160,14 @@ impl<T> RwLock<T> {
 
     /// The value, without a lock.
     pub fn get_mut(&mut self) -> &mut T {
-        self.word.value_mut()
+        &mut self.word.value_mut().value
     }
 
     /// The value.
     pub fn into_inner(self) -> T {
         let RwLock { word, source: _ } = self;
-        word.into_inner()
+        let Hidden { value } = word.into_inner();
+        value
     }
 
     // A right that is parked, for a guard that shares the lock, if one may have it now.

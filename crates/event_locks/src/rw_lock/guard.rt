@@ -5,7 +5,7 @@ ghost use Rattle.event_word.specs.Count.{IsCount};
 ghost use Rattle.event_word.specs.Held.{placed, placed_in};
 ghost use Rattle.event_word.specs.Word.{number_of};
 
-use super::RwLock;
+use super::{Hidden, RwLock};
 use crate::lending::Lending;
 use event_slot::{Inside, Slot, Tied, Ties};
 use event_wait::{Shared, Task};
@@ -23,17 +23,17 @@ impl<T, R> Ties for Lending<'_, RwLock<T>, R> {
 }
 
 // Where a right goes back that shares the lock.
-impl<T> Inside<Place<T>, Queues<Task>> for RwLock<T> {
+impl<T> Inside<Place<Hidden<T>>, Queues<Task>> for RwLock<T> {
     ghost finds = { λ lock. lock.word.slot };
 
-    fn slot(&self) -> &Slot<Place<T>, Queues<Task>> {
+    fn slot(&self) -> &Slot<Place<Hidden<T>>, Queues<Task>> {
         &self.word.slot
     }
 }
 
 // The right of one that shares the lock. A ghost field of the guard's own would stand in the way of its `deref_mut`.
 struct HeldArc<T, R, K: Right<Task>> {
-    owned: OwnedRight<RwLock<T>, T>,
+    owned: OwnedRight<RwLock<T>, Hidden<T>>,
     seat: Seat,
     word: u64,
     rt: R,
@@ -81,7 +81,7 @@ impl<T, R> HeldArc<T, R, Reading> {
     fn get(&self) -> &T
         ensures { result.now ≡ placed_in self.now.owned.value self.now.lends }
     {
-        &self.owned.get().value
+        &self.owned.get().value.value
     }
 }
 
@@ -90,21 +90,21 @@ impl<T, R> HeldArc<T, R, Writing> {
     fn get(&self) -> &T
         ensures { result.now ≡ placed_in self.now.owned.value self.now.lends }
     {
-        &self.owned.written().value
+        &self.owned.written().value.value
     }
 
     #[inline(always)]
     fn get_mut(&mut self) -> &mut T
         ensures { result.now ≡ placed_in self.old.owned.value self.old.lends }
     {
-        &mut self.owned.get_mut().value
+        &mut self.owned.get_mut().value.value
     }
 }
 
 /// The value of a read-write lock, to be read where it lies. Dropping the guard ends the reading. A contract sees the value as `Some`.
 #[must_use = "a guard that is dropped at once ends the reading"]
 pub struct RwLockReadGuard<'a, T, R: Wait + Clock> {
-    grant: Grant<'a, Reading, T>,
+    grant: Grant<'a, Reading, Hidden<T>>,
     hold: Lending<'a, RwLock<T>, R>,
     ghost own: { grant.claim.name ≡ hold.lender.lock.now.word.slot.name },
 }
@@ -112,7 +112,7 @@ pub struct RwLockReadGuard<'a, T, R: Wait + Clock> {
 /// The value of a read-write lock, to be written where it lies. Dropping the guard ends the writing. A contract sees the value.
 #[must_use = "a guard that is dropped at once ends the writing"]
 pub struct RwLockWriteGuard<'a, T, R: Wait + Clock> {
-    tied: Tied<'a, Place<T>, Queues<Task>, Lending<'a, RwLock<T>, R>>,
+    tied: Tied<'a, Place<Hidden<T>>, Queues<Task>, Lending<'a, RwLock<T>, R>>,
 }
 
 /// The value of a read-write lock, to be read where it lies, by a guard that shares the lock, and so may go to another thread. Dropping
@@ -155,7 +155,7 @@ impl<T: Drop, R: Wait + Clock + Drop> Model for RwLockWriteGuardArc<T, R> {
 
 impl<'a, T, R: Wait + Clock> RwLockReadGuard<'a, T, R> {
     #[inline(always)]
-    pub(crate) fn new(hold: Lending<'a, RwLock<T>, R>, grant: Grant<'a, Reading, T>) -> Self
+    pub(crate) fn new(hold: Lending<'a, RwLock<T>, R>, grant: Grant<'a, Reading, Hidden<T>>) -> Self
         requires { grant.claim.name ≡ hold.lender.lock.now.word.slot.name }
     {
         RwLockReadGuard { grant, hold }
@@ -174,7 +174,7 @@ impl<'a, T, R: Wait + Clock> RwLockReadGuard<'a, T, R> {
 
 impl<'a, T, R: Wait + Clock> RwLockWriteGuard<'a, T, R> {
     #[inline(always)]
-    pub(crate) fn new(hold: Lending<'a, RwLock<T>, R>, grant: Grant<'a, Writing, T>) -> Self
+    pub(crate) fn new(hold: Lending<'a, RwLock<T>, R>, grant: Grant<'a, Writing, Hidden<T>>) -> Self
         requires { grant.claim.name ≡ hold.lender.lock.now.word.slot.name }
     {
         RwLockWriteGuard {
@@ -273,7 +273,7 @@ impl<T, R: Wait + Clock> Deref for RwLockReadGuard<'_, T, R> {
 
     #[inline(always)]
     fn deref(&self) -> &T {
-        self.grant.get()
+        &self.grant.get().value
     }
 }
 
@@ -284,7 +284,7 @@ impl<T, R: Wait + Clock> Deref for RwLockWriteGuard<'_, T, R> {
 
     #[inline(always)]
     fn deref(&self) -> &T {
-        &self.tied.get().value
+        &self.tied.get().value.value
     }
 }
 
@@ -293,7 +293,7 @@ impl<T, R: Wait + Clock> DerefMut for RwLockWriteGuard<'_, T, R> {
 
     #[inline(always)]
     fn deref_mut(&mut self) -> &mut T {
-        &mut self.tied.get_mut().value
+        &mut self.tied.get_mut().value.value
     }
 }
 
@@ -366,13 +366,13 @@ impl<T: Drop, R: Wait + Clock + Drop> Drop for RwLockWriteGuardArc<T, R> {
 
 impl<T: Debug, R: Wait + Clock> Debug for RwLockReadGuard<'_, T, R> {
     fn fmt<W: fmt::Write>(&self, f: &mut Formatter<W>) -> fmt::Result {
-        Debug::fmt(self.grant.get(), f)
+        Debug::fmt(&self.grant.get().value, f)
     }
 }
 
 impl<T: Debug, R: Wait + Clock> Debug for RwLockWriteGuard<'_, T, R> {
     fn fmt<W: fmt::Write>(&self, f: &mut Formatter<W>) -> fmt::Result {
-        Debug::fmt(&self.tied.get().value, f)
+        Debug::fmt(&self.tied.get().value.value, f)
     }
 }
 

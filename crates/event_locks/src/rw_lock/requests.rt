@@ -2,7 +2,7 @@
 ghost use Rattle.std.specs.Prelude.{◌≡◌};
 ghost use Rattle.event_wait.specs.Rounds.{gives_what, tries_for};
 
-use super::RwLock;
+use super::{Hidden, RwLock};
 use crate::lending::Lender;
 use event_queue::{Key, RegisterResult, TaskExchange};
 use event_wait::{Attempted, LockError, Obtainable, TakesAny, Task, Waitable, WakerSource};
@@ -35,7 +35,7 @@ impl<K> Default for Place<K> {
 }
 
 impl<'a, T, K: Right<Task>> Waitable<Place<K>> for Lender<'a, RwLock<T>> {
-    type Output = Grant<'a, K, T>;
+    type Output = Grant<'a, K, Hidden<T>>;
 
     type Refusal = LockError;
 
@@ -56,7 +56,7 @@ impl<'a, T, K: Right<Task>> Waitable<Place<K>> for Lender<'a, RwLock<T>> {
         request: &mut Place<K>,
         exchange: &X,
         on: &mut C,
-    ) -> Attempted<Grant<'a, K, T>, LockError> {
+    ) -> Attempted<Grant<'a, K, Hidden<T>>, LockError> {
         let lock = self.lock;
         let (_, mut held) = lock.word.take(rt);
         let attempted = match request.key {
@@ -72,7 +72,7 @@ impl<'a, T, K: Right<Task>> Waitable<Place<K>> for Lender<'a, RwLock<T>> {
         &self,
         rt: &R,
         request: &mut Place<K>,
-    ) -> Result<Option<Grant<'a, K, T>>, LockError> {
+    ) -> Result<Option<Grant<'a, K, Hidden<T>>>, LockError> {
         let lock = self.lock;
         let (_, mut held) = lock.word.take(rt);
         let grant = match request.key.take() {
@@ -94,7 +94,7 @@ impl<'a, T, K: Right<Task>> Obtainable<Place<K>> for Lender<'a, RwLock<T>> {
     }
 
     #[inline(always)]
-    fn attempt<R: Wait>(&self, rt: &R, _request: &mut Place<K>) -> Option<Grant<'a, K, T>> {
+    fn attempt<R: Wait>(&self, rt: &R, _request: &mut Place<K>) -> Option<Grant<'a, K, Hidden<T>>> {
         let lock = self.lock;
         lock.word.attempt(rt)
     }

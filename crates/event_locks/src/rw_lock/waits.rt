@@ -19,6 +19,9 @@ use std::time::{Clock, Duration, Instant};
 /// [`wait_deadline`](Read::wait_deadline). A task awaits it: it is a future, and a poll after its output is
 /// [`LockError::Finished`]. Threads and tasks wait in one queue, and a thread that waits on one which was polled before keeps
 /// its place. Dropped while it waits, it leaves the queue, and what it was notified of goes to the next.
+///
+/// Once it is let in it has the lock, whether it is polled or not: who keeps it unpolled, as one arm of a `select` while another
+/// asks for the same lock, keeps the others out.
 #[must_use = "nothing is asked for until it is waited on or polled"]
 #[derive(Drop)]
 pub struct Read<'a, T, R: Wait + Clock> {
@@ -132,6 +135,9 @@ impl<T: Drop, R: Wait + Clock + Drop> Future for ReadArc<T, R> {
 /// [`wait_deadline`](Write::wait_deadline). A task awaits it: it is a future, and a poll after its output is
 /// [`LockError::Finished`]. Threads and tasks wait in one queue, and a thread that waits on one which was polled before keeps
 /// its place. Dropped while it waits, it leaves the queue, and what it was notified of goes to the next.
+///
+/// Once it is let in it has the lock, whether it is polled or not: who keeps it unpolled, as one arm of a `select` while another
+/// asks for the same lock, keeps the others out.
 #[must_use = "nothing is asked for until it is waited on or polled"]
 #[derive(Drop)]
 pub struct Write<'a, T, R: Wait + Clock> {
