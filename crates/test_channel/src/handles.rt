@@ -2,7 +2,7 @@
 use crate::support::{Runtime, Sides, check, sides};
 use crate::waiting::Waiting;
 use crate::ways::Answer;
-use event_channel::{SendError, SendReason, WaitError, bounded};
+use event_channel::{RecvTimeoutError, SendError, SendReason, TryRecvError, WaitError, bounded};
 use futures::test::MockTask;
 use std::alloc::{AllocError, AllocGlobal};
 use std::cell::Cell;
@@ -152,11 +152,11 @@ fn handles_futures_and_errors_are_shown(rt: HostRuntime) {
     let shown = shown.expect(&rt, "a text");
     check(&rt, "handles", shown.as_str(), expected);
     for (reason, expected) in [
-        (SendReason::Full, "Full: the channel is full"),
+        (SendReason::Full, "Full: there is no room for the message"),
         (SendReason::Closed, "Closed: the channel is closed"),
         (
             SendReason::TimedOut,
-            "TimedOut: the channel was full for too long",
+            "TimedOut: there was no room for the message in time",
         ),
         (SendReason::Memory, "Memory: no memory for a message"),
         (
@@ -169,4 +169,9 @@ fn handles_futures_and_errors_are_shown(rt: HostRuntime) {
         let shown = shown.expect(&rt, "a text");
         check(&rt, "an error", shown.as_str(), expected);
     }
+    let (empty, late) = (TryRecvError::Empty, RecvTimeoutError::TimedOut);
+    let shown = format!(in rt.alloc(); "{empty}, {late}");
+    let expected = "there is no message to receive, there was no message to receive in time";
+    let shown = shown.expect(&rt, "a text");
+    check(&rt, "errors of receives", shown.as_str(), expected);
 }

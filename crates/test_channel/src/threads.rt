@@ -64,8 +64,10 @@ fn receive_all<R: Runtime>(
     let mut messages = Vec::new(rt.alloc());
     for _ in rt.forever() {
         let answer = if number == 0 {
-            let many = receiver.recv_many(&mut messages, 5);
-            of_recv(many.map(|_| messages.pop().expect(rt, "a message")))
+            match receiver.recv_many(&mut messages, 5) {
+                Ok(_) => Answer::Received(messages.pop().expect(rt, "a message")),
+                Err(error) => of_recv(Err(error)),
+            }
         } else {
             way.receive(rt, &receiver, patience)
         };
