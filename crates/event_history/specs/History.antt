@@ -32,9 +32,9 @@ module _ {C : Type 0} where
     abbrev pub EachRests : List (Entry C) → Type 0
     EachRests log = (earlier later : List (Entry C)) (e : Entry C) → log ≡ earlier ++ e ∷ later → AreAmong (rests e.call) (calls_by e.by earlier)
 
-    -- a call rests on none but these calls, and what comes after it on none but these and the call itself
-    abbrev pub RestsOn : List C → C → List C → Type 0
-    RestsOn before call after = AreAmong (rests call) before × AreAmong after (before ++ call ∷ [])
+    -- the call of a hand of whose calls the one is said: it rests on none but these, and with it the other is said of them
+    abbrev pub KeepsTo : (List C → Type 0) → C → (List C → Type 0) → Type 0
+    KeepsTo before call after = (mine : List C) → before mine → AreAmong (rests call) mine × after (mine ++ call ∷ [])
 
 -- a hand that made no call may not know its number
 abbrev pub IsNumber : ℕ → List ℕ → Type 0

@@ -1,5 +1,5 @@
 -- How a wait goes: rounds, each one call in the history, and an end.
-use Rattle.std.specs.Prelude.{◌≡◌, ℕ, Option, Some, None, Result, Ok, Err}
+use Rattle.std.specs.Prelude.{◌≡◌, ◌⊎◌, ℕ, Option, Some, None, Result, Ok, Err}
 use Rattle.event_wait.specs.declared.request.Attempted.{Attempted}
 use Rattle.event_wait.specs.declared.request.Attempted.TheVariants as attempted
 use Rattle.event_wait.specs.declared.lock.wait.Refused.{Refused}
@@ -22,9 +22,11 @@ Polls attempting before (Ready (Ok output)) call = attempting before (attempted.
 Polls attempting before (Ready (Err error)) call = attempting before (attempted.Refused error) call
 Polls {G = G} {E = E} attempting before Pending call = (answer : Attempted G E) × IsUndone answer × attempting before answer call
 
--- one that has no place in a queue does nothing, and one that has gives it up by one call
-abbrev pub GivesUp : {S C Q : Type 0} → Machine S C → (Q → Type 0) → (Q → C → Type 0) → Q × View S C → Q × View S C → Type 0
-GivesUp machine has_place giving_up before after = (¬ has_place before.0 → after ≡ before) × (has_place before.0 → (after.0 ≡ before.0) × Makes machine before.1 (giving_up before.0) after.1)
+-- one that has no place in a queue does nothing, and one that has gives it up by one call: it has none then
+abbrev pub GivesUp : {S C Q : Type 0} → Machine S C → (Q → Q → Type 0) → (Q → Type 0) → (Q → C → Type 0) → Q × View S C → Q × View S C → Type 0
+GivesUp machine waits has_place giving_up before after =
+    (¬ has_place after.0) × (¬ has_place before.0 → after ≡ before)
+    × (has_place before.0 → waits before.0 after.0 × Makes machine before.1 (giving_up before.0) after.1)
 
 -- of a request and of what its hand knows, each of whose attempts is the hand's next call
 module _ {S C Q G E : Type 0} (machine : Machine S C) (attempting : Q → Attempted G E → C → Type 0) (leaving : Q → Result (Option G) E → C → Type 0) where
@@ -38,18 +40,18 @@ module _ {S C Q G E : Type 0} (machine : Machine S C) (attempting : Q → Attemp
     fits = λ _. Unit {0};
     succeeds = λ before output after. succeeds before.0 output after.0 × Makes machine before.1 (attempting before.0 (attempted.Done output)) after.1;
     waits = Round waits;
-    refuses = λ before error after. (after.0 ≡ before.0) × Makes machine before.1 (attempting before.0 (attempted.Refused error)) after.1;
+    refuses = λ before error after. waits before.0 after.0 × Makes machine before.1 (attempting before.0 (attempted.Refused error)) after.1;
     leaves = λ before answer after. leaves before.0 answer after.0 × Makes machine before.1 (leaving before.0 (Ok answer)) after.1;
     stays = λ before error after. (after.0 ≡ before.0) × Makes machine before.1 (leaving before.0 (Err error)) after.1;
   }
 
--- and of one that is attempted before
-module _ {S C Q G : Type 0} (machine : Machine S C) (succeeds : Q → G → Q → Type 0) (trying : Q → Option G → C → Type 0) (has_place : Q → Type 0) (giving_up : Q → C → Type 0) where
+-- and of one that is attempted before; one that has a place in a queue is not
+module _ {S C Q G : Type 0} (machine : Machine S C) (waits : Q → Q → Type 0) (succeeds : Q → G → Q → Type 0) (trying : Q → Option G → C → Type 0) (has_place : Q → Type 0) (giving_up : Q → C → Type 0) where
   abbrev pub tried_by_hand : Trying (Q × View S C) G
   tried_by_hand = record {
     gives = λ before output after. succeeds before.0 output after.0 × Makes machine before.1 (trying before.0 (Some output)) after.1;
-    misses = λ before after. (after.0 ≡ before.0) × Makes machine before.1 (trying before.0 None) after.1;
-    gives_up = GivesUp machine has_place giving_up;
+    misses = λ before after. (has_place before.0 × (after ≡ before)) ⊎ ((after.0 ≡ before.0) × Makes machine before.1 (trying before.0 None) after.1);
+    gives_up = GivesUp machine waits has_place giving_up;
   }
 
 module _ {S C Q G E : Type 0} (machine : Machine S C) (attempting : Q → Attempted G E → C → Type 0) (leaving : Q → Result (Option G) E → C → Type 0) (waits : Q → Q → Type 0) (succeeds : Q → G → Q → Type 0) (leaves : Q → Option G → Q → Type 0) (may_end : Type 0) where
@@ -59,7 +61,7 @@ module _ {S C Q G E : Type 0} (machine : Machine S C) (attempting : Q → Attemp
 
   -- of one that is attempted before, and gives up its place where it fails
   abbrev pub EndsObtaining : (Q → Option G → C → Type 0) → (Q → Type 0) → (Q → C → Type 0) → Q × View S C → Result (Option G) (Refused E) → Q × View S C → Type 0
-  EndsObtaining trying has_place giving_up = ObtainsBy (by_hand machine attempting leaving waits succeeds leaves) (tried_by_hand machine succeeds trying has_place giving_up) may_end
+  EndsObtaining trying has_place giving_up = ObtainsBy (by_hand machine attempting leaving waits succeeds leaves) (tried_by_hand machine waits succeeds trying has_place giving_up) may_end
 
 -- A request and its hand are lent for a wait. What the wait says of what is lent holds of what it lends.
 module _ {A B : Type 0} (names : A → ℕ × ℕ) (seen : A → B) where

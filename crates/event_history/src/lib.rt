@@ -13,7 +13,8 @@
 //!
 //! A call may rest on earlier calls of the same hand, which [`Steps`] says: the hand that makes it made those before. So in a
 //! queue a listener is registered and removed by the hand that inserted it, and stays there until that hand takes it out
-//! ([`own_listener_stays`]).
+//! ([`own_listener_stays`]). A [`Request`] says more of the calls of its hand: at a channel, that they left it the place by which it
+//! waits.
 //!
 //! A [`Lock`] is a traced state with queues of those that wait for something of it: a [`Request`] waits by
 //! [`Lock::wait`] (a thread) or [`Lock::poll_in`] (a task), and an [`Attempt`] tries first ([`Lock::obtain`]). These are the

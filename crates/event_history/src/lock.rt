@@ -194,16 +194,16 @@ impl<S: Steps> Lock<S> {
         on: &mut C,
     ) -> Attempted<Q::Output, Q::Refusal>
         requires hand { IsOf self.now.table hand.old }
-        requires rests { AreAmong (Q.rests request.old) (known_by hand.old).mine }
+        requires rests { Q.follows request.old (known_by hand.old).mine }
         requires named { (answer : Attempted Q.Output Q.Refusal) (call : S.Call)
             → N.named answer call ↔ Q.attempting request.old answer call }
         ensures hand { SameTable hand.old hand.new }
-        ensures rests { AreAmong (Q.rests request.new) (known_by hand.new).mine }
+        ensures rests { Q.follows request.new (known_by hand.new).mine }
         ensures call { Makes (machine_of S.Steps self.now.start) (known_by hand.old)
             (Q.attempting request.old result) (known_by hand.new) }
         ensures succeeded { OnDone result (λ output. Q.succeeds request.old output request.new) }
         ensures waited { OnUndone result (Q.waits request.old request.new) }
-        ensures kept { OnRefused result (request.new ≡ request.old) }
+        ensures kept { OnRefused result (Q.waits request.old request.new) }
         ensures exchanged { Attempts (X.exchanged exchange.now) on.old result on.new }
     {
         let mut waking = DeferredWake::new();
@@ -229,11 +229,11 @@ impl<S: Steps> Lock<S> {
         request: &mut Q,
     ) -> Result<Option<Q::Output>, Q::Refusal>
         requires hand { IsOf self.now.table hand.old }
-        requires rests { AreAmong (Q.rests request.old) (known_by hand.old).mine }
+        requires rests { Q.follows request.old (known_by hand.old).mine }
         requires named { (answer : Result (Option Q.Output) Q.Refusal) (call : S.Call)
             → N.named answer call ↔ Q.leaving request.old answer call }
         ensures hand { SameTable hand.old hand.new }
-        ensures rests { AreAmong (Q.rests request.new) (known_by hand.new).mine }
+        ensures rests { Q.follows request.new (known_by hand.new).mine }
         ensures call { Makes (machine_of S.Steps self.now.start) (known_by hand.old)
             (Q.leaving request.old result) (known_by hand.new) }
         ensures left { IfOk result (λ answer. Q.leaves request.old answer request.new) }

@@ -1,7 +1,7 @@
 //! A request with the hand that makes it, as the waits of `event_wait` know it.
 ghost use Rattle.std.specs.Prelude.{◌≡◌};
 ghost use Rattle.event_history.specs.Hands.{IsOf, known_by};
-ghost use Rattle.event_history.specs.History.{AreAmong, machine_of};
+ghost use Rattle.event_history.specs.History.{machine_of};
 ghost use Rattle.event_history.specs.Waiting.{by_hand, lent, lent_tries, tried_by_hand};
 
 use super::Lock;
@@ -20,7 +20,7 @@ pub struct ByHand<'h, 'q, S: Steps, Q> {
     pub(crate) request: &'q mut Q,
 }
 
-// A request fits whose hand is of this lock and made what the request rests on.
+// A request fits whose hand is of this lock and made calls that the request follows.
 impl<'h, 'q, S: Steps, Q: Request<S>> Waitable<ByHand<'h, 'q, S, Q>> for Lock<S> {
     type Output = Q::Output;
 
@@ -30,7 +30,7 @@ impl<'h, 'q, S: Steps, Q: Request<S>> Waitable<ByHand<'h, 'q, S, Q>> for Lock<S>
         lent (λ by. (by.hand.ghost_name, by.request.ghost_name))
         (λ by. (by.request.now, known_by by.hand.now))
         (λ by. IsOf lock.table by.hand.now
-        × AreAmong (Q.rests by.request.now) (known_by by.hand.now).mine)
+        × Q.follows by.request.now (known_by by.hand.now).mine)
         (by_hand (machine_of S.Steps lock.start) Q.attempting Q.leaving Q.waits Q.succeeds
         Q.leaves) };
 
@@ -68,7 +68,8 @@ impl<'h, 'q, S: Steps, Q: Attempt<S>> Obtainable<ByHand<'h, 'q, S, Q>> for Lock<
     ghost trying = { λ lock.
         lent_tries (λ by. (by.hand.ghost_name, by.request.ghost_name))
         (λ by. (by.request.now, known_by by.hand.now))
-        (tried_by_hand (machine_of S.Steps lock.start) Q.succeeds Q.trying Q.has_place Q.giving_up) };
+        (tried_by_hand (machine_of S.Steps lock.start) Q.waits Q.succeeds Q.trying Q.has_place
+        Q.giving_up) };
 
     #[inline(always)]
     fn is_waiting(&self, by: &ByHand<'h, 'q, S, Q>) -> bool {
@@ -77,6 +78,10 @@ impl<'h, 'q, S: Steps, Q: Attempt<S>> Obtainable<ByHand<'h, 'q, S, Q>> for Lock<
 
     #[inline(always)]
     fn attempt<R: Wait>(&self, rt: &R, by: &mut ByHand<'h, 'q, S, Q>) -> Option<Q::Output> {
+        // A mere attempt would leave its place behind.
+        if by.request.is_waiting() {
+            return None;
+        }
         Lock::attempt(self, rt, by.hand, by.request)
     }
 

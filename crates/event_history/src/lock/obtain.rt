@@ -1,7 +1,7 @@
 //! Attempts that come before a wait.
 ghost use Rattle.std.specs.Prelude.{◌≡◌, ◌↔◌, Option, None, IfSome};
 ghost use Rattle.event_history.specs.Hands.{IsOf, SameTable, known_by};
-ghost use Rattle.event_history.specs.History.{AreAmong, Makes, machine_of};
+ghost use Rattle.event_history.specs.History.{Makes, machine_of};
 ghost use Rattle.event_history.specs.Waiting.{GivesUp};
 
 use super::Lock;
@@ -14,7 +14,7 @@ use std::marker::Brand;
 use std::sync::Wait;
 
 impl<S: Steps> Lock<S> {
-    /// Attempts what is requested, and does not wait for it. It may wait for the lock.
+    /// Attempts what is requested, and does not wait for it. One that has a place in a queue keeps it. It may wait for the lock.
     #[inline(always)]
     pub fn attempt<Q: Attempt<S>, R: Wait>(
         &self,
@@ -23,9 +23,11 @@ impl<S: Steps> Lock<S> {
         request: &mut Q,
     ) -> Option<Q::Output>
         requires hand { IsOf self.now.table hand.old }
-        requires rests { AreAmong (Q.rests request.old) (known_by hand.old).mine }
+        requires rests { Q.follows request.old (known_by hand.old).mine }
         ensures hand { SameTable hand.old hand.new }
-        ensures rests { AreAmong (Q.rests request.new) (known_by hand.new).mine }
+        ensures rests { ¬ Q.has_place request.new
+            → Q.follows request.new (known_by hand.new).mine }
+        ensures place { Q.has_place request.new ↔ Q.has_place request.old }
         ensures call { Makes (machine_of S.Steps self.now.start) (known_by hand.old)
             (Q.trying request.old result) (known_by hand.new) }
         ensures succeeded { IfSome result (λ output. Q.succeeds request.old output request.new) }
@@ -42,11 +44,13 @@ impl<S: Steps> Lock<S> {
         request: &mut Q,
     ) -> Option<Q::Output>
         requires hand { IsOf self.now.table hand.old }
-        requires rests { AreAmong (Q.rests request.old) (known_by hand.old).mine }
+        requires rests { Q.follows request.old (known_by hand.old).mine }
         requires named { (answer : Option Q.Output) (call : S.Call) → N.named answer call
             ↔ Q.trying request.old answer call }
         ensures hand { SameTable hand.old hand.new }
-        ensures rests { AreAmong (Q.rests request.new) (known_by hand.new).mine }
+        ensures rests { ¬ Q.has_place request.new
+            → Q.follows request.new (known_by hand.new).mine }
+        ensures place { Q.has_place request.new ↔ Q.has_place request.old }
         ensures call { Makes (machine_of S.Steps self.now.start) (known_by hand.old)
             (Q.trying request.old result) (known_by hand.new) }
         ensures succeeded { IfSome result (λ output. Q.succeeds request.old output request.new) }
@@ -72,10 +76,11 @@ impl<S: Steps> Lock<S> {
         request: &mut Q,
     )
         requires hand { IsOf self.now.table hand.old }
-        requires rests { AreAmong (Q.rests request.old) (known_by hand.old).mine }
+        requires rests { Q.follows request.old (known_by hand.old).mine }
         ensures hand { SameTable hand.old hand.new }
-        ensures rests { AreAmong (Q.rests request.new) (known_by hand.new).mine }
-        ensures gave_up { GivesUp (machine_of S.Steps self.now.start) Q.has_place Q.giving_up
+        ensures rests { Q.follows request.new (known_by hand.new).mine }
+        ensures gave_up { GivesUp (machine_of S.Steps self.now.start) Q.waits Q.has_place
+            Q.giving_up
             (request.old, known_by hand.old) (request.new, known_by hand.new) }
     {
         if request.is_waiting() {
@@ -91,14 +96,15 @@ impl<S: Steps> Lock<S> {
         request: &mut Q,
     )
         requires hand { IsOf self.now.table hand.old }
-        requires rests { AreAmong (Q.rests request.old) (known_by hand.old).mine }
+        requires rests { Q.follows request.old (known_by hand.old).mine }
         requires named { (answer : Unit {0}) (call : S.Call) → N.named answer call
             ↔ Q.giving_up request.old call }
         ensures hand { SameTable hand.old hand.new }
-        ensures rests { AreAmong (Q.rests request.new) (known_by hand.new).mine }
+        ensures rests { Q.follows request.new (known_by hand.new).mine }
         ensures call { Makes (machine_of S.Steps self.now.start) (known_by hand.old)
             (Q.giving_up request.old) (known_by hand.new) }
-        ensures kept { request.new ≡ request.old }
+        ensures kept { Q.waits request.old request.new }
+        ensures out { ¬ Q.has_place request.new }
     {
         let mut waking = DeferredWake::new();
         let traced = &self.traced;

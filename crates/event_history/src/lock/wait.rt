@@ -3,7 +3,7 @@ ghost use Rattle.std.specs.Prelude.{◌≡◌, ◌≢◌, IfOk, IsSome, OnErr};
 ghost use Rattle.futures.specs.Poll.{IfReady, OnPending};
 ghost use Rattle.futures.specs.Task.{Covers, Keeps};
 ghost use Rattle.event_history.specs.Hands.{IsOf, SameTable, known_by};
-ghost use Rattle.event_history.specs.History.{AreAmong, Makes, machine_of};
+ghost use Rattle.event_history.specs.History.{Makes, machine_of};
 ghost use Rattle.event_history.specs.Waiting.{EndsObtaining, EndsWait, Polls};
 ghost use Rattle.event_wait.specs.declared.lock.limit.Limit.TheVariants.{Never};
 
@@ -31,9 +31,9 @@ impl<S: Steps> Lock<S> {
         limit: Limit,
     ) -> Result<Option<Q::Output>, Refused<Q::Refusal>>
         requires hand { IsOf self.now.table hand.old }
-        requires rests { AreAmong (Q.rests request.old) (known_by hand.old).mine }
+        requires rests { Q.follows request.old (known_by hand.old).mine }
         ensures hand { SameTable hand.old hand.new }
-        ensures rests { AreAmong (Q.rests request.new) (known_by hand.new).mine }
+        ensures rests { Q.follows request.new (known_by hand.new).mine }
         ensures never { limit ≡ Never → IfOk result IsSome }
         ensures waits { EndsWait (machine_of S.Steps self.now.start) Q.attempting Q.leaving
             Q.waits Q.succeeds Q.leaves (limit ≢ Never) (request.old, known_by hand.old) result
@@ -59,9 +59,9 @@ impl<S: Steps> Lock<S> {
         limit: Limit,
     ) -> Result<Option<Q::Output>, Refused<Q::Refusal>>
         requires hand { IsOf self.now.table hand.old }
-        requires rests { AreAmong (Q.rests request.old) (known_by hand.old).mine }
+        requires rests { Q.follows request.old (known_by hand.old).mine }
         ensures hand { SameTable hand.old hand.new }
-        ensures rests { AreAmong (Q.rests request.new) (known_by hand.new).mine }
+        ensures rests { Q.follows request.new (known_by hand.new).mine }
         ensures never { limit ≡ Never → IfOk result IsSome }
         ensures obtains { EndsObtaining (machine_of S.Steps self.now.start) Q.attempting Q.leaving Q.waits
             Q.succeeds Q.leaves (limit ≢ Never) Q.trying Q.has_place Q.giving_up
@@ -86,14 +86,14 @@ impl<S: Steps> Lock<S> {
         cx: &mut Context<'_>,
     ) -> Poll<Result<Q::Output, Q::Refusal>>
         requires hand { IsOf self.now.table hand.old }
-        requires rests { AreAmong (Q.rests request.old) (known_by hand.old).mine }
+        requires rests { Q.follows request.old (known_by hand.old).mine }
         ensures hand { SameTable hand.old hand.new }
-        ensures rests { AreAmong (Q.rests request.new) (known_by hand.new).mine }
+        ensures rests { Q.follows request.new (known_by hand.new).mine }
         ensures call { Makes (machine_of S.Steps self.now.start) (known_by hand.old)
             (Polls Q.attempting request.old result) (known_by hand.new) }
         ensures succeeded { IfReady result
             (λ answer. IfOk answer (λ output. Q.succeeds request.old output request.new)) }
-        ensures refused { IfReady result (λ answer. OnErr answer (request.new ≡ request.old)) }
+        ensures refused { IfReady result (λ answer. OnErr answer (Q.waits request.old request.new)) }
         ensures pending { OnPending result (Q.waits request.old request.new) }
         ensures registered { OnPending result (Covers cx.new (λ s. s ≡ self.now.source)) }
         ensures kept { Keeps cx.old cx.new }
