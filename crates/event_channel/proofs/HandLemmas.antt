@@ -17,7 +17,7 @@ use Rattle.event_history.specs.Waiting.{GivesUp, IsUndone}
 use Rattle.event_channel.specs.declared.call.ChannelCall.{ChannelCall}
 use Rattle.event_channel.specs.declared.error.SendReason.{SendReason}
 use Rattle.event_channel.specs.declared.error.SendReason.TheVariants as reason
-use Rattle.event_channel.specs.Asking.{Asking, HasPlace}
+use Rattle.event_channel.specs.Asking.{Asking, AsksOn, HasPlace}
 use Rattle.event_channel.specs.Errors.{IsUnsent}
 use Rattle.event_channel.specs.Calls.{channel_machine}
 use Rattle.event_channel.specs.Hands.{EndsUnsent, IsVainSend, IsSend, IsSendGivenUp, IsVainReceive, IsReceive, IsReceiveGivenUp, MakesSome, MakesAtLast, WaitsFor, SendsWaiting, ReceivesWaiting}
@@ -61,21 +61,20 @@ module _ {S C A G E : Type 0} (machine : Machine S C) (attempting : A → Attemp
   abbrev Tried : Goes → Goes → Type 0
   Tried = Tries these tried
 
-  abbrev Vain : View S C → View S C → Type 0
-  Vain v w = Makes machine v vain w
+  -- one round more, by a call or by none
+  one : (first before after : Goes) → before.0.asked ≡ a → MakesSome machine first.1 vain before.1 → Tried before after → (after.0.asked ≡ a) × MakesSome machine first.1 vain after.1
+  one first before after is some (inl round) =
+      (round.0 ∙ is, more machine vain first.1 before.1 after.1 some (as_well machine (attempting before.0.asked round.1) vain (λ c h. vain_round round.1 c round.2 (subst (λ p. attempting p round.1 c) is h)) before.1 after.1 round.3))
+  one first before after is some (inr (inl (place, same))) =
+      (ap (λ (g : Goes). g.0.asked) same ∙ is, subst (λ (g : Goes). MakesSome machine first.1 vain g.1) (sym same) some)
+  one first before after is some (inr (inr missed)) =
+      (ap (λ (q : Asking A). q.asked) missed.0 ∙ is, more machine vain first.1 before.1 after.1 some (as_well machine (trying before.0.asked None) vain (λ c h. vain_try c (subst (λ p. trying p None c) is h)) before.1 after.1 missed.1))
 
-  one : (before after : Goes) → before.0.asked ≡ a → Tried before after → (after.0.asked ≡ a) × Vain before.1 after.1
-  one before after is (inl round) =
-      (round.0 ∙ is, as_well machine (attempting before.0.asked round.1) vain (λ c h. vain_round round.1 c round.2 (subst (λ p. attempting p round.1 c) is h)) before.1 after.1 round.3)
-  one before after is (inr missed) =
-      (ap (λ (q : Asking A). q.asked) missed.0 ∙ is, as_well machine (trying before.0.asked None) vain (λ c h. vain_try c (subst (λ p. trying p None c) is h)) before.1 after.1 missed.1)
-
-  all : (n : ℕ) (before after : Goes) → before.0.asked ≡ a → Rounds Tried n before after → (after.0.asked ≡ a) × Rounds Vain n before.1 after.1
-  all zero before after is same = (ap (λ (g : Goes). g.0.asked) same ∙ is, ap (λ (g : Goes). g.1) same)
+  all : (n : ℕ) (before after : Goes) → before.0.asked ≡ a → Rounds Tried n before after → (after.0.asked ≡ a) × MakesSome machine before.1 vain after.1
+  all zero before after is same = (ap (λ (g : Goes). g.0.asked) same ∙ is, (0, ap (λ (g : Goes). g.1) same))
   all (suc n) before after is (between, some, last) =
       let earlier = all n before between is some in
-      let late = one between after earlier.0 last in
-      (late.0, (between.1, earlier.1, late.1))
+      one before between after earlier.0 earlier.1 last
 
   got : (before : Goes) (output : G) (after : Goes) → before.0.asked ≡ a → GetsBy these tried before output after → Makes machine before.1 (gets output) after.1
   got before output after is (inl round) =
@@ -90,17 +89,17 @@ module _ {S C A G E : Type 0} (machine : Machine S C) (attempting : A → Attemp
   failed before between Memory after is some same =
       (ap (λ (g : Goes). g.0.asked) same ∙ is, subst (λ (g : Goes). MakesSome machine before.1 Both g.1) (sym same) some)
   failed before between (Request error) after is some (inl (same, refused)) =
-      (ap (λ (q : Asking A). q.asked) same ∙ is, more machine Both before.1 between.1 after.1 some (as_well machine (attempting between.0.asked (attempted.Refused error)) Both (λ c h. inr (refused_round error c (subst (λ p. attempting p (attempted.Refused error) c) is h))) between.1 after.1 refused))
+      (same ∙ is, more machine Both before.1 between.1 after.1 some (as_well machine (attempting between.0.asked (attempted.Refused error)) Both (λ c h. inr (refused_round error c (subst (λ p. attempting p (attempted.Refused error) c) is h))) between.1 after.1 refused))
   failed before between (Request error) after is some (inr (same, refused)) =
       (ap (λ (q : Asking A). q.asked) same ∙ is, more machine Both before.1 between.1 after.1 some (as_well machine (leaving between.0.asked (Err error)) Both (λ c h. inr (refused_leaving error c (subst (λ p. leaving p (Err error) c) is h))) between.1 after.1 refused))
 
-  gave_up : (before between after : Goes) → between.0.asked ≡ a → MakesSome machine before.1 Both between.1 → GivesUp machine HasPlace (λ (q : Asking A). giving_up q.asked) between after → MakesSome machine before.1 Both after.1
+  gave_up : (before between after : Goes) → between.0.asked ≡ a → MakesSome machine before.1 Both between.1 → GivesUp machine AsksOn HasPlace (λ (q : Asking A). giving_up q.asked) between after → MakesSome machine before.1 Both after.1
   gave_up before between after is some left = by between.0.key refl
     where
       by : (key : Option Key) → between.0.key ≡ key → MakesSome machine before.1 Both after.1
-      by None none = subst (λ (g : Goes). MakesSome machine before.1 Both g.1) (sym (left.0 (λ place. false≢true (subst (λ (k : Option Key). IsSome k) none place)))) some
+      by None none = subst (λ (g : Goes). MakesSome machine before.1 Both g.1) (sym (left.1 (λ place. false≢true (subst (λ (k : Option Key). IsSome k) none place)))) some
       by (Some key) has =
-          let made = left.1 (subst (λ (k : Option Key). IsSome k) (sym has) refl) in
+          let made = left.2 (subst (λ (k : Option Key). IsSome k) (sym has) refl) in
           more machine Both before.1 between.1 after.1 some (as_well machine (giving_up between.0.asked) Both (λ c h. inr (gives_up c (subst (λ p. giving_up p c) is h))) between.1 after.1 made.1)
 
   pub waits_for : (before : Goes) (result : Result (Option G) (Refused E)) (after : Goes) → before.0.asked ≡ a → (may_end → ⊥)
@@ -108,12 +107,12 @@ module _ {S C A G E : Type 0} (machine : Machine S C) (attempting : A → Attemp
       → WaitsFor machine vain gets over before.1 result after.1
   waits_for before (Ok (Some output)) after is never (inl at_last) =
       let some = all at_last.waited.0 before at_last.between is at_last.waited.1 in
-      (at_last.between.1, (at_last.waited.0, some.1), got at_last.between output after some.0 at_last.succeeded)
+      (at_last.between.1, some.1, got at_last.between output after some.0 at_last.succeeded)
   waits_for before (Ok (Some output)) after is never (inr late) = absurd (never late.has_limit)
   waits_for before (Ok None) after is never late = absurd (never late.has_limit)
   waits_for before (Err error) after is never (refused, (between, some, fails), left) =
       let rounds = all some.0 before between is some.1 in
-      let over = failed before between error refused rounds.0 (some.0, each_as_well machine vain Both (λ c h. inl h) some.0 before.1 between.1 rounds.1) fails in
+      let over = failed before between error refused rounds.0 (rounds.1.0, each_as_well machine vain Both (λ c h. inl h) rounds.1.0 before.1 between.1 rounds.1.1) fails in
       gave_up before refused after over.0 over.1 left
 
 module _ {T W : Type 0} (capacity : Option ℕ) where
@@ -131,7 +130,7 @@ module _ {T W : Type 0} (capacity : Option ℕ) where
       (λ error c h. absurd h)
       (λ c h. inr h)
 
-  receives_waiting : (may_end : Type 0) (before : Asking Bool × View (State T W) (ChannelCall T)) (result : Result (Option (Option T)) (Refused ListenError)) (after : Asking Bool × View (State T W) (ChannelCall T))
+  pub receives_waiting : (may_end : Type 0) (before : Asking Bool × View (State T W) (ChannelCall T)) (result : Result (Option (Option T)) (Refused ListenError)) (after : Asking Bool × View (State T W) (ChannelCall T))
       → before.0.asked ≡ false → (may_end → ⊥)
       → Ends (channel_machine capacity) ReceivesOrWaits (NotRefused ReceivesOrLeaves) TriesToReceive GivesUpReceiving (λ before _ after. after ≡ before) (λ before _ after. after ≡ before) may_end before result after
       → ReceivesWaiting capacity before.1 result after.1
@@ -173,9 +172,6 @@ module _ {T W : Type 0} (capacity : Option ℕ) where
 
 module _ {T W : Type 0} where
   -- one that receives, at a lock that has this capacity
-  pub receives_at : (start capacity : Option ℕ) → start ≡ capacity → (may_end : Type 0) (before : Asking Bool × View (State T W) (ChannelCall T)) (result : Result (Option (Option T)) (Refused ListenError)) (after : Asking Bool × View (State T W) (ChannelCall T))
-      → before.0.asked ≡ false → (may_end → ⊥)
-      → Ends (channel_machine start) ReceivesOrWaits (NotRefused ReceivesOrLeaves) TriesToReceive GivesUpReceiving (λ before _ after. after ≡ before) (λ before _ after. after ≡ before) may_end before result after
-      → ReceivesWaiting capacity before.1 result after.1
-  receives_at start capacity same may_end before result after asks never ends =
-      subst (λ (n : Option ℕ). ReceivesWaiting n before.1 result after.1) same (receives_waiting start may_end before result after asks never ends)
+  pub receives_at : (start capacity : Option ℕ) → start ≡ capacity → (v w : View (State T W) (ChannelCall T)) (result : Result (Option (Option T)) (Refused ListenError))
+      → ReceivesWaiting start v result w → ReceivesWaiting capacity v result w
+  receives_at start capacity same v w result waits = subst (λ (n : Option ℕ). ReceivesWaiting n v result w) same waits

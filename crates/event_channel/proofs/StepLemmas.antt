@@ -7,7 +7,7 @@ use Rattle.event_queue.specs.declared.key.Key.{Key}
 use Rattle.event_queue.specs.declared.reply.ListenError.{ListenError}
 use Rattle.event_queue.specs.declared.reply.ListenError.TheVariants.{Memory}
 use Rattle.event_queue.specs.Queue.{Queue}
-use Rattle.event_history.specs.History.{RestsOn}
+use Rattle.event_wait.specs.Attempted.{key_of}
 use Rattle.event_wait.specs.Line.{WaitsBy}
 use Rattle.event_wait.specs.declared.request.Attempted.TheVariants.{Done, Waits, Absent, Refused}
 use Rattle.event_channel.specs.declared.call.ChannelCall.{ChannelCall}
@@ -19,19 +19,13 @@ use Rattle.event_channel.specs.declared.error.TryRecvError.{TryRecvError}
 use Rattle.event_channel.specs.declared.error.TryRecvError.TheVariants.{Empty, Closed}
 use Rattle.event_channel.specs.Forbearing.{Forbears, ForbearsFor, ForbearsUnless, RefusedFor}
 use Rattle.event_channel.specs.Messages.{State, for_newcomers, room_for_newcomers, room_for_one}
+use Rattle.event_channel.proofs.PlaceLemmas.{Moves}
 use Rattle.event_channel.proofs.TurnLemmas.{most_for_newcomers}
+use Rattle.event_channel.specs.Places.{Place, receiver_at, sender_at}
 use Rattle.event_channel.specs.Steps.{Pushes, Refuses, RefusesAt, Forces, Takes, IsEmptyFor, Closes}
 use Rattle.event_channel.specs.Waits.{Received, Receives, ReceivesInTurn, SendsInTurn, Sent}
-use Rattle.event_channel.specs.Calls.{ClosesOnce, ForcesOne, LeavesReceivers, LeavesSenders, ReceivesOne as DoesReceive, SendsOne, answer_of, calls, received_at_once, receiver_key, rests_on_none, sent_at_once, with_any_task}
+use Rattle.event_channel.specs.Calls.{ClosesOnce, ForcesOne, LeavesReceivers, LeavesSenders, ReceivesOne as DoesReceive, SendsOne, answer_of, calls, received_at_once, receiver_key, sent_at_once, with_any_task}
 use Rattle.event_channel.specs.Requests.{GivesUpReceiving, GivesUpSending, ReceivesMany, ReceivesOne, ReceivesOrLeaves, ReceivesOrWaits, SendsOrLeaves, SendsOrWaits, TriesToReceive, TriesToSend}
-
--- no call comes after others of its hand
-module _ {T : Type 0} {P R : ChannelCall T → Type 0} where
-  pub resting : (c : ChannelCall T) × P c × R c → (c : ChannelCall T) × P c × RestsOn rests_on_none [] c [] × R c
-  resting (c, is, does) = (c, is, (tt, tt), does)
-
-  pub unresting : (c : ChannelCall T) × P c × RestsOn rests_on_none [] c [] × R c → (c : ChannelCall T) × P c × R c
-  unresting (c, is, rests, does) = (c, is, does)
 
 one_more : (n : ℕ) → suc n ≡ 1 + n
 one_more n = omega arith
@@ -49,9 +43,9 @@ module _ {T W : Type 0} (old new : State T W) where
 
   -- an attempt to send this message; one whose message is sent attempts nothing
   pub tries_to_send : (before slot : Option T) (answer : Option (Result (Unit {0}) SendReason)) → before ≡ slot → ((message : T) → slot ≡ Some message → SendsOne None message (sent_at_once answer) old new)
-      → (slot ≡ None → (answer ≡ None) × (new ≡ old)) → (c : ChannelCall T) × TriesToSend before answer c × calls old c new
-  tries_to_send before (Some message) answer is sends absent = rw is (call.Send message (sent_at_once answer), refl, sends message refl)
-  tries_to_send before None answer is sends absent = rw is (call.LeaveSenders None, ((absent refl).0, refl), left_with_nothing (absent refl).1)
+      → (slot ≡ None → (answer ≡ None) × (new ≡ old)) → (c : ChannelCall T) × TriesToSend before answer c × Moves None c None × calls old c new
+  tries_to_send before (Some message) answer is sends absent = rw is (call.Send message (sent_at_once answer), refl, (refl, refl), sends message refl)
+  tries_to_send before None answer is sends absent = rw is (call.LeaveSenders None, ((absent refl).0, refl), (refl, refl), left_with_nothing (absent refl).1)
     where
       left_with_nothing : new ≡ old → LeavesSenders None old new
       left_with_nothing same = subst (λ (s : State T W). LeavesSenders None old s) (sym same) (refl, record { left = refl; struck = refl })
@@ -61,11 +55,11 @@ module _ {T W : Type 0} (old new : State T W) where
   found_it_full key message why full refuses left =
       (subst (λ (r : SendReason). RefusesAt (room_for_one key old) old r) full refuses, subst (λ (r : SendReason). RefusedFor r key old new) full left)
 
-  pub receives_one : (is_stream : Bool) (answer : Option (Option T)) → DoesReceive None (received_at_once answer) old new → (c : ChannelCall T) × TriesToReceive is_stream answer c × calls old c new
-  receives_one is_stream answer does = (call.Receive (received_at_once answer), refl, does)
+  pub receives_one : (is_stream : Bool) (answer : Option (Option T)) → DoesReceive None (received_at_once answer) old new → (c : ChannelCall T) × TriesToReceive is_stream answer c × Moves None c None × calls old c new
+  receives_one is_stream answer does = (call.Receive (received_at_once answer), refl, (refl, refl), does)
 
   pub receives_none : (is_stream : Bool) (answer : Option (Option T)) (why said : TryRecvError) → why ≡ said → received_at_once answer ≡ Err said → IsEmptyFor old why → Forbears old new
-      → (c : ChannelCall T) × TriesToReceive is_stream answer c × calls old c new
+      → (c : ChannelCall T) × TriesToReceive is_stream answer c × Moves None c None × calls old c new
   receives_none is_stream answer why said is says empty left =
       receives_one is_stream answer (subst (λ (reply : Result T TryRecvError). DoesReceive None reply old new) (sym says) (subst (λ (w : TryRecvError). IsEmptyFor old w) is empty, left))
 
@@ -101,30 +95,42 @@ module _ {T W C : Type 0} (exchanged : C → Option W → W → C → Type 0) wh
   -- one that sends or waits
   pub sends_or_waits : (before message : Option T) (key : Option Key) (old new : State T W) (losses losses' : ℕ) (on on' : C) (answer : Sent)
       → before ≡ message → SendsInTurn exchanged message key old losses on answer new losses' on' → (message ≡ None → answer ≡ Absent)
-      → (c : ChannelCall T) × SendsOrWaits before answer c × calls old c new
+      → (c : ChannelCall T) × SendsOrWaits before answer c × Moves (sender_at key) c (sender_at (key_of answer)) × calls old c new
   sends_or_waits before (Some message) key old new losses losses' on on' answer is does absent =
-      rw is (call.SendOrWait message key answer, (key, refl), (losses, losses', any_sends (Some message) key old losses on answer new losses' on' does))
+      rw is (call.SendOrWait message key answer, (key, refl), (refl, refl), (losses, losses', any_sends (Some message) key old losses on answer new losses' on' does))
   sends_or_waits before None key old new losses losses' on on' answer is does absent =
       let left = subst (λ (a : Sent). SendsInTurn exchanged None key old losses on a new losses' on') (absent refl) does in
-      rw is (call.LeaveSenders key, (absent refl, key, refl), (ap (λ (s : State T W). record s { senders = new.senders; starving_senders = new.starving_senders }) left.0.0, left.0.1))
+      rw is (call.LeaveSenders key, (absent refl, key, refl), (refl, ap (λ (a : Sent). sender_at (key_of a)) (sym (absent refl))), (ap (λ (s : State T W). record s { senders = new.senders; starving_senders = new.starving_senders }) left.0.0, left.0.1))
 
   -- one that receives or waits, in either queue
   pub receives_or_waits : (is_stream : Bool) (key : Option Key) (old new : State T W) (losses losses' : ℕ) (on on' : C) (answer : Received T) → is_stream ≡ false
       → ReceivesInTurn exchanged key old losses on answer new losses' on'
-      → (c : ChannelCall T) × ReceivesOrWaits is_stream answer c × calls old c new
+      → calls old (call.ReceiveOrWait is_stream key answer) new
   receives_or_waits is_stream key old new losses losses' on on' answer is does =
-      rw is (call.ReceiveOrWait false key answer, (key, refl), (losses, losses', any_in_turn key old losses on answer new losses' on' does))
+      rw is (losses, losses', any_in_turn key old losses on answer new losses' on' does)
 
   pub next_or_waits : (is_stream : Bool) (key : Option Key) (old new : State T W) (on on' : C) (answer : Received T) → is_stream ≡ true
       → Receives exchanged key old old.streams on answer (record new { streams = old.streams }) new.streams on'
-      → (c : ChannelCall T) × ReceivesOrWaits is_stream answer c × calls old c new
+      → calls old (call.ReceiveOrWait is_stream key answer) new
   next_or_waits is_stream key old new on on' answer is does =
-      rw is (call.ReceiveOrWait true key answer, (key, refl), any_receives key old old.streams on answer (record new { streams = old.streams }) new.streams on' does)
+      rw is (any_receives key old old.streams on answer (record new { streams = old.streams }) new.streams on' does)
+
+module _ {T : Type 0} where
+  moves_so : (key : Option Key) (c made : ChannelCall T) → c ≡ made → Moves (receiver_at false key) made None → Moves (receiver_at false key) c None
+  moves_so key c made is moves = subst (λ (x : ChannelCall T). Moves (receiver_at false key) x None) (sym is) moves
+
+  -- by its place, and it waits no more
+  many_move : (key : Option Key) (answer : Option (Option ℕ)) (c : ChannelCall T) → ReceivesMany key answer c → Moves (receiver_at false key) c None
+  many_move key None c (inl is) = moves_so key c (call.ReceiveOrLeave false key (Err Empty)) is (refl, refl)
+  many_move key None c (inr is) = moves_so key c (call.LeaveReceivers false key) is (refl, refl)
+  many_move key (Some None) c is = moves_so key c (call.ReceiveOrLeave false key (Err Closed)) is (refl, refl)
+  many_move key (Some (Some count)) c (messages, many, is) = moves_so key c (call.ReceiveMany messages key) is (refl, refl)
 
 module _ {T W : Type 0} where
-  pub waits_as_asked : (asked is_stream : Bool) (old new : State T W) (answer : Received T) → asked ≡ is_stream
-      → (c : ChannelCall T) × ReceivesOrWaits is_stream answer c × calls old c new → (c : ChannelCall T) × ReceivesOrWaits asked answer c × calls old c new
-  waits_as_asked asked is_stream old new answer same does = rw same does
+  pub waits_as_asked : (asked is_stream : Bool) (key : Option Key) (old new : State T W) (answer : Received T) → asked ≡ is_stream
+      → calls old (call.ReceiveOrWait is_stream key answer) new
+      → (c : ChannelCall T) × ReceivesOrWaits asked answer c × Moves (receiver_at asked key) c (receiver_at asked (key_of answer)) × calls old c new
+  waits_as_asked asked is_stream key old new answer same does = rw same (call.ReceiveOrWait is_stream key answer, (key, refl), (refl, refl), does)
 
   pub closes_once : (X : Type 0) (old new : State T W) (closed : Bool) → (IsTrue closed ↔ (old.is_closed ≡ false)) → (IsTrue closed → Closes old new) → (IsFalse closed → (new ≡ old) × X) → ClosesOnce closed old new
   closes_once X old new true once closed again = closed refl
@@ -144,17 +150,17 @@ module _ {T W : Type 0} where
   -- an attempt, and then leaving
   pub sends_or_leaves : (before slot : Option T) (answer : Option (Result (Unit {0}) SendReason)) (key : Option Key) (old between new : State T W) → before ≡ slot
       → ((message : T) → slot ≡ Some message → SendsOne key message (sent_at_once answer) old between) → (slot ≡ None → (answer ≡ None) × (between ≡ old)) → LeavesSenders key between new
-      → (c : ChannelCall T) × SendsOrLeaves before answer c × calls old c new
+      → (c : ChannelCall T) × SendsOrLeaves before answer c × Moves (sender_at key) c None × calls old c new
   sends_or_leaves before (Some message) answer key old between new is sends absent left =
-      rw is (call.SendOrLeave message key (sent_at_once answer), (key, refl), (between, sends message refl, left))
+      rw is (call.SendOrLeave message key (sent_at_once answer), (key, refl), (refl, refl), (between, sends message refl, left))
   sends_or_leaves before None answer key old between new is sends absent left =
-      rw is (call.LeaveSenders key, ((absent refl).0, key, refl), subst (λ (s : State T W). LeavesSenders key s new) (absent refl).1 left)
+      rw is (call.LeaveSenders key, ((absent refl).0, key, refl), (refl, refl), subst (λ (s : State T W). LeavesSenders key s new) (absent refl).1 left)
 
   pub receives_or_leaves : (before is_stream : Bool) (answer : Option (Option T)) (key : Option Key) (old between new : State T W) → before ≡ is_stream
       → DoesReceive (receiver_key is_stream key) (received_at_once answer) old between → LeavesReceivers is_stream key between new
-      → (c : ChannelCall T) × ReceivesOrLeaves before answer c × calls old c new
+      → (c : ChannelCall T) × ReceivesOrLeaves before answer c × Moves (receiver_at before key) c None × calls old c new
   receives_or_leaves before is_stream answer key old between new same does left =
-      rw same (call.ReceiveOrLeave is_stream key (received_at_once answer), (key, refl), (between, does, left))
+      rw same (call.ReceiveOrLeave is_stream key (received_at_once answer), (key, refl), (refl, refl), (between, does, left))
 
   -- where it found the end nothing changed, whoever it is
   at_the_end : (key : Option Key) (old new : State T W) → DoesReceive None (Err Closed) old new → ForbearsFor key old new
@@ -174,12 +180,12 @@ module _ {T W : Type 0} where
       let h = subst (λ (c : ChannelCall T). calls old c between) is.2 does in
       (call.ReceiveMany is.0 key, (is.0, is.1, refl), (h.0, h.1, subst (λ (s : State T W). LeavesReceivers false key s new) (left_none false h.0 between h.2) left))
 
-  pub gives_up_sending : (before : Option T) (key : Option Key) (old new : State T W) → LeavesSenders key old new → (c : ChannelCall T) × GivesUpSending before c × calls old c new
-  gives_up_sending before key old new left = (call.LeaveSenders key, (key, refl), left)
+  pub gives_up_sending : (before : Option T) (key : Option Key) (old new : State T W) → LeavesSenders key old new → (c : ChannelCall T) × GivesUpSending before c × Moves (sender_at key) c None × calls old c new
+  gives_up_sending before key old new left = (call.LeaveSenders key, (key, refl), (refl, refl), left)
 
   pub gives_up_receiving : (before is_stream : Bool) (key : Option Key) (old new : State T W) → before ≡ is_stream → LeavesReceivers is_stream key old new
-      → (c : ChannelCall T) × GivesUpReceiving before c × calls old c new
-  gives_up_receiving before is_stream key old new same left = rw same (call.LeaveReceivers is_stream key, (key, refl), left)
+      → (c : ChannelCall T) × GivesUpReceiving before c × Moves (receiver_at before key) c None × calls old c new
+  gives_up_receiving before is_stream key old new same left = rw same (call.LeaveReceivers is_stream key, (key, refl), (refl, refl), left)
 
   -- one that is to receive many found none, and nobody is refused
   pub many_without_room : (state : State T W) → (c : ChannelCall T) × ReceivesMany None None c × calls state c state
@@ -190,6 +196,9 @@ module _ {T W : Type 0} where
 
   pub many_of_none : (old new : State T W) (why : TryRecvError) → why ≡ Empty → IsEmptyFor old why → Forbears old new → (c : ChannelCall T) × ReceivesMany None None c × calls old c new
   many_of_none old new why is empty left = (call.ReceiveOrLeave false None (Err Empty), inl refl, (new, (subst (λ (w : TryRecvError). IsEmptyFor old w) is empty, left), (refl, record { left = refl; struck = refl; streams = refl })))
+
+  pub many_at_the_end : (old new : State T W) (why : TryRecvError) → why ≡ Closed → IsEmptyFor old why → Forbears old new → (c : ChannelCall T) × ReceivesMany None (Some None) c × calls old c new
+  many_at_the_end old new why is empty left = (call.ReceiveOrLeave false None (Err Closed), refl, (new, (subst (λ (w : TryRecvError). IsEmptyFor old w) is empty, left), (refl, record { left = refl; struck = refl; streams = refl })))
 
   pub many_taken : (old between new : State T W) (message : T) (count limit room : ℕ) → Takes (message ∷ []) old between → 0 < for_newcomers old
       → count ≡ min limit (min room (for_newcomers between)) → Takes (take count between.messages) between new
@@ -205,55 +214,55 @@ module _ {T W : Type 0} where
         (new, (between, first, rest, may, subst (λ (n : ℕ). n ≤ there) (sym taken) some), (refl, record { left = refl; struck = refl; streams = refl })),
       )
 
+  -- by no place, where it only tries
+  pub many_tried : (old new : State T W) (answer : Option (Option ℕ)) → (c : ChannelCall T) × ReceivesMany None answer c × calls old c new
+      → (c : ChannelCall T) × ReceivesMany None answer c × Moves None c None × calls old c new
+  many_tried old new answer (c, is, does) = (c, is, many_move None answer c is, does)
+
   pub many_taken_then_leaves : (output : Option ℕ) (key : Option Key) (old between new : State T W)
       → (c : ChannelCall T) × ReceivesMany None (Some output) c × calls old c between → LeavesReceivers false key between new
-      → (c : ChannelCall T) × ((key : Option Key) × (ReceivesMany key (Some output) c ⊎ ReceivesOne key output c)) × calls old c new
+      → (c : ChannelCall T) × ((key : Option Key) × (ReceivesMany key (Some output) c ⊎ ReceivesOne key output c)) × Moves (receiver_at false key) c None × calls old c new
   many_taken_then_leaves output key old between new taken left =
-      let (c, is, does) = many_then_leaves (Some output) key old between new taken (λ none. absurd (cc)) left in (c, (key, inl is), does)
+      let (c, is, does) = many_then_leaves (Some output) key old between new taken (λ none. absurd (cc)) left in (c, (key, inl is), many_move key (Some output) c is, does)
 
   pub many_or_leaves : (answer : Option (Option ℕ)) (key : Option Key) (old between new : State T W)
       → (c : ChannelCall T) × ReceivesMany None answer c × calls old c between → (answer ≡ None → between ≡ old) → LeavesReceivers false key between new
-      → (c : ChannelCall T) × ((key : Option Key) × ReceivesMany key answer c) × calls old c new
+      → (c : ChannelCall T) × ((key : Option Key) × ReceivesMany key answer c) × Moves (receiver_at false key) c None × calls old c new
   many_or_leaves answer key old between new taken nothing left =
-      let (c, is, does) = many_then_leaves answer key old between new taken nothing left in (c, (key, is), does)
+      let (c, is, does) = many_then_leaves answer key old between new taken nothing left in (c, (key, is), many_move key answer c is, does)
 
   pub many_leaves : (key : Option Key) (old between new : State T W)
       → between ≡ old → LeavesReceivers false key between new
-      → (c : ChannelCall T) × ((key : Option Key) × (((Memory ≡ Memory) × (c ≡ call.LeaveReceivers false key)) ⊎ (c ≡ call.ReceiveOrWait false key (Refused Memory)))) × calls old c new
+      → (c : ChannelCall T) × ((key : Option Key) × (((Memory ≡ Memory) × (c ≡ call.LeaveReceivers false key)) ⊎ (c ≡ call.ReceiveOrWait false key (Refused Memory)))) × Moves (receiver_at false key) c None × calls old c new
   many_leaves key old between new nothing left =
-      (call.LeaveReceivers false key, (key, inl (refl, refl)), subst (λ (s : State T W). LeavesReceivers false key s new) nothing left)
+      (call.LeaveReceivers false key, (key, inl (refl, refl)), (refl, refl), subst (λ (s : State T W). LeavesReceivers false key s new) nothing left)
 
-  waits_from : (old between new : State T W) (answer : Received T)
-      → between ≡ old → (c : ChannelCall T) × ReceivesOrWaits false answer c × calls between c new
-      → (c : ChannelCall T) × ReceivesOrWaits false answer c × calls old c new
-  waits_from old between new answer nothing (c, is, does) = (c, is, subst (λ (s : State T W). calls s c new) nothing does)
+  waits_from : (old between new : State T W) (key : Option Key) (answer : Received T) → between ≡ old → calls between (call.ReceiveOrWait false key answer) new → calls old (call.ReceiveOrWait false key answer) new
+  waits_from old between new key answer nothing does = subst (λ (s : State T W). calls s (call.ReceiveOrWait false key answer) new) nothing does
 
-  pub one_taken : (old between new : State T W) (output : Option T) (message : T) → output ≡ Some message
-      → between ≡ old → (c : ChannelCall T) × ReceivesOrWaits false (Done output) c × calls between c new
-      → (c : ChannelCall T) × ((key : Option Key) × (ReceivesMany key (Some (Some 1)) c ⊎ ReceivesOne key (Some 1) c)) × calls old c new
-  one_taken old between new output message is nothing does =
-      let (c, how, goes) = waits_from old between new (Done (Some message)) nothing (subst (λ (o : Option T). (c : ChannelCall T) × ReceivesOrWaits false (Done o) c × calls between c new) is does) in
-      (c, (how.0, inr (refl, message, how.1)), goes)
+  pub one_taken : (old between new : State T W) (key : Option Key) (output : Option T) (message : T) → output ≡ Some message
+      → between ≡ old → calls between (call.ReceiveOrWait false key (Done output)) new
+      → (c : ChannelCall T) × ((key : Option Key) × (ReceivesMany key (Some (Some 1)) c ⊎ ReceivesOne key (Some 1) c)) × Moves (receiver_at false key) c None × calls old c new
+  one_taken old between new key output message is nothing does =
+      (call.ReceiveOrWait false key (Done (Some message)), (key, inr (refl, message, refl)), (refl, refl), waits_from old between new key (Done (Some message)) nothing (subst (λ (o : Option T). calls between (call.ReceiveOrWait false key (Done o)) new) is does))
 
-  pub no_more_come : (old between new : State T W) (output : Option T) → output ≡ None
-      → between ≡ old → (c : ChannelCall T) × ReceivesOrWaits false (Done output) c × calls between c new
-      → (c : ChannelCall T) × ((key : Option Key) × (ReceivesMany key (Some None) c ⊎ ReceivesOne key None c)) × calls old c new
-  no_more_come old between new output is nothing does =
-      let (c, how, goes) = waits_from old between new (Done None) nothing (subst (λ (o : Option T). (c : ChannelCall T) × ReceivesOrWaits false (Done o) c × calls between c new) is does) in
-      (c, (how.0, inr how.1), goes)
+  pub no_more_come : (old between new : State T W) (key : Option Key) (output : Option T) → output ≡ None
+      → between ≡ old → calls between (call.ReceiveOrWait false key (Done output)) new
+      → (c : ChannelCall T) × ((key : Option Key) × (ReceivesMany key (Some None) c ⊎ ReceivesOne key None c)) × Moves (receiver_at false key) c None × calls old c new
+  no_more_come old between new key output is nothing does =
+      (call.ReceiveOrWait false key (Done None), (key, inr refl), (refl, refl), waits_from old between new key (Done None) nothing (subst (λ (o : Option T). calls between (call.ReceiveOrWait false key (Done o)) new) is does))
 
-  pub many_waits : (old between new : State T W) (key : Key)
-      → between ≡ old → (c : ChannelCall T) × ReceivesOrWaits false (Waits key) c × calls between c new
-      → (c : ChannelCall T) × ((before : Option Key) × (c ≡ call.ReceiveOrWait false before (Waits key))) × calls old c new
-  many_waits old between new key nothing does = waits_from old between new (Waits key) nothing does
+  pub many_waits : (old between new : State T W) (before : Option Key) (key : Key)
+      → between ≡ old → calls between (call.ReceiveOrWait false before (Waits key)) new
+      → (c : ChannelCall T) × ((before : Option Key) × (c ≡ call.ReceiveOrWait false before (Waits key))) × Moves (receiver_at false before) c (receiver_at false (Some key)) × calls old c new
+  many_waits old between new before key nothing does = (call.ReceiveOrWait false before (Waits key), (before, refl), (refl, refl), waits_from old between new before (Waits key) nothing does)
 
-  pub many_absent : (old between new : State T W)
-      → between ≡ old → (c : ChannelCall T) × ReceivesOrWaits false Absent c × calls between c new
-      → (c : ChannelCall T) × ((key : Option Key) × (c ≡ call.ReceiveOrWait false key Absent)) × calls old c new
-  many_absent old between new nothing does = waits_from old between new Absent nothing does
+  pub many_absent : (old between new : State T W) (key : Option Key)
+      → between ≡ old → calls between (call.ReceiveOrWait false key Absent) new
+      → (c : ChannelCall T) × ((key : Option Key) × (c ≡ call.ReceiveOrWait false key Absent)) × Moves (receiver_at false key) c None × calls old c new
+  many_absent old between new key nothing does = (call.ReceiveOrWait false key Absent, (key, refl), (refl, refl), waits_from old between new key Absent nothing does)
 
-  pub many_refused : (old between new : State T W) (error : ListenError)
-      → between ≡ old → (c : ChannelCall T) × ReceivesOrWaits false (Refused error) c × calls between c new
-      → (c : ChannelCall T) × ((key : Option Key) × (((error ≡ Memory) × (c ≡ call.LeaveReceivers false key)) ⊎ (c ≡ call.ReceiveOrWait false key (Refused error)))) × calls old c new
-  many_refused old between new error nothing does =
-      let (c, how, goes) = waits_from old between new (Refused error) nothing does in (c, (how.0, inr how.1), goes)
+  pub many_refused : (old between new : State T W) (key : Option Key) (error : ListenError)
+      → between ≡ old → calls between (call.ReceiveOrWait false key (Refused error)) new
+      → (c : ChannelCall T) × ((key : Option Key) × (((error ≡ Memory) × (c ≡ call.LeaveReceivers false key)) ⊎ (c ≡ call.ReceiveOrWait false key (Refused error)))) × Moves (receiver_at false key) c None × calls old c new
+  many_refused old between new key error nothing does = (call.ReceiveOrWait false key (Refused error), (key, inr refl), (refl, refl), waits_from old between new key (Refused error) nothing does)

@@ -8,6 +8,7 @@ pub mod Iter
 pub mod Many
 pub mod Messages
 pub mod Order
+pub mod Places
 pub mod Requests
 pub mod Sent
 pub mod Served

@@ -1,5 +1,8 @@
 //! The calls on the state under a channel's lock.
+ghost use Rattle.std.specs.Prelude.{◌≡◌};
 ghost use Rattle.event_channel.specs.Calls.{calls, is_new, rests_on_none};
+ghost use Rattle.event_channel.specs.Places.{WaitsNowhere};
+ghost use Rattle.event_history.specs.Hands.{known_by};
 
 use crate::error::{SendReason, TryRecvError};
 use crate::messages::Messages;
@@ -7,13 +10,63 @@ use event_history::{Hand, IdleHand, Steps};
 use event_queue::{Key, ListenError};
 use event_wait::{Attempted, Task};
 use std::collections::LinkedList;
+use std::marker::Model;
 
-/// A caller's right to make calls on one channel, of no bytes. It can't be dropped: it ends by its `end`. A contract sees the
-/// history that it has seen, and its own calls in it.
-pub type ChannelHand<T> = Hand<Messages<T, Task>, ChannelCall<T>>;
+// A hand of a channel's lock, which may have a place in a queue there.
+pub(crate) type LockHand<T> = Hand<Messages<T, Task>, ChannelCall<T>>;
 
 // The hand of one that waits, between its calls.
 pub(crate) type RestingHand<T> = IdleHand<Messages<T, Task>, ChannelCall<T>>;
+
+/// A caller's right to make calls on one channel, of no bytes. It can't be dropped: it ends by its [`end`](ChannelHand::end).
+///
+/// A contract sees it as the hand of the channel's lock: the history that it has seen, and its own calls in it. Between two
+/// calls of its owner it waits in no queue.
+pub struct ChannelHand<T> {
+    pub(crate) hand: LockHand<T>,
+}
+
+impl<T> Model for ChannelHand<T> {
+    ghost use Rattle.event_channel.specs.Messages.{State};
+    ghost use Rattle.event_channel.specs.Places.{WaitsNowhere};
+    ghost use Rattle.event_channel.specs.declared.call.ChannelCall.{ChannelCall};
+    ghost use Rattle.event_history.specs.Hands.{known_by};
+    ghost use Rattle.event_history.specs.declared.hand.Hand.{Hand};
+    ghost use Rattle.event_wait.specs.declared.lock.task.Task.{Task};
+
+    ghost Value = { Hand (State T Task) (ChannelCall T) };
+
+    ghost view = { λ hand. hand.hand };
+
+    ghost invariant = { λ hand. WaitsNowhere (known_by hand.hand).mine };
+}
+
+impl<T> ChannelHand<T> {
+    // Of a hand that waits in no queue.
+    #[inline(always)]
+    pub(crate) fn of(hand: LockHand<T>) -> Self
+        requires { WaitsNowhere (known_by hand).mine }
+        ensures { result ≡ hand }
+    {
+        ChannelHand { hand }
+    }
+
+    // The hand alone.
+    #[inline(always)]
+    pub(crate) fn into_hand(self) -> LockHand<T>
+        ensures hand { result ≡ self }
+        ensures waits { WaitsNowhere (known_by result).mine }
+    {
+        let ChannelHand { hand } = self;
+        hand
+    }
+
+    /// Ends the hand. It is nothing when a program runs.
+    #[inline(always)]
+    pub fn end(self) {
+        self.into_hand().end();
+    }
+}
 
 /// A call on the state under a channel's lock, with its reply. No value of it is made when a program runs.
 ///
@@ -50,7 +103,8 @@ pub enum ChannelCall<T> {
     Len(usize),
 }
 
-/// A channel starts open, without messages, with nobody that waits, and of the capacity that was asked for.
+/// A channel starts open, without messages, with nobody that waits, and of the capacity that was asked for. A hand that waits in
+/// a queue comes by that place next, and it ends once it has left.
 impl<T, W> Steps for Messages<T, W> {
     type Call = ChannelCall<T>;
 
@@ -61,4 +115,6 @@ impl<T, W> Steps for Messages<T, W> {
     ghost goes = { calls };
 
     ghost rests = { rests_on_none };
+
+    ghost may_end = { WaitsNowhere };
 }

@@ -1,19 +1,21 @@
 //! What both sides share.
-ghost use Rattle.std.specs.Prelude.{◌≡◌, Some, IfErr, IfOk, IsSome};
+ghost use Rattle.std.specs.Prelude.{◌≡◌, None, Option, Some, IfErr, IfOk, IsSome, false};
 ghost use Rattle.event_channel.specs.Calls.{answer_of, channel_machine};
 ghost use Rattle.event_channel.specs.Errors.{IsUnsent};
-ghost use Rattle.event_channel.specs.Hands.{SendsWaiting};
+ghost use Rattle.event_channel.specs.Hands.{ReceivesWaiting, SendsWaiting};
+ghost use Rattle.event_channel.specs.Places.{WaitsAt, WaitsNowhere, came_by, left_at, receiver_at, sender_at};
 ghost use Rattle.event_channel.specs.Waits.{Empties, Gets};
 ghost use Rattle.event_channel.specs.declared.call.ChannelCall.TheVariants as call;
 ghost use Rattle.event_history.specs.Hands.{IsOf, SameTable, known_by};
-ghost use Rattle.event_history.specs.History.{Extends};
+ghost use Rattle.event_history.specs.History.{Extends, Looks, both_views, newcomer};
 
-use crate::call::ChannelHand;
-use crate::error::{SendError, SendReason, WaitError};
+use crate::call::{ChannelHand, LockHand};
+use crate::error::{SendError, SendReason, TryRecvError, WaitError};
 use crate::messages::Messages;
+use crate::receiving::Receiving;
 use crate::sending::Sending;
-use crate::steps::{Close, IsClosed, IsFull, Len, PushForced};
-use event_history::{Lock, perform};
+use crate::steps::{Close, IsClosed, IsFull, Len, Pop, PushForced};
+use event_history::{Lock, Step, perform};
 use event_queue::ListenError;
 use event_wait::{DeferredWake, Limit, Refused, Task};
 use std::alloc::{AllocError, Global};
@@ -105,6 +107,37 @@ impl<T: Drop> Channel<T> {
         })
     }
 
+    /// A hand that made no call yet. It is one load.
+    #[inline(always)]
+    pub(crate) fn hand(&self) -> ChannelHand<T>
+        ensures { IsOf self.now.lock.table result
+            × (known_by result ≡ newcomer (known_by result).seen) }
+    {
+        ChannelHand::of(self.lock.hand())
+    }
+
+    /// A new hand, which has seen as much as that one.
+    pub(crate) fn fork(&self, hand: &mut ChannelHand<T>) -> ChannelHand<T>
+        requires { IsOf self.now.lock.table hand.old }
+        ensures hand { SameTable hand.old hand.new
+            × (known_by hand.new ≡ known_by hand.old) }
+        ensures told { SameTable hand.old result
+            × (known_by result ≡ newcomer (known_by hand.old).seen) }
+    {
+        ChannelHand::of(self.lock.fork(&mut hand.hand))
+    }
+
+    /// Has a hand learn what another one saw and did, which is no more.
+    pub(crate) fn join(&self, hand: &mut ChannelHand<T>, other: ChannelHand<T>)
+        requires here { IsOf self.now.lock.table hand.old }
+        requires there { IsOf self.now.lock.table other }
+        ensures hand { SameTable hand.old hand.new }
+        ensures looks { Looks (channel_machine self.now.lock.start)
+            (both_views (known_by hand.old) (known_by other)) (known_by hand.new) }
+    {
+        self.lock.join(&mut hand.hand, other.into_hand());
+    }
+
     /// Puts a message behind all others, if the channel is open, and takes the first out if it is full.
     pub(crate) fn force_send<R: Wait>(
         &self,
@@ -120,23 +153,62 @@ impl<T: Drop> Channel<T> {
         ensures reason { IfErr result (λ error. IsUnsent error.reason) }
     {
         let mut waking = DeferredWake::new();
-        let answer = perform!(self.lock, rt, hand, PushForced { message }, &mut waking);
+        let answer = perform!(
+            self.lock,
+            rt,
+            hand.hand,
+            PushForced { message },
+            &mut waking
+        );
         waking.finish_seldom();
         answer
     }
 
-    /// Attempts to send, and waits until then. A message that is not sent is where it was.
+    /// Receives the first message, if one is there for newcomers.
+    #[inline(always)]
+    pub(crate) fn try_receive<R: Wait>(
+        &self,
+        rt: &R,
+        hand: &mut ChannelHand<T>,
+    ) -> Result<T, TryRecvError>
+        requires { IsOf self.now.lock.table hand.old }
+        ensures hand { SameTable hand.old hand.new }
+        ensures call { Extends (channel_machine self.now.lock.start) (known_by hand.old)
+            (call.Receive result) (known_by hand.new) }
+    {
+        let mut waking = DeferredWake::new();
+        let received = perform!(self.lock, rt, hand.hand, Pop, &mut waking);
+        waking.finish_seldom();
+        received
+    }
+
+    /// Drops the messages that wait at a closed channel, each once the lock is given back: what a message drops may call the
+    /// channel.
+    pub(crate) fn drop_messages<R: Wait>(&self, rt: &R, hand: &mut ChannelHand<T>)
+        requires { IsOf self.now.lock.table hand.old }
+        ensures { SameTable hand.old hand.new }
+    {
+        for _ in 0..self.len(rt) {
+            drop(self.try_receive(rt, hand));
+        }
+    }
+
+    /// Attempts to send, and waits until then. A message that is not sent is where it was. In any case its hand waits nowhere
+    /// then.
     #[inline(always)]
     pub(crate) fn wait_to_send<R: Wait + Clock>(
         &self,
         rt: &R,
         alloc: Global,
-        hand: &mut ChannelHand<T>,
+        hand: &mut LockHand<T>,
         sending: &mut Sending<T>,
         limit: Limit,
     ) -> Result<Option<Result<(), SendReason>>, Refused<ListenError>>
-        requires { IsOf self.now.lock.table hand.old }
+        requires hand { IsOf self.now.lock.table hand.old }
+        requires waits { WaitsAt (sender_at sending.old.key) (known_by hand.old).mine }
         ensures hand { SameTable hand.old hand.new }
+        ensures waits { WaitsAt (sender_at sending.new.key) (known_by hand.new).mine }
+        ensures nowhere { WaitsNowhere (known_by hand.new).mine }
         ensures calls { (message : T) → sending.old.asked ≡ Some message → limit ≡ Limit.Never
             → SendsWaiting self.now.lock.start message (known_by hand.old) result
             (known_by hand.new) }
@@ -146,6 +218,61 @@ impl<T: Drop> Channel<T> {
         self.lock.obtain(rt, alloc, hand, sending, limit)
     }
 
+    /// Attempts to receive, and waits until then. In any case its hand waits nowhere then.
+    #[inline(always)]
+    pub(crate) fn wait_to_receive<R: Wait + Clock>(
+        &self,
+        rt: &R,
+        alloc: Global,
+        hand: &mut LockHand<T>,
+        receiving: &mut Receiving,
+        limit: Limit,
+    ) -> Result<Option<Option<T>>, Refused<ListenError>>
+        requires hand { IsOf self.now.lock.table hand.old }
+        requires waits { WaitsAt (receiver_at receiving.old.asked receiving.old.key)
+            (known_by hand.old).mine }
+        ensures hand { SameTable hand.old hand.new }
+        ensures waits { WaitsAt (receiver_at receiving.new.asked receiving.new.key)
+            (known_by hand.new).mine }
+        ensures nowhere { WaitsNowhere (known_by hand.new).mine }
+        ensures never { limit ≡ Limit.Never → IfOk result IsSome }
+        ensures calls { receiving.old.asked ≡ false → limit ≡ Limit.Never
+            → ReceivesWaiting self.now.lock.start (known_by hand.old) result (known_by hand.new) }
+    {
+        self.lock.obtain(rt, alloc, hand, receiving, limit)
+    }
+
+    /// Leaves the queue of the senders, if it is there.
+    pub(crate) fn stop_sending<R: Wait>(
+        &self,
+        rt: &R,
+        hand: &mut LockHand<T>,
+        sending: &mut Sending<T>,
+    )
+        requires hand { IsOf self.now.lock.table hand.old }
+        requires waits { WaitsAt (sender_at sending.old.key) (known_by hand.old).mine }
+        ensures hand { SameTable hand.old hand.new }
+        ensures nowhere { WaitsNowhere (known_by hand.new).mine }
+    {
+        self.lock.give_up(rt, hand, sending);
+    }
+
+    /// Leaves the queue in which it receives, if it is there.
+    pub(crate) fn stop_receiving<R: Wait>(
+        &self,
+        rt: &R,
+        hand: &mut LockHand<T>,
+        receiving: &mut Receiving,
+    )
+        requires hand { IsOf self.now.lock.table hand.old }
+        requires waits { WaitsAt (receiver_at receiving.old.asked receiving.old.key)
+            (known_by hand.old).mine }
+        ensures hand { SameTable hand.old hand.new }
+        ensures nowhere { WaitsNowhere (known_by hand.new).mine }
+    {
+        self.lock.give_up(rt, hand, receiving);
+    }
+
     /// Closes the channel and wakes all that wait, or returns `false` if it is closed already.
     pub(crate) fn close<R: Wait>(&self, rt: &R, hand: &mut ChannelHand<T>) -> bool
         requires { IsOf self.now.lock.table hand.old }
@@ -153,29 +280,33 @@ impl<T: Drop> Channel<T> {
         ensures call { Extends (channel_machine self.now.lock.start) (known_by hand.old)
             (call.Close result) (known_by hand.new) }
     {
-        self.lock.call(rt, hand, Close)
+        self.lock.call(rt, &mut hand.hand, Close)
     }
 
     pub(crate) fn is_closed<R: Wait>(&self, rt: &R) -> bool {
-        let mut hand = self.lock.hand();
-        let is_closed = self.lock.perform(rt, &mut hand, IsClosed, &mut ());
-        hand.end();
-        is_closed
+        self.ask(rt, IsClosed)
     }
 
     pub(crate) fn is_full<R: Wait>(&self, rt: &R) -> bool {
-        let mut hand = self.lock.hand();
-        let is_full = self.lock.perform(rt, &mut hand, IsFull, &mut ());
-        hand.end();
-        is_full
+        self.ask(rt, IsFull)
     }
 
     /// How many messages wait.
     pub(crate) fn len<R: Wait>(&self, rt: &R) -> usize {
+        self.ask(rt, Len)
+    }
+
+    // One call by a hand of its own.
+    #[inline(always)]
+    fn ask<K: Step<Messages<T, Task>, ()>, R: Wait>(&self, rt: &R, step: K) -> K::Reply
+        requires may { K.may step }
+        requires nowhere { (reply : K.Reply) → (came_by (K.call step reply) ≡ None)
+            × (left_at (K.call step reply) ≡ None) }
+    {
         let mut hand = self.lock.hand();
-        let len = self.lock.perform(rt, &mut hand, Len, &mut ());
+        let reply = self.lock.perform(rt, &mut hand, step, &mut ());
         hand.end();
-        len
+        reply
     }
 }
 

@@ -21,7 +21,7 @@ use std::collections::VecDeque;
 use std::marker::Model;
 pub use turns::{FORBEARANCE, PATIENCE};
 use turns::{forbear, is_told, left_for_newcomers, strike};
-pub(crate) use waits::{key_after, put_back};
+pub(crate) use waits::put_back;
 
 /// The state of a channel, with no lock and no thread: the messages that were sent and not received, first the one that is
 /// received next; how many there may be at most; whether the channel is closed; and the queues of those that wait.

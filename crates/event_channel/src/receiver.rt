@@ -1,5 +1,5 @@
 //! The side that receives.
-ghost use Rattle.std.specs.Prelude.{◌≡◌, ◌<◌, ◌≤◌, Ok, Some, IfOk, IfSome, IsSome, OnErr};
+ghost use Rattle.std.specs.Prelude.{◌≡◌, ◌<◌, ◌≤◌, None, Ok, Some, IfOk, IfSome, IsSome, OnErr};
 ghost use Rattle.event_channel.specs.Calls.{channel_machine};
 ghost use Rattle.event_channel.specs.Hands.{ReceivesBlocking, ReceivesWaiting};
 ghost use Rattle.event_channel.specs.Many.{Appends, Collects};
@@ -13,10 +13,8 @@ use crate::channel::{Link, wait_error};
 use crate::error::{RecvError, RecvTimeoutError, TryRecvError, WaitError};
 use crate::receiving::{Receiving, ReceivingMany};
 use crate::recv::{Recv, received, received_in_time};
-use crate::steps::Pop;
-use event_history::perform;
 use event_queue::ListenError;
-use event_wait::{DeferredWake, Limit, Refused};
+use event_wait::{Limit, Refused};
 use futures::Stream;
 use futures::task::{Context, Poll};
 use std::alloc::AllocError;
@@ -26,7 +24,8 @@ use std::sync::Wait;
 use std::time::{Clock, Duration, Instant};
 use std::{fmt, mem};
 
-/// Receives the messages of a channel. Clones receive of the same one; when the last is dropped, the channel is closed.
+/// Receives the messages of a channel. Clones receive of the same one; when the last is dropped, the channel is closed, and the
+/// messages that wait are dropped.
 ///
 /// Each message is received once, and in the order in which they were sent. Each call may wait for the lock of the channel,
 /// as those of a [`Sender`](crate::Sender) do. A receiver is a stream of the messages too, which ends when the channel is
@@ -40,14 +39,18 @@ pub struct Receiver<T: Drop, R: Wait + Clock + Clone> {
 
 impl<T: Drop, R: Wait + Clock + Clone> Model for Receiver<T, R> {
     ghost use Rattle.event_channel.specs.Handle.{Handle};
+    ghost use Rattle.std.specs.Prelude.{All};
     ghost use Rattle.event_channel.specs.Hands.{IsOneHand};
+    ghost use Rattle.event_channel.specs.Places.{WaitsAt, receiver_at};
 
     ghost Value = { Handle };
 
     ghost view = { λ receiver. receiver.link };
 
     ghost invariant = { λ receiver. IsOneHand receiver.link.channel.table
-        receiver.hand.rest.slot receiver.hand.rest.views };
+        receiver.hand.rest.slot receiver.hand.rest.views
+        × All (λ v. WaitsAt (receiver_at receiver.stream.asked receiver.stream.key) v.mine)
+        receiver.hand.rest.views };
 }
 
 impl<T: Drop, R: Wait + Clock + Clone> Receiver<T, R> {
@@ -73,7 +76,7 @@ impl<T: Drop, R: Wait + Clock + Clone> Receiver<T, R> {
         ensures { IsOf self.now.channel.table result
             × (known_by result ≡ newcomer (known_by result).seen) }
     {
-        self.link.channel.lock.hand()
+        self.link.channel.hand()
     }
 
     /// A new hand, which has seen as much of the history of this channel as that one. It is one load.
@@ -84,7 +87,7 @@ impl<T: Drop, R: Wait + Clock + Clone> Receiver<T, R> {
         ensures told { SameTable hand.old result
             × (known_by result ≡ newcomer (known_by hand.old).seen) }
     {
-        self.link.channel.lock.fork(hand)
+        self.link.channel.fork(hand)
     }
 
     /// Has a hand learn what another one saw and did, which is no more. From here on it speaks of one history that has the
@@ -96,7 +99,7 @@ impl<T: Drop, R: Wait + Clock + Clone> Receiver<T, R> {
         ensures looks { Looks (channel_machine self.now.capacity)
             (both_views (known_by hand.old) (known_by other)) (known_by hand.new) }
     {
-        self.link.channel.lock.join(hand, other);
+        self.link.channel.join(hand, other);
     }
 
     /// Receives the first message, if one waits. While a receive [starves](crate::PATIENCE) a message that is due to a notified one
@@ -119,11 +122,7 @@ impl<T: Drop, R: Wait + Clock + Clone> Receiver<T, R> {
         ensures call { Extends (channel_machine self.now.capacity) (known_by hand.old)
             (call.Receive result) (known_by hand.new) }
     {
-        let (lock, rt) = (&self.link.channel.lock, &self.link.rt);
-        let mut waking = DeferredWake::new();
-        let received = perform!(lock, rt, hand, Pop, &mut waking);
-        waking.finish_seldom();
-        received
+        self.link.channel.try_receive(&self.link.rt, hand)
     }
 
     /// Receives a message once there is one: to be awaited. Nothing is received before it is polled, and no message is lost
@@ -219,6 +218,7 @@ impl<T: Drop, R: Wait + Clock + Clone> Receiver<T, R> {
         &self,
         many: &mut ReceivingMany<T>,
     ) -> Result<Option<Option<usize>>, Refused<ListenError>>
+        requires { many.old.key ≡ None }
         ensures never { IfOk result IsSome }
         ensures gets { Gets Collects many.old.asked result many.new.asked }
     {
@@ -247,7 +247,8 @@ impl<T: Drop, R: Wait + Clock + Clone> Receiver<T, R> {
             → ReceivesWaiting self.now.capacity (known_by hand.old) result (known_by hand.new) }
     {
         let mut receiving = Receiving::one();
-        self.link.channel.lock.obtain(&self.link.rt, self.link.alloc, hand, &mut receiving, limit)
+        let link = &self.link;
+        link.channel.wait_to_receive(&link.rt, link.alloc, &mut hand.hand, &mut receiving, limit)
     }
 
     /// Closes the channel, and wakes all that wait, under its lock but for the last. Returns `false` if it is closed already.
@@ -327,15 +328,18 @@ impl<T: Drop, R: Wait + Clock + Clone> Clone for Receiver<T, R> {
     }
 }
 
-/// The last receiver closes the channel.
+/// The last receiver closes the channel, and drops the messages that wait: nobody can receive them any more.
 impl<T: Drop, R: Wait + Clock + Clone> Drop for Receiver<T, R> {
     fn drop(self) {
         let Receiver { link, stream, hand } = self;
         let mut stream = stream;
         let mut hand = hand.into_hand();
-        link.channel.lock.give_up(&link.rt, &mut hand, &mut stream);
+        link.channel
+            .stop_receiving(&link.rt, &mut hand, &mut stream);
+        let mut hand = ChannelHand::of(hand);
         if link.channel.receivers.remove() {
             link.channel.close(&link.rt, &mut hand);
+            link.channel.drop_messages(&link.rt, &mut hand);
         }
         hand.end();
     }

@@ -2,12 +2,13 @@
 ghost use Rattle.std.specs.Prelude.{◌≡◌, None, true, false};
 ghost use Rattle.event_channel.specs.Calls.{LeavesReceivers, ReceivesOne, calls, received_at_once, receiver_key};
 ghost use Rattle.event_channel.specs.Many.{Collects};
-ghost use Rattle.event_channel.specs.Requests.{ReceivesMany, ReceivesOrWaits};
+ghost use Rattle.event_channel.specs.Requests.{ReceivesMany};
 ghost use Rattle.event_channel.specs.declared.call.ChannelCall.{ChannelCall};
+ghost use Rattle.event_channel.specs.declared.call.ChannelCall.TheVariants.{ReceiveOrWait};
 ghost use Rattle.event_wait.specs.Attempted.{Attempts, LeavesBy};
 
 use crate::error::TryRecvError;
-use crate::messages::{Messages, key_after};
+use crate::messages::Messages;
 use event_history::{Attempt, Request};
 use event_queue::{Key, ListenError, TaskExchange, WakeSink};
 use event_wait::{Attempted, Task};
@@ -33,7 +34,8 @@ impl Model for Receiving {
 
 impl Receiving {
     pub(crate) fn one() -> Self
-        ensures { result.asked ≡ false }
+        ensures asked { result.asked ≡ false }
+        ensures key { result.key ≡ None }
     {
         Receiving {
             is_stream: false,
@@ -43,7 +45,8 @@ impl Receiving {
     }
 
     pub(crate) fn stream() -> Self
-        ensures { result.asked ≡ true }
+        ensures asked { result.asked ≡ true }
+        ensures key { result.key ≡ None }
     {
         Receiving {
             is_stream: true,
@@ -63,8 +66,7 @@ fn receive_or_wait<T, W: Drop, C, X: TaskExchange<W, C>, K: WakeSink<W>>(
     on: &mut C,
     sink: &mut K,
 ) -> Attempted<Option<T>, ListenError>
-    ensures receives { (call : ChannelCall T) × ReceivesOrWaits is_stream result call
-        × calls state.old call state.new }
+    ensures receives { calls state.old (ReceiveOrWait is_stream key result) state.new }
     ensures exchanges { Attempts (X.exchanged exchange.now) on.old result on.new }
 {
     if is_stream {
@@ -113,6 +115,7 @@ impl<T> Request<Messages<T, Task>> for Receiving {
     type Refusal = ListenError;
 
     ghost use Rattle.event_channel.specs.Asking.{AsksOn};
+    ghost use Rattle.event_channel.specs.Places.{WaitsAt, receiver_at};
     ghost use Rattle.event_channel.specs.Requests.{NotRefused, ReceivesOrLeaves, ReceivesOrWaits};
 
     ghost succeeds = { λ before _ after. AsksOn before after };
@@ -120,6 +123,9 @@ impl<T> Request<Messages<T, Task>> for Receiving {
     ghost waits = { AsksOn };
 
     ghost leaves = { λ before _ after. AsksOn before after };
+
+    // Its hand waits where it does itself.
+    ghost follows = { λ receiving. WaitsAt (receiver_at receiving.asked receiving.key) };
 
     ghost attempting = { λ receiving. ReceivesOrWaits receiving.asked };
 
@@ -142,7 +148,7 @@ impl<T> Request<Messages<T, Task>> for Receiving {
             on,
             sink,
         );
-        self.key = key_after(self.key, &attempted);
+        self.key = attempted.key();
         attempted
     }
 
@@ -186,7 +192,7 @@ impl<T> Attempt<Messages<T, Task>> for Receiving {
     }
 
     fn give_up<K: WakeSink<Task>>(&mut self, state: &mut Messages<T, Task>, sink: &mut K) {
-        leave(self.is_stream, self.key, state, sink);
+        leave(self.is_stream, self.key.take(), state, sink);
     }
 }
 
@@ -217,6 +223,7 @@ impl<T> ReceivingMany<T> {
     pub(crate) fn new(into: Vec<T>, more: usize) -> Self
         ensures into { result.asked.into ≡ into.items }
         ensures more { result.asked.more ≡ more }
+        ensures key { result.key ≡ None }
     {
         ReceivingMany {
             key: None,
@@ -275,6 +282,7 @@ impl<T> Request<Messages<T, Task>> for ReceivingMany<T> {
     ghost use Rattle.event_wait.specs.Attempted.{LeavesBy};
     ghost use Rattle.event_channel.specs.Asking.{AsksOn};
     ghost use Rattle.event_channel.specs.Many.{Collects};
+    ghost use Rattle.event_channel.specs.Places.{WaitsAt, receiver_at};
     ghost use Rattle.event_channel.specs.Requests.{NotRefused, ReceivesManyOrLeaves, ReceivesManyOrWaits};
 
     ghost succeeds = { λ before output after. Collects before.asked output after.asked };
@@ -282,6 +290,9 @@ impl<T> Request<Messages<T, Task>> for ReceivingMany<T> {
     ghost waits = { AsksOn };
 
     ghost leaves = { λ before answer after. LeavesBy Collects before.asked answer after.asked };
+
+    // Its hand waits where it does itself.
+    ghost follows = { λ many. WaitsAt (receiver_at false many.key) };
 
     ghost attempting = { λ many. ReceivesManyOrWaits many.asked };
 
@@ -304,6 +315,7 @@ impl<T> Request<Messages<T, Task>> for ReceivingMany<T> {
         }
         if self.into.len() == self.into.capacity() {
             state.cancel_receiver(key, sink);
+            self.key = None;
             return Attempted::Refused(ListenError::Memory);
         }
         match receive_or_wait(false, key, &mut self.losses, state, exchange, on, sink) {
@@ -324,7 +336,10 @@ impl<T> Request<Messages<T, Task>> for ReceivingMany<T> {
                 self.key = None;
                 Attempted::Absent
             }
-            Attempted::Refused(error) => Attempted::Refused(error),
+            Attempted::Refused(error) => {
+                self.key = None;
+                Attempted::Refused(error)
+            }
         }
     }
 
@@ -372,6 +387,6 @@ impl<T> Attempt<Messages<T, Task>> for ReceivingMany<T> {
     }
 
     fn give_up<K: WakeSink<Task>>(&mut self, state: &mut Messages<T, Task>, sink: &mut K) {
-        state.cancel_receiver(self.key, sink);
+        state.cancel_receiver(self.key.take(), sink);
     }
 }

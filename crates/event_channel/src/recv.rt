@@ -63,14 +63,17 @@ pub(crate) fn received_in_time<T>(
 
 impl<'a, T: Drop, R: Wait + Clock + Clone> Model for Recv<'a, T, R> {
     ghost use Rattle.event_channel.specs.Hands.{IsOneHand};
+    ghost use Rattle.event_channel.specs.Places.{WaitsAt, receiver_at};
     ghost use Rattle.event_history.specs.Lock.{LockId};
-    ghost use Rattle.std.specs.Prelude.{ℕ, Option};
+    ghost use Rattle.std.specs.Prelude.{ℕ, All, Option};
 
     ghost Value = { LockId (Option ℕ) };
 
     ghost view = { λ recv. recv.channel.now.lock };
 
     ghost invariant = { λ recv. IsOneHand recv.channel.now.lock.table recv.hand.rest.slot
+        recv.hand.rest.views
+        × All (λ v. WaitsAt (receiver_at recv.receiving.asked recv.receiving.key) v.mine)
         recv.hand.rest.views };
 }
 
@@ -115,8 +118,7 @@ impl<'a, T: Drop, R: Wait + Clock + Clone> Recv<'a, T, R> {
         let mut hand = recv.hand.take();
         let ended = recv
             .channel
-            .lock
-            .obtain(recv.rt, recv.alloc, &mut hand, &mut recv.receiving, limit);
+            .wait_to_receive(recv.rt, recv.alloc, &mut hand, &mut recv.receiving, limit);
         recv.hand.put(hand);
         ended
     }
@@ -133,7 +135,7 @@ impl<'a, T: Drop, R: Wait + Clock + Clone> Drop for Recv<'a, T, R> {
         } = self;
         let mut receiving = receiving;
         let mut hand = hand.into_hand();
-        channel.lock.give_up(rt, &mut hand, &mut receiving);
+        channel.stop_receiving(rt, &mut hand, &mut receiving);
         hand.end();
     }
 }

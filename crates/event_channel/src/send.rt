@@ -35,7 +35,9 @@ pub struct Send<'a, T: Drop, R: Wait + Clock + Clone> {
 
 impl<'a, T: Drop, R: Wait + Clock + Clone> Model for Send<'a, T, R> {
     ghost use Rattle.event_channel.specs.Handle.{Pending};
+    ghost use Rattle.std.specs.Prelude.{All};
     ghost use Rattle.event_channel.specs.Hands.{IsOneHand};
+    ghost use Rattle.event_channel.specs.Places.{WaitsAt, sender_at};
 
     ghost Value = { Pending T };
 
@@ -45,7 +47,8 @@ impl<'a, T: Drop, R: Wait + Clock + Clone> Model for Send<'a, T, R> {
     } };
 
     ghost invariant = { λ send. IsOneHand send.channel.now.lock.table send.hand.rest.slot
-        send.hand.rest.views };
+        send.hand.rest.views
+        × All (λ v. WaitsAt (sender_at send.sending.key) v.mine) send.hand.rest.views };
 }
 
 impl<'a, T: Drop, R: Wait + Clock + Clone> Send<'a, T, R> {
@@ -130,7 +133,7 @@ impl<'a, T: Drop, R: Wait + Clock + Clone> Drop for Send<'a, T, R> {
         } = self;
         let mut sending = sending;
         let mut hand = hand.into_hand();
-        channel.lock.give_up(rt, &mut hand, &mut sending);
+        channel.stop_sending(rt, &mut hand, &mut sending);
         hand.end();
     }
 }

@@ -117,7 +117,7 @@ impl<T: Drop, R: Wait + Clock + Clone> Sender<T, R> {
         ensures { IsOf self.now.channel.table result
             × (known_by result ≡ newcomer (known_by result).seen) }
     {
-        self.link.channel.lock.hand()
+        self.link.channel.hand()
     }
 
     /// A new hand, which has seen as much of the history of this channel as that one. It is one load.
@@ -128,7 +128,7 @@ impl<T: Drop, R: Wait + Clock + Clone> Sender<T, R> {
         ensures told { SameTable hand.old result
             × (known_by result ≡ newcomer (known_by hand.old).seen) }
     {
-        self.link.channel.lock.fork(hand)
+        self.link.channel.fork(hand)
     }
 
     /// Has a hand learn what another one saw and did, which is no more. From here on it speaks of one history that has the
@@ -140,7 +140,7 @@ impl<T: Drop, R: Wait + Clock + Clone> Sender<T, R> {
         ensures looks { Looks (channel_machine self.now.capacity)
             (both_views (known_by hand.old) (known_by other)) (known_by hand.new) }
     {
-        self.link.channel.lock.join(hand, other);
+        self.link.channel.join(hand, other);
     }
 
     /// Sends a message if the channel is open and has a free place. While a send [starves](crate::PATIENCE) a place that is due to a
@@ -171,7 +171,7 @@ impl<T: Drop, R: Wait + Clock + Clone> Sender<T, R> {
     {
         let (lock, rt) = (&self.link.channel.lock, &self.link.rt);
         let mut waking = DeferredWake::new();
-        let sent = perform!(lock, rt, hand, Push { message }, &mut waking);
+        let sent = perform!(lock, rt, hand.hand, Push { message }, &mut waking);
         waking.finish_seldom();
         sent
     }
@@ -297,7 +297,7 @@ impl<T: Drop, R: Wait + Clock + Clone> Sender<T, R> {
         let link = &self.link;
         match link
             .channel
-            .wait_to_send(&link.rt, link.alloc, hand, &mut sending, limit)
+            .wait_to_send(&link.rt, link.alloc, &mut hand.hand, &mut sending, limit)
         {
             Ok(Some(Ok(()))) => Ok(()),
             Ok(Some(Err(reason))) => Err(sending.refuse(reason)),
@@ -388,7 +388,7 @@ impl<T: Drop, R: Wait + Clock + Clone> Drop for Sender<T, R> {
     fn drop(self) {
         let Sender { link } = self;
         if link.channel.senders.remove() {
-            let mut hand = link.channel.lock.hand();
+            let mut hand = link.channel.hand();
             link.channel.close(&link.rt, &mut hand);
             hand.end();
         }

@@ -5,7 +5,7 @@ ghost use Rattle.event_channel.specs.Waits.{Empties};
 ghost use Rattle.event_wait.specs.Attempted.{LeavesBy};
 
 use crate::error::{SendError, SendReason};
-use crate::messages::{Messages, key_after, put_back};
+use crate::messages::{Messages, put_back};
 use event_history::{Attempt, Request};
 use event_queue::{Key, ListenError, TaskExchange, WakeSink};
 use event_wait::{Attempted, Task};
@@ -31,7 +31,8 @@ impl<T> Model for Sending<T> {
 
 impl<T> Sending<T> {
     pub(crate) fn new(message: T) -> Self
-        ensures { result.asked ≡ Some message }
+        ensures message { result.asked ≡ Some message }
+        ensures key { result.key ≡ None }
     {
         Sending {
             message: Some(message),
@@ -45,6 +46,7 @@ impl<T> Sending<T> {
         requires { IsSome self.old.asked }
         ensures message { self.old.asked ≡ Some result.message }
         ensures reason { result.reason ≡ reason }
+        ensures key { self.new.key ≡ self.old.key }
     {
         match self.message.take() {
             Some(message) => SendError::new(message, reason),
@@ -86,6 +88,7 @@ impl<T: Drop> Request<Messages<T, Task>> for Sending<T> {
     type Refusal = ListenError;
 
     ghost use Rattle.event_channel.specs.Asking.{AsksOn};
+    ghost use Rattle.event_channel.specs.Places.{WaitsAt, sender_at};
     ghost use Rattle.event_wait.specs.Attempted.{LeavesBy};
     ghost use Rattle.event_channel.specs.Requests.{NotRefused, SendsOrLeaves, SendsOrWaits};
     ghost use Rattle.event_channel.specs.Waits.{Empties};
@@ -95,6 +98,9 @@ impl<T: Drop> Request<Messages<T, Task>> for Sending<T> {
     ghost waits = { AsksOn };
 
     ghost leaves = { λ before answer after. LeavesBy Empties before.asked answer after.asked };
+
+    // Its hand waits where it does itself.
+    ghost follows = { λ sending. WaitsAt (sender_at sending.key) };
 
     ghost attempting = { λ sending. SendsOrWaits sending.asked };
 
@@ -109,7 +115,7 @@ impl<T: Drop> Request<Messages<T, Task>> for Sending<T> {
     ) -> Attempted<Result<(), SendReason>, ListenError> {
         let (message, losses) = (&mut self.message, &mut self.losses);
         let attempted = state.push_or_wait(message, self.key, losses, exchange, on, sink);
-        self.key = key_after(self.key, &attempted);
+        self.key = attempted.key();
         attempted
     }
 
@@ -149,6 +155,6 @@ impl<T: Drop> Attempt<Messages<T, Task>> for Sending<T> {
     }
 
     fn give_up<K: WakeSink<Task>>(&mut self, state: &mut Messages<T, Task>, sink: &mut K) {
-        state.cancel_sender(self.key, sink);
+        state.cancel_sender(self.key.take(), sink);
     }
 }

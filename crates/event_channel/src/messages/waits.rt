@@ -27,17 +27,6 @@ pub(crate) fn put_back<T>(slot: &mut Option<T>, value: T)
     }
 }
 
-// The key by which one waits after an attempt that it made by this one. One that can't wait keeps its own, though that is the
-// key of no listener any more: a later attempt takes it for a newcomer then, and giving up by it changes nothing.
-pub(crate) fn key_after<G>(key: Option<Key>, attempted: &Attempted<G, ListenError>) -> Option<Key>
-    ensures { OnRefused attempted.now (result ≡ key) }
-{
-    match attempted {
-        Attempted::Refused(_) => key,
-        _ => attempted.key(),
-    }
-}
-
 impl<T, W: Drop> Messages<T, W> {
     /// [`push`](Messages::push) of the message in a slot; one that was notified takes a place that is due to it, too. Where there
     /// is no room for it its sender waits, with the task that the exchange makes. A message that is not sent stays in its slot;
