@@ -168,7 +168,8 @@ impl Semaphore {
     }
 
     /// Adds permits, all free at once, and notifies the first that wait of them. As many as
-    /// [`MAX_PERMITS`](Semaphore::MAX_PERMITS) are free at most. It does not wait: a thread that has the queue notifies then.
+    /// [`MAX_PERMITS`](Semaphore::MAX_PERMITS) are free at most. A thread that has the queue notifies then. It may wait for the queue
+    /// only to wake more than eight.
     pub fn add_permits<R: Wait>(&self, rt: &R, n: usize) {
         self.word.add(rt, n as u64);
     }

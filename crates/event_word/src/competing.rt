@@ -8,11 +8,13 @@ ghost use Rattle.event_word.specs.Competing.{rules_of};
 ghost use Rattle.event_wait.specs.FairQueue.{State};
 
 use crate::contender::{Coming, PATIENCE};
+use crate::wakes::Room;
 use crate::word::Kept;
 use event_queue::{Key, RegisterResult, TaskExchange, WakeSink};
 use event_wait::{FairQueue, LockError, Task};
-use std::alloc::Global;
+use std::alloc::{AllocError, Global};
 use std::marker::PhantomData;
+use std::mem;
 
 /// The bit of a lock's number that shuts newcomers out.
 pub const SHUT: u64 = 0x2000_0000_0000_0000;
@@ -44,6 +46,9 @@ pub trait Counted {
     // Whether one has the right to the value, by the same number.
     ghost taken: { ℕ → Bool };
 
+    /// Whether more than one may be notified at a time.
+    const ARE_MANY: bool;
+
     /// Whether it may be closed.
     const CLOSES: bool;
 
@@ -66,6 +71,8 @@ impl Counted for Permits {
 
     ghost taken = { λ _. false };
 
+    const ARE_MANY: bool = true;
+
     const CLOSES: bool = true;
 
     ghost CLOSES = { true };
@@ -80,6 +87,8 @@ impl Counted for OneValue {
 
     ghost taken = { λ number. number == 0 };
 
+    const ARE_MANY: bool = false;
+
     const CLOSES: bool = false;
 
     ghost CLOSES = { false };
@@ -89,6 +98,7 @@ impl Counted for OneValue {
 #[derive(Drop)]
 pub struct Competing<C> {
     pub line: FairQueue<Task>,
+    room: Room,
     alloc: Global,
     of: PhantomData<C>,
 }
@@ -102,6 +112,7 @@ impl<C> Competing<C> {
     {
         Competing {
             line: FairQueue::new(alloc),
+            room: Room::new(),
             alloc,
             of: PhantomData,
         }
@@ -202,6 +213,19 @@ impl<C> Competing<C> {
     }
 }
 
+impl<C: Counted> Competing<C> {
+    // Makes room for the task of one more that waits.
+    pub(crate) fn make_room(&mut self) -> Result<(), AllocError>
+        ensures { self.new ≡ self.old }
+    {
+        if !C::ARE_MANY {
+            return Ok(());
+        }
+        let waiting = self.line.waiting();
+        self.room.make(self.alloc, waiting.saturating_add(1))
+    }
+}
+
 impl<C: Counted> Kept for Competing<C> {
     ghost rules = { rules_of C.fits C.taken C.CLOSES };
 
@@ -217,6 +241,13 @@ impl<C: Counted> Kept for Competing<C> {
         }
     }
 
+    fn shut(number: u64) -> u64 {
+        if number >= CLOSED {
+            return number;
+        }
+        number + SHUT
+    }
+
     fn settle<K: WakeSink<Task>>(&mut self, number: u64, sink: &mut K) -> bool {
         if is_closed_for::<C>(number) {
             self.close(sink);
@@ -224,6 +255,12 @@ impl<C: Counted> Kept for Competing<C> {
         }
         self.line.tell(free(number) as usize, sink);
         self.line.waiting() > 0
+    }
+
+    fn swap_room(&mut self, room: &mut Room)
+        ensures { self.new ≡ self.old }
+    {
+        mem::swap(&mut self.room, room);
     }
 
     ghost promises = { λ number state stands. stands.serves };

@@ -3,8 +3,10 @@
 //! [`Word`] keeps a *state*, the queues of those that wait, behind an atomic word. The word has a *number*, of what is free or
 //! who has the value, and a *code*, which says whether the state is there and whether somebody may wait. One compare-exchange
 //! takes what is free, and one gives it back where nobody waits. Else a thread takes the state out, notifies, and puts it back
-//! by a compare-exchange that fails where the word has changed: then it notifies again. What is out can't be dropped. Word, state and
-//! value lie in place, in a [`Slot`](event_slot::Slot), so making a lock takes no memory.
+//! by a compare-exchange that fails where the word has changed: then it notifies again. What is out can't be dropped. Whom it notified it
+//! wakes once the state is back: a few from a list of its own, and where they are more, the next few once it has taken the state again.
+//! Their tasks lie beside the state meanwhile, in room that those that wait have made. Word, state and value lie in place, in a
+//! [`Slot`](event_slot::Slot), so making a lock takes no memory.
 //!
 //! A thread that finds the state out at last sleeps, once it has marked the word. Whoever puts the state back wakes one that sleeps; the
 //! woken one marks the word as it takes the state, since others may sleep still.
@@ -13,7 +15,7 @@
 //! whose queue is a fair one; [`Queues`] is that of a read-write lock, to which one comes by a [`Right`]. Nobody needs this crate
 //! to use a lock: [`event_locks`](../../event_locks/README.md) has them.
 //!
-//! Read `word.rt` and `word/rule.rt` first, then `word/take.rt`; for a semaphore and a mutex `competing.rt`,
+//! Read `word.rt` and `word/rule.rt` first, then `word/take.rt` and `wakes.rt`; for a semaphore and a mutex `competing.rt`,
 //! `word/competing.rt`, `word/permits.rt` and `word/value.rt`; for a read-write lock `shares/queues.rt`, `shares/right.rt`,
 //! `shares/steps.rt`, `shares/owned.rt` and `shares/requests.rt`.
 #![tactic(auto)]
@@ -23,6 +25,7 @@ mod contender;
 mod counts;
 mod error;
 mod shares;
+mod wakes;
 mod word;
 
 pub use competing::{Competing, Counted, OneValue, Permits, the_starving_find_one};
@@ -37,6 +40,7 @@ pub use shares::reading::Reading;
 pub use shares::right::Right;
 pub use shares::share::{Grant, Out, Share};
 pub use shares::writing::Writing;
+pub use wakes::Room;
 pub use word::{
     Held, Kept, Lent, Lodging, Parked, Permit, Place, Seat, Step, View, Word, put_in, take_out,
 };

@@ -5,11 +5,13 @@ ghost use Rattle.event_word.specs.Queues.{Admits, HasNoRoom, IsAWriterThere, IsE
 
 use super::counts::RwLockCounts;
 use super::number;
+use crate::wakes::Room;
 use crate::word::Kept;
 use event_queue::{List, WakeSink};
 use event_wait::Task;
 use event_wait::waiters::{hand_all, hand_out, somebody_waits};
-use std::alloc::Global;
+use std::alloc::{AllocError, Global};
+use std::mem;
 
 // The number of one reader.
 const ONE_READER: u64 = 2;
@@ -25,6 +27,9 @@ pub struct Queues<W> {
     pub(super) write_line: List<(), W>,
     // Whether the readers go first where both wait: a writer has the value, or had it last.
     readers_first: bool,
+    // For the tasks of all readers that wait.
+    room: Room,
+    alloc: Global,
 }
 
 // Who is let in next.
@@ -52,6 +57,8 @@ impl<W> Queues<W> {
             read_line: List::new(alloc),
             write_line: List::new(alloc),
             readers_first: false,
+            room: Room::new(),
+            alloc,
         }
     }
 
@@ -89,6 +96,14 @@ impl<W> Queues<W> {
     {
         let waiting = self.read_line.total_listeners() as u64;
         number::readers(number).saturating_add(waiting) < number::TOO_MANY - 2
+    }
+
+    // Makes room for the task of one more reader that waits.
+    pub(super) fn make_room(&mut self) -> Result<(), AllocError>
+        ensures { self.new ≡ self.old }
+    {
+        let waiting = waiting(&self.read_line);
+        self.room.make(self.alloc, waiting.saturating_add(1))
     }
 
     // Whether a writer writes or was let in.
@@ -211,6 +226,12 @@ impl Kept for Queues<Task> {
 
     fn settle<K: WakeSink<Task>>(&mut self, number: u64, sink: &mut K) -> bool {
         self.let_in(number, sink)
+    }
+
+    fn swap_room(&mut self, room: &mut Room)
+        ensures { self.new ≡ self.old }
+    {
+        mem::swap(&mut self.room, room);
     }
 
     ghost promises = { λ _ _ stands. stands.alone };

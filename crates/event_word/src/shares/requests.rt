@@ -11,8 +11,9 @@ use super::queues::Queues;
 use super::right::Right;
 use super::share::{Grant, Out};
 use crate::word::{ONE, Word};
-use event_queue::{Key, RegisterResult, TaskExchange};
+use event_queue::{Key, ListenError, RegisterResult, TaskExchange};
 use event_wait::{Attempted, LockError, Task};
+use std::alloc::AllocError;
 use std::sync::Wait;
 
 impl<V> Word<Queues<Task>, V> {
@@ -114,7 +115,11 @@ impl<V> Word<Queues<Task>, V> {
         ensures refused { OnErr result ((on.new ≡ on.old)
             × (held.new.claim.state ≡ held.old.claim.state)) }
     {
-        K::wait(held.claim.state_mut(), seen / ONE, exchange, on)
+        let queues = held.claim.state_mut();
+        if let Err(AllocError) = queues.make_room() {
+            return Err(LockError::Listen(ListenError::Memory));
+        }
+        K::wait(queues, seen / ONE, exchange, on)
     }
 
     /// Takes one out of its queue. Returns whether it was let in.

@@ -45,9 +45,10 @@ pub trait Right<W> {
     // What one may do then, as a slot counts it: 1 is to read, 2 to write.
     ghost RIGHT: { ℕ };
 
-    /// The word with one more, if nobody waits and a newcomer may come.
+    /// The word with one more, if nobody waits and a newcomer may come. So newcomers leave a word alone whose queues are out.
     fn word_in(word: u64) -> Option<u64>
         requires { IsCount (number_of word) }
+        ensures home { IfSome result (λ _. word % 4 ≡ 0) }
         ensures step { IfSome result (Recounts 0 RIGHT word) }
         ensures counts { IfSome result (λ new. number_of new ≡ number_of word + COUNTS) };
 

@@ -13,8 +13,9 @@ use super::reading::Reading;
 use super::right::Right;
 use super::share::{Grant, Out, Share};
 use super::writing::Writing;
-use crate::word::{ONE, Seat, Word};
-use event_wait::{DeferredWake, Task};
+use crate::wakes::Wakes;
+use crate::word::{Kept, ONE, Seat, Word};
+use event_wait::Task;
 use std::sync::Wait;
 
 impl<V> Word<Queues<Task>, V> {
@@ -487,11 +488,10 @@ impl<V> Word<Queues<Task>, V> {
             grant = Grant::new(claim);
         }
         let (_, mut held) = self.take(rt);
-        let mut waking = DeferredWake::new();
+        let mut waking = Wakes::new();
         let reads = self.count_as_reader(rt, &mut held, grant);
         self.hand_to_readers(&mut held, &mut waking);
-        self.put_back(rt, held);
-        waking.finish();
+        self.put_back_waking(rt, held, waking);
         reads
     }
 
@@ -528,7 +528,7 @@ impl<V> Word<Queues<Task>, V> {
     }
 
     // Lets all readers in that wait, once the writer is counted as one.
-    fn hand_to_readers(&self, held: &mut Out<'_, V>, waking: &mut DeferredWake)
+    fn hand_to_readers(&self, held: &mut Out<'_, V>, waking: &mut Wakes)
         requires seat { IsOf self.now.slot.name held.old }
         requires reads { HasState (λ n q. (n ≡ 2) × IsExclusive 1 q) held.old }
         ensures seat { IsOf self.now.slot.name held.new }
@@ -536,6 +536,9 @@ impl<V> Word<Queues<Task>, V> {
         ensures lets_in { HasState (λ n q. (n ≡ 2) × IsExclusive n q
             × (length q.read_line.waiting ≡ 0)) held.new }
     {
-        held.claim.state_mut().downgrade(waking)
+        let queues = held.claim.state_mut();
+        queues.swap_room(&mut waking.room);
+        queues.downgrade(waking);
+        queues.swap_room(&mut waking.room);
     }
 }

@@ -10,8 +10,9 @@ use super::held::Held;
 use crate::competing::{Competing, Counted, SHUT, free, is_closed_for};
 use crate::contender::Arrival;
 use crate::counts::Counts;
-use event_queue::{Key, TaskExchange};
+use event_queue::{Key, ListenError, TaskExchange};
 use event_wait::{LockError, Task};
+use std::alloc::AllocError;
 use std::sync::Wait;
 
 impl<C: Counted, V> Word<Competing<C>, V> {
@@ -104,9 +105,11 @@ impl<C: Counted, V> Word<Competing<C>, V> {
         ensures refused { OnErr result ((place.new ≡ place.old) × (losses.new ≡ losses.old)
             × (on.new ≡ on.old)) }
     {
-        held.claim
-            .state_mut()
-            .lose(place, losses, arrival.coming(), exchange, on)
+        let state = held.claim.state_mut();
+        if let Err(AllocError) = state.make_room() {
+            return Err(LockError::Listen(ListenError::Memory));
+        }
+        state.lose(place, losses, arrival.coming(), exchange, on)
     }
 
     /// One that competes leaves the queue, if it is there. Returns how it would have come.

@@ -1,7 +1,8 @@
 //! What a lock keeps behind its word.
-ghost use Rattle.std.specs.Prelude.{◌≡◌, ◌^◌, ◌<◌, ℕ, false, true};
+ghost use Rattle.std.specs.Prelude.{◌≡◌, ◌^◌, ◌<◌, ◌≤◌, ℕ, false, true};
 ghost use Rattle.event_word.specs.Rules.{Rules};
 
+use crate::wakes::Room;
 use event_queue::WakeSink;
 use event_wait::Task;
 
@@ -18,7 +19,21 @@ pub trait Kept: Sized {
         ensures fits { rules.fits result }
         ensures promised { rules.promised result self.now }
         ensures tells { rules.tells result self.now }
-        ensures counts { rules.counts result ≡ rules.counts number };
+        ensures counts { rules.counts result ≡ rules.counts number }
+        ensures lowers { result ≤ number → (state : Self) → rules.promised result state
+            → rules.promised number state };
+
+    /// The number by which newcomers leave it alone, if there is one. Those who give back what they have change it still.
+    fn shut(number: u64) -> u64
+        requires { (number < 2 ^ 62) × rules.fits number }
+        ensures room { result < 2 ^ 62 }
+        ensures fits { rules.fits result }
+        ensures counts { rules.counts result ≡ rules.counts number }
+        ensures promised { (state : Self) → rules.promised number state
+            → rules.promised result state }
+    {
+        number
+    }
 
     /// Notifies those that wait of what is free by this number. Returns whether somebody waits still.
     fn settle<K: WakeSink<Task>>(&mut self, number: u64, sink: &mut K) -> bool
@@ -27,6 +42,11 @@ pub trait Kept: Sized {
         ensures stands { rules.stands number self.new }
         ensures quiet { result ≡ false → rules.quiet self.new }
         ensures crowded { result ≡ true → rules.quiet self.new → ⊥ };
+
+    /// Exchanges the room beside the state, if it has one, and changes nothing that a contract sees.
+    fn swap_room(&mut self, _room: &mut Room)
+        ensures { self.new ≡ self.old }
+    {}
 
     // What stands is promised.
     ghost promises: { (number : ℕ) (state : Self) → rules.stands number state → rules.promised number state };

@@ -1,17 +1,17 @@
 //! The steps of a semaphore on its word.
 ghost use Rattle.std.specs.Prelude.{◌≡◌, ◌+◌, ◌-◌, ◌≤◌, ◌^◌, [], Err, min, IfOk, IfSome};
 ghost use Rattle.event_word.specs.declared.error.TryAcquireError.TheVariants.{Closed, NoPermits};
-ghost use Rattle.event_word.specs.Free.{IsClosed, NoneFor, ServesTheStarving, ServesWith, free_of};
+ghost use Rattle.event_word.specs.Free.{IsClosed, NobodyIsThere, NoneFor, ServesTheStarving, ServesWith, free_of};
 ghost use Rattle.event_word.specs.Held.{HasState, IsOf};
 ghost use Rattle.event_word.specs.Word.{count, number_of};
 
 use super::held::Held;
 use super::permit::Permit;
 use super::serving::may_take;
-use super::{CROWDED, ONE, Step, Word};
+use super::{CROWDED, Kept, ONE, Step, Word};
 use crate::competing::{CLOSED, Competing, Permits, free, is_closed};
 use crate::error::TryAcquireError;
-use event_wait::DeferredWake;
+use crate::wakes::Wakes;
 use std::sync::Wait;
 
 // As many permits may be free.
@@ -92,8 +92,9 @@ impl Word<Competing<Permits>, ()> {
         None
     }
 
-    /// Gives permits of this word back, and notifies as many of those that wait. It does not wait for the state: whoever has that out
-    /// notifies. It is one load and one compare-exchange where nobody waits.
+    /// Gives permits of this word back, and notifies as many of those that wait. Where a thread has the state out, that thread
+    /// notifies. This call may wait for the state only to wake more than a few. It is one load and one compare-exchange where
+    /// nobody waits.
     #[inline(always)]
     pub fn give_permit<R: Wait>(&self, rt: &R, permit: Permit)
         requires { permit.origin ≡ self.now.slot.name }
@@ -180,11 +181,23 @@ impl Word<Competing<Permits>, ()> {
     /// are out come back still. It waits for the state.
     pub fn close<R: Wait>(&self, rt: &R) {
         let (_, mut held) = self.take(rt);
-        let mut waking = DeferredWake::new();
+        let mut waking = Wakes::new();
         self.mark_closed(rt, &mut held);
-        held.claim.state_mut().close(&mut waking);
-        self.put_back(rt, held);
-        waking.finish();
+        self.notify_all(&mut held, &mut waking);
+        self.put_back_waking(rt, held, waking);
+    }
+
+    // Notifies all that wait, and then nobody is in the queue.
+    fn notify_all(&self, held: &mut Held<'_, Competing<Permits>, ()>, waking: &mut Wakes)
+        requires seat { IsOf self.now.slot.name held.old }
+        requires closed { HasState (λ n _. IsClosed n) held.old }
+        ensures seat { IsOf self.now.slot.name held.new }
+        ensures nobody { HasState (λ n q. IsClosed n × NobodyIsThere q.line) held.new }
+    {
+        let state = held.claim.state_mut();
+        state.swap_room(&mut waking.room);
+        state.close(waking);
+        state.swap_room(&mut waking.room);
     }
 
     // Sets the bit, and clears that which shuts newcomers out.

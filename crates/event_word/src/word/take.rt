@@ -1,5 +1,5 @@
 //! Taking the state out from behind its word, and putting it back.
-ghost use Rattle.std.specs.Prelude.{◌≡◌, ◌*◌, ◌%◌, ◌^◌, ◌<◌, None, false, true, IfErr, IfOk, MatchResult};
+ghost use Rattle.std.specs.Prelude.{◌≡◌, ◌*◌, ◌%◌, ◌^◌, ◌<◌, ◌≤◌, None, false, true, IfErr, IfOk, MatchResult};
 ghost use Rattle.event_word.specs.Held.{HasState, IsOf};
 ghost use Rattle.event_word.specs.Word.{Stays, Takes, nothing, number_of, owes, owing};
 
@@ -7,8 +7,12 @@ use super::held::Held;
 use super::kept::Kept;
 use super::rule::{Change, Put, Sleep, Take, Wake};
 use super::{AWAITED, CROWDED, ONE, OUT, Seat, Word};
-use event_wait::{DeferredWake, PAUSES, pause};
+use crate::wakes::Wakes;
+use event_wait::{PAUSES, pause};
 use std::sync::Wait;
+
+// So often a thread tries to put the state back before it shuts newcomers out for that.
+const TRIES: u32 = 16;
 
 // A thread parks on the low half of the word, where the code is.
 const PARKED_BITS: u64 = 0x1_0000_0000;
@@ -110,26 +114,82 @@ impl<S: Kept, V> Word<S, V> {
         found == seen
     }
 
-    /// Puts the state back, once those that wait were notified of what is free by the number then. Whom it notifies last is
-    /// woken after that. The number may change meanwhile: then it notifies again.
+    /// Puts the state back, once those that wait were notified of what is free by the number then, and wakes them after that. Where they
+    /// are more than a few, it takes the state again for each few. The number may change meanwhile: then it notifies again.
     #[cold]
     #[inline(never)]
     pub fn put_back<R: Wait>(&self, rt: &R, held: Held<'_, S, V>)
         requires seat { IsOf self.now.slot.name held }
         requires promised { HasState S.rules.promised held }
     {
-        let mut held = held;
-        let mut waking = DeferredWake::new();
+        self.put_back_waking(rt, held, Wakes::new());
+    }
+
+    /// The same after a step that has notified already.
+    pub(crate) fn put_back_waking<R: Wait>(&self, rt: &R, held: Held<'_, S, V>, waking: Wakes)
+        requires seat { IsOf self.now.slot.name held }
+        requires promised { HasState S.rules.promised held }
+    {
+        let mut waking = waking;
+        self.put_home(rt, held, &mut waking);
         for _ in rt.forever() {
-            match self.try_to_put_back(held, &mut waking) {
-                Ok(_) => {
-                    waking.finish();
-                    return;
-                }
+            if !waking.wake_few() {
+                waking.end();
+                return;
+            }
+            let (_, again) = self.take(rt);
+            self.put_home(rt, again, &mut waking);
+        }
+        unreachable!()
+    }
+
+    // The state is back once this returns, and nobody is woken yet.
+    fn put_home<R: Wait>(&self, rt: &R, held: Held<'_, S, V>, waking: &mut Wakes)
+        requires seat { IsOf self.now.slot.name held }
+        requires promised { HasState S.rules.promised held }
+    {
+        let mut held = held;
+        for _ in 0..TRIES {
+            match self.try_to_put_back(held, waking) {
+                Ok(_) => return,
+                Err(again) => held = again,
+            }
+        }
+        self.put_home_shut(rt, held, waking);
+    }
+
+    // The same where the number changed again and again. Newcomers are shut out first, so it fails only as often as others give back what
+    // they have. At a read-write lock they leave a word alone whose queues are out (`home` of `Right::word_in`).
+    #[cold]
+    #[inline(never)]
+    fn put_home_shut<R: Wait>(&self, rt: &R, held: Held<'_, S, V>, waking: &mut Wakes)
+        requires seat { IsOf self.now.slot.name held }
+        requires promised { HasState S.rules.promised held }
+    {
+        let mut held = held;
+        for _ in rt.forever() {
+            self.shut_out(&mut held);
+            match self.try_to_put_back(held, waking) {
+                Ok(_) => return,
                 Err(again) => held = again,
             }
         }
         unreachable!()
+    }
+
+    // The word gets the number by which newcomers leave it alone, if it is as it was seen.
+    fn shut_out(&self, held: &mut Held<'_, S, V>)
+        requires seat { IsOf self.now.slot.name held.old }
+        requires promised { HasState S.rules.promised held.old }
+        ensures seat { IsOf self.now.slot.name held.new }
+        ensures promised { HasState S.rules.promised held.new }
+    {
+        let seen = self.see(held);
+        let number = seen / ONE;
+        let shut = S::shut(number);
+        if shut != number {
+            self.renumber(held, seen, shut * ONE + seen % 4);
+        }
     }
 
     // Returns the seat that had the state, which owes nobody a wake any more. An error has the state where the number changed meanwhile.
@@ -137,7 +197,7 @@ impl<S: Kept, V> Word<S, V> {
     fn try_to_put_back<'a>(
         &self,
         held: Held<'a, S, V>,
-        waking: &mut DeferredWake,
+        waking: &mut Wakes,
     ) -> Result<Seat, Held<'a, S, V>>
         requires seat { IsOf self.now.slot.name held }
         requires promised { HasState S.rules.promised held }
@@ -148,15 +208,15 @@ impl<S: Kept, V> Word<S, V> {
         let mut held = held;
         let seen = self.see(&mut held);
         let number = seen / ONE;
-        let marked = self.marked(&mut held, number);
-        if marked != number {
-            self.renumber(&mut held, seen, marked * ONE + seen % 4);
+        let aim = self.marked(&mut held, number);
+        if aim > number {
+            self.renumber(&mut held, seen, aim * ONE + seen % 4);
             return Err(held);
         }
-        let waits = self.settle(&mut held, number, waking);
+        let waits = self.settle(&mut held, number, aim, waking);
         let code = if waits { CROWDED } else { 0 };
         let Held { claim, mut seat } = held;
-        let (found, claim) = claim.exchange::<Put>(&mut seat, seen, number * ONE + code);
+        let (found, claim) = claim.exchange::<Put>(&mut seat, seen, aim * ONE + code);
         if found != seen {
             return Err(Held { claim, seat });
         }
@@ -200,6 +260,8 @@ impl<S: Kept, V> Word<S, V> {
             × Stays S.rules (number * 4) (result * 4) }
         ensures promised { HasState (λ n q. (n ≡ number) × S.rules.promised number q
             × S.rules.promised result q × S.rules.tells result q) held.new }
+        ensures lowers { result ≤ number → (q : S) → S.rules.promised result q
+            → S.rules.promised number q }
     {
         held.claim.state_mut().number(number)
     }
@@ -218,17 +280,25 @@ impl<S: Kept, V> Word<S, V> {
         drop(held.change(self, seen, new));
     }
 
-    // Notifies those that wait. Returns whether somebody waits still.
-    fn settle(&self, held: &mut Held<'_, S, V>, number: u64, waking: &mut DeferredWake) -> bool
+    // Notifies those that wait of what is free by the number that the word is to have, and whose tasks are woken later. The word may have a
+    // higher one, by which newcomers are shut out. Returns whether somebody waits still.
+    fn settle(&self, held: &mut Held<'_, S, V>, number: u64, aim: u64, waking: &mut Wakes) -> bool
         requires seat { IsOf self.now.slot.name held.old }
-        requires number { (number < 2 ^ 62) × S.rules.fits number }
-        requires promised { HasState (λ n q. (n ≡ number) × S.rules.promised number q
-            × S.rules.tells number q) held.old }
+        requires number { (aim < 2 ^ 62) × S.rules.fits aim }
+        requires promised { HasState (λ n q. (n ≡ number) × S.rules.promised aim q
+            × S.rules.tells aim q) held.old }
+        requires lowers { (q : S) → S.rules.promised aim q → S.rules.promised number q }
         ensures seat { IsOf self.now.slot.name held.new }
         ensures same { held.new.seat.id ≡ held.old.seat.id }
-        ensures stands { HasState (λ n q. (n ≡ number) × S.rules.stands number q
-            × (result ≡ false → S.rules.quiet q)) held.new }
+        ensures stands { HasState (λ n q. (n ≡ number) × S.rules.promised number q
+            × S.rules.stands aim q × (result ≡ false → S.rules.quiet q)) held.new }
     {
-        held.claim.state_mut().settle(number, waking)
+        let _number = number;
+        let state = held.claim.state_mut();
+        state.swap_room(&mut waking.room);
+        waking.refill();
+        let waits = state.settle(aim, waking);
+        state.swap_room(&mut waking.room);
+        waits
     }
 }
