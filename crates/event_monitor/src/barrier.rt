@@ -142,8 +142,6 @@ impl<'a, R: Wait + Clock> Hold<Lock<Rounds<Task>>> for Arriving<'a, R> {
 }
 
 impl Handoff<Ended> for Rounds<Task> {
-    const TRIES: u32 = 0;
-
     // It is in the queue no more, and so has not arrived in a round that goes on.
     ghost withdraws = { λ old key new. order_of new.line ≡ without key (order_of old.line) };
 

@@ -5,6 +5,7 @@
 //! place of one that waits for what a state hands out, then `barrier.rt` and `once_cell.rt`; `monitor.rt` stands alone.
 #![tactic(auto)]
 
+mod asking;
 mod barrier;
 mod error;
 mod monitor;

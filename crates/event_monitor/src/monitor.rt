@@ -6,6 +6,7 @@ ghost use Rattle.event_monitor.specs.Watched.{Changes, Fails, Gives, LastAttempt
 mod watched;
 
 pub use self::watched::{Condition, Waiter, Watched};
+use crate::asking;
 use crate::error::WaitError;
 use event_queue::{Key, ListenError, TaskExchange, WakeSink};
 use event_wait::{
@@ -146,7 +147,7 @@ fn obtain<V, C: Condition<V> + Copy, R: Wait + Clock>(
     ensures late { IfOk result (λ answer. answer ≡ None → Fails C.fails watch.old) }
     ensures same { watch.new ≡ watch.old }
 {
-    event_wait::obtain(lock, rt, alloc, watch, limit)
+    asking::obtain(lock, rt, alloc, watch, limit)
 }
 
 impl<V, C: Condition<V> + Copy, R: Wait> Drop for Until<'_, V, C, R> {

@@ -6,9 +6,10 @@ ghost use Rattle.futures.specs.declared.task.Poll.TheVariants.{Ready};
 ghost use Rattle.event_wait.specs.declared.lock.limit.Limit.TheVariants.{Never};
 ghost use Rattle.event_monitor.specs.declared.error.PollError.TheVariants.{Finished};
 
+use crate::asking::obtain;
 use crate::error::{BlockError, PollError, WaitError};
 use event_queue::ListenError;
-use event_wait::{Hold, Limit, TakesAny, obtain, poll_in};
+use event_wait::{Hold, Limit, TakesAny, poll_in};
 use futures::task::{Context, Poll};
 use std::alloc::Global;
 use std::marker::PhantomData;

@@ -10,9 +10,6 @@ use std::marker::{Model, PhantomData};
 
 /// A state that hands something to those that come, or that wait for it in its queue.
 pub trait Handoff<G> {
-    /// How often a thread that was not handed it at once pauses and tries again before it waits in the queue.
-    const TRIES: u32 = 8;
-
     // What one that withdraws does to the state.
     ghost withdraws: { Self → Key → Self → Type 0 } = { λ _ _ _. ⊤ };
 
@@ -101,7 +98,8 @@ impl<G, S: Handoff<G>> Request<S> for Ticket<G> {
 }
 
 impl<G, S: Handoff<G>> Attempt<S> for Ticket<G> {
-    const TRIES: u32 = S::TRIES;
+    // Who waits here mostly waits long: a few pauses would see nothing.
+    const TRIES: u32 = 0;
 
     fn is_waiting(&self) -> bool {
         self.key.is_some()

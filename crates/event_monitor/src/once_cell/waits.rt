@@ -205,8 +205,6 @@ impl<'a, T, R: Wait + Clock> Asking<'a, T, R> {
 }
 
 impl Handoff<Turn> for Once<Task> {
-    const TRIES: u32 = 0;
-
     fn try_grant<K: WakeSink<Task>>(&mut self, _sink: &mut K) -> Option<Turn> {
         self.try_make()
     }
@@ -236,8 +234,6 @@ impl Handoff<Turn> for Once<Task> {
 }
 
 impl Handoff<IsSet> for Once<Task> {
-    const TRIES: u32 = 0;
-
     fn try_grant<K: WakeSink<Task>>(&mut self, _sink: &mut K) -> Option<IsSet> {
         self.try_use()
     }
