@@ -1,5 +1,4 @@
-//! Short callers of `event_listener`, `event_queue` and `event_until`, proved, and tested in `test_examples`, those of the
-//! last in `test_events`. Pages quote them.
+//! Short callers of `event_listener`, `event_queue` and `event_until`, proved, and tested in `test_examples`. Pages quote them.
 //!
 //! - [`queue`]: lines of visitors over a queue as a plain value, and under a lock.
 //! - [`flag`]: a flag that threads wait for: look, listen, look again, wait; set, then notify all; a listener for

@@ -11,7 +11,7 @@
 //! `None` at the limit, and `block_on(&rt, gate.pass(&rt, alloc))??` awaits. What one at a time can have needs no more
 //! than a default notification; what all can have notifies `usize::MAX`. Each changes first and notifies then.
 //!
-//! Only tested, in `test_events`: that one at a time has the baton, that all who wait come through, that who is woken
+//! Only tested, in `test_examples`: that one at a time has the baton, that all who wait come through, that who is woken
 //! finds the gate open, and what a drop propagates.
 mod baton;
 mod gate;

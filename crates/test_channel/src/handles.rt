@@ -111,6 +111,25 @@ fn a_channel_goes_with_its_last_handle_and_a_message_with_its_send(rt: HostRunti
     check(&rt, "shares", Arc::strong_count(&value), 1);
 }
 
+// A message is dropped while a sender lives, and with it the sender of an answer that it has: whoever waits for that is told.
+#[test]
+fn messages_go_with_the_last_receiver(rt: HostRuntime) {
+    let (requests, served) = bounded(&rt, rt.alloc(), 2).expect(&rt, "a channel");
+    let (answers, answered) = sides(&rt, Some(1));
+    let mut answer = Waiting::receive(&rt, &answered);
+    check(&rt, "a poll", answer.poll(), Answer::Waits);
+    let more = answers.clone().expect(&rt, "a sender");
+    check(&rt, "a send", requests.try_send(answers).is_ok(), true);
+    check(&rt, "a send", requests.try_send(more).is_ok(), true);
+    drop(served.clone().expect(&rt, "a receiver"));
+    check(&rt, "messages", requests.len(), 2);
+    drop(served);
+    check(&rt, "messages", requests.len(), 0);
+    let end = (answer.is_woken(), answer.poll(), answered.sender_count());
+    check(&rt, "the end", end, (true, Answer::Closed, 0));
+    check(&rt, "a send", requests.is_closed(), true);
+}
+
 // Who waits on the other side is woken, and told that none is left.
 #[test]
 fn the_last_of_a_side_closes(rt: HostRuntime) {

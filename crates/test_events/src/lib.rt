@@ -1,7 +1,6 @@
-//! Tests of events, listeners and recorded events, and of attempts that are made until one succeeds, by their public calls: what
-//! no clause says of who is told, and which wakers a poll keeps; of how listeners are made and what they show; of the lock of an
-//! event; of when a wait ends, and that a thread parks until it is woken; and of recorded events. No clause can name what a lock
-//! held: these show that a call asked the queue at all.
+//! Tests of events, listeners and recorded events by their public calls: what no clause says of who is told, and which wakers a
+//! poll keeps; of how listeners are made and what they show; of the lock of an event; of when a wait ends, and that a thread parks
+//! until it is woken; and of recorded events. No clause can name what a lock held: these show that a call asked the queue at all.
 //!
 //! | Module | What it tests |
 //! |---|---|
@@ -18,10 +17,6 @@
 //! | `waits::wakes` | a notification and the drop of a told listener wake parked threads; a thread is told before it looks for its listener, before it parks, as it does so, or after |
 //! | `waits::threads` | eight threads with a hand each make one record, which has each of their calls and of their drops once; two threads tell each other by two recorded events |
 //! | `waits::awaited` | tasks that await listeners, and move between threads: that they are woken, and how often they are polled |
-//! | `until::attempts` | how many attempts are made, and which of them while a listener is in the queue; the last one at a deadline; a listener that is told and not needed passes its notification on; texts of errors |
-//! | `until::polls` | polls by hand: a poll that is not due attempts nothing and wakes nobody; told and dropped, or blocking from then on, or giving its attempt back |
-//! | `until::deadlines` | who is told at its deadline; a limit whose moment can't be represented |
-//! | `until::threads` | 10 threads that make 1,000 calls each, half of them as futures; how often their tasks are polled; who is woken finds the gate open, the latest value, the baton free |
 //!
 //! Events are tested with both kinds of listener. How many each notification tells, worked rows and `soak` show, which compares
 //! all calls that need no second thread, and their records, with a queue. Refused memory is tested in `test_memory`. Not tested:
@@ -30,8 +25,7 @@
 //! A case of `waits` runs with listeners that share the queue of their event, with those that borrow their event, and with
 //! those of a recorded event. Of its modules `stage` is the event of a case, with the clock of its listeners, `trial` what a
 //! case makes its calls on, and `recorded` that of a recorded event, which each test closes with all its hands: their notes
-//! have to be those of its record. The tests of `until` are of `event_until`, and of the gate, the watch and the baton of
-//! `example_events`, which stand on it.
+//! have to be those of its record.
 //!
 //! The machine may be busy, so "soon" means that of up to twenty waits of 50 milliseconds one ends within 87. No contract
 //! says that a thread wakes: the tests show that it woke within ten seconds here. One that is not woken ends at a limit of
@@ -61,8 +55,6 @@ mod rows;
 mod support;
 #[cfg(test)]
 mod tags;
-#[cfg(test)]
-mod until;
 #[cfg(test)]
 mod waits;
 #[cfg(test)]

@@ -1,4 +1,5 @@
-//! Tests of what callers write, `example_events`, by its public calls: of what its clauses leave open. `test_memory` has the tests in which memory is refused.
+//! Tests of what callers write, `example_events`, and of `event_until`, on which its gate, watch and baton stand, by their public
+//! calls: of what their clauses leave open. `test_memory` has the tests in which memory is refused.
 //!
 //! | Module | What it tests |
 //! |---|---|
@@ -8,6 +9,10 @@
 //! | `races` | threads that count, take permits and wait for flags, that hear what others say, one that is woken and finds the seat free, and a race that is recorded, for two seconds each; worked row 21 |
 //! | `programs` | what is printed where a program ends, with which status, and whose fault it is if several threads fail |
 //! | `texts` | the texts of all errors |
+//! | `until::attempts` | how many attempts are made, and which of them while a listener is in the queue; the last one at a deadline; a listener that is told and not needed passes its notification on; texts of errors |
+//! | `until::polls` | polls by hand: a poll that is not due attempts nothing and wakes nobody; told and dropped, or blocking from then on, or giving its attempt back |
+//! | `until::deadlines` | who is told at its deadline; a limit whose moment can't be represented |
+//! | `until::threads` | 10 threads that make 1,000 calls each, half of them as futures; how often their tasks are polled; who is woken finds the gate open, the latest value, the baton free |
 #![tactic(auto)]
 
 #[cfg(test)]
@@ -24,3 +29,5 @@ mod races;
 mod support;
 #[cfg(test)]
 mod texts;
+#[cfg(test)]
+mod until;

@@ -1,8 +1,10 @@
 //! What the tests share: what ends a test, and calls that have to succeed.
 use event_listener::{Event, EventId, EventIds, EventListener, IntoNotification, IntoTagged};
 use futures::test::MockTask;
-use std::fmt::{Debug, Display};
+use std::alloc::AllocGlobal;
+use std::fmt::Debug;
 use std::process::Abort;
+use std::random::RandomSource;
 use std::sync::Wait;
 use std::thread::Threads;
 use test_support::Runtime;
@@ -16,11 +18,11 @@ impl<R: Runtime + Threads + Sync> Host for R {}
 /// once, in a generic function, and is proved once.
 pub fn check<A, V, R>(rt: &R, asked: A, answer: V, expected: V)
 where
-    A: Display + Drop,
+    A: Debug + Drop,
     V: PartialEq + Debug + Drop,
     R: Abort,
 {
-    assert_eq!(rt; answer, expected, "{asked}");
+    assert_eq!(rt; answer, expected, "{asked:?}");
 }
 
 /// The first identity of a source.
@@ -40,7 +42,7 @@ pub fn tell<R: Abort + Wait>(rt: &R, event: &Event<u32>) {
 }
 
 /// A task that is not woken.
-pub fn new_task<R: Runtime>(rt: &R) -> MockTask {
+pub fn new_task<R: Abort + RandomSource + AllocGlobal>(rt: &R) -> MockTask {
     MockTask::new(rt).expect(rt, "a task")
 }
 

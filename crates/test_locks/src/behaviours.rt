@@ -1,11 +1,10 @@
 //! What each lock does in the order in which callers of other crates' locks use it.
-use crate::kinds::numbers;
 use crate::support::{check, new_lock, new_mutex, new_semaphore, new_task};
-use crate::waits::Waits;
 use event_locks::{AcquireError, LockError, Mutex, RwLock, Semaphore, TryAcquireError};
 use std::fmt::Debug;
 use std::sync::Arc;
 use std::time::Duration;
+use test_kinds::{Waits, numbers};
 use test_support::Runtime;
 
 #[test]

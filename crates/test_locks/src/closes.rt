@@ -1,13 +1,12 @@
 //! A semaphore that closes ends each kind of wait, of tasks and of threads, and gives nothing any more.
-use crate::kinds::numbers;
 use crate::support::{check, new_semaphore};
 use crate::tasks::Polled;
-use crate::waits::Waits;
 use event_locks::{AcquireError, Semaphore, TryAcquireError};
 use futures::task::Poll;
 use std::sync::Arc;
 use std::thread;
 use std::time::Duration;
+use test_kinds::{Waits, numbers};
 use test_support::{Runtime, deadline_after};
 
 const CLOSED: Option<AcquireError> = Some(AcquireError::Closed);

@@ -1,10 +1,9 @@
 //! Tests of the locks of `event_locks` by their public calls: of what no clause can name, since it stands behind a lock, or is
 //! done by threads, tasks and clocks. What is said of every wait is a case, which is written once and run with each kind of
-//! wait. Other crates of tests use the cases and the kinds, too.
+//! wait, as `test_kinds` has them.
 //!
 //! | Module | What it has, or tests |
 //! |---|---|
-//! | `waits`, `kinds`, `cases` | what waits have in common; each kind of wait; how a case is run with each |
 //! | `behaviours` | what a semaphore, a mutex and a read-write lock do when they are called in the order that their users know from other crates |
 //! | `tasks` | tasks that wait for each lock, and are woken once they are let in; one that is told and dropped, which gives on what it was handed; one that is over; permits that share their semaphore |
 //! | `threads` | threads that wait in each way, and are woken once they are let in |
@@ -12,6 +11,7 @@
 //! | `limits` | waits that end at their limit, at one that has passed and by a clock that can't be read |
 //! | `turns` | when newcomers are shut out |
 //! | `closes` | that a semaphore which closes ends each kind of wait |
+//! | `crowds` | more that wait than a thread wakes before others may have the queues |
 //! | `barrier` | that each round has one leader |
 //! | `cell` | a value that is set or made once, by threads and by tasks: one at a time, and once that one is gone the next |
 //! | `monitor` | a value that threads and tasks wait for: that a thread parks until it changes, whatever changes it, or until its limit, and until the lock is free |
@@ -24,12 +24,12 @@
 mod barrier;
 #[cfg(test)]
 mod behaviours;
-mod cases;
 #[cfg(test)]
 mod cell;
 #[cfg(test)]
 mod closes;
-mod kinds;
+#[cfg(test)]
+mod crowds;
 #[cfg(test)]
 mod limits;
 #[cfg(test)]
@@ -46,12 +46,7 @@ mod tasks;
 mod threads;
 #[cfg(test)]
 mod turns;
-mod waits;
 #[cfg(test)]
 mod wakes;
 #[cfg(test)]
 mod words;
-
-pub use cases::{Case, each};
-pub use kinds::{Arrives, Kind, Of, Read, See, Sets, Sharing, Write, numbers};
-pub use waits::{Refusal, Waits};

@@ -1,15 +1,13 @@
 //! Waits that end at their limit. Who gives up there stands in no queue, and what it was handed is not lost.
-use crate::cases::{Case, each};
-use crate::kinds::Kind;
 use crate::support::{check, new_semaphore};
 use crate::tasks::Polled;
-use crate::waits::Waits;
 use event_locks::Semaphore;
 use std::alloc::AllocGlobal;
 use std::cell::Cell;
 use std::io;
 use std::sync::Wait;
 use std::time::{Clock, Duration, Instant};
+use test_kinds::{Case, Kind, Waits, each};
 use test_support::{Change, Changed, NoClock, Runtime, deadline_after};
 
 // One waits for some time, and one until a moment, in vain. Then another one comes first.

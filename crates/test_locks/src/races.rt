@@ -1,12 +1,11 @@
 //! Races of two threads: one lets go while the other one goes into the queue, at each moment of its way there.
-use crate::kinds::{Kind, Of, Read, Write};
 use crate::support::{check, new_lock, new_mutex, new_semaphore, new_task, wait_until};
-use crate::waits::Waits;
 use event_wait::pause;
 use futures::test::MockTask;
 use std::sync::atomic::{AtomicBool, AtomicU32, Ordering};
 use std::thread;
 use std::time::{Duration, Instant};
+use test_kinds::{Kind, Of, Read, Waits, Write};
 use test_support::Runtime;
 
 // The last round that one thread has opened, the last one of the other thread that was granted, and whether that one had to

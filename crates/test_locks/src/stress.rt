@@ -1,13 +1,12 @@
 //! Threads and tasks that wait at once, and give up at times.
-use crate::kinds::numbers;
 use crate::support::{check, new_lock, new_mutex, new_semaphore, new_task, sum};
-use crate::waits::Waits;
 use event_locks::{Mutex, OnceCell, RwLock, Semaphore};
 use futures::executor::block_on;
 use std::alloc::Global;
 use std::sync::Arc;
 use std::thread;
 use std::time::{Duration, Instant};
+use test_kinds::{Waits, numbers};
 use test_support::Runtime;
 
 // What is given in this way, or `None` if it gave up.

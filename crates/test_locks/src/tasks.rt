@@ -1,9 +1,6 @@
 //! Tasks that wait in each way, and are woken once they are let in. One that gives up hands on what it was handed, and lets in
 //! who waited for it alone.
-use crate::cases::{Case, each};
-use crate::kinds::{Kind, Sharing, numbers};
 use crate::support::{check, new_lock, new_semaphore, new_task};
-use crate::waits::{Refusal, Waits};
 use event_locks::{
     Barrier, LockError, Mutex, OnceCell, PollError, RwLock, RwLockCounts, RwLockWriteGuardArc,
     Semaphore, TryAcquireError,
@@ -13,6 +10,7 @@ use futures::test::MockTask;
 use std::sync::Arc;
 use std::thread;
 use std::time::Duration;
+use test_kinds::{Case, Kind, Refusal, Sharing, Waits, each, numbers};
 use test_support::{Runtime, deadline_after};
 
 /// A wait that a task of its own polls.

@@ -1,13 +1,13 @@
 //! Threads that wait in each way, and are woken once they are let in. That each lock wakes whom it lets in is tested by
 //! `tasks`: a thread that is woken differs from a task in nothing else.
 use crate::support::{check, new_lock, new_task, wait_until};
-use crate::waits::Waits;
 use event_locks::RwLock;
 use futures::executor::block_on;
 use futures::test::MockTask;
 use std::sync::atomic::{AtomicBool, Ordering};
 use std::thread;
 use std::time::Duration;
+use test_kinds::Waits;
 use test_support::Runtime;
 
 // A way to wait until it is granted.

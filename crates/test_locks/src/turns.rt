@@ -1,10 +1,8 @@
 //! Whose turn it is: newcomers are shut out only while somebody starves.
-use crate::cases::{Case, each};
-use crate::kinds::{Kind, numbers};
 use crate::support::check;
 use crate::tasks::Polled;
-use crate::waits::Waits;
 use std::time::Duration;
+use test_kinds::{Case, Kind, Waits, each, numbers};
 use test_support::Runtime;
 
 // One is notified and finds the lock taken twice. It starves, and waits.

@@ -7,7 +7,7 @@ use std::cell::Cell;
 use std::io;
 use std::sync::{Arc, Wait};
 use std::time::{Clock, Duration};
-use test_locks::Waits;
+use test_kinds::Waits;
 use test_support::{Change, Changed};
 
 // The last listener outlives the event.

@@ -5,7 +5,7 @@ use event_locks::{Barrier, LockError, Mutex, RwLock, Semaphore};
 use futures::task::Poll;
 use std::cell::Cell;
 use std::time::{Duration, Instant};
-use test_locks::{Case, Kind, Refusal, Sharing, Waits, each};
+use test_kinds::{Case, Kind, Refusal, Sharing, Waits, each};
 use test_queue_memory::{Budget, Starved};
 use test_support::{Changed, Ticks};
 

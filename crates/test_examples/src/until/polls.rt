@@ -1,6 +1,6 @@
 //! Polls by hand.
-use crate::support::{check, new_id, new_task};
-use crate::until::{Notes, Nth, check_woken, until_nth};
+use crate::support::{check, is_woken, new_id, new_task};
+use crate::until::{Notes, Nth, until_nth};
 use event_listener::{Event, Listener};
 use event_until::Until;
 use futures::task::Poll;
@@ -21,18 +21,18 @@ fn a_poll_that_is_not_due_keeps_its_place_and_one_that_fails_listens_anew(rt: Ho
     let mut behind = until_nth(&rt, &rt, &event, &others, 9);
     drop(leaves);
     check(&rt, "behind", other.poll(&mut behind), Poll::Pending);
-    check_woken(&rt, &task, false);
+    is_woken(&rt, &task, false);
     check(&rt, "listeners", event.total_listeners(&rt), 2);
     check(&rt, "not due", task.poll(&mut until), Poll::Pending);
     check(&rt, "the attempts", notes.made.get(), 2);
-    check_woken(&rt, &task, false);
+    is_woken(&rt, &task, false);
     check(&rt, "told", event.notify_relaxed(&rt, 1), 1);
-    check_woken(&rt, &task, true);
-    check_woken(&rt, &other, false);
+    is_woken(&rt, &task, true);
+    is_woken(&rt, &other, false);
     drop(behind);
     check(&rt, "the third", task.poll(&mut until), Poll::Pending);
     check(&rt, "the attempts", notes.made.get(), 4);
-    check_woken(&rt, &task, false);
+    is_woken(&rt, &task, false);
     check(&rt, "told again", event.notify_relaxed(&rt, 1), 1);
     check(&rt, "the last", task.poll(&mut until), Poll::Ready(Ok(5)));
     check(&rt, "listeners left", event.total_listeners(&rt), 0);
@@ -77,9 +77,9 @@ fn passes_on<R: Runtime>(rt: &R, end: End) {
     check(rt, "the second", tasks.1.poll(&mut second), Poll::Pending);
     let third = event.listen(rt, rt.alloc()).expect(rt, "a listener");
     check(rt, "told", event.notify_relaxed(rt, 1), 1);
-    check_woken(rt, &tasks.1, false);
+    is_woken(rt, &tasks.1, false);
     end.make(rt, first);
-    check_woken(rt, &tasks.1, true);
+    is_woken(rt, &tasks.1, true);
     end.make(rt, second);
     check(rt, "listeners left", event.total_listeners(rt), 1);
     check(rt, "whether the third is told", third.discard(), true);

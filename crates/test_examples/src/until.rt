@@ -7,17 +7,11 @@ mod threads;
 use crate::support::check;
 use event_listener::Event;
 use event_until::{Attempt, Until};
-use futures::test::MockTask;
 use std::alloc::AllocGlobal;
 use std::cell::Cell;
 use std::process::Abort;
 use std::sync::Wait;
 use std::time::Clock;
-
-/// Since its last poll the task was woken, or was not.
-pub fn check_woken<R: Abort>(rt: &R, task: &MockTask, expected: bool) {
-    check(rt, "whether the task is woken", task.is_woken(), expected);
-}
 
 /// How many attempts were made, and how many listeners there were at each of the first three.
 #[derive(Drop)]
