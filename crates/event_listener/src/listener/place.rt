@@ -1,5 +1,6 @@
 //! A place in the queue of an event, while a thread waits there.
 ghost use Rattle.std.specs.Prelude.{◌≡◌, ◌∷◌, [], Ok};
+ghost use Rattle.event_history.specs.History.{AreAmong};
 ghost use Rattle.event_history.specs.declared.queue_call.QueueCall.TheVariants.{Insert};
 ghost use Rattle.event_listener.specs.Waiting.{Attempting, Leaving, answer_of};
 
@@ -25,7 +26,7 @@ impl<T: Drop> Request<List<T, Task>> for Place {
 
     ghost leaves = { λ before _ after. after ≡ before };
 
-    ghost rests = { λ place. Insert (Ok place.key) ∷ [] };
+    ghost follows = { λ place. AreAmong (Insert (Ok place.key) ∷ []) };
 
     ghost attempting = { λ place. Attempting place.key };
 
