@@ -2,7 +2,7 @@
 #
 # help       1 s       prints these lines
 # run        1 min     runs the worked rows, and proves nothing; V=1 shows their texts
-# test       10 min    runs all tests and programs, with every check at run time, tries what must not compile, and proves nothing
+# test       5 min     runs all tests and programs, with every check at run time, tries what must not compile, and proves nothing
 # prove      1 h       proves all, and runs tests and programs as they were proved; JOBS=4 works on four crates at a time, in 10 GB
 # gate       1 h       proves all from nothing, runs tests and programs, and tries edits, which must be refused; a merge asks for it
 # check      1 h       proves all but tests; after an edit it takes seconds or minutes
