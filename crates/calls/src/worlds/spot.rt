@@ -3,7 +3,7 @@ use event_worlds::{CloserPlace, FlagPlace, Place, SetterPlace};
 use std::fmt::{self, Display, Formatter, Write};
 
 /// A place of any world.
-#[derive(Clone, Copy, Debug, PartialEq, Eq)]
+#[derive(Clone, Copy)]
 pub enum At {
     /// Of a client of a lock or of a semaphore, or of one side of a channel
     Client(Place),
@@ -16,7 +16,7 @@ pub enum At {
 }
 
 /// Where an actor is, and how it stands.
-#[derive(Clone, Copy, Debug, PartialEq, Eq)]
+#[derive(Clone, Copy)]
 pub struct Spot {
     pub at: At,
     /// Whether it is notified, and in line.

@@ -4,7 +4,7 @@ use std::alloc::{AllocError, Global};
 use std::fmt::{self, Display, Formatter, Write};
 
 /// Who takes a step.
-#[derive(Clone, Copy, Debug, PartialEq, Eq)]
+#[derive(Clone, Copy)]
 pub enum Actor {
     /// `N`: a client, or a setter of a flag
     Client(usize),
@@ -17,7 +17,7 @@ pub enum Actor {
 }
 
 /// What it is to do. A world has some of these acts.
-#[derive(Clone, Copy, Debug, PartialEq, Eq)]
+#[derive(Clone, Copy, Debug)]
 pub enum Act {
     /// `Go`: what its place has next.
     Go,
@@ -34,7 +34,7 @@ pub enum Act {
 }
 
 /// One step.
-#[derive(Clone, Copy, Debug, PartialEq, Eq)]
+#[derive(Clone, Copy)]
 pub struct Step {
     pub actor: Actor,
     pub act: Act,
