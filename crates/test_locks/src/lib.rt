@@ -17,7 +17,6 @@
 //! | `monitor` | a value that threads and tasks wait for: that a thread parks until it changes, whatever changes it, or until its limit, and until the lock is free |
 //! | `races` | one lets go while another one goes into the queue |
 //! | `stress` | threads and tasks at the locks, which give up at times |
-//! | `words` | threads that meet at the word of a lock, whose state another one has out |
 #![tactic(auto)]
 
 #[cfg(test)]
@@ -48,5 +47,3 @@ mod threads;
 mod turns;
 #[cfg(test)]
 mod wakes;
-#[cfg(test)]
-mod words;

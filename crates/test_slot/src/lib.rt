@@ -10,6 +10,7 @@
 //! |---|---|
 //! | `tests` | readers together, a writer alone, who closes it; four threads that write in turn, and sleep till they may; parking; the owner's `&mut`; the tally out with one at a time, and what four threads count; guards that keep their lock by an `Arc` |
 //! | `once` | a cell that is set once: who wins, what all see, and that its value is dropped once |
+//! | `words` | a word of `event_word`, over such a slot: threads that meet there while another thread has its state out |
 #![tactic(auto)]
 
 #[cfg(test)]
@@ -23,6 +24,8 @@ mod rule;
 mod shared;
 #[cfg(test)]
 mod tests;
+#[cfg(test)]
+mod words;
 
 #[cfg(test)]
 pub use guard::{Changing, Counting, Kept, Reading};
