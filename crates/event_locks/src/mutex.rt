@@ -25,17 +25,24 @@ use std::fmt::{Debug, Formatter};
 use std::sync::{Arc, Wait};
 use std::time::Clock;
 
-/// A value that one thread or task at a time can use. A free one is taken by one atomic step, and given back by another where
-/// nobody waits.
+/// A mutual-exclusion lock round a value: one thread or task at a time has the value, by a guard.
 ///
-/// Those that wait are notified in order, and compete with newcomers. One that is notified and finds the value taken goes to
-/// the end of the queue; where that happens to one wait twice, newcomers are shut out until it has come again, and then finds
-/// the value.
+/// A free mutex is taken by one atomic step, and given back by another where nobody waits. Threads and tasks wait in one queue.
+/// They are notified in the order in which they joined it, and a notified waiter competes with newcomers: if the value is taken
+/// again, that waiter rejoins the queue at its end. A waiter that loses so twice *starves*: newcomers are shut out until that
+/// waiter has tried again, and then it finds the value.
 ///
-/// Losses belong to one wait: whoever makes a new one after each limit may find nothing for ever. A wait for which newcomers
-/// are shut out, and that is neither polled, waited on nor dropped, or is forgotten, keeps them out.
+/// Losses belong to one wait, so a caller that makes a new wait after each time limit may find nothing for ever. A wait for
+/// which newcomers are shut out keeps them out as long as it is kept and neither polled, waited on nor dropped, and for good if
+/// it is forgotten.
 ///
-/// The value is in the lock while nobody has it, and else in the guard of the one that has it: a large one is better boxed.
+/// The value lies in the mutex while nobody has it, and else in the guard of its owner. Each lock therefore moves the value out
+/// and in again: box a large value.
+///
+/// ```rust
+///     let balance = balance.lock(&rt, alloc).wait()?;
+///     Ok(*balance)
+/// ```
 #[derive(Drop)]
 pub struct Mutex<T> {
     word: Word<Competing<OneValue>, Lodging<T>>,
@@ -52,7 +59,8 @@ pub(crate) struct Loan<T> {
 }
 
 impl<T: Drop> Mutex<T> {
-    /// A mutex round this value, which nobody has. It takes no memory: its queue does from `alloc`, once one waits.
+    /// Makes a mutex round `value`, which nobody has. This takes no memory; the queue takes some from `alloc` once somebody
+    /// waits.
     pub fn new(alloc: Global, value: T) -> Self {
         let line = Competing::new(alloc);
         Mutex {
@@ -61,7 +69,11 @@ impl<T: Drop> Mutex<T> {
         }
     }
 
-    /// How it stands at some moment of this call: one is free while nobody has the value. It may wait for the queue.
+    /// Returns how many waiters are notified, waiting and starving, and whether the value is free, all at one moment of this
+    /// call.
+    ///
+    /// One is free while nobody has the value. The call may block until the queue, which another thread may be using, is put
+    /// back.
     pub fn counts<R: Wait>(&self, rt: &R) -> Counts
         ensures nobody_waits_in_vain { result.notified < result.free → result.waiting ≡ 0 }
         ensures shuts { (0 < result.starving → result.is_shut ≡ true)
@@ -71,7 +83,9 @@ impl<T: Drop> Mutex<T> {
         self.word.counts(rt)
     }
 
-    /// The value, if nobody has it and nobody starves. It takes no memory, and waits for nobody.
+    /// Takes the value, if nobody has it and newcomers are not shut out. Returns `None` else.
+    ///
+    /// Newcomers are shut out while a waiter starves. The call takes no memory and never blocks.
     #[must_use = "a guard that is dropped at once gives back what it holds"]
     #[inline(always)]
     pub fn try_lock<'a, R: Wait + Clock>(&'a self, rt: &'a R) -> Option<MutexGuard<'a, T, R>> {
@@ -79,8 +93,11 @@ impl<T: Drop> Mutex<T> {
         Some(MutexGuard::with(Lending::new(self, rt), lent, value))
     }
 
-    /// The value by a guard that may go to another thread, if nobody has it and nobody starves. It returns an error if no share
-    /// of the mutex can be made.
+    /// Takes the value by a guard that may go to another thread, if nobody has the value and newcomers are not shut out.
+    /// Returns `Ok(None)` else.
+    ///
+    /// The guard keeps the mutex by a share of its `Arc`. An error says that no further share could be counted: then nothing
+    /// was taken.
     #[must_use = "a guard that is dropped at once gives back what it holds"]
     pub fn try_lock_arc<R: Wait + Clock + Drop>(
         this: &Arc<Self, Global>,
@@ -91,14 +108,19 @@ impl<T: Drop> Mutex<T> {
         Ok(loan.map(|loan| MutexGuardArc::new(Shared { lock, rt }, loan)))
     }
 
-    /// A wait for the value.
+    /// Asks for the value, once the returned [`Lock`] is waited on or polled. Until then nothing happens.
+    ///
+    /// A thread blocks by `lock(rt, alloc).wait()` or with a time limit; a task awaits the `Lock`. `alloc` gives the memory for
+    /// a place in the queue, if the caller has to wait.
     #[inline(always)]
     pub fn lock<'a, R: Wait + Clock>(&'a self, rt: &'a R, alloc: Global) -> Lock<'a, T, R> {
         Lock::new(Obtaining::new(Lending::new(self, rt), alloc, Taker::default()))
     }
 
-    /// A wait for the value by a guard that may go to another thread. It returns an error if no share of the mutex can be
-    /// made.
+    /// Asks for the value by a guard that may go to another thread, once the returned [`LockArc`] is waited on or polled.
+    ///
+    /// The wait and the guard keep the mutex by a share of its `Arc`. An error says that no further share could be counted:
+    /// then nothing is asked for.
     pub fn lock_arc<R: Wait + Clock + Drop>(
         this: &Arc<Self, Global>,
         rt: R,
@@ -108,12 +130,14 @@ impl<T: Drop> Mutex<T> {
         Ok(LockArc::new(Obtaining::new(Shared { lock, rt }, alloc, Taker::default())))
     }
 
-    /// The value, without a lock. `None` says that a guard was forgotten, and the value with it.
+    /// Returns a reference to the value without locking, since `&mut self` says that nobody else uses the mutex.
+    ///
+    /// `None` says that a guard was forgotten: the value went with it.
     pub fn get_mut(&mut self) -> Option<&mut T> {
         self.word.get_mut()
     }
 
-    /// The value. `None` says that a guard was forgotten, and the value with it.
+    /// Ends the mutex and returns its value. `None` says that a guard was forgotten: the value went with it.
     pub fn into_inner(self) -> Option<T> {
         let Mutex { word, source: _ } = self;
         word.into_value()

@@ -18,11 +18,11 @@ use std::marker::Model;
 use std::sync::{Arc, Wait};
 use std::time::Clock;
 
-/// A value that one writer at a time can use, or several readers. One that comes in where nobody waits makes one atomic step, and
-/// so does one that goes.
+/// A read-write lock round a value: several readers have it at once, or one writer alone, each by a guard.
 ///
-/// No reader comes in or becomes a writer while a writer waits, and a writer that goes or becomes a reader lets in all readers
-/// that wait; after them it is a writer's turn. So neither is passed over.
+/// A reader or a writer that enters or leaves while nobody waits makes one atomic step. Neither kind is passed over: while a
+/// writer waits no reader enters or becomes a writer, and a writer that leaves or becomes a reader lets in all readers that
+/// wait then; after these readers the next writer is let in.
 #[derive(Drop)]
 pub struct RwLock<T> {
     word: Word<Queues<Task>, Hidden<T>>,
@@ -42,7 +42,8 @@ impl<T> Model for Hidden<T> {
 }
 
 impl<T> RwLock<T> {
-    /// A lock round this value, which nobody has. It takes no memory: its queues do from `alloc`, once one waits.
+    /// Makes a lock round `value`, which nobody has. This takes no memory; the queues take some from `alloc` once somebody
+    /// waits.
     pub fn new(alloc: Global, value: T) -> Self {
         RwLock {
             word: Word::new(0, Queues::new(alloc), Hidden { value }),
@@ -50,8 +51,10 @@ impl<T> RwLock<T> {
         }
     }
 
-    /// The value to be read, if no writer has it or waits for it. It takes no memory. It does not wait for the value; where others
-    /// wait it may wait for the queues.
+    /// Takes the value to read it, if no writer has it or waits for it. Returns `None` else.
+    ///
+    /// The call takes no memory and does not wait for the value. Where others wait it may block until the queues, which another
+    /// thread may be using, are put back.
     #[must_use = "a guard that is dropped at once gives back what it holds"]
     #[inline(always)]
     pub fn try_read<'a, R: Wait + Clock>(&'a self, rt: &'a R) -> Option<RwLockReadGuard<'a, T, R>> {
@@ -59,8 +62,10 @@ impl<T> RwLock<T> {
         Some(RwLockReadGuard::new(Lending::new(self, rt), grant))
     }
 
-    /// The value to be written, if nobody has it or waits for it. It takes no memory. It does not wait for the value; where others
-    /// wait it may wait for the queues.
+    /// Takes the value to write it, if nobody has it or waits for it. Returns `None` else.
+    ///
+    /// The call takes no memory and does not wait for the value. Where others wait it may block until the queues, which another
+    /// thread may be using, are put back.
     #[must_use = "a guard that is dropped at once gives back what it holds"]
     #[inline(always)]
     pub fn try_write<'a, R: Wait + Clock>(
@@ -71,8 +76,10 @@ impl<T> RwLock<T> {
         Some(RwLockWriteGuard::new(Lending::new(self, rt), grant))
     }
 
-    /// As [`try_read`](RwLock::try_read), by a guard that may go to another thread. It returns an error if no share of the lock
-    /// can be made.
+    /// Takes the value to read it, like [`try_read`](RwLock::try_read), by a guard that may go to another thread.
+    ///
+    /// The guard keeps the lock by a share of its `Arc`. An error says that no further share could be counted: then nothing was
+    /// taken.
     #[must_use = "a guard that is dropped at once gives back what it holds"]
     pub fn try_read_arc<R: Wait + Clock + Drop>(
         this: &Arc<Self, Global>,
@@ -86,8 +93,10 @@ impl<T> RwLock<T> {
         Ok(share.map(|share| RwLockReadGuardArc::new(Shared { lock, rt }, share)))
     }
 
-    /// As [`try_write`](RwLock::try_write), by a guard that may go to another thread. It returns an error if no share of the
-    /// lock can be made.
+    /// Takes the value to write it, like [`try_write`](RwLock::try_write), by a guard that may go to another thread.
+    ///
+    /// The guard keeps the lock by a share of its `Arc`. An error says that no further share could be counted: then nothing was
+    /// taken.
     #[must_use = "a guard that is dropped at once gives back what it holds"]
     pub fn try_write_arc<R: Wait + Clock + Drop>(
         this: &Arc<Self, Global>,
@@ -101,20 +110,37 @@ impl<T> RwLock<T> {
         Ok(share.map(|share| RwLockWriteGuardArc::new(Shared { lock, rt }, share)))
     }
 
-    /// A wait for the value to be read, until no writer has it or has come before.
+    /// Asks for the value to read it, once the returned [`Read`] is waited on or polled. Until then nothing happens.
+    ///
+    /// A thread blocks by `read(rt, alloc).wait()` or with a time limit; a task awaits the `Read`. `alloc` gives the memory for
+    /// a place in the queue, if the caller has to wait.
+    ///
+    /// ```rust
+    ///     let reader = cache.read(rt, alloc).wait()?;
+    ///     if let Some(square) = reader.get(number) {
+    ///         return Ok(square);
+    ///     }
+    ///     drop(reader);
+    /// ```
     #[inline(always)]
     pub fn read<'a, R: Wait + Clock>(&'a self, rt: &'a R, alloc: Global) -> Read<'a, T, R> {
         Read::new(Obtaining::new(Lending::new(self, rt), alloc, Place::default()))
     }
 
-    /// A wait for the value to be written, until nobody else has it.
+    /// Asks for the value to write it, once the returned [`Write`] is waited on or polled. Until then nothing happens.
+    ///
+    /// A thread blocks by `write(rt, alloc).wait()` or with a time limit; a task awaits the `Write`. `alloc` gives the memory
+    /// for a place in the queue, if the caller has to wait.
     #[inline(always)]
     pub fn write<'a, R: Wait + Clock>(&'a self, rt: &'a R, alloc: Global) -> Write<'a, T, R> {
         Write::new(Obtaining::new(Lending::new(self, rt), alloc, Place::default()))
     }
 
-    /// A wait for the value to be read, by a guard that may go to another thread. It returns an error if no share of the
-    /// lock can be made.
+    /// Asks for the value to read it by a guard that may go to another thread, once the returned [`ReadArc`] is waited on or
+    /// polled.
+    ///
+    /// The wait and the guard keep the lock by a share of its `Arc`. An error says that no further share could be counted: then
+    /// nothing is asked for.
     pub fn read_arc<R: Wait + Clock + Drop>(
         this: &Arc<Self, Global>,
         rt: R,
@@ -127,8 +153,11 @@ impl<T> RwLock<T> {
         Ok(ReadArc::new(Obtaining::new(Shared { lock, rt }, alloc, Place::default())))
     }
 
-    /// A wait for the value to be written, by a guard that may go to another thread. It returns an error if no share of the
-    /// lock can be made.
+    /// Asks for the value to write it by a guard that may go to another thread, once the returned [`WriteArc`] is waited on or
+    /// polled.
+    ///
+    /// The wait and the guard keep the lock by a share of its `Arc`. An error says that no further share could be counted: then
+    /// nothing is asked for.
     pub fn write_arc<R: Wait + Clock + Drop>(
         this: &Arc<Self, Global>,
         rt: R,
@@ -141,8 +170,10 @@ impl<T> RwLock<T> {
         Ok(WriteArc::new(Obtaining::new(Shared { lock, rt }, alloc, Place::default())))
     }
 
-    /// How it stands at some moment of this call: who waits is next only once those have gone that have the value. It takes no
-    /// memory. It may wait for the queues.
+    /// Returns how many readers and writers have the value, were let in and wait, all at one moment of this call.
+    ///
+    /// A waiter is let in by those that have the value, as they leave. The call takes no memory. It may block until the queues,
+    /// which another thread may be using, are put back.
     pub fn counts<R: Wait>(&self, rt: &R) -> RwLockCounts
         ensures reader_waits { 0 < result.readers_waiting
             → 0 < result.writers + result.writers_let_in + result.writers_waiting }
@@ -158,12 +189,12 @@ impl<T> RwLock<T> {
         counts
     }
 
-    /// The value, without a lock.
+    /// Returns a reference to the value without locking, since `&mut self` says that nobody else uses the lock.
     pub fn get_mut(&mut self) -> &mut T {
         &mut self.word.value_mut().value
     }
 
-    /// The value.
+    /// Ends the lock and returns its value.
     pub fn into_inner(self) -> T {
         let RwLock { word, source: _ } = self;
         let Hidden { value } = word.into_inner();

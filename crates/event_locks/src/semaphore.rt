@@ -31,14 +31,20 @@ use std::fmt::{Debug, Formatter};
 use std::sync::{Arc, Wait};
 use std::time::Clock;
 
-/// Permits that threads and tasks share. A free one is taken by one atomic step, and given back by another where nobody waits.
+/// A counting semaphore: permits that threads and tasks share, each of which one owner at a time has.
 ///
-/// Those that wait are notified in order, and compete with newcomers. One that is notified and finds no permit goes to the
-/// end of the queue; where that happens to one wait twice, newcomers are shut out until it has come again, and then finds a
-/// permit.
+/// A free permit is taken by one atomic step, and given back by another where nobody waits. Threads and tasks wait in one
+/// queue. They are notified in the order in which they joined it, and a notified waiter competes with newcomers: if it finds no
+/// permit, it rejoins the queue at its end. A waiter that loses so twice *starves*: newcomers are shut out until that waiter
+/// has tried again, and then it finds a permit.
 ///
-/// Losses belong to one wait: whoever makes a new one after each limit may find nothing for ever. A wait for which newcomers
-/// are shut out, and that is neither polled, waited on nor dropped, or is forgotten, keeps them out.
+/// Losses belong to one wait, so a caller that makes a new wait after each time limit may find nothing for ever. A wait for
+/// which newcomers are shut out keeps them out as long as it is kept and neither polled, waited on nor dropped, and for good if
+/// it is forgotten.
+///
+/// ```rust
+///     let permit = Semaphore::acquire_arc(permits, rt, alloc)?.wait()?;
+/// ```
 #[derive(Drop)]
 pub struct Semaphore {
     word: Word<Competing<Permits>, ()>,
@@ -46,11 +52,13 @@ pub struct Semaphore {
 }
 
 impl Semaphore {
-    /// As many permits are free at most.
+    /// The most permits that may be free at once, because the word of a semaphore has 60 bits for their number.
     pub const MAX_PERMITS: usize = 0x0fff_ffff_ffff_ffff;
 
-    /// A semaphore with `permits` permits, all free; with [`MAX_PERMITS`](Semaphore::MAX_PERMITS) if that is less. It takes no
-    /// memory: its queue does from `alloc`, once one waits.
+    /// Makes a semaphore with so many permits, all of them free. More than [`MAX_PERMITS`](Semaphore::MAX_PERMITS) count as
+    /// that many.
+    ///
+    /// This takes no memory; the queue takes some from `alloc` once somebody waits.
     pub fn new(alloc: Global, permits: usize) -> Self {
         let line = Competing::new(alloc);
         Semaphore {
@@ -59,25 +67,32 @@ impl Semaphore {
         }
     }
 
-    /// How many permits are free. Another thread may take one at once. Of one that is closed nobody gets them, but those that come
-    /// back are counted. It takes no lock.
+    /// Returns how many permits are free at some moment of this call. Another thread may take one at once.
+    ///
+    /// At a closed semaphore the permits that were given back are counted, though nobody gets them. The call takes no lock and
+    /// never blocks.
     pub fn available(&self) -> usize {
         self.word.free() as usize
     }
 
-    /// Closes it. From here on nobody gets a permit: neither a newcomer nor any that wait, whose waits end with
-    /// [`AcquireError::Closed`]. All that wait are woken. Permits that are out come back still, and are counted as free. It may wait
-    /// for the queue. One that is closed already is as it was.
+    /// Closes the semaphore for good: from here on nobody gets a permit.
+    ///
+    /// Every waiter is woken, and its wait ends with [`AcquireError::Closed`], as each new one does. Permits that are out may
+    /// still be given back, and are counted as free. A semaphore that is closed already stays as it is. The call may block
+    /// until the queue, which another thread may be using, is put back.
     pub fn close<R: Wait>(&self, rt: &R) {
         self.word.close(rt);
     }
 
-    /// Whether it is closed. Then it stays so. It takes no lock.
+    /// Returns whether the semaphore is closed. A closed one stays closed. The call takes no lock and never blocks.
     pub fn is_closed(&self) -> bool {
         self.word.is_closed()
     }
 
-    /// How it stands at some moment of this call. At one that is closed nobody is in the queue. It may wait for the queue.
+    /// Returns how many permits are free, and how many waiters are notified, waiting and starving, all at one moment of this
+    /// call.
+    ///
+    /// Nobody waits at a closed semaphore. The call may block until the queue, which another thread may be using, is put back.
     pub fn counts<R: Wait>(&self, rt: &R) -> Counts
         ensures nobody_waits_in_vain { result.notified < result.free → result.waiting ≡ 0 }
         ensures shuts { (0 < result.starving → result.is_shut ≡ true)
@@ -88,7 +103,10 @@ impl Semaphore {
         self.word.counts(rt)
     }
 
-    /// A permit, if it is not closed, one is free and nobody starves. It takes no memory, and waits for nobody.
+    /// Takes one permit, if one is free, the semaphore is open and newcomers are not shut out. The error says which of these
+    /// failed.
+    ///
+    /// Newcomers are shut out while a waiter starves. The call takes no memory and never blocks.
     #[must_use = "a guard that is dropped at once gives back what it holds"]
     #[inline(always)]
     pub fn try_acquire<'a, R: Wait + Clock>(
@@ -101,8 +119,10 @@ impl Semaphore {
         Ok(SemaphoreGuard::new(Borrowed { lock: self, rt }, permit))
     }
 
-    /// As [`try_acquire`](Semaphore::try_acquire), but the permit shares its semaphore, and so may go to another thread. It returns
-    /// an error if no share of the semaphore can be made.
+    /// Takes one permit, like [`try_acquire`](Semaphore::try_acquire), by a guard that may go to another thread.
+    ///
+    /// The guard keeps the semaphore by a share of its `Arc`. The outer error says that no further share could be counted: then
+    /// nothing was taken.
     #[must_use = "a guard that is dropped at once gives back what it holds"]
     pub fn try_acquire_arc<R: Wait + Clock + Drop>(
         this: &Arc<Self, Global>,
@@ -117,11 +137,11 @@ impl Semaphore {
         }
     }
 
-    /// So many permits, all at once and by one guard, if it is not closed, as many are free and nobody starves; else none. It takes
-    /// no memory, and waits for nobody.
+    /// Takes `n` permits at once by one guard, if as many are free, the semaphore is open and newcomers are not shut out. Else
+    /// takes none.
     ///
-    /// No wait asks for many: the queue has no count for each that waits. Two that wait for one after another, and have a part each,
-    /// would wait for each other.
+    /// The call takes no memory and never blocks. No wait asks for more than one permit, because the queue counts one for each
+    /// waiter. Do not wait for several one after another: two callers that each have some of them would wait for each other.
     #[must_use = "a guard that is dropped at once gives back what it holds"]
     pub fn try_acquire_many<'a, R: Wait + Clock>(
         &'a self,
@@ -134,8 +154,11 @@ impl Semaphore {
         Ok(SemaphoreGuard::new(Borrowed { lock: self, rt }, permit))
     }
 
-    /// As [`try_acquire_many`](Semaphore::try_acquire_many), by a guard that shares the semaphore, and so may go to another thread.
-    /// It returns an error if no share of the semaphore can be made.
+    /// Takes `n` permits at once, like [`try_acquire_many`](Semaphore::try_acquire_many), by one guard that may go to another
+    /// thread.
+    ///
+    /// The guard keeps the semaphore by a share of its `Arc`. The outer error says that no further share could be counted: then
+    /// nothing was taken.
     #[must_use = "a guard that is dropped at once gives back what it holds"]
     pub fn try_acquire_many_arc<R: Wait + Clock + Drop>(
         this: &Arc<Self, Global>,
@@ -151,13 +174,19 @@ impl Semaphore {
         }
     }
 
-    /// A wait for a permit.
+    /// Asks for one permit, once the returned [`Acquire`] is waited on or polled. Until then nothing happens.
+    ///
+    /// A thread blocks by `acquire(rt, alloc).wait()` or with a time limit; a task awaits the `Acquire`. `alloc` gives the
+    /// memory for a place in the queue, if the caller has to wait.
     #[inline(always)]
     pub fn acquire<'a, R: Wait + Clock>(&'a self, rt: &'a R, alloc: Global) -> Acquire<'a, R> {
         Acquire::new(Obtaining::new(Borrowed { lock: self, rt }, alloc, Taker::default()))
     }
 
-    /// A wait for a permit that may go to another thread. It returns an error if no share of the semaphore can be made.
+    /// Asks for one permit by a guard that may go to another thread, once the returned [`AcquireArc`] is waited on or polled.
+    ///
+    /// The wait and the guard keep the semaphore by a share of its `Arc`. An error says that no further share could be counted:
+    /// then nothing is asked for.
     pub fn acquire_arc<R: Wait + Clock + Drop>(
         this: &Arc<Self, Global>,
         rt: R,
@@ -167,15 +196,19 @@ impl Semaphore {
         Ok(AcquireArc::new(Obtaining::new(Shared { lock, rt }, alloc, Taker::default())))
     }
 
-    /// Adds permits, all free at once, and notifies the first that wait of them. As many as
-    /// [`MAX_PERMITS`](Semaphore::MAX_PERMITS) are free at most. A thread that has the queue notifies then. It may wait for the queue
-    /// only to wake more than eight.
+    /// Adds `n` permits, all free at once, and notifies as many of the first waiters. No more than
+    /// [`MAX_PERMITS`](Semaphore::MAX_PERMITS) become free.
+    ///
+    /// Where another thread has the queue, that thread notifies. The call may block for the queue only to wake more than eight
+    /// waiters.
     pub fn add_permits<R: Wait>(&self, rt: &R, n: usize) {
         self.word.add(rt, n as u64);
     }
 
-    /// Takes so many of the free permits away for ever, or all if fewer are free. Returns how many. While one starves it takes none:
-    /// what is free then is for those that wait. Nor does it of one that is closed. It takes no memory, and waits for nobody.
+    /// Takes at most `n` of the free permits away for good, and returns how many it took.
+    ///
+    /// While a waiter starves the call takes none, because what is free then is for the waiters; nor does it at a closed
+    /// semaphore. It takes no memory and never blocks.
     pub fn forget_permits(&self, n: usize) -> usize
         ensures at_most { result ≤ n }
     {

@@ -18,38 +18,42 @@ use std::alloc::Global;
 use std::sync::Wait;
 use std::time::{Clock, Duration, Instant};
 
-/// Where a number of threads and tasks have to arrive before any goes on, round after round.
+/// A barrier: a fixed number of threads and tasks have to arrive before any of them goes on, round after round.
 #[derive(Drop)]
 pub struct Barrier {
     rounds: Lock<Rounds<Task>>,
 }
 
-/// A wait for the others. It arrives once it is waited on or polled, and not before.
+/// A wait at a barrier for the others. It arrives once it is waited on or polled, and not before.
 ///
 /// A thread blocks by [`wait`](BarrierWait::wait), [`wait_timeout`](BarrierWait::wait_timeout) or
-/// [`wait_deadline`](BarrierWait::wait_deadline). A task awaits it: it is a future, and a poll after its output is
-/// [`PollError::Finished`]. Dropped before its round has ended, it has not arrived.
+/// [`wait_deadline`](BarrierWait::wait_deadline). A task awaits it, since it is a future; a poll after its output answers
+/// [`PollError::Finished`]. A wait that is dropped before its round has ended counts as one that has not arrived.
 #[must_use = "it arrives only once it is waited on or polled"]
 #[derive(Drop)]
 pub struct BarrierWait<'a, R: Wait + Clock> {
     queueing: Queueing<Lock<Rounds<Task>>, Ticket<Ended>, Arriving<'a, R>>,
 }
 
-/// A round has ended.
+/// The end of a round at a barrier, as one of those that arrived sees it.
 #[derive(Clone, Copy, Debug, PartialEq, Eq)]
 pub struct BarrierWaitResult {
     is_leader: bool,
 }
 
 impl Barrier {
-    /// A barrier for `parties` threads and tasks. One for none is one for one. It takes no memory until somebody waits.
+    /// Makes a barrier for so many threads and tasks. A barrier for none is one for one. It takes no memory until somebody
+    /// waits.
     pub fn new(alloc: Global, parties: usize) -> Self {
         Barrier {
             rounds: Lock::of(Rounds::new(alloc, parties)),
         }
     }
 
-    /// Arrives, and waits until all have.
+    /// Arrives, and waits until all have arrived, once the returned [`BarrierWait`] is waited on or polled. Until then nothing
+    /// happens.
+    ///
+    /// `alloc` gives the memory for a place in the queue, if the caller has to wait.
     pub fn wait<'a, R: Wait + Clock>(&'a self, rt: &'a R, alloc: Global) -> BarrierWait<'a, R> {
         BarrierWait {
             queueing: Queueing::new(Arriving { barrier: self, rt }, alloc, Ticket::new()),
@@ -64,7 +68,7 @@ impl BarrierWaitResult {
         }
     }
 
-    /// Whether this one was the last to arrive. In each round one is.
+    /// Returns whether the caller was the last to arrive. In each round just one is.
     pub fn is_leader(&self) -> bool
         ensures { result ≡ self.now.is_leader }
     {
@@ -73,7 +77,10 @@ impl BarrierWaitResult {
 }
 
 impl<R: Wait + Clock> BarrierWait<'_, R> {
-    /// Arrives, and blocks the thread until all have. It allocates what the thread parks on, if it has to wait.
+    /// Arrives, and blocks the thread until all have arrived.
+    ///
+    /// Where the call has to wait it takes memory, for a place in the queue and for what the thread parks on. An error says
+    /// that it could not wait: then the caller has not arrived.
     pub fn wait(self) -> Result<BarrierWaitResult, BlockError> {
         match self.wait_until(Limit::Never)? {
             Some(ended) => Ok(ended),
@@ -81,17 +88,21 @@ impl<R: Wait + Clock> BarrierWait<'_, R> {
         }
     }
 
-    /// Arrives, and blocks the thread until all have, or so long. `None` says that not all had arrived in time: then this one has
-    /// not. With no time left it arrives only if it is the last. A clock that can't be read ends the wait; a moment that can't
-    /// be represented never comes.
+    /// Arrives, and blocks the thread until all have arrived, at most for `timeout`. `None` says that not all arrived in time:
+    /// then the caller has not arrived either.
+    ///
+    /// With a `timeout` of zero the caller arrives only if it is the last. A moment too late to be represented never arrives,
+    /// so then the call waits without a limit. A clock that can't be read counts as one that shows that the time has passed.
     pub fn wait_timeout(self, timeout: Duration) -> Result<Option<BarrierWaitResult>, BlockError> {
         let limit = self.queueing.limit_after(timeout);
         self.wait_until(limit)
     }
 
-    /// Arrives, and blocks the thread until all have, or until this moment. `None` says that not all had arrived in time: then
-    /// this one has not. At a moment that has passed it arrives only if it is the last. A clock that can't be read ends the
-    /// wait.
+    /// Arrives, and blocks the thread until all have arrived, at most until `deadline`. `None` says that not all arrived in
+    /// time: then the caller has not arrived either.
+    ///
+    /// If `deadline` has passed the caller arrives only if it is the last. A clock that can't be read counts as one that shows
+    /// that the time has passed.
     pub fn wait_deadline(self, deadline: Instant) -> Result<Option<BarrierWaitResult>, BlockError> {
         self.wait_until(Limit::At(deadline))
     }

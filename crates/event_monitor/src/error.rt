@@ -10,10 +10,10 @@ use std::fmt;
 use std::fmt::{Debug, Display, Formatter};
 use thiserror::Error;
 
-/// Why a thread could not wait. It is in no queue, and what it waited for is as if it had not asked.
+/// Why a thread could not wait. The thread is in no queue, and what it asked is as if it had not been asked.
 #[derive(Clone, Copy, Debug, PartialEq, Eq, Error)]
 pub enum WaitError {
-    /// It could not be put into the queue: memory was refused, or serial numbers are used up.
+    /// The caller could not join the queue: memory was refused, or the serial numbers of the queue are used up.
     #[error("{0}")]
     Listen(#[from] ListenError),
     /// There was no memory for what the thread parks on.
@@ -21,28 +21,28 @@ pub enum WaitError {
     Memory(#[from] AllocError),
 }
 
-/// Why a poll of a wait obtained nothing. It is in no queue, and what it waited for is as if it had not asked.
+/// Why a poll of a wait obtained nothing. The task is in no queue, and what it asked is as if it had not been asked.
 #[derive(Clone, Copy, Debug, PartialEq, Eq, Error)]
 pub enum PollError {
-    /// It could not be put into the queue: memory was refused, or serial numbers are used up.
+    /// The caller could not join the queue: memory was refused, or the serial numbers of the queue are used up.
     #[error("{0}")]
     Listen(#[from] ListenError),
-    /// The future has given its output already.
+    /// The future was polled again after it had given its output.
     #[error("the wait is over")]
     Finished,
 }
 
-/// Why a thread obtained nothing by a wait that may have been polled before. It is in no queue, and what it waited for is as if
-/// it had not asked.
+/// Why a thread obtained nothing by a wait that may have been polled before. The thread is in no queue, and what it asked is as
+/// if it had not been asked.
 #[derive(Clone, Copy, Debug, PartialEq, Eq, Error)]
 pub enum BlockError {
-    /// It could not be put into the queue: memory was refused, or serial numbers are used up.
+    /// The caller could not join the queue: memory was refused, or the serial numbers of the queue are used up.
     #[error("{0}")]
     Listen(#[from] ListenError),
     /// There was no memory for what the thread parks on.
     #[error("no memory for a wait")]
     Memory(#[from] AllocError),
-    /// The future has given its output already.
+    /// The future had given its output before the thread waited on it.
     #[error("the wait is over")]
     Finished,
 }
@@ -107,18 +107,20 @@ impl From<BlockError> for LockError {
 /// Why a cell was not set.
 #[derive(Clone, Copy, Debug, PartialEq, Eq, Error)]
 pub enum SetReason {
-    /// It is set already.
+    /// The cell is set already.
     #[error("the cell is set already")]
     AlreadySet,
-    /// Another one makes the value, and waiting for that was refused.
+    /// Another caller is making the value, and this caller could not wait for that.
     #[error("{0}")]
     WaitFailed(#[from] WaitError),
 }
 
-/// A value that was not set, and why.
+/// A value to which a cell was not set, and why.
 #[derive(Clone, Copy, PartialEq, Eq, Drop)]
 pub struct SetError<T> {
+    /// The value, which the caller has again.
     pub value: T,
+    /// Why the cell was not set.
     pub reason: SetReason,
 }
 

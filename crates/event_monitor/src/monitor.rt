@@ -19,25 +19,27 @@ use std::marker::Model;
 use std::sync::Wait;
 use std::time::{Clock, Duration, Instant};
 
-/// A value under a lock, for threads and tasks that wait until it is as they want it. Each change wakes all that wait, and each
-/// of them attempts anew: so it serves best where few wait, or where most of them get what they wait for by one change.
+/// A value under a lock, with threads and tasks that wait until the value is as they want it.
 ///
-/// What they wait for is a [`Condition`], of one type for each monitor. It is stored beside the task of the one that waits.
+/// What a waiter wants is a [`Condition`], whose attempt looks at the value and may change it; all waiters of one monitor have
+/// conditions of one type. Each change wakes all waiters, and each of them attempts anew. So a monitor serves best where few
+/// wait, or where one change gives most of them what they want.
 #[derive(Drop)]
 pub struct Monitor<V, C: Condition<V>> {
     watched: Lock<Watched<V, C, Task>>,
 }
 
 impl<V: Drop, C: Condition<V> + Copy> Monitor<V, C> {
-    /// A monitor of this value, for which nobody waits. It takes no memory until somebody does.
+    /// Makes a monitor of `value`, with nobody who waits. It takes no memory until somebody does.
     pub fn new(alloc: Global, value: V) -> Self {
         Monitor {
             watched: Lock::of(Watched::new(alloc, value)),
         }
     }
 
-    /// Changes the value, and wakes all that wait. It returns what the change returns, which runs under the lock. It may wait
-    /// for the lock.
+    /// Changes the value by `change`, which runs under the lock, and wakes all waiters. Returns what `change` returns.
+    ///
+    /// The call may block for the lock. Do not call the same monitor inside `change`: that would block for ever.
     pub fn change<A, R: Wait, F: FnOnce(&mut V) -> A>(&self, rt: &R, change: F) -> A
         requires { F.IsAlwaysCallable change }
         ensures { Changes F.FnOnce change result }
@@ -45,8 +47,9 @@ impl<V: Drop, C: Condition<V> + Copy> Monitor<V, C> {
         step!(self.watched, rt, watched, waking => watched.change(change, &mut waking))
     }
 
-    /// What an attempt gives now, if it gives something: then all that wait are woken, since it may have changed the value. It
-    /// may wait for the lock.
+    /// Attempts `condition` once, without waiting for it. Returns what the attempt gave, or `None` if it failed.
+    ///
+    /// An attempt that gives something may have changed the value, so it wakes all waiters. The call may block for the lock.
     pub fn try_now<R: Wait>(&self, rt: &R, condition: C) -> Option<C::Output>
         ensures gave { IfSome result (λ output. Gives C.gives condition output) }
         ensures failed { result ≡ None → Fails C.fails condition }
@@ -54,7 +57,15 @@ impl<V: Drop, C: Condition<V> + Copy> Monitor<V, C> {
         step!(self.watched, rt, watched, waking => watched.attempt(condition, &mut waking))
     }
 
-    /// A wait until an attempt of this condition gives something.
+    /// Waits until an attempt of `condition` gives something, once the returned [`Until`] is waited on or polled. Until then
+    /// nothing happens.
+    ///
+    /// `alloc` gives the memory for a place in the queue, if the caller has to wait.
+    ///
+    /// ```rust
+    ///     let mut withdrawal = balance.until(rt, alloc, Withdrawal { amount });
+    ///     withdrawal.wait_timeout(limit)
+    /// ```
     pub fn until<'a, R: Wait + Clock>(
         &'a self,
         rt: &'a R,
@@ -75,9 +86,9 @@ impl<V: Drop, C: Condition<V> + Copy> Monitor<V, C> {
 /// A wait until an attempt of a condition gives something. It attempts once it is waited on or polled, and not before.
 ///
 /// A thread blocks by [`wait`](Until::wait), [`wait_timeout`](Until::wait_timeout) or [`wait_deadline`](Until::wait_deadline).
-/// A task awaits it: it is a future. Threads and tasks wait in one queue, and a thread that waits on a future which was polled
-/// before keeps its place. What any of these gives is what an attempt gave. After that, or after an error, it may be used
-/// again: then it waits anew. Dropped while it waits, it leaves the queue.
+/// A task awaits it, since it is a future. Its result is what an attempt gave. After a result or an error the `Until` may be
+/// used again, and then waits anew. One that was polled and is then waited on keeps its place in the queue. One that is dropped
+/// while it waits leaves the queue.
 #[must_use = "nothing is attempted until it is waited on or polled"]
 pub struct Until<'a, V, C: Condition<V> + Copy, R: Wait> {
     lock: &'a Lock<Watched<V, C, Task>>,
@@ -87,8 +98,10 @@ pub struct Until<'a, V, C: Condition<V> + Copy, R: Wait> {
 }
 
 impl<V, C: Condition<V> + Copy, R: Wait + Clock> Until<'_, V, C, R> {
-    /// Blocks the thread until an attempt gives something. It allocates what the thread parks on, and a place in the queue, if
-    /// it has to wait. An error says that it could not: then it is in no queue.
+    /// Blocks the thread until an attempt gives something, and returns that.
+    ///
+    /// Where the call has to wait it takes memory, for a place in the queue and for what the thread parks on. An error says
+    /// that it could not wait: then the thread is in no queue.
     pub fn wait(&mut self) -> Result<C::Output, WaitError>
         ensures gave { IfOk result (Gives C.gives self.old.watch) }
         ensures same { self.new.watch ≡ self.old.watch }
@@ -99,9 +112,12 @@ impl<V, C: Condition<V> + Copy, R: Wait + Clock> Until<'_, V, C, R> {
         }
     }
 
-    /// Blocks the thread until an attempt gives something, or so long. `None` says that even the last attempt, at that time,
-    /// gave nothing: then the thread is in no queue. With no time left it only attempts: it enters no queue and allocates
-    /// nothing. A clock that can't be read ends the wait; a moment that can't be represented never comes.
+    /// Blocks the thread until an attempt gives something, at most for `timeout`. `None` says that even the last attempt, made
+    /// at that time, failed.
+    ///
+    /// After `None` or an error the thread is in no queue. With a `timeout` of zero the call only attempts once: it joins no
+    /// queue and takes no memory. A moment too late to be represented never arrives, so then the call waits without a limit. A
+    /// clock that can't be read counts as one that shows that the time has passed.
     pub fn wait_timeout(&mut self, timeout: Duration) -> Result<Option<C::Output>, WaitError>
         ensures gave { IfOk result (λ answer. IfSome answer (Gives C.gives self.old.watch)) }
         ensures late { IfOk result (λ answer. answer ≡ None → Fails C.fails self.old.watch) }
@@ -111,9 +127,11 @@ impl<V, C: Condition<V> + Copy, R: Wait + Clock> Until<'_, V, C, R> {
         self.wait_until(limit)
     }
 
-    /// Blocks the thread until an attempt gives something, or until this moment. `None` says that even the last attempt, at
-    /// that time, gave nothing: then the thread is in no queue. At a moment that has passed it only attempts: it enters no
-    /// queue and allocates nothing. A clock that can't be read ends the wait.
+    /// Blocks the thread until an attempt gives something, at most until `deadline`. `None` says that even the last attempt,
+    /// made at that time, failed.
+    ///
+    /// After `None` or an error the thread is in no queue. If `deadline` has passed the call only attempts once: it joins no
+    /// queue and takes no memory. A clock that can't be read counts as one that shows that the time has passed.
     pub fn wait_deadline(&mut self, deadline: Instant) -> Result<Option<C::Output>, WaitError>
         ensures gave { IfOk result (λ answer. IfSome answer (Gives C.gives self.old.watch)) }
         ensures late { IfOk result (λ answer. answer ≡ None → Fails C.fails self.old.watch) }
@@ -175,7 +193,7 @@ impl<V, C: Condition<V> + Copy, R: Wait + Clock> Future for Until<'_, V, C, R> {
     }
 }
 
-/// For what one waits, and its place in the queue, if it has one. A contract sees for what.
+/// What one waiter of a monitor waits for, and its place in the queue, if it has one. A contract sees the condition.
 #[derive(Drop)]
 pub struct Watch<C> {
     condition: C,

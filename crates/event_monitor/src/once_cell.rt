@@ -22,9 +22,15 @@ use std::marker::Model;
 use std::sync::{OnceLock, OnceToken, Wait};
 use std::time::{Clock, Duration, Instant};
 
-/// A value that is set once. One at a time makes it, and the others wait; if that one gives up, the next has its turn.
+/// A value that is set once. One caller at a time makes the value while the others wait; if that caller fails or gives up, the
+/// next one has the turn.
 ///
-/// A contract sees the number of the source at which tasks that wait are registered, and a name of what is set.
+/// A contract sees the number of the source at which waiting tasks are registered, and a name of what is set.
+///
+/// ```rust
+///     let port = cell.get_or_try_init(rt, alloc, || -> anyhow::Result<u16> { Ok(text.parse()?) })?;
+///     Ok(*port)
+/// ```
 #[derive(Drop)]
 pub struct OnceCell<T> {
     once: Lock<Once<Task>>,
@@ -40,7 +46,7 @@ impl<T> Model for OnceCell<T> {
 }
 
 impl<T> OnceCell<T> {
-    /// A cell without a value. It takes no memory until somebody waits.
+    /// Makes a cell without a value. It takes no memory until somebody waits.
     pub fn new(alloc: Global) -> Self {
         OnceCell {
             once: Lock::of(Once::new(alloc)),
@@ -48,25 +54,26 @@ impl<T> OnceCell<T> {
         }
     }
 
-    /// The value, if it is set. The call takes no lock.
+    /// Returns the value, if it is set. The call takes no lock and never blocks.
     pub fn get(&self) -> Option<&T> {
         self.value.get()
     }
 
-    /// Whether the value is set. The call takes no lock.
+    /// Returns whether the value is set. The call takes no lock and never blocks.
     pub fn is_initialized(&self) -> bool {
         self.value.get().is_some()
     }
 
-    /// What shows a contract which value is set, if one is: all that show one of this cell agree on it. It has no bytes. The
-    /// call takes no lock.
+    /// Returns, if the value is set, a token of no bytes that shows a contract which value it is. All tokens of one cell agree.
+    ///
+    /// The call takes no lock and never blocks.
     pub fn witness(&self) -> Option<OnceToken<'_, T>>
         ensures { IfSome result (λ token. token.of ≡ self.now.id) }
     {
         self.value.witness()
     }
 
-    /// The value, for one that shows which it is.
+    /// Returns the value of which `token` is the witness.
     pub fn value<'a>(&'a self, token: &OnceToken<'a, T>) -> &'a T
         requires { token.now.of ≡ self.now.id }
         ensures { result.now ≡ token.now.value }
@@ -74,18 +81,25 @@ impl<T> OnceCell<T> {
         self.value.value(token)
     }
 
-    /// A wait for the value, or for the turn to make it: while another one makes it, this one waits.
+    /// Waits for the value or for the turn to make it, once the returned [`Claiming`] is waited on or polled. Until then
+    /// nothing happens.
+    ///
+    /// `alloc` gives the memory for a place in the queue, if another caller is making the value.
     pub fn claim<'a, R: Wait + Clock>(&'a self, rt: &'a R, alloc: Global) -> Claiming<'a, T, R> {
         Claiming::new(self, rt, alloc)
     }
 
-    /// A wait until the value is set, by whoever sets it.
+    /// Waits until somebody has set the value, once the returned [`Seeing`] is waited on or polled. Until then nothing happens.
+    ///
+    /// `alloc` gives the memory for a place in the queue, if the value is not set.
     pub fn wait<'a, R: Wait + Clock>(&'a self, rt: &'a R, alloc: Global) -> Seeing<'a, T, R> {
         Seeing::new(self, rt, alloc)
     }
 
-    /// Sets the value. It blocks while another one makes it. An error hands the value back: the cell is set, or waiting was
-    /// refused. For a limit take [`Claiming::wait_timeout`], and then [`Vacant::set`].
+    /// Sets the value. Blocks while another caller is making it. Returns a reference to the value.
+    ///
+    /// An error has the value again: the cell was set already, or waiting was refused. For a time limit use
+    /// [`Claiming::wait_timeout`] and then [`Vacant::set`].
     pub fn set<'a, R: Wait + Clock>(
         &'a self,
         rt: &'a R,
@@ -101,7 +115,7 @@ impl<T> OnceCell<T> {
         }
     }
 
-    /// The same. It returns what shows a contract that this value is set.
+    /// Sets the value, like [`set`](OnceCell::set). Returns the token that shows a contract that this value is set.
     pub fn set_witness<'a, R: Wait + Clock>(
         &'a self,
         rt: &'a R,
@@ -126,8 +140,11 @@ impl<T> OnceCell<T> {
         }
     }
 
-    /// The value. If it is set, the call takes no lock. Else `make` makes it, and the others wait meanwhile; if that fails, the
-    /// next has its turn. It blocks while another one makes it.
+    /// Returns the value, and makes it by `make` if it is not set. An error of `make` goes to this caller alone, and the next
+    /// caller has the turn.
+    ///
+    /// If the value is set the call takes no lock. It blocks while another caller is making the value. `make` runs with no lock
+    /// held, but must not ask for the value of the same cell: it would wait for itself.
     pub fn get_or_try_init<'a, R, E, F>(
         &'a self,
         rt: &'a R,
@@ -150,8 +167,10 @@ impl<T> OnceCell<T> {
         }
     }
 
-    /// The same, and while another one makes it, it blocks as [`Claiming::wait_timeout`] does: `None` says that it was in vain,
-    /// and then `make` was not called. The time that `make` takes is not counted.
+    /// Returns the value, and makes it by `make` if it is not set, like [`get_or_try_init`](OnceCell::get_or_try_init). Blocks
+    /// for another caller that is making the value, at most for `timeout`.
+    ///
+    /// `None` says that the value was not made in time: then `make` was not called. The time that `make` takes is not counted.
     pub fn get_or_try_init_timeout<'a, R, E, F>(
         &'a self,
         rt: &'a R,
@@ -171,8 +190,10 @@ impl<T> OnceCell<T> {
         self.get_or_try_init_until(rt, alloc, Limit::after(rt, timeout), make)
     }
 
-    /// The same, and while another one makes it, it blocks as [`Claiming::wait_deadline`] does: `None` says that it was in vain,
-    /// and then `make` was not called.
+    /// Returns the value, and makes it by `make` if it is not set, like [`get_or_try_init`](OnceCell::get_or_try_init). Blocks
+    /// for another caller that is making the value, at most until `deadline`.
+    ///
+    /// `None` says that the value was not made in time: then `make` was not called.
     pub fn get_or_try_init_deadline<'a, R, E, F>(
         &'a self,
         rt: &'a R,
@@ -192,7 +213,10 @@ impl<T> OnceCell<T> {
         self.get_or_try_init_until(rt, alloc, Limit::At(deadline), make)
     }
 
-    /// The value. If it is not set, `make` makes it, and the others wait meanwhile. It blocks while another one makes it.
+    /// Returns the value, and makes it by `make`, which can't fail, if it is not set. Blocks while another caller is making the
+    /// value.
+    ///
+    /// `make` must not ask for the value of the same cell: it would wait for itself.
     pub fn get_or_init<'a, R, F>(
         &'a self,
         rt: &'a R,
@@ -211,8 +235,10 @@ impl<T> OnceCell<T> {
         }
     }
 
-    /// The same, and while another one makes it, it blocks as [`Claiming::wait_timeout`] does: `None` says that it was in vain,
-    /// and then `make` was not called. The time that `make` takes is not counted.
+    /// Returns the value, and makes it by `make`, which can't fail, if it is not set. Blocks for another caller that is making
+    /// the value, at most for `timeout`.
+    ///
+    /// `None` says that the value was not made in time: then `make` was not called. The time that `make` takes is not counted.
     pub fn get_or_init_timeout<'a, R, F>(
         &'a self,
         rt: &'a R,
@@ -229,8 +255,10 @@ impl<T> OnceCell<T> {
         self.get_or_init_until(rt, alloc, Limit::after(rt, timeout), make)
     }
 
-    /// The same, and while another one makes it, it blocks as [`Claiming::wait_deadline`] does: `None` says that it was in vain,
-    /// and then `make` was not called.
+    /// Returns the value, and makes it by `make`, which can't fail, if it is not set. Blocks for another caller that is making
+    /// the value, at most until `deadline`.
+    ///
+    /// `None` says that the value was not made in time: then `make` was not called.
     pub fn get_or_init_deadline<'a, R, F>(
         &'a self,
         rt: &'a R,
@@ -247,8 +275,9 @@ impl<T> OnceCell<T> {
         self.get_or_init_until(rt, alloc, Limit::At(deadline), make)
     }
 
-    /// The value for a task: if it is not set, this future makes it. While another one makes it, the task waits, for which it
-    /// takes memory. The call itself asks for nothing.
+    /// Gives a task the value, once the returned future is awaited. If the value is not set, the future `make` makes it.
+    ///
+    /// While another caller is making the value the task waits, for which it takes memory from `alloc`.
     pub fn get_or_init_async<'a, R: Wait + Clock, M>(
         &'a self,
         rt: &'a R,
@@ -262,7 +291,10 @@ impl<T> OnceCell<T> {
         Initializing::new(self, rt, alloc, Surely { maker })
     }
 
-    /// The same, by a future that may fail: then the next has its turn.
+    /// Gives a task the value, once the returned future is awaited. If the value is not set, the future `make` makes it or
+    /// fails; after an error the next caller has the turn.
+    ///
+    /// While another caller is making the value the task waits, for which it takes memory from `alloc`.
     pub fn get_or_try_init_async<'a, R: Wait + Clock, M>(
         &'a self,
         rt: &'a R,
@@ -276,18 +308,18 @@ impl<T> OnceCell<T> {
         Initializing::new(self, rt, alloc, maker)
     }
 
-    /// The value, if it is set, to be changed.
+    /// Returns a reference by which the value can be changed, if it is set.
     pub fn get_mut(&mut self) -> Option<&mut T> {
         self.value.get_mut()
     }
 
-    /// Takes the value out, if it is set: from here on the cell is as a new one.
+    /// Takes the value out, if it is set. From here on the cell is like a new one.
     pub fn take(&mut self, alloc: Global) -> Option<T> {
         self.once = Lock::of(Once::new(alloc));
         self.value.take()
     }
 
-    /// The value, if it is set.
+    /// Ends the cell and returns its value, if it is set.
     pub fn into_inner(self) -> Option<T> {
         let OnceCell { once: _, value } = self;
         value.into_inner()

@@ -7,19 +7,19 @@ use event_queue::ListenError;
 use std::alloc::AllocError;
 use thiserror::Error;
 
-/// Why a wait obtained nothing. Whoever waited is in no queue, and the lock is as if it had not asked.
+/// Why a wait obtained nothing. The caller that waited is in no queue any more, and the lock is as if it had not been asked.
 #[derive(Clone, Copy, Debug, PartialEq, Eq, Error)]
 pub enum LockError {
-    /// It could not be put into the queue: memory was refused, or serial numbers are used up.
+    /// The caller could not join the queue: memory was refused, or the serial numbers of the queue are used up.
     #[error("{0}")]
     Listen(#[from] ListenError),
-    /// There was no memory for what the thread parks on, or no share of the lock could be made.
+    /// There was no memory for what the thread parks on, or no further share of the lock could be counted.
     #[error("no memory for a wait")]
     Memory(#[from] AllocError),
-    /// As many read, or wait to read, as can be counted.
+    /// As many readers have the lock or wait for it as the lock can count.
     #[error("too many readers")]
     TooManyReaders,
-    /// The future has given its output already.
+    /// The future was polled again after it had given its output.
     #[error("the wait is over")]
     Finished,
 }

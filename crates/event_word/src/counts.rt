@@ -1,18 +1,19 @@
 //! How a lock stands for which threads compete.
 
-/// How many of what a lock counts are free, and how many are notified, wait and starve, at one moment.
+/// How many permits are free at a semaphore or a mutex, and how many waiters are notified, waiting and starving, all at one
+/// moment.
 #[derive(Clone, Copy, Debug, PartialEq, Eq)]
 pub struct Counts {
-    /// How many are free: permits of a semaphore; of a mutex one, while nobody has the value.
+    /// How many permits are free; of a mutex one, while nobody has the value.
     pub free: u64,
-    /// How many were notified, and have not come yet.
+    /// How many waiters are notified and have not tried again yet.
     pub notified: usize,
-    /// How many wait, and are not notified.
+    /// How many waiters are not notified.
     pub waiting: usize,
-    /// How many of both were notified twice before, and found nothing.
+    /// How many of the notified and the waiting were notified twice before, and found nothing each time.
     pub starving: usize,
-    /// Whether newcomers are shut out.
+    /// Whether newcomers are shut out, since a waiter starves.
     pub is_shut: bool,
-    /// Whether nobody gets anything any more. A mutex never is closed.
+    /// Whether the semaphore is closed. A mutex is never closed.
     pub is_closed: bool,
 }

@@ -1,13 +1,13 @@
 //! Why no permit was taken.
 use thiserror::Error;
 
-/// Why no permit was taken at once.
+/// Why a call that does not wait took no permit.
 #[derive(Clone, Copy, Debug, PartialEq, Eq, Error)]
 pub enum TryAcquireError {
-    /// The semaphore is closed, so there never will be one.
+    /// The semaphore is closed, so there never will be a permit.
     #[error("the semaphore is closed")]
     Closed,
-    /// Fewer are free than are wanted, or newcomers are shut out.
+    /// Fewer permits are free than were asked for, or newcomers are shut out because a waiter starves.
     #[error("too few permits are free")]
     NoPermits,
 }

@@ -29,15 +29,19 @@ struct PlaceArc<T, R> {
     ghost own: { parked ≡ (arc_value hold.lock).word.slot.name },
 }
 
-/// The value of a mutex. Dropping the guard gives it back. A contract sees the value.
+/// The value of a mutex, as long as its owner keeps this guard. Dropping the guard gives the value back, and notifies the next
+/// waiter.
+///
+/// The guard dereferences to the value. A contract sees the guard as the value.
 #[must_use = "a guard that is dropped at once gives back what it holds"]
 pub struct MutexGuard<'a, T: Drop, R: Wait + Clock> {
     place: Place<'a, T, R>,
     value: T,
 }
 
-/// The value of a mutex, by a guard that shares the mutex, and so may go to another thread. Dropping it gives the value back.
-/// A contract sees the value.
+/// The value of a mutex, by a guard that keeps the mutex by a share of its `Arc` and so may go to another thread.
+///
+/// Dropping the guard gives the value back, and notifies the next waiter. A contract sees the guard as the value.
 #[must_use = "a guard that is dropped at once gives back what it holds"]
 pub struct MutexGuardArc<T: Drop, R: Wait + Clock + Drop> {
     place: PlaceArc<T, R>,
@@ -78,7 +82,7 @@ impl<'a, T: Drop, R: Wait + Clock> MutexGuard<'a, T, R> {
         Self::with(hold, lent, value)
     }
 
-    /// The mutex.
+    /// Returns the mutex to which this guard belongs.
     pub fn source(&self) -> &'a Mutex<T> {
         self.place.hold.lender.lock
     }
@@ -95,7 +99,7 @@ impl<T: Drop, R: Wait + Clock + Drop> MutexGuardArc<T, R> {
         }
     }
 
-    /// The mutex.
+    /// Returns the mutex to which this guard belongs.
     pub fn source(&self) -> &Arc<Mutex<T>, Global> {
         &self.place.hold.lock
     }

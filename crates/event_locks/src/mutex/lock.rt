@@ -13,19 +13,22 @@ use futures::task::{Context, Poll};
 use std::sync::Wait;
 use std::time::{Clock, Duration, Instant};
 
-/// A wait for the value of a mutex. It asks once it is waited on or polled, and not before.
+/// A wait for the value of a mutex. It asks for the value once it is waited on or polled, and not before.
 ///
-/// A thread blocks by [`wait`](Lock::wait), [`wait_timeout`](Lock::wait_timeout) or
-/// [`wait_deadline`](Lock::wait_deadline). A task awaits it: it is a future, and a poll after its output is
-/// [`LockError::Finished`]. Threads and tasks wait in one queue, and a thread that waits on one which was polled before keeps
-/// its place. Dropped while it waits, it leaves the queue, and what it was notified of goes to the next.
+/// A thread blocks by [`wait`](Lock::wait), [`wait_timeout`](Lock::wait_timeout) or [`wait_deadline`](Lock::wait_deadline). A
+/// task awaits it, since it is a future; a poll after its output answers [`LockError::Finished`]. Threads and tasks wait in one
+/// queue. A `Lock` that was polled and is then waited on keeps its place there. A `Lock` that is dropped while it waits leaves
+/// the queue, and a notification that it had goes to the next waiter.
 #[must_use = "nothing is asked for until it is waited on or polled"]
 #[derive(Drop)]
 pub struct Lock<'a, T: Drop, R: Wait + Clock> {
     obtaining: Obtaining<Lender<'a, Mutex<T>>, Taker, Lending<'a, Mutex<T>, R>>,
 }
 
-/// A wait for the value of a mutex that shares the mutex, and so may go to another thread; else as [`Lock`].
+/// A wait for the value of a mutex that keeps the mutex by a share of its `Arc`, so that the wait and its guard may go to
+/// another thread.
+///
+/// It is waited on, awaited and dropped like a [`Lock`].
 #[must_use = "nothing is asked for until it is waited on or polled"]
 #[derive(Drop)]
 pub struct LockArc<T: Drop, R: Wait + Clock + Drop> {
@@ -40,8 +43,10 @@ impl<'a, T: Drop, R: Wait + Clock> Lock<'a, T, R> {
         Lock { obtaining }
     }
 
-    /// Blocks the thread until it has the value. It allocates what the thread parks on and a place in the queue, if it has to
-    /// wait. An error says that it could not: then it is in no queue.
+    /// Blocks the thread until it has the value. Returns the guard.
+    ///
+    /// The call first tries at once. Where it has to wait it takes memory, for a place in the queue and for what the thread
+    /// parks on. An error says that it could not wait: then the caller is in no queue.
     #[inline(always)]
     pub fn wait(self) -> Result<MutexGuard<'a, T, R>, LockError> {
         let (hold, lent) = match self.obtaining.at_once() {
@@ -55,9 +60,11 @@ impl<'a, T: Drop, R: Wait + Clock> Lock<'a, T, R> {
         }
     }
 
-    /// Blocks the thread until it has the value, or so long. `None` says that it was in vain: then the thread is in no queue. With
-    /// no time left it only attempts: it enters no queue and allocates nothing. A clock that can't be read ends the wait; a
-    /// moment that can't be represented never comes.
+    /// Blocks the thread until it has the value, at most for `timeout`. Returns `None` if that passed in vain.
+    ///
+    /// After `None` or an error the caller is in no queue. With a `timeout` of zero the call only tries at once: it joins no
+    /// queue and takes no memory. A moment too late to be represented never arrives, so then the call waits without a limit. A
+    /// clock that can't be read counts as one that shows that the time has passed.
     pub fn wait_timeout(
         self,
         timeout: Duration,
@@ -68,8 +75,10 @@ impl<'a, T: Drop, R: Wait + Clock> Lock<'a, T, R> {
         Ok(Some(MutexGuard::new(hold, lent)))
     }
 
-    /// Blocks the thread until it has the value, or until this moment. `None` says that it was in vain: then the thread is in no
-    /// queue. At a moment that has passed it only attempts. A clock that can't be read ends the wait.
+    /// Blocks the thread until it has the value, at most until `deadline`. Returns `None` if that passed in vain.
+    ///
+    /// After `None` or an error the caller is in no queue. If `deadline` has passed the call only tries at once: it joins no
+    /// queue and takes no memory. A clock that can't be read counts as one that shows that the time has passed.
     pub fn wait_deadline(
         self,
         deadline: Instant,
@@ -86,19 +95,21 @@ impl<T: Drop, R: Wait + Clock + Drop> LockArc<T, R> {
         LockArc { obtaining }
     }
 
-    /// As [`Lock::wait`].
+    /// Blocks the thread until it has the value, like [`Lock::wait`]. Returns a guard that may go to another thread.
     pub fn wait(self) -> Result<MutexGuardArc<T, R>, LockError> {
         let (hold, loan) = self.obtaining.wait()?;
         Ok(MutexGuardArc::new(hold, loan))
     }
 
-    /// As [`Lock::wait_timeout`].
+    /// Blocks the thread until it has the value, at most for `timeout`, like [`Lock::wait_timeout`]. Returns a guard that may
+    /// go to another thread.
     pub fn wait_timeout(self, timeout: Duration) -> Result<Option<MutexGuardArc<T, R>>, LockError> {
         let got = self.obtaining.wait_timeout(timeout)?;
         Ok(got.map(|(hold, loan)| MutexGuardArc::new(hold, loan)))
     }
 
-    /// As [`Lock::wait_deadline`].
+    /// Blocks the thread until it has the value, at most until `deadline`, like [`Lock::wait_deadline`]. Returns a guard that
+    /// may go to another thread.
     pub fn wait_deadline(
         self,
         deadline: Instant,

@@ -101,7 +101,10 @@ impl<T, R> HeldArc<T, R, Writing> {
     }
 }
 
-/// The value of a read-write lock, to be read where it lies. Dropping the guard ends the reading. A contract sees the value as `Some`.
+/// The right to read the value of a read-write lock, where the value lies. Dropping the guard ends the reading; the last reader
+/// that leaves lets in the next writer.
+///
+/// The guard dereferences to the value. A contract sees the guard as `Some` of the value.
 #[must_use = "a guard that is dropped at once ends the reading"]
 pub struct RwLockReadGuard<'a, T, R: Wait + Clock> {
     grant: Grant<'a, Reading, Hidden<T>>,
@@ -109,21 +112,28 @@ pub struct RwLockReadGuard<'a, T, R: Wait + Clock> {
     ghost own: { grant.claim.name ≡ hold.lender.lock.now.word.slot.name },
 }
 
-/// The value of a read-write lock, to be written where it lies. Dropping the guard ends the writing. A contract sees the value.
+/// The right to write the value of a read-write lock, where the value lies. Dropping the guard ends the writing, and lets in
+/// all readers that wait, or else the next writer.
+///
+/// The guard dereferences to the value. A contract sees the guard as the value.
 #[must_use = "a guard that is dropped at once ends the writing"]
 pub struct RwLockWriteGuard<'a, T, R: Wait + Clock> {
     tied: Tied<'a, Place<Hidden<T>>, Queues<Task>, Lending<'a, RwLock<T>, R>>,
 }
 
-/// The value of a read-write lock, to be read where it lies, by a guard that shares the lock, and so may go to another thread. Dropping
-/// it ends the reading. A contract sees the value. It is counted as long as it is there, as parked for a moment when it is made and
-/// when it ends.
+/// The right to read the value of a read-write lock, by a guard that keeps the lock by a share of its `Arc` and so may go to
+/// another thread.
+///
+/// Dropping the guard ends the reading. A contract sees the guard as the value.
 #[must_use = "a guard that is dropped at once ends the reading"]
 pub struct RwLockReadGuardArc<T: Drop, R: Wait + Clock + Drop> {
     held: HeldArc<T, R, Reading>,
 }
 
-/// The value of a read-write lock, to be written where it lies; else as [`RwLockReadGuardArc`]. Dropping it ends the writing.
+/// The right to write the value of a read-write lock, by a guard that keeps the lock by a share of its `Arc` and so may go to
+/// another thread.
+///
+/// Dropping the guard ends the writing. A contract sees the guard as the value.
 #[must_use = "a guard that is dropped at once ends the writing"]
 pub struct RwLockWriteGuardArc<T: Drop, R: Wait + Clock + Drop> {
     held: HeldArc<T, R, Writing>,
@@ -161,8 +171,10 @@ impl<'a, T, R: Wait + Clock> RwLockReadGuard<'a, T, R> {
         RwLockReadGuard { grant, hold }
     }
 
-    /// Writes from here on, if nobody else reads and no writer waits; else the guard comes back. Where others wait it may wait
-    /// for the queues. It takes no memory.
+    /// Makes a writer of this reader, if nobody else reads and no writer waits. Returns the reader again, as an `Err`, else.
+    ///
+    /// The value is not given back in between. The call takes no memory. Where others wait it may block until the queues, which
+    /// another thread may be using, are put back.
     pub fn try_upgrade(self) -> Result<RwLockWriteGuard<'a, T, R>, RwLockReadGuard<'a, T, R>> {
         let RwLockReadGuard { grant, hold } = self;
         match hold.lender.lock.word.try_upgrade(hold.rt, grant) {
@@ -182,8 +194,9 @@ impl<'a, T, R: Wait + Clock> RwLockWriteGuard<'a, T, R> {
         }
     }
 
-    /// Reads from here on, with no writer in between. All readers that wait are let in. Where others wait it may wait for the
-    /// queues.
+    /// Makes a reader of this writer, with no other writer in between, and lets in all readers that wait.
+    ///
+    /// Where others wait the call may block until the queues, which another thread may be using, are put back.
     pub fn downgrade(self) -> RwLockReadGuard<'a, T, R> {
         let RwLockWriteGuard { tied } = self;
         let (writing, hold) = tied.untie();
@@ -202,7 +215,8 @@ impl<T: Drop, R: Wait + Clock + Drop> RwLockReadGuardArc<T, R> {
         }
     }
 
-    /// As [`RwLockReadGuard::try_upgrade`].
+    /// Makes a writer of this reader, if nobody else reads and no writer waits, like [`RwLockReadGuard::try_upgrade`]. Returns
+    /// the reader again, as an `Err`, else.
     pub fn try_upgrade(self) -> Result<RwLockWriteGuardArc<T, R>, RwLockReadGuardArc<T, R>> {
         let RwLockReadGuardArc { held } = self;
         let (hold, share) = held.park();
@@ -222,7 +236,8 @@ impl<T: Drop, R: Wait + Clock + Drop> RwLockWriteGuardArc<T, R> {
         }
     }
 
-    /// As [`RwLockWriteGuard::downgrade`].
+    /// Makes a reader of this writer, with no other writer in between, like [`RwLockWriteGuard::downgrade`], and lets in all
+    /// readers that wait.
     pub fn downgrade(self) -> RwLockReadGuardArc<T, R> {
         let RwLockWriteGuardArc { held } = self;
         let (hold, share) = held.park();

@@ -13,22 +13,25 @@ use futures::task::{Context, Poll};
 use std::sync::Wait;
 use std::time::{Clock, Duration, Instant};
 
-/// A wait for the value of a read-write lock, to be read. It asks once it is waited on or polled, and not before.
+/// A wait for the right to read the value of a read-write lock. It asks once it is waited on or polled, and not before.
 ///
-/// A thread blocks by [`wait`](Read::wait), [`wait_timeout`](Read::wait_timeout) or
-/// [`wait_deadline`](Read::wait_deadline). A task awaits it: it is a future, and a poll after its output is
-/// [`LockError::Finished`]. Threads and tasks wait in one queue, and a thread that waits on one which was polled before keeps
-/// its place. Dropped while it waits, it leaves the queue, and what it was notified of goes to the next.
+/// A thread blocks by [`wait`](Read::wait), [`wait_timeout`](Read::wait_timeout) or [`wait_deadline`](Read::wait_deadline). A
+/// task awaits it, since it is a future; a poll after its output answers [`LockError::Finished`]. A `Read` that was polled and
+/// is then waited on keeps its place in the queue. A `Read` that is dropped while it waits leaves the queue; if it was let in,
+/// it gives the right back.
 ///
-/// Once it is let in it has the lock, whether it is polled or not: who keeps it unpolled, as one arm of a `select` while another
-/// asks for the same lock, keeps the others out.
+/// A `Read` that was let in has the lock, whether it is polled or not. So one that is kept unpolled keeps others out, for
+/// example as one arm of a `select` whose other arm asks for the same lock.
 #[must_use = "nothing is asked for until it is waited on or polled"]
 #[derive(Drop)]
 pub struct Read<'a, T, R: Wait + Clock> {
     obtaining: Obtaining<Lender<'a, RwLock<T>>, Place<Reading>, Lending<'a, RwLock<T>, R>>,
 }
 
-/// A wait for the value of a read-write lock, to be read, that shares the lock and so may go to another thread; else as [`Read`].
+/// A wait for the right to read the value of a read-write lock that keeps the lock by a share of its `Arc`, so that the wait
+/// and its guard may go to another thread.
+///
+/// It is waited on, awaited and dropped like a [`Read`].
 #[must_use = "nothing is asked for until it is waited on or polled"]
 #[derive(Drop)]
 pub struct ReadArc<T: Drop, R: Wait + Clock + Drop> {
@@ -43,17 +46,21 @@ impl<'a, T, R: Wait + Clock> Read<'a, T, R> {
         Read { obtaining }
     }
 
-    /// Blocks the thread until it may read. It allocates what the thread parks on and a place in the queue, if it has to
-    /// wait. An error says that it could not: then it is in no queue.
+    /// Blocks the thread until it may read. Returns the guard.
+    ///
+    /// The call first tries at once. Where it has to wait it takes memory, for a place in the queue and for what the thread
+    /// parks on. An error says that it could not wait: then the caller is in no queue.
     #[inline(always)]
     pub fn wait(self) -> Result<RwLockReadGuard<'a, T, R>, LockError> {
         let (hold, grant) = self.obtaining.wait()?;
         Ok(RwLockReadGuard::new(hold, grant))
     }
 
-    /// Blocks the thread until it may read, or so long. `None` says that it was in vain: then the thread is in no queue. With
-    /// no time left it only attempts: it enters no queue and allocates nothing. A clock that can't be read ends the wait; a
-    /// moment that can't be represented never comes.
+    /// Blocks the thread until it may read, at most for `timeout`. Returns `None` if that passed in vain.
+    ///
+    /// After `None` or an error the caller is in no queue. With a `timeout` of zero the call only tries at once: it joins no
+    /// queue and takes no memory. A moment too late to be represented never arrives, so then the call waits without a limit. A
+    /// clock that can't be read counts as one that shows that the time has passed.
     pub fn wait_timeout(
         self,
         timeout: Duration,
@@ -64,8 +71,10 @@ impl<'a, T, R: Wait + Clock> Read<'a, T, R> {
         Ok(Some(RwLockReadGuard::new(hold, grant)))
     }
 
-    /// Blocks the thread until it may read, or until this moment. `None` says that it was in vain: then the thread is in no
-    /// queue. At a moment that has passed it only attempts. A clock that can't be read ends the wait.
+    /// Blocks the thread until it may read, at most until `deadline`. Returns `None` if that passed in vain.
+    ///
+    /// After `None` or an error the caller is in no queue. If `deadline` has passed the call only tries at once: it joins no
+    /// queue and takes no memory. A clock that can't be read counts as one that shows that the time has passed.
     pub fn wait_deadline(
         self,
         deadline: Instant,
@@ -84,13 +93,14 @@ impl<T: Drop, R: Wait + Clock + Drop> ReadArc<T, R> {
         ReadArc { obtaining }
     }
 
-    /// As [`Read::wait`].
+    /// Blocks the thread until it may read, like [`Read::wait`]. Returns a guard that may go to another thread.
     pub fn wait(self) -> Result<RwLockReadGuardArc<T, R>, LockError> {
         let (hold, share) = self.obtaining.wait()?;
         Ok(RwLockReadGuardArc::new(hold, share))
     }
 
-    /// As [`Read::wait_timeout`].
+    /// Blocks the thread until it may read, at most for `timeout`, like [`Read::wait_timeout`]. Returns a guard that may go to
+    /// another thread.
     pub fn wait_timeout(
         self,
         timeout: Duration,
@@ -99,7 +109,8 @@ impl<T: Drop, R: Wait + Clock + Drop> ReadArc<T, R> {
         Ok(got.map(|(hold, share)| RwLockReadGuardArc::new(hold, share)))
     }
 
-    /// As [`Read::wait_deadline`].
+    /// Blocks the thread until it may read, at most until `deadline`, like [`Read::wait_deadline`]. Returns a guard that may go
+    /// to another thread.
     pub fn wait_deadline(
         self,
         deadline: Instant,
@@ -129,22 +140,25 @@ impl<T: Drop, R: Wait + Clock + Drop> Future for ReadArc<T, R> {
     }
 }
 
-/// A wait for the value of a read-write lock, to be written. It asks once it is waited on or polled, and not before.
+/// A wait for the right to write the value of a read-write lock. It asks once it is waited on or polled, and not before.
 ///
-/// A thread blocks by [`wait`](Write::wait), [`wait_timeout`](Write::wait_timeout) or
-/// [`wait_deadline`](Write::wait_deadline). A task awaits it: it is a future, and a poll after its output is
-/// [`LockError::Finished`]. Threads and tasks wait in one queue, and a thread that waits on one which was polled before keeps
-/// its place. Dropped while it waits, it leaves the queue, and what it was notified of goes to the next.
+/// A thread blocks by [`wait`](Write::wait), [`wait_timeout`](Write::wait_timeout) or [`wait_deadline`](Write::wait_deadline).
+/// A task awaits it, since it is a future; a poll after its output answers [`LockError::Finished`]. A `Write` that was polled
+/// and is then waited on keeps its place in the queue. A `Write` that is dropped while it waits leaves the queue; if it was let
+/// in, it gives the right back.
 ///
-/// Once it is let in it has the lock, whether it is polled or not: who keeps it unpolled, as one arm of a `select` while another
-/// asks for the same lock, keeps the others out.
+/// A `Write` that was let in has the lock, whether it is polled or not. So one that is kept unpolled keeps others out, for
+/// example as one arm of a `select` whose other arm asks for the same lock.
 #[must_use = "nothing is asked for until it is waited on or polled"]
 #[derive(Drop)]
 pub struct Write<'a, T, R: Wait + Clock> {
     obtaining: Obtaining<Lender<'a, RwLock<T>>, Place<Writing>, Lending<'a, RwLock<T>, R>>,
 }
 
-/// A wait for the value of a read-write lock, to be written, that shares the lock and so may go to another thread; else as [`Write`].
+/// A wait for the right to write the value of a read-write lock that keeps the lock by a share of its `Arc`, so that the wait
+/// and its guard may go to another thread.
+///
+/// It is waited on, awaited and dropped like a [`Write`].
 #[must_use = "nothing is asked for until it is waited on or polled"]
 #[derive(Drop)]
 pub struct WriteArc<T: Drop, R: Wait + Clock + Drop> {
@@ -159,17 +173,21 @@ impl<'a, T, R: Wait + Clock> Write<'a, T, R> {
         Write { obtaining }
     }
 
-    /// Blocks the thread until it may write. It allocates what the thread parks on and a place in the queue, if it has to
-    /// wait. An error says that it could not: then it is in no queue.
+    /// Blocks the thread until it may write. Returns the guard.
+    ///
+    /// The call first tries at once. Where it has to wait it takes memory, for a place in the queue and for what the thread
+    /// parks on. An error says that it could not wait: then the caller is in no queue.
     #[inline(always)]
     pub fn wait(self) -> Result<RwLockWriteGuard<'a, T, R>, LockError> {
         let (hold, grant) = self.obtaining.wait()?;
         Ok(RwLockWriteGuard::new(hold, grant))
     }
 
-    /// Blocks the thread until it may write, or so long. `None` says that it was in vain: then the thread is in no queue. With
-    /// no time left it only attempts: it enters no queue and allocates nothing. A clock that can't be read ends the wait; a
-    /// moment that can't be represented never comes.
+    /// Blocks the thread until it may write, at most for `timeout`. Returns `None` if that passed in vain.
+    ///
+    /// After `None` or an error the caller is in no queue. With a `timeout` of zero the call only tries at once: it joins no
+    /// queue and takes no memory. A moment too late to be represented never arrives, so then the call waits without a limit. A
+    /// clock that can't be read counts as one that shows that the time has passed.
     pub fn wait_timeout(
         self,
         timeout: Duration,
@@ -180,8 +198,10 @@ impl<'a, T, R: Wait + Clock> Write<'a, T, R> {
         Ok(Some(RwLockWriteGuard::new(hold, grant)))
     }
 
-    /// Blocks the thread until it may write, or until this moment. `None` says that it was in vain: then the thread is in no
-    /// queue. At a moment that has passed it only attempts. A clock that can't be read ends the wait.
+    /// Blocks the thread until it may write, at most until `deadline`. Returns `None` if that passed in vain.
+    ///
+    /// After `None` or an error the caller is in no queue. If `deadline` has passed the call only tries at once: it joins no
+    /// queue and takes no memory. A clock that can't be read counts as one that shows that the time has passed.
     pub fn wait_deadline(
         self,
         deadline: Instant,
@@ -200,13 +220,14 @@ impl<T: Drop, R: Wait + Clock + Drop> WriteArc<T, R> {
         WriteArc { obtaining }
     }
 
-    /// As [`Write::wait`].
+    /// Blocks the thread until it may write, like [`Write::wait`]. Returns a guard that may go to another thread.
     pub fn wait(self) -> Result<RwLockWriteGuardArc<T, R>, LockError> {
         let (hold, share) = self.obtaining.wait()?;
         Ok(RwLockWriteGuardArc::new(hold, share))
     }
 
-    /// As [`Write::wait_timeout`].
+    /// Blocks the thread until it may write, at most for `timeout`, like [`Write::wait_timeout`]. Returns a guard that may go
+    /// to another thread.
     pub fn wait_timeout(
         self,
         timeout: Duration,
@@ -215,7 +236,8 @@ impl<T: Drop, R: Wait + Clock + Drop> WriteArc<T, R> {
         Ok(got.map(|(hold, share)| RwLockWriteGuardArc::new(hold, share)))
     }
 
-    /// As [`Write::wait_deadline`].
+    /// Blocks the thread until it may write, at most until `deadline`, like [`Write::wait_deadline`]. Returns a guard that may
+    /// go to another thread.
     pub fn wait_deadline(
         self,
         deadline: Instant,

@@ -15,19 +15,23 @@ use futures::task::{Context, Poll};
 use std::sync::Wait;
 use std::time::{Clock, Duration, Instant};
 
-/// A wait for a permit. It asks once it is waited on or polled, and not before.
+/// A wait for one permit of a semaphore. It asks for the permit once it is waited on or polled, and not before.
 ///
 /// A thread blocks by [`wait`](Acquire::wait), [`wait_timeout`](Acquire::wait_timeout) or
-/// [`wait_deadline`](Acquire::wait_deadline). A task awaits it: it is a future, and a poll after its output is
-/// [`LockError::Finished`]. Threads and tasks wait in one queue, and a thread that waits on one which was polled before keeps
-/// its place. Dropped while it waits, it leaves the queue, and what it was notified of goes to the next.
+/// [`wait_deadline`](Acquire::wait_deadline). A task awaits it, since it is a future; a poll after its output answers
+/// [`LockError::Finished`]. Threads and tasks wait in one queue. An `Acquire` that was polled and is then waited on keeps its
+/// place there. An `Acquire` that is dropped while it waits leaves the queue, and a notification that it had goes to the next
+/// waiter.
 #[must_use = "nothing is asked for until it is waited on or polled"]
 #[derive(Drop)]
 pub struct Acquire<'a, R: Wait + Clock> {
     obtaining: Obtaining<Semaphore, Taker, Borrowed<'a, Semaphore, R>>,
 }
 
-/// A wait for a permit that shares its semaphore, and so may go to another thread; else as [`Acquire`].
+/// A wait for one permit that keeps the semaphore by a share of its `Arc`, so that the wait and its guard may go to another
+/// thread.
+///
+/// It is waited on, awaited and dropped like an [`Acquire`].
 #[must_use = "nothing is asked for until it is waited on or polled"]
 #[derive(Drop)]
 pub struct AcquireArc<R: Wait + Clock + Drop> {
@@ -40,8 +44,10 @@ impl<'a, R: Wait + Clock> Acquire<'a, R> {
         Acquire { obtaining }
     }
 
-    /// Blocks the thread until it has a permit. It allocates what the thread parks on and a place in the queue, if it has to
-    /// wait. An error says that it could not, or that the semaphore is closed: then it is in no queue.
+    /// Blocks the thread until it has a permit. Returns the guard.
+    ///
+    /// The call first tries at once. Where it has to wait it takes memory, for a place in the queue and for what the thread
+    /// parks on. An error says that it could not wait, or that the semaphore is closed: then the caller is in no queue.
     #[inline(always)]
     pub fn wait(self) -> Result<SemaphoreGuard<'a, R>, AcquireError>
         ensures one { IfOk result (λ guard. guard ≡ 1) }
@@ -51,9 +57,12 @@ impl<'a, R: Wait + Clock> Acquire<'a, R> {
         Ok(SemaphoreGuard::new(hold, permit))
     }
 
-    /// Blocks the thread until it has a permit, or so long. `None` says that it was in vain: then the thread is in no queue. With
-    /// no time left it only attempts: it enters no queue and allocates nothing. A clock that can't be read ends the wait; a
-    /// moment that can't be represented never comes.
+    /// Blocks the thread until it has a permit, at most for `timeout`. Returns `None` if that passed in vain.
+    ///
+    /// After `None` or an error the caller is in no queue. With a `timeout` of zero the call only tries at once: it joins no
+    /// queue and takes no memory. A moment too late to be represented never arrives, so then the call waits without a limit. A
+    /// clock that can't be read counts as one that shows that the time has passed. Closing the semaphore ends the wait with an
+    /// error.
     pub fn wait_timeout(
         self,
         timeout: Duration,
@@ -67,8 +76,11 @@ impl<'a, R: Wait + Clock> Acquire<'a, R> {
         Ok(Some(SemaphoreGuard::new(hold, permit)))
     }
 
-    /// Blocks the thread until it has a permit, or until this moment. `None` says that it was in vain: then the thread is in no
-    /// queue. At a moment that has passed it only attempts. A clock that can't be read ends the wait.
+    /// Blocks the thread until it has a permit, at most until `deadline`. Returns `None` if that passed in vain.
+    ///
+    /// After `None` or an error the caller is in no queue. If `deadline` has passed the call only tries at once: it joins no
+    /// queue and takes no memory. A clock that can't be read counts as one that shows that the time has passed. Closing the
+    /// semaphore ends the wait with an error.
     pub fn wait_deadline(
         self,
         deadline: Instant,
@@ -88,7 +100,7 @@ impl<R: Wait + Clock + Drop> AcquireArc<R> {
         AcquireArc { obtaining }
     }
 
-    /// As [`Acquire::wait`].
+    /// Blocks the thread until it has a permit, like [`Acquire::wait`]. Returns a guard that may go to another thread.
     pub fn wait(self) -> Result<SemaphoreGuardArc<R>, AcquireError>
         ensures one { IfOk result (λ guard. guard ≡ 1) }
     {
@@ -97,7 +109,8 @@ impl<R: Wait + Clock + Drop> AcquireArc<R> {
         Ok(SemaphoreGuardArc::new(hold, permit))
     }
 
-    /// As [`Acquire::wait_timeout`].
+    /// Blocks the thread until it has a permit, at most for `timeout`, like [`Acquire::wait_timeout`]. Returns a guard that may
+    /// go to another thread.
     pub fn wait_timeout(
         self,
         timeout: Duration,
@@ -111,7 +124,8 @@ impl<R: Wait + Clock + Drop> AcquireArc<R> {
         Ok(Some(SemaphoreGuardArc::new(hold, permit)))
     }
 
-    /// As [`Acquire::wait_deadline`].
+    /// Blocks the thread until it has a permit, at most until `deadline`, like [`Acquire::wait_deadline`]. Returns a guard that
+    /// may go to another thread.
     pub fn wait_deadline(
         self,
         deadline: Instant,

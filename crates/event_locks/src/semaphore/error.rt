@@ -2,13 +2,13 @@
 use event_wait::LockError;
 use thiserror::Error;
 
-/// Why a wait obtained no permit. Whoever waited is in no queue.
+/// Why a wait obtained no permit. The caller that waited is in no queue any more.
 #[derive(Clone, Copy, Debug, PartialEq, Eq, Error)]
 pub enum AcquireError {
-    /// The semaphore is closed, so there never will be one.
+    /// The semaphore is closed, so there never will be a permit.
     #[error("the semaphore is closed")]
     Closed,
-    /// It could not wait.
+    /// The caller could not wait; the inner error says why.
     #[error("{0}")]
     WaitFailed(#[from] LockError),
 }

@@ -12,7 +12,10 @@ use std::marker::Model;
 use std::sync::{Arc, Wait};
 use std::time::Clock;
 
-/// One permit, or those that were taken at once. Dropping it gives them back. A contract sees how many.
+/// One permit of a semaphore, or as many as were taken at once. Dropping the guard gives them back, and notifies as many
+/// waiters.
+///
+/// A contract sees the guard as the number of its permits.
 #[must_use = "a guard that is dropped at once gives back what it holds"]
 pub struct SemaphoreGuard<'a, R: Wait + Clock> {
     hold: Borrowed<'a, Semaphore, R>,
@@ -20,7 +23,11 @@ pub struct SemaphoreGuard<'a, R: Wait + Clock> {
     ghost own: { permit.origin ≡ hold.lock.now.word.slot.name },
 }
 
-/// The same, but it shares its semaphore, and so may go to another thread.
+/// One permit of a semaphore, or as many as were taken at once, by a guard that keeps the semaphore by a share of its `Arc` and
+/// so may go to another thread.
+///
+/// Dropping the guard gives the permits back, and notifies as many waiters. A contract sees the guard as the number of its
+/// permits.
 #[must_use = "a guard that is dropped at once gives back what it holds"]
 pub struct SemaphoreGuardArc<R: Wait + Clock + Drop> {
     hold: Shared<Semaphore, R>,
@@ -53,14 +60,14 @@ impl<'a, R: Wait + Clock> SemaphoreGuard<'a, R> {
         SemaphoreGuard { hold, permit }
     }
 
-    /// How many permits it has: one, or as many as were asked for at once.
+    /// Returns how many permits this guard has: one, or as many as were taken at once.
     pub fn num_permits(&self) -> usize
         ensures { result ≡ self.now }
     {
         self.permit.count() as usize
     }
 
-    /// Keeps what it has from coming back: there are so many permits less from here on.
+    /// Ends the guard without giving its permits back: the semaphore has so many permits less from here on.
     pub fn forget(self) {
         let SemaphoreGuard { hold: _, permit } = self;
         permit.forget();
@@ -75,14 +82,14 @@ impl<R: Wait + Clock + Drop> SemaphoreGuardArc<R> {
         SemaphoreGuardArc { hold, permit }
     }
 
-    /// How many permits it has: one, or as many as were asked for at once.
+    /// Returns how many permits this guard has: one, or as many as were taken at once.
     pub fn num_permits(&self) -> usize
         ensures { result ≡ self.now }
     {
         self.permit.count() as usize
     }
 
-    /// Keeps what it has from coming back: there are so many permits less from here on.
+    /// Ends the guard without giving its permits back: the semaphore has so many permits less from here on.
     pub fn forget(self) {
         let SemaphoreGuardArc { hold: _, permit } = self;
         permit.forget();

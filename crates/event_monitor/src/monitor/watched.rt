@@ -12,11 +12,11 @@ use event_wait::waiters::{leave, tell_all, wait_in_line};
 use std::alloc::Global;
 use std::marker::Model;
 
-/// What one waits for of a value.
+/// What a waiter wants of the value of a [`Monitor`](crate::Monitor): an attempt, which gives something or fails.
 ///
-/// A contract knows an implementation by `fails`, of which values an attempt gives nothing, and by `gives`, what an attempt
-/// does that gives this output: the value before, the output, the value after. An implementation repeats the clauses of
-/// `attempt`.
+/// A contract knows an implementation by two ghost members. `fails` says of which values an attempt fails. `gives` says what an
+/// attempt does that gives something: of the value before, what it gives, and the value after. An implementation repeats the
+/// clauses of `attempt`.
 pub trait Condition<V> {
     /// What an attempt gives.
     type Output;
@@ -25,7 +25,7 @@ pub trait Condition<V> {
 
     ghost gives: { Self → V → Self.Output → V → Type 0 };
 
-    /// One attempt. It may change the value if it gives something, and else leaves it as it is.
+    /// Attempts once. The attempt may change the value if it gives something, and leaves the value as it is if it fails.
     fn attempt(&self, value: &mut V) -> Option<Self::Output>
         ensures gave { IfSome result (λ output. gives self.now value.old output value.new) }
         ensures only_then { IsSome result → ¬ fails self.now value.old }

@@ -6,7 +6,7 @@ use super::once::Turn;
 use std::sync::Wait;
 use std::time::Clock;
 
-/// What a cell has for one that would make its value.
+/// What a cell has for a caller that would make its value: the value, or the turn to make it.
 #[derive(Drop)]
 pub enum Claim<'a, T, R: Wait + Clock> {
     /// The value: it is set.
@@ -15,7 +15,7 @@ pub enum Claim<'a, T, R: Wait + Clock> {
     Vacant(Vacant<'a, T, R>),
 }
 
-/// The turn to make the value of a cell. Dropping it hands the turn to the next.
+/// The turn to make the value of a cell. Dropping it hands the turn to the next caller.
 #[must_use = "a turn that is dropped at once is given up"]
 pub struct Vacant<'a, T, R: Wait + Clock> {
     pub(super) cell: &'a OnceCell<T>,
@@ -24,7 +24,8 @@ pub struct Vacant<'a, T, R: Wait + Clock> {
 }
 
 impl<'a, T, R: Wait + Clock> Vacant<'a, T, R> {
-    /// Sets the value, and wakes all that wait. The value comes back if the cell is set.
+    /// Sets the value, wakes all waiters, and returns a reference to the value. Returns `value` again, as an `Err`, if the cell
+    /// is set.
     pub fn set(self, value: T) -> Result<&'a T, T>
         ensures kept { IfOk result (λ kept. kept.now ≡ value) }
         ensures returned { IfErr result (λ back. back ≡ value) }

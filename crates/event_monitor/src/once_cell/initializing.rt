@@ -14,13 +14,14 @@ use std::marker::Model;
 use std::sync::Wait;
 use std::time::Clock;
 
-/// Gives the value of a cell, which a future makes if it is not set: the maker. A task awaits it.
+/// A future that gives a task the value of a cell. If the value is not set, another future makes it: the maker.
 ///
-/// It waits for its turn, and polls the maker only then, so that nobody else's is polled meanwhile. The maker's value sets the
-/// cell, and wakes all that wait. If the maker fails, its error is the output, and the next has its turn. If this is dropped
-/// before, the maker is dropped, and then the next has its turn. A poll after the output is [`PollError::Finished`].
+/// The future waits for its turn, and polls the maker only then, so that the maker of no other caller is polled meanwhile. The
+/// value that the maker gives sets the cell and wakes all waiters. If the maker fails, its error is the output, and the next
+/// caller has the turn. If the future is dropped before, it drops the maker, and then the next caller has the turn. A poll
+/// after the output answers [`PollError::Finished`].
 ///
-/// A contract sees the maker, whether it has its turn, and the number of the source at which it waits for that.
+/// A contract sees the maker, whether it has the turn, and the number of the source at which the future waits for the turn.
 #[must_use = "nothing is asked for until it is polled"]
 #[derive(Drop)]
 pub struct Initializing<'a, T, R: Wait + Clock, M> {
@@ -30,7 +31,7 @@ pub struct Initializing<'a, T, R: Wait + Clock, M> {
     claiming: Claiming<'a, T, R>,
 }
 
-/// A maker that cannot fail, as one that could.
+/// A maker that can't fail, in the place of one that could.
 #[derive(Drop)]
 pub struct Surely<M> {
     pub maker: M,
@@ -86,8 +87,9 @@ where
     E: From<PollError>,
     M: Future<Output = Result<T, E>>,
 {
-    /// Polls the claim until it has the turn, and then the maker, and registers the task that polls where it waits. It may wait
-    /// for the cell's lock.
+    /// Polls the claim until it has the turn, and then the maker. Registers the task that polls where it has to wait.
+    ///
+    /// The call may block for the cell's lock.
     #[must_use = "it may be the output"]
     pub fn poll_in(&mut self, cx: &mut Context<'_>) -> Poll<Result<&'a T, E>>
         requires { M.can_poll self.old.maker }

@@ -18,19 +18,19 @@ use std::time::{Clock, Duration, Instant};
 /// A wait for the value of a cell, or for the turn to make it. It asks once it is waited on or polled, and not before.
 ///
 /// A thread blocks by [`wait`](Claiming::wait), [`wait_timeout`](Claiming::wait_timeout) or
-/// [`wait_deadline`](Claiming::wait_deadline). A task awaits it: it is a future, and a poll after its output is
-/// [`PollError::Finished`]. Dropped while it waits, it leaves the queue, and its turn goes to the next.
+/// [`wait_deadline`](Claiming::wait_deadline). A task awaits it, since it is a future; a poll after its output answers
+/// [`PollError::Finished`]. A wait that is dropped leaves the queue, and hands its turn, if it has that, to the next caller.
 #[must_use = "nothing is asked for until it is waited on or polled"]
 #[derive(Drop)]
 pub struct Claiming<'a, T, R: Wait + Clock> {
     pub(super) queueing: Queueing<Lock<Once<Task>>, Ticket<Turn>, Asking<'a, T, R>>,
 }
 
-/// A wait for the value of a cell, by whoever sets it. It asks once it is waited on or polled, and not before.
+/// A wait until somebody has set the value of a cell. It asks once it is waited on or polled, and not before.
 ///
 /// A thread blocks by [`wait`](Seeing::wait), [`wait_timeout`](Seeing::wait_timeout) or
-/// [`wait_deadline`](Seeing::wait_deadline). A task awaits it: it is a future, and a poll after its output is
-/// [`PollError::Finished`]. Dropped while it waits, it leaves the queue.
+/// [`wait_deadline`](Seeing::wait_deadline). A task awaits it, since it is a future; a poll after its output answers
+/// [`PollError::Finished`]. A wait that is dropped leaves the queue.
 #[must_use = "nothing is asked for until it is waited on or polled"]
 #[derive(Drop)]
 pub struct Seeing<'a, T, R: Wait + Clock> {
@@ -47,7 +47,10 @@ impl<'a, T, R: Wait + Clock> Claiming<'a, T, R> {
         }
     }
 
-    /// Blocks the thread until the value is set or it has the turn. It allocates what the thread parks on, if it has to wait.
+    /// Blocks the thread until the value is set or the caller has the turn to make it.
+    ///
+    /// Where the call has to wait it takes memory, for a place in the queue and for what the thread parks on. An error says
+    /// that it could not wait: then the thread is in no queue.
     pub fn wait(self) -> Result<Claim<'a, T, R>, BlockError> {
         match self.wait_until(Limit::Never)? {
             Some(claim) => Ok(claim),
@@ -55,16 +58,22 @@ impl<'a, T, R: Wait + Clock> Claiming<'a, T, R> {
         }
     }
 
-    /// Blocks the thread as [`wait`](Claiming::wait) does, or so long. `None` says that it was in vain: then the thread is in no
-    /// queue. With no time left it only asks: it enters no queue and allocates nothing. A clock that can't be read ends the
-    /// wait; a moment that can't be represented never comes.
+    /// Blocks the thread until the value is set or the caller has the turn to make it, at most for `timeout`. Returns `None` if
+    /// that passed in vain.
+    ///
+    /// After `None` or an error the thread is in no queue. With a `timeout` of zero the call only asks: it joins no queue and
+    /// takes no memory. A moment too late to be represented never arrives, so then the call waits without a limit. A clock that
+    /// can't be read counts as one that shows that the time has passed.
     pub fn wait_timeout(self, timeout: Duration) -> Result<Option<Claim<'a, T, R>>, BlockError> {
         let limit = self.queueing.limit_after(timeout);
         self.wait_until(limit)
     }
 
-    /// Blocks the thread as [`wait`](Claiming::wait) does, or until this moment. `None` says that it was in vain: then the thread
-    /// is in no queue. At a moment that has passed it only asks. A clock that can't be read ends the wait.
+    /// Blocks the thread until the value is set or the caller has the turn to make it, at most until `deadline`. Returns `None`
+    /// if that passed in vain.
+    ///
+    /// After `None` or an error the thread is in no queue. If `deadline` has passed the call only asks: it joins no queue and
+    /// takes no memory. A clock that can't be read counts as one that shows that the time has passed.
     pub fn wait_deadline(self, deadline: Instant) -> Result<Option<Claim<'a, T, R>>, BlockError> {
         self.wait_until(Limit::At(deadline))
     }
@@ -108,7 +117,10 @@ impl<'a, T, R: Wait + Clock> Seeing<'a, T, R> {
         }
     }
 
-    /// Blocks the thread until the value is set. It allocates what the thread parks on, if it has to wait.
+    /// Blocks the thread until the value is set, and returns a reference to it.
+    ///
+    /// Where the call has to wait it takes memory, for a place in the queue and for what the thread parks on. An error says
+    /// that it could not wait: then the thread is in no queue.
     pub fn wait(self) -> Result<&'a T, BlockError> {
         match self.wait_until(Limit::Never)? {
             Some(value) => Ok(value),
@@ -116,16 +128,20 @@ impl<'a, T, R: Wait + Clock> Seeing<'a, T, R> {
         }
     }
 
-    /// Blocks the thread as [`wait`](Seeing::wait) does, or so long. `None` says that it is not set: then the thread is in no
-    /// queue. With no time left it only looks: it enters no queue and allocates nothing. A clock that can't be read ends the
-    /// wait; a moment that can't be represented never comes.
+    /// Blocks the thread until the value is set, at most for `timeout`. Returns `None` if it is not set by then.
+    ///
+    /// After `None` or an error the thread is in no queue. With a `timeout` of zero the call only looks: it joins no queue and
+    /// takes no memory. A moment too late to be represented never arrives, so then the call waits without a limit. A clock that
+    /// can't be read counts as one that shows that the time has passed.
     pub fn wait_timeout(self, timeout: Duration) -> Result<Option<&'a T>, BlockError> {
         let limit = self.queueing.limit_after(timeout);
         self.wait_until(limit)
     }
 
-    /// Blocks the thread as [`wait`](Seeing::wait) does, or until this moment. `None` says that it is not set: then the thread is
-    /// in no queue. At a moment that has passed it only looks. A clock that can't be read ends the wait.
+    /// Blocks the thread until the value is set, at most until `deadline`. Returns `None` if it is not set by then.
+    ///
+    /// After `None` or an error the thread is in no queue. If `deadline` has passed the call only looks: it joins no queue and
+    /// takes no memory. A clock that can't be read counts as one that shows that the time has passed.
     pub fn wait_deadline(self, deadline: Instant) -> Result<Option<&'a T>, BlockError> {
         self.wait_until(Limit::At(deadline))
     }

@@ -8,20 +8,20 @@ use super::share::Out;
 use crate::word::Word;
 use event_wait::Task;
 
-/// Who has the value of a read-write lock, and who waits for it, at one moment.
+/// How many readers and writers have the value of a read-write lock and how many wait for it, all at one moment.
 #[derive(Clone, Copy, Debug, PartialEq, Eq)]
 pub struct RwLockCounts {
-    /// How many read.
+    /// How many readers have a guard.
     pub readers: u64,
-    /// How many write: one or none.
+    /// How many writers have a guard: one or none.
     pub writers: u64,
-    /// How many readers were let in, and have not come yet. They have the value as well.
+    /// How many readers were let in and have not noticed yet. They have the value, too.
     pub readers_let_in: usize,
-    /// How many writers were let in, and have not come yet: one or none, which has the value as well.
+    /// How many writers were let in and have not noticed yet: one or none, which has the value, too.
     pub writers_let_in: usize,
-    /// How many wait to read, and were not let in.
+    /// How many readers wait, and are not let in.
     pub readers_waiting: usize,
-    /// How many wait to write, and were not let in.
+    /// How many writers wait, and are not let in.
     pub writers_waiting: usize,
 }
 
