@@ -11,7 +11,7 @@ use thiserror::Error;
 /// Why a wait was refused.
 #[derive(Clone, Copy, Debug, PartialEq, Eq, Error)]
 pub enum WaitError {
-    /// It could not be put into the queue: memory was refused, or serial numbers are used up.
+    /// The caller could not join the queue: memory was refused, or the serial numbers of the queue are used up.
     #[error("{0}")]
     Listen(#[from] ListenError),
     /// There was no memory for what the thread parks on, or for the message that was to be received.
@@ -25,23 +25,23 @@ pub enum SendReason {
     /// The channel is closed.
     #[error("the channel is closed")]
     Closed,
-    /// As many messages wait as may, or each free place is due to a send that was notified, while one
+    /// As many messages wait as there may be, or each free place is due to a notified send while one
     /// [starves](crate::PATIENCE). Only [`try_send`](crate::Sender::try_send) returns this.
     #[error("there is no room for the message")]
     Full,
-    /// There was no room for it until the limit of the wait.
+    /// There was no room for the message before the time passed.
     #[error("there was no room for the message in time")]
     TimedOut,
     /// There was no memory for the message. A channel with a limit never returns this: it has room for its messages from
     /// the beginning.
     #[error("no memory for a message")]
     Memory,
-    /// There is no room for it, and waiting for room was refused.
+    /// There is no room for the message, and the caller could not wait for room.
     #[error("{0}")]
     WaitFailed(#[from] WaitError),
 }
 
-/// A message that was not sent, and why.
+/// A message that was not sent, and why. The caller has the message again.
 #[derive(Clone, Copy, PartialEq, Eq, Drop)]
 pub struct SendError<T> {
     pub message: T,
@@ -51,10 +51,10 @@ pub struct SendError<T> {
 /// Why [`try_recv`](crate::Receiver::try_recv) received no message.
 #[derive(Clone, Copy, Debug, PartialEq, Eq, Error)]
 pub enum TryRecvError {
-    /// No message waits, or each that does is due to a receive that was notified, while one [starves](crate::PATIENCE).
+    /// No message waits, or each that does is due to a notified receive while one [starves](crate::PATIENCE).
     #[error("there is no message to receive")]
     Empty,
-    /// No message waits, and the channel is closed, so none will come.
+    /// The channel is closed and empty, so no message will come.
     #[error("the channel is empty and closed")]
     Closed,
 }
@@ -62,10 +62,10 @@ pub enum TryRecvError {
 /// Why no message was received.
 #[derive(Clone, Copy, Debug, PartialEq, Eq, Error)]
 pub enum RecvError {
-    /// No message waits, and the channel is closed, so none will come.
+    /// The channel is closed and empty, so no message will come.
     #[error("the channel is empty and closed")]
     Closed,
-    /// There is none to receive, and waiting for one was refused.
+    /// There is no message, and the caller could not wait for one.
     #[error("{0}")]
     WaitFailed(#[from] WaitError),
 }
@@ -73,13 +73,13 @@ pub enum RecvError {
 /// Why no message was received in time.
 #[derive(Clone, Copy, Debug, PartialEq, Eq, Error)]
 pub enum RecvTimeoutError {
-    /// There was none to receive until then.
+    /// There was no message before the time passed.
     #[error("there was no message to receive in time")]
     TimedOut,
-    /// No message waits, and the channel is closed, so none will come.
+    /// The channel is closed and empty, so no message will come.
     #[error("the channel is empty and closed")]
     Closed,
-    /// There is none to receive, and waiting for one was refused.
+    /// There is no message, and the caller could not wait for one.
     #[error("{0}")]
     WaitFailed(#[from] WaitError),
 }
@@ -92,21 +92,21 @@ impl<T> SendError<T> {
         SendError { message, reason }
     }
 
-    /// The message that was not sent.
+    /// Returns the message that was not sent.
     pub fn into_inner(self) -> T
         ensures { result ≡ self.message }
     {
         self.message
     }
 
-    /// Whether there was no room for it.
+    /// Returns whether the message was refused because there was no room for it.
     pub fn is_full(&self) -> bool
         ensures { IsTrue result ↔ (self.now.reason ≡ SendReason.Full) }
     {
         self.reason == SendReason::Full
     }
 
-    /// Whether the channel was closed.
+    /// Returns whether the message was refused because the channel was closed.
     pub fn is_closed(&self) -> bool
         ensures { IsTrue result ↔ (self.now.reason ≡ SendReason.Closed) }
     {
@@ -115,14 +115,14 @@ impl<T> SendError<T> {
 }
 
 impl TryRecvError {
-    /// Whether there was none to receive, and the channel was open.
+    /// Returns whether there was no message to receive though the channel was open.
     pub fn is_empty(&self) -> bool
         ensures { IsTrue result ↔ (self.now ≡ TryRecvError.Empty) }
     {
         matches!(self, TryRecvError::Empty)
     }
 
-    /// Whether the channel was closed, and empty.
+    /// Returns whether the channel was closed and empty.
     pub fn is_closed(&self) -> bool
         ensures { IsTrue result ↔ (self.now ≡ TryRecvError.Closed) }
     {

@@ -9,7 +9,7 @@ use std::fmt::{Debug, Formatter};
 use std::sync::{Forever, Wait};
 use std::time::Clock;
 
-/// The messages of a channel, each once it has come: [`iter`](Receiver::iter) makes it.
+/// The messages of a channel, each once it has been sent. [`iter`](Receiver::iter) makes this.
 #[derive(Drop)]
 pub struct Iter<'a, T: Drop, R: Wait + Clock + Clone> {
     receiver: &'a Receiver<T, R>,
@@ -17,7 +17,7 @@ pub struct Iter<'a, T: Drop, R: Wait + Clock + Clone> {
     turns: Forever<'a, R>,
 }
 
-/// The messages that wait in a channel: [`try_iter`](Receiver::try_iter) makes it.
+/// The messages that are in a channel. [`try_iter`](Receiver::try_iter) makes this.
 #[derive(Drop)]
 pub struct TryIter<'a, T: Drop, R: Wait + Clock + Clone> {
     receiver: &'a Receiver<T, R>,
@@ -25,9 +25,10 @@ pub struct TryIter<'a, T: Drop, R: Wait + Clock + Clone> {
 }
 
 impl<T: Drop, R: Wait + Clock + Clone> Receiver<T, R> {
-    /// The messages, each once it has come; it ends when the channel is closed and empty. Each step blocks the calling thread
-    /// until there is a message, and allocates where it has to wait. An item is an error if it could not wait, as
-    /// [`recv_blocking`](Receiver::recv_blocking) says; then the next step tries again.
+    /// Iterates over the messages, each once it has been sent, and ends when the channel is closed and empty.
+    ///
+    /// Each step blocks the thread until there is a message, and takes memory where it has to wait. An item is an error if the
+    /// step could not wait, like that of [`recv_blocking`](Receiver::recv_blocking); the next step tries again.
     pub fn iter(&self) -> Iter<'_, T, R> {
         Iter {
             receiver: self,
@@ -35,8 +36,10 @@ impl<T: Drop, R: Wait + Clock + Clone> Receiver<T, R> {
         }
     }
 
-    /// The messages that wait; it ends when there is none, and goes on if one has come since. It does not wait for
-    /// messages, and does not allocate.
+    /// Iterates over the messages that are in the channel, and ends when there is none; it goes on if a message has been sent
+    /// since.
+    ///
+    /// It does not wait for messages, and takes no memory.
     pub fn try_iter(&self) -> TryIter<'_, T, R> {
         TryIter {
             receiver: self,

@@ -16,13 +16,15 @@ ghost use Rattle.event_channel.specs.declared.error.TryRecvError.TheVariants.{Cl
 ghost use Rattle.event_history.specs.History.{Extends, IsAmong, LeadsTo, Looks, Runs, both_views, entry};
 ghost use Rattle.event_history.specs.declared.history.View.{View};
 
-/// In any history of a channel messages go out in the order in which they were sent: those that its calls received and those
-/// that went out for a forced send, in the order of the calls, are just the first that were sent, each once, and the rest
-/// wait. From any state on, those that waited there come first. Where no forced send found the channel full, all that went
-/// out were received. So it is of the history that a hand has seen after a call. And what was received was sent: of the history
-/// that a hand has seen after a call that received a message, some call sent it. Where a receive of a hand finds no message,
-/// all that was sent has gone out, or each that waited before it was due: a receiver starved, and as many were notified as
-/// there were messages. Where it finds the end, all has gone out.
+/// States that in any history of a channel messages go out in the order in which they were sent.
+///
+/// The messages that calls received, and those that went out for a forced send, are in the order of the calls just the first
+/// that were sent, each once; the rest are in the channel. From any later state on, the messages that are in the channel then
+/// go out first. Where no forced send found the channel full, all that went out was received. The same holds of the history
+/// that a hand has seen after a call. And what was received was sent: in the history that a hand has seen after it received a
+/// message, some call sent that message. Where a receive of a hand finds no message, all that was sent has gone out, or each
+/// message in the channel was due: a receiver starved, and as many receivers were notified as there were messages. Where a
+/// receive finds the end, all has gone out.
 pub fn sent_is_received_in_order<T, W>()
     ensures in_order { (capacity : Option ℕ) (log : ChannelLog T) (q : State T W)
         → LeadsTo (channel_machine capacity) log q
@@ -53,9 +55,10 @@ pub fn sent_is_received_in_order<T, W>()
         → all_of sent_by w.seen ≡ all_of out_by w.seen }
 {}
 
-/// No message is made up between two hands, and none is lost. What one receives was sent. Where one sent a message, and another
-/// takes that hand in and then finds none, the message has gone out, or each that waited was due to a receiver that was
-/// notified, while one starved.
+/// States that no message is made up between two hands, and none is lost.
+///
+/// What one hand receives was sent. Where one hand sent a message, and another hand joins it and then finds no message, the
+/// message has gone out, or each message in the channel was due to a notified receiver while a receiver starved.
 pub fn no_message_is_lost<T, W>()
     ensures received { (capacity : Option ℕ) (v w : View (State T W) (ChannelCall T))
         (reply : Result T TryRecvError)
@@ -73,8 +76,10 @@ pub fn no_message_is_lost<T, W>()
         ⊎ WasBefore capacity (λ (q : State T W). AreDue q) y.seen)) }
 {}
 
-/// A hand knows what it sent by its own call, and what another hand knew to be sent that it takes in. What it knew to be sent
-/// before a call, before one that blocks, or before it takes another hand in, it knows afterwards.
+/// States that a hand knows what it sent by its own call, and what was known to be sent by each hand that it joins.
+///
+/// What a hand knew to be sent before a call, before a call that blocks, or before it joins another hand, it still knows
+/// afterwards.
 pub fn sent_is_known<T, W>()
     ensures by_a_call { (capacity : Option ℕ) (v w : View (State T W) (ChannelCall T))
         (call : ChannelCall T) → Extends (channel_machine capacity) v call w
@@ -107,13 +112,15 @@ pub fn sent_is_known<T, W>()
         → IsAmong message (all_of sent_by w.seen) }
 {}
 
-/// A channel has the capacity that it was made with from its first state, which is open and has no message, to its last, and
-/// never more messages than that. Where a send finds it full, by a call of a hand, it has just as many: so many more were sent
-/// by calls of the history than went out; or before it a sender starved, and as many were notified as there were places free.
-/// Where a send finds it closed, a call of the history closed it.
+/// States that a channel keeps its capacity from its first state, which is open and has no message, to its last, and never has
+/// more messages than that.
 ///
-/// Without a limit the capacity is the greatest `usize`. That a send of one's own finds room does not follow, since no clause
-/// says that nobody else has a handle.
+/// Where a send, by a call of a hand, finds the channel full, the channel has just as many messages: so many more were sent by
+/// calls of the history than went out; or before that send a sender starved, and as many senders were notified as there were
+/// free places. Where a send finds the channel closed, a call of the history closed it.
+///
+/// Without a limit the capacity is the greatest `usize`. It does not follow that a send of one's own finds room, since no
+/// clause says that nobody else has a handle.
 pub fn capacity_is_kept<T, W>()
     ensures kept { (capacity : Option ℕ) (log : ChannelLog T) (q : State T W)
         → LeadsTo (channel_machine capacity) log q → q.capacity ≡ limit_of capacity }
@@ -136,10 +143,12 @@ pub fn capacity_is_kept<T, W>()
         × (w.seen ≡ earlier ++ entry by (call.Close true) ∷ later) }
 {}
 
-/// While a receiver starves no call has more receivers notified above the messages, and one that is notified and finds nothing
-/// makes them fewer. So one that starves loses at most as often as more were notified than there were messages
-/// when it began to: where each that is notified comes, it has the next message that it is notified of. One that does not come
-/// starves only so long ([`newcomers_go_on`]).
+/// States that a starving receiver loses only so often.
+///
+/// While a receiver starves, no call raises the number of notified receivers above that of messages any further, and a notified
+/// receiver that finds nothing lowers it by one. So a starving receiver loses at most as often as more receivers were notified
+/// than there were messages when it began to starve, as long as each notified receiver tries again. One that does not try again
+/// starves only so long: [`newcomers_go_on`] has the bound.
 pub fn starving_receivers_are_served<T, W>()
     ensures no_more_in_vain { (before after : State T W) (c : ChannelCall T)
         → NoMoreInVain c before after }
@@ -147,8 +156,8 @@ pub fn starving_receivers_are_served<T, W>()
         → LosesByThose key waits before after }
 {}
 
-/// The same of senders and free places: while one starves no call but one by force has more senders notified above the places, and
-/// one that is notified and finds no room makes them fewer.
+/// States the same of senders and free places: while a sender starves, no call but a forced send raises the number of notified
+/// senders above that of free places any further, and a notified sender that finds no room lowers it by one.
 pub fn starving_senders_are_served<T, W>()
     ensures no_more_in_vain { (before after : State T W) (c : ChannelCall T)
         → NoMoreSendersInVain c before after }
@@ -156,10 +165,13 @@ pub fn starving_senders_are_served<T, W>()
         (waits : Key) → SenderLosesByThose message key waits before after }
 {}
 
-/// Newcomers are refused for the sake of those that starve only so often, and then go on. Each one that gets nothing though a
-/// message or room is there is the last, or one fewer is refused from then on; and no other call has more refused, but that
-/// of one that was notified in vain and waits anew: it lost once more, and then it may starve. So as often as
-/// [`FORBEARANCE`](crate::FORBEARANCE) says for each of those that starve newcomers are refused, whether these come or not.
+/// States that newcomers are refused for the sake of starving waiters only so often, and then go on.
+///
+/// Each waiter that starves has a number of refusals left, at first as many as [`FORBEARANCE`](crate::FORBEARANCE) says. A
+/// newcomer that gets nothing though a message or room is there lowers that number of the first starving waiter, or is the last
+/// that is refused for its sake. No other call raises the sum of these numbers, but that of a waiter that was notified in vain
+/// and waits again: that waiter lost once more, and may starve from then on. This holds whether the starving waiters try again
+/// or not.
 pub fn newcomers_go_on<T, W>()
     ensures fewer_receives { (before after : State T W) (c : ChannelCall T)
         → RefusesFewer c before after }

@@ -24,12 +24,17 @@ use std::sync::Wait;
 use std::time::{Clock, Duration, Instant};
 use std::{fmt, mem};
 
-/// Receives the messages of a channel. Clones receive of the same one; when the last is dropped, the channel is closed, and the
-/// messages that wait are dropped.
+/// The receiving side of a channel. Clones receive from the same channel; when the last of them is dropped, the channel is
+/// closed, and the messages in it are dropped.
 ///
-/// Each message is received once, and in the order in which they were sent. Each call may wait for the lock of the channel,
-/// as those of a [`Sender`](crate::Sender) do. A receiver is a stream of the messages too, which ends when the channel is
-/// closed and empty. A contract sees the lock of the channel and its capacity.
+/// Each message is received once, and messages are received in the order in which they were sent. Each call may block for the
+/// lock of the channel, as the calls of a [`Sender`](crate::Sender) may. A receiver is also a stream of the messages, which
+/// ends when the channel is closed and empty. A contract sees the lock of the channel and its capacity.
+///
+/// ```rust
+///     for job in jobs.iter() {
+///         let Job { number, answer } = job?;
+/// ```
 pub struct Receiver<T: Drop, R: Wait + Clock + Clone> {
     link: Link<T, R>,
     // Where it waits as a stream, and the hand whose calls it makes then.
@@ -69,8 +74,10 @@ impl<T: Drop, R: Wait + Clock + Clone> Receiver<T, R> {
         &self.link.rt
     }
 
-    /// A hand of this channel, which made no call yet, and has seen a beginning of its history: how much, no clause says. It has
-    /// no bytes, and the call is one load. It does not wait. A hand can't be dropped: it ends by its `end`.
+    /// Makes a hand of this channel: the right to make calls that a contract can follow in the history of the channel's calls.
+    ///
+    /// The hand has made no call yet, and has seen a beginning of the history; how much of it, no clause says. It has no bytes,
+    /// and making it is one load, which never blocks. A hand can't be dropped: end it by its [`end`](crate::ChannelHand::end).
     #[inline(always)]
     pub fn hand(&self) -> ChannelHand<T>
         ensures { IsOf self.now.channel.table result
@@ -79,7 +86,7 @@ impl<T: Drop, R: Wait + Clock + Clone> Receiver<T, R> {
         self.link.channel.hand()
     }
 
-    /// A new hand, which has seen as much of the history of this channel as that one. It is one load.
+    /// Makes a new hand that has seen as much of the history of this channel as `hand` has. It is one load, which never blocks.
     pub fn fork(&self, hand: &mut ChannelHand<T>) -> ChannelHand<T>
         requires { IsOf self.now.channel.table hand.old }
         ensures hand { SameTable hand.old hand.new
@@ -90,8 +97,8 @@ impl<T: Drop, R: Wait + Clock + Clone> Receiver<T, R> {
         self.link.channel.fork(hand)
     }
 
-    /// Has a hand learn what another one saw and did, which is no more. From here on it speaks of one history that has the
-    /// calls of both. It is two loads.
+    /// Ends the hand `other`, and has `hand` learn what `other` saw and did. From here on a contract speaks of one history that
+    /// has the calls of both. It is two loads, which never block.
     pub fn join(&self, hand: &mut ChannelHand<T>, other: ChannelHand<T>)
         requires here { IsOf self.now.channel.table hand.old }
         requires there { IsOf self.now.channel.table other }
@@ -102,9 +109,10 @@ impl<T: Drop, R: Wait + Clock + Clone> Receiver<T, R> {
         self.link.channel.join(hand, other);
     }
 
-    /// Receives the first message, if one waits. While a receive [starves](crate::PATIENCE) a message that is due to a notified one
-    /// is not there for this call: then it answers `Empty` although messages wait, [so often](crate::FORBEARANCE) at most for the
-    /// sake of each. The call does not allocate.
+    /// Receives the first message, if one waits. Never waits for one, and takes no memory.
+    ///
+    /// While a receive [starves](crate::PATIENCE), a message that is due to a notified receive is not there for this call: it
+    /// answers `Empty` then although messages wait, at most [so often](crate::FORBEARANCE) for the sake of each such receive.
     #[inline(always)]
     pub fn try_recv(&self) -> Result<T, TryRecvError> {
         let mut hand = self.hand();
@@ -113,8 +121,10 @@ impl<T: Drop, R: Wait + Clock + Clone> Receiver<T, R> {
         received
     }
 
-    /// [`try_recv`](Receiver::try_recv) as a call of this hand: the last of the one history, which begins with all that the
-    /// hand had seen, and has of this hand just its own calls.
+    /// Receives the first message, like [`try_recv`](Receiver::try_recv), as a call of this hand.
+    ///
+    /// The call is the last of one history, which begins with all that the hand had seen, and which has of this hand just its
+    /// own calls.
     #[inline(always)]
     pub fn try_recv_as(&self, hand: &mut ChannelHand<T>) -> Result<T, TryRecvError>
         requires { IsOf self.now.channel.table hand.old }
@@ -125,17 +135,18 @@ impl<T: Drop, R: Wait + Clock + Clone> Receiver<T, R> {
         self.link.channel.try_receive(&self.link.rt, hand)
     }
 
-    /// Receives a message once there is one: to be awaited. Nothing is received before it is polled, and no message is lost
-    /// if it is dropped.
+    /// Receives a message once there is one, as a future: await it, or block on it by [`wait`](crate::Recv::wait). Nothing is
+    /// received before it is polled, and no message is lost if it is dropped.
     pub fn recv(&self) -> Recv<'_, T, R>
         ensures { result ≡ self.now.channel }
     {
         Recv::new(&self.link.channel, &self.link.rt, self.link.alloc)
     }
 
-    /// Receives a message once there is one, and blocks the calling thread until then.
+    /// Receives a message once there is one, and blocks the thread until then.
     ///
-    /// The call allocates where it has to wait: a place in the queue, and what the thread parks on.
+    /// An error says that the channel is closed and empty, or that the call could not wait. Where it has to wait it takes
+    /// memory, for a place in the queue and for what the thread parks on.
     #[inline(always)]
     pub fn recv_blocking(&self) -> Result<T, RecvError> {
         let mut hand = self.hand();
@@ -144,9 +155,11 @@ impl<T: Drop, R: Wait + Clock + Clone> Receiver<T, R> {
         received
     }
 
-    /// [`recv_blocking`](Receiver::recv_blocking) as calls of this hand: attempts that found the channel empty, and then one
-    /// that received the message or the end. The last of them is the last of the one history, which begins with all that the
-    /// hand had seen, and has of this hand just its own calls.
+    /// Receives a message, like [`recv_blocking`](Receiver::recv_blocking), as calls of this hand: attempts that found the
+    /// channel empty, and then one that received the message or the end.
+    ///
+    /// The last of these calls is the last of one history, which begins with all that the hand had seen, and which has of this
+    /// hand just its own calls.
     #[inline(always)]
     pub fn recv_blocking_as(&self, hand: &mut ChannelHand<T>) -> Result<T, RecvError>
         requires { IsOf self.now.channel.table hand.old }
@@ -157,10 +170,10 @@ impl<T: Drop, R: Wait + Clock + Clone> Receiver<T, R> {
         received(self.wait(hand, Limit::Never))
     }
 
-    /// Receives a message once there is one, and blocks the calling thread until then, or until so much time has passed.
-    /// With a timeout of zero, too, it is attempted.
+    /// Receives a message once there is one, and blocks the thread until then, at most for `timeout`. With a `timeout` of zero
+    /// the call still attempts to receive.
     ///
-    /// The call allocates where it has to wait.
+    /// Where it has to wait it takes memory, for a place in the queue and for what the thread parks on.
     pub fn recv_timeout(&self, timeout: Duration) -> Result<T, RecvTimeoutError> {
         let mut hand = self.hand();
         let waited = self.wait(&mut hand, Limit::after(&self.link.rt, timeout));
@@ -168,10 +181,10 @@ impl<T: Drop, R: Wait + Clock + Clone> Receiver<T, R> {
         received_in_time(waited)
     }
 
-    /// Receives a message once there is one, and blocks the calling thread until then, or until this moment. With one that
-    /// has passed, too, it is attempted.
+    /// Receives a message once there is one, and blocks the thread until then, at most until `deadline`. If `deadline` has
+    /// passed the call still attempts to receive.
     ///
-    /// The call allocates where it has to wait.
+    /// Where it has to wait it takes memory, for a place in the queue and for what the thread parks on.
     pub fn recv_deadline(&self, deadline: Instant) -> Result<T, RecvTimeoutError> {
         let mut hand = self.hand();
         let waited = self.wait(&mut hand, Limit::At(deadline));
@@ -179,13 +192,14 @@ impl<T: Drop, R: Wait + Clock + Clone> Receiver<T, R> {
         received_in_time(waited)
     }
 
-    /// Receives messages once there is one, `limit` at most, puts them behind what `into` has, and returns how many they
-    /// were: none only if `limit` is 0. It blocks the calling thread until there is one. No other receive comes between its
-    /// messages, which it takes in one step.
+    /// Receives messages once there is one, at most `limit` of them, and puts them behind what `into` has. Returns how many
+    /// they were, which is none only if `limit` is 0.
     ///
-    /// The call allocates where it has to wait, and before that room in `into`: for one message, which is an error if it is
-    /// refused, and for as many as wait at the moment, which is no error. It takes no more than there is room for, so
-    /// reserve room for `limit` messages to have as many as it finds.
+    /// The call blocks the thread until there is a message. It takes all its messages in one step, so no other receive gets one
+    /// from between them. Where it has to wait it takes memory, for a place in the queue and for what the thread parks on.
+    /// Before that it takes room in `into`: for one message, which is an error if it is refused, and for as many as are in the
+    /// channel at the moment, which is no error. It takes no more messages than `into` has room for, so reserve room for
+    /// `limit` messages to have as many as there are.
     pub fn recv_many(&self, into: &mut Vec<T>, limit: usize) -> Result<usize, RecvError>
         ensures most { IfOk result (λ count. count ≤ limit) }
         ensures one { IfOk result (λ count. 0 < limit → 0 < count) }
@@ -251,9 +265,10 @@ impl<T: Drop, R: Wait + Clock + Clone> Receiver<T, R> {
         link.channel.wait_to_receive(&link.rt, link.alloc, &mut hand.hand, &mut receiving, limit)
     }
 
-    /// Closes the channel, and wakes all that wait, under its lock but for the last. Returns `false` if it is closed already.
+    /// Closes the channel, and wakes all that wait. Returns `false` if the channel was closed already.
     ///
-    /// No message is sent any more. Those that wait can still be received.
+    /// From here on no message is sent; messages in the channel can still be received. All waiters but the last are woken under
+    /// the lock of the channel.
     pub fn close(&self) -> bool {
         let mut hand = self.hand();
         let closed = self.close_as(&mut hand);
@@ -261,7 +276,7 @@ impl<T: Drop, R: Wait + Clock + Clone> Receiver<T, R> {
         closed
     }
 
-    /// [`close`](Receiver::close) as a call of this hand.
+    /// Closes the channel, like [`close`](Receiver::close), as a call of this hand in the history.
     pub fn close_as(&self, hand: &mut ChannelHand<T>) -> bool
         requires { IsOf self.now.channel.table hand.old }
         ensures hand { SameTable hand.old hand.new }
@@ -271,44 +286,45 @@ impl<T: Drop, R: Wait + Clock + Clone> Receiver<T, R> {
         self.link.channel.close(&self.link.rt, hand)
     }
 
-    /// Whether the channel is closed.
+    /// Returns whether the channel is closed. A closed one stays closed.
     pub fn is_closed(&self) -> bool {
         self.link.channel.is_closed(&self.link.rt)
     }
 
-    /// How many messages wait.
+    /// Returns how many messages are in the channel at some moment of this call. Another thread may change that at once.
     pub fn len(&self) -> usize {
         self.link.channel.len(&self.link.rt)
     }
 
-    /// Whether no message waits.
+    /// Returns whether no message is in the channel at some moment of this call.
     pub fn is_empty(&self) -> bool {
         self.len() == 0
     }
 
-    /// Whether as many messages wait as may.
+    /// Returns whether as many messages are in the channel as there may be, at some moment of this call.
     pub fn is_full(&self) -> bool {
         self.link.channel.is_full(&self.link.rt)
     }
 
-    /// How many messages may wait at most, if there is a limit.
+    /// Returns how many messages may be in the channel at once. `None` says that it has no limit.
     pub fn capacity(&self) -> Option<usize>
         ensures { result ≡ self.now.capacity }
     {
         self.link.channel.capacity
     }
 
-    /// How many senders of the channel there are.
+    /// Returns how many senders of the channel there are at some moment of this call.
     pub fn sender_count(&self) -> usize {
         self.link.channel.senders.count()
     }
 
-    /// How many receivers of the channel there are.
+    /// Returns how many receivers of the channel there are at some moment of this call.
     pub fn receiver_count(&self) -> usize {
         self.link.channel.receivers.count()
     }
 
-    /// A handle that does not keep the channel open. It fails if the runtime value can't be cloned.
+    /// Makes a handle that does not keep the channel open, of which [`upgrade`](WeakReceiver::upgrade) makes a receiver again.
+    /// Fails if the runtime value can't be cloned.
     pub fn downgrade(&self) -> Result<WeakReceiver<T, R>, AllocError>
         ensures { IfOk result (λ weak. weak ≡ self.now) }
     {
@@ -317,7 +333,7 @@ impl<T: Drop, R: Wait + Clock + Clone> Receiver<T, R> {
     }
 }
 
-/// A receiver of the same channel. It fails if the runtime value can't be cloned or there are too many receivers.
+/// Makes another receiver of the same channel. Fails if the runtime value can't be cloned or there are too many receivers.
 impl<T: Drop, R: Wait + Clock + Clone> Clone for Receiver<T, R> {
     ghost is_clone = { λ receiver same. same ≡ receiver };
 
@@ -328,7 +344,7 @@ impl<T: Drop, R: Wait + Clock + Clone> Clone for Receiver<T, R> {
     }
 }
 
-/// The last receiver closes the channel, and drops the messages that wait: nobody can receive them any more.
+/// Closes the channel, if this receiver is the last one, and drops the messages in it, since nobody can receive them any more.
 impl<T: Drop, R: Wait + Clock + Clone> Drop for Receiver<T, R> {
     fn drop(self) {
         let Receiver { link, stream, hand } = self;
@@ -345,9 +361,10 @@ impl<T: Drop, R: Wait + Clock + Clone> Drop for Receiver<T, R> {
     }
 }
 
-/// An item is an error if waiting for a message was refused. It may be polled again then.
+/// Gives the messages one by one. An item is an error if waiting for a message was refused; the stream may be polled again
+/// then.
 ///
-/// Each message wakes every stream that waits, beside one receive: a stream that is polled once and left alone keeps no
+/// Each message wakes every stream that waits, beside one receive, so a stream that is polled once and left alone keeps no
 /// message from others.
 impl<T: Drop, R: Wait + Clock + Clone> Stream for Receiver<T, R> {
     type Item = Result<T, WaitError>;
@@ -379,8 +396,8 @@ impl<T: Drop, R: Wait + Clock + Clone> Debug for Receiver<T, R> {
     }
 }
 
-/// A handle of a channel that does not keep it open for receivers: [`upgrade`](WeakReceiver::upgrade) makes a receiver of
-/// it while there is one.
+/// A handle of a channel that does not keep the channel open for receivers. [`upgrade`](WeakReceiver::upgrade) makes a receiver
+/// of it, while there is another one.
 #[derive(Drop)]
 pub struct WeakReceiver<T: Drop, R: Wait + Clock + Clone> {
     link: Link<T, R>,
@@ -395,8 +412,10 @@ impl<T: Drop, R: Wait + Clock + Clone> Model for WeakReceiver<T, R> {
 }
 
 impl<T: Drop, R: Wait + Clock + Clone> WeakReceiver<T, R> {
-    /// A receiver, if there is one still and the channel is open. It fails if the runtime value can't be cloned, and may wait
-    /// for the lock of the channel.
+    /// Makes a receiver again, if the channel is open and has a receiver still. Returns `None` else. Fails if the runtime value
+    /// can't be cloned.
+    ///
+    /// The call may block for the lock of the channel.
     pub fn upgrade(&self) -> Result<Option<Receiver<T, R>>, AllocError>
         ensures { IfOk result (λ receiver. IfSome receiver (λ receiver. receiver ≡ self.now)) }
     {

@@ -19,11 +19,11 @@ use std::time::{Clock, Duration, Instant};
 
 /// A message that is received once there is one: the future of [`recv`](crate::Receiver::recv).
 ///
-/// Each poll attempts to receive. It may be polled again after it was ready, and then receives another message. No message
-/// is lost if it is dropped.
+/// Each poll attempts to receive. The future may be polled again after it was ready, and then receives another message. No
+/// message is lost if it is dropped.
 ///
-/// Poll it or drop it once its task is woken. Left alone it stops nobody for good: if it [starves](crate::PATIENCE) others are refused
-/// what is due to it [so often](crate::FORBEARANCE), and then it waits anew when it comes.
+/// Poll it or drop it once its task is woken. Left alone it stops nobody for good: if it [starves](crate::PATIENCE), others are
+/// refused what is due to it [so often](crate::FORBEARANCE), and then it waits anew when it is polled.
 #[must_use = "nothing is received before it is polled"]
 pub struct Recv<'a, T: Drop, R: Wait + Clock + Clone> {
     channel: &'a Channel<T>,
@@ -90,23 +90,23 @@ impl<'a, T: Drop, R: Wait + Clock + Clone> Recv<'a, T, R> {
         }
     }
 
-    /// Blocks the calling thread until a message is received, or none will come. If it was polled it goes on at its place in
-    /// the queue.
+    /// Blocks the thread until a message is received, or until the channel is closed and empty. A future that was polled before
+    /// keeps its place in the queue.
     ///
-    /// The call allocates where it has to wait.
+    /// Where it has to wait it takes memory, for a place in the queue and for what the thread parks on.
     pub fn wait(self) -> Result<T, RecvError> {
         received(self.end(Limit::Never))
     }
 
-    /// Blocks the calling thread until then, or until so much time has passed: then it is an error, as of
-    /// [`recv_timeout`](crate::Receiver::recv_timeout). With a timeout of zero, too, it is attempted.
+    /// Blocks the thread until a message is received or none will come, at most for `timeout`, with the errors of
+    /// [`recv_timeout`](crate::Receiver::recv_timeout). With a `timeout` of zero the call still attempts to receive.
     pub fn wait_timeout(self, timeout: Duration) -> Result<T, RecvTimeoutError> {
         let limit = Limit::after(self.rt, timeout);
         received_in_time(self.end(limit))
     }
 
-    /// Blocks the calling thread until then, or until this moment, with the same error. With one that has passed, too, it is
-    /// attempted.
+    /// Blocks the thread until a message is received or none will come, at most until `deadline`, with the errors of
+    /// [`recv_deadline`](crate::Receiver::recv_deadline). If `deadline` has passed the call still attempts to receive.
     pub fn wait_deadline(self, deadline: Instant) -> Result<T, RecvTimeoutError> {
         received_in_time(self.end(Limit::At(deadline)))
     }

@@ -19,10 +19,10 @@ use std::time::{Clock, Duration, Instant};
 
 /// A message that is sent once there is room: the future of [`send`](crate::Sender::send).
 ///
-/// It may be polled until it is ready, and each poll attempts to send. Dropped before, it drops its message.
+/// Each poll attempts to send. The future may be polled until it is ready. Dropped before, it drops its message.
 ///
-/// Poll it or drop it once its task is woken. Left alone it stops nobody for good: if it [starves](crate::PATIENCE) others are refused
-/// the place that is due to it [so often](crate::FORBEARANCE), and then it waits anew when it comes.
+/// Poll it or drop it once its task is woken. Left alone it stops nobody for good: if it [starves](crate::PATIENCE), others are
+/// refused what is due to it [so often](crate::FORBEARANCE), and then it waits anew when it is polled.
 #[must_use = "nothing is sent before it is polled"]
 pub struct Send<'a, T: Drop, R: Wait + Clock + Clone> {
     channel: &'a Channel<T>,
@@ -65,9 +65,10 @@ impl<'a, T: Drop, R: Wait + Clock + Clone> Send<'a, T, R> {
         }
     }
 
-    /// Blocks the calling thread until the message is sent, or can't be. If it was polled it goes on at its place in the queue.
+    /// Blocks the thread until the message is sent or can't be. A future that was polled before keeps its place in the queue.
     ///
-    /// An error hands the message back. The call allocates where it has to wait.
+    /// An error has the message again. Where it has to wait it takes memory, for a place in the queue and for what the thread
+    /// parks on.
     pub fn wait(self) -> Result<(), SendError<T>>
         requires { (message : T) × Carries message self }
         ensures returned { IfErr result (λ error. Carries error.message self.entry) }
@@ -76,8 +77,8 @@ impl<'a, T: Drop, R: Wait + Clock + Clone> Send<'a, T, R> {
         self.end(Limit::Never)
     }
 
-    /// Blocks the calling thread until then, or until so much time has passed: then it is an error, which hands the message
-    /// back. With a timeout of zero, too, it is attempted.
+    /// Blocks the thread until the message is sent or can't be, at most for `timeout`. With a `timeout` of zero the call still
+    /// attempts to send. An error has the message again.
     pub fn wait_timeout(self, timeout: Duration) -> Result<(), SendError<T>>
         requires { (message : T) × Carries message self }
         ensures returned { IfErr result (λ error. Carries error.message self.entry) }
@@ -87,8 +88,8 @@ impl<'a, T: Drop, R: Wait + Clock + Clone> Send<'a, T, R> {
         self.end(limit)
     }
 
-    /// Blocks the calling thread until then, or until this moment, with the same error. With one that has passed, too, it is
-    /// attempted.
+    /// Blocks the thread until the message is sent or can't be, at most until `deadline`. If `deadline` has passed the call
+    /// still attempts to send. An error has the message again.
     pub fn wait_deadline(self, deadline: Instant) -> Result<(), SendError<T>>
         requires { (message : T) × Carries message self }
         ensures returned { IfErr result (λ error. Carries error.message self.entry) }

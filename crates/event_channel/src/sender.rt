@@ -26,11 +26,21 @@ use std::marker::Model;
 use std::sync::{Arc, Wait};
 use std::time::{Clock, Duration, Instant};
 
-/// Sends messages into a channel. Clones send into the same one; when the last is dropped, the channel is closed.
+/// The sending side of a channel. Clones send into the same channel; when the last of them is dropped, the channel is closed.
 ///
-/// A message that is sent waits behind those sent before. Each call may wait for the lock of the channel. It is held for a
-/// few instructions, and longer where a channel without a limit doubles its room (27 ms at two million messages), many
-/// messages are received at once, or a close wakes all that wait. A contract sees the lock of the channel and its capacity.
+/// A message that is sent waits behind those that were sent before. Each call may block for the lock of the channel. That lock
+/// is held for a few instructions, and longer where a channel without a limit doubles its room (27 ms at two million messages),
+/// where many messages are received at once, or where a close wakes all that wait. A contract sees the lock of the channel and
+/// its capacity.
+///
+/// ```rust
+///     let (numbers, receiver) = bounded(&rt, alloc, 8)?;
+///     let workers = start_workers(rt, alloc, receiver)?;
+///     for number in 1..=10 {
+///         numbers.send_blocking(number)?;
+///     }
+///     numbers.close();
+/// ```
 pub struct Sender<T: Drop, R: Wait + Clock + Clone> {
     link: Link<T, R>,
 }
@@ -43,11 +53,11 @@ impl<T: Drop, R: Wait + Clock + Clone> Model for Sender<T, R> {
     ghost view = { λ sender. sender.link };
 }
 
-/// A channel in which `capacity` messages wait at most.
+/// Makes a channel in which at most `capacity` messages wait. Returns its two sides.
 ///
-/// Returns an error if `capacity` is 0 or if there is no memory. The call allocates room for `capacity` messages, so no
-/// later call allocates for a message. Both sides keep clones of `rt`. The history of which a hand knows begins where the
-/// channel is open, without messages and of this capacity, which [`capacity_is_kept`](crate::capacity_is_kept) keeps.
+/// The call takes room for `capacity` messages, so no later call takes memory for a message. An error says that `capacity` is 0
+/// or that there is no memory. Both sides keep clones of `rt`. The history of which a hand knows begins where the channel is
+/// open, without messages and of this capacity, which [`capacity_is_kept`](crate::capacity_is_kept) keeps.
 pub fn bounded<T: Drop, R: Wait + Clock + Clone>(
     rt: &R,
     alloc: Global,
@@ -66,9 +76,9 @@ pub fn bounded<T: Drop, R: Wait + Clock + Clone>(
     }
 }
 
-/// A channel in which any number of messages may wait.
+/// Makes a channel in which any number of messages may wait. Returns its two sides.
 ///
-/// Returns an error if there is no memory. Both sides keep clones of `rt`. The history of which a hand knows begins where the
+/// An error says that there is no memory. Both sides keep clones of `rt`. The history of which a hand knows begins where the
 /// channel is open, without messages and without a limit.
 pub fn unbounded<T: Drop, R: Wait + Clock + Clone>(
     rt: &R,
@@ -110,8 +120,10 @@ impl<T: Drop, R: Wait + Clock + Clone> Sender<T, R> {
         Sender { link }
     }
 
-    /// A hand of this channel, which made no call yet, and has seen a beginning of its history: how much, no clause says. It has
-    /// no bytes, and the call is one load. It does not wait. A hand can't be dropped: it ends by its `end`.
+    /// Makes a hand of this channel: the right to make calls that a contract can follow in the history of the channel's calls.
+    ///
+    /// The hand has made no call yet, and has seen a beginning of the history; how much of it, no clause says. It has no bytes,
+    /// and making it is one load, which never blocks. A hand can't be dropped: end it by its [`end`](crate::ChannelHand::end).
     #[inline(always)]
     pub fn hand(&self) -> ChannelHand<T>
         ensures { IsOf self.now.channel.table result
@@ -120,7 +132,7 @@ impl<T: Drop, R: Wait + Clock + Clone> Sender<T, R> {
         self.link.channel.hand()
     }
 
-    /// A new hand, which has seen as much of the history of this channel as that one. It is one load.
+    /// Makes a new hand that has seen as much of the history of this channel as `hand` has. It is one load, which never blocks.
     pub fn fork(&self, hand: &mut ChannelHand<T>) -> ChannelHand<T>
         requires { IsOf self.now.channel.table hand.old }
         ensures hand { SameTable hand.old hand.new
@@ -131,8 +143,8 @@ impl<T: Drop, R: Wait + Clock + Clone> Sender<T, R> {
         self.link.channel.fork(hand)
     }
 
-    /// Has a hand learn what another one saw and did, which is no more. From here on it speaks of one history that has the
-    /// calls of both. It is two loads.
+    /// Ends the hand `other`, and has `hand` learn what `other` saw and did. From here on a contract speaks of one history that
+    /// has the calls of both. It is two loads, which never block.
     pub fn join(&self, hand: &mut ChannelHand<T>, other: ChannelHand<T>)
         requires here { IsOf self.now.channel.table hand.old }
         requires there { IsOf self.now.channel.table other }
@@ -143,10 +155,11 @@ impl<T: Drop, R: Wait + Clock + Clone> Sender<T, R> {
         self.link.channel.join(hand, other);
     }
 
-    /// Sends a message if the channel is open and has a free place. While a send [starves](crate::PATIENCE) a place that is due to a
-    /// notified one is not free for this call: it answers `Full`, [so often](crate::FORBEARANCE) at most for the sake of each.
+    /// Sends a message, if the channel is open and has a free place. Never waits for one.
     ///
-    /// An error hands the message back. The call allocates if the channel has no limit and no room.
+    /// An error has the message again. While a send [starves](crate::PATIENCE), a place that is due to a notified send is not
+    /// free for this call: it answers `Full` then, at most [so often](crate::FORBEARANCE) for the sake of each such send. The
+    /// call takes memory only where the channel has no limit and no room left.
     #[inline(always)]
     pub fn try_send(&self, message: T) -> Result<(), SendError<T>>
         ensures returned { IfErr result (λ error. error.message ≡ message) }
@@ -158,8 +171,10 @@ impl<T: Drop, R: Wait + Clock + Clone> Sender<T, R> {
         sent
     }
 
-    /// [`try_send`](Sender::try_send) as a call of this hand: the last of the one history, which begins with all that the hand
-    /// had seen, and has of this hand just its own calls.
+    /// Sends a message, like [`try_send`](Sender::try_send), as a call of this hand.
+    ///
+    /// The call is the last of one history, which begins with all that the hand had seen, and which has of this hand just its
+    /// own calls.
     #[inline(always)]
     pub fn try_send_as(&self, hand: &mut ChannelHand<T>, message: T) -> Result<(), SendError<T>>
         requires { IsOf self.now.channel.table hand.old }
@@ -176,10 +191,10 @@ impl<T: Drop, R: Wait + Clock + Clone> Sender<T, R> {
         sent
     }
 
-    /// Sends a message if the channel is open, on any free place, due to others or not. If it is full the first message of all
-    /// goes out, and is returned.
+    /// Sends a message on any free place, due to others or not, if the channel is open. If the channel is full, its first
+    /// message is taken out and returned.
     ///
-    /// An error hands the message back. The call allocates if the channel has no limit and no room.
+    /// An error has the message again. The call takes memory only where the channel has no limit and no room left.
     pub fn force_send(&self, message: T) -> Result<Option<T>, SendError<T>>
         ensures returned { IfErr result (λ error. error.message ≡ message) }
         ensures reason { IfErr result (λ error. IsUnsent error.reason) }
@@ -190,7 +205,8 @@ impl<T: Drop, R: Wait + Clock + Clone> Sender<T, R> {
         sent
     }
 
-    /// [`force_send`](Sender::force_send) as a call of this hand, as [`try_send_as`](Sender::try_send_as) is.
+    /// Sends a message, like [`force_send`](Sender::force_send), as a call of this hand, in the history as
+    /// [`try_send_as`](Sender::try_send_as) says.
     pub fn force_send_as(
         &self,
         hand: &mut ChannelHand<T>,
@@ -206,9 +222,10 @@ impl<T: Drop, R: Wait + Clock + Clone> Sender<T, R> {
         self.link.channel.force_send(&self.link.rt, hand, message)
     }
 
-    /// Sends a message once there is room: to be awaited. Nothing is sent before it is polled.
+    /// Sends a message once there is room, as a future: await it, or block on it by [`wait`](crate::Send::wait). Nothing is
+    /// sent before it is polled.
     ///
-    /// An error hands the message back. If it is dropped before it is done, the message is dropped and not sent.
+    /// An error has the message again. If the future is dropped before it is ready, the message is dropped and not sent.
     pub fn send(&self, message: T) -> Send<'_, T, R>
         ensures carries { Carries message result }
         ensures channel { result.channel ≡ self.now.channel }
@@ -216,10 +233,10 @@ impl<T: Drop, R: Wait + Clock + Clone> Sender<T, R> {
         Send::new(&self.link.channel, &self.link.rt, self.link.alloc, message)
     }
 
-    /// Sends a message once there is room, and blocks the calling thread until then.
+    /// Sends a message once there is room, and blocks the thread until then.
     ///
-    /// An error hands the message back. The call allocates where it has to wait: a place in the queue, and what the thread
-    /// parks on.
+    /// An error has the message again: the channel is closed, or the call could not wait. Where it has to wait it takes memory,
+    /// for a place in the queue and for what the thread parks on.
     #[inline(always)]
     pub fn send_blocking(&self, message: T) -> Result<(), SendError<T>>
         ensures returned { IfErr result (λ error. error.message ≡ message) }
@@ -231,9 +248,11 @@ impl<T: Drop, R: Wait + Clock + Clone> Sender<T, R> {
         sent
     }
 
-    /// [`send_blocking`](Sender::send_blocking) as calls of this hand: attempts that found the channel full, and then one that
-    /// sent the message or was refused. The last of them is the last of the one history, which begins with all that the hand
-    /// had seen, and has of this hand just its own calls.
+    /// Sends a message, like [`send_blocking`](Sender::send_blocking), as calls of this hand: attempts that found the channel
+    /// full, and then one that sent the message or was refused.
+    ///
+    /// The last of these calls is the last of one history, which begins with all that the hand had seen, and which has of this
+    /// hand just its own calls.
     #[inline(always)]
     pub fn send_blocking_as(
         &self,
@@ -250,10 +269,11 @@ impl<T: Drop, R: Wait + Clock + Clone> Sender<T, R> {
         self.send_until(hand, message, Limit::Never)
     }
 
-    /// Sends a message once there is room, and blocks the calling thread until then, or until so much time has passed. With
-    /// a timeout of zero, too, it is attempted.
+    /// Sends a message once there is room, and blocks the thread until then, at most for `timeout`. With a `timeout` of zero
+    /// the call still attempts to send.
     ///
-    /// An error hands the message back. The call allocates where it has to wait.
+    /// An error has the message again. Where it has to wait it takes memory, for a place in the queue and for what the thread
+    /// parks on.
     pub fn send_timeout(&self, message: T, timeout: Duration) -> Result<(), SendError<T>>
         ensures returned { IfErr result (λ error. error.message ≡ message) }
         ensures reason { IfErr result (λ error. IsUnsentInTime error.reason) }
@@ -264,10 +284,11 @@ impl<T: Drop, R: Wait + Clock + Clone> Sender<T, R> {
         sent
     }
 
-    /// Sends a message once there is room, and blocks the calling thread until then, or until this moment. With one that
-    /// has passed, too, it is attempted.
+    /// Sends a message once there is room, and blocks the thread until then, at most until `deadline`. If `deadline` has passed
+    /// the call still attempts to send.
     ///
-    /// An error hands the message back. The call allocates where it has to wait.
+    /// An error has the message again. Where it has to wait it takes memory, for a place in the queue and for what the thread
+    /// parks on.
     pub fn send_deadline(&self, message: T, deadline: Instant) -> Result<(), SendError<T>>
         ensures returned { IfErr result (λ error. error.message ≡ message) }
         ensures reason { IfErr result (λ error. IsUnsentInTime error.reason) }
@@ -306,9 +327,10 @@ impl<T: Drop, R: Wait + Clock + Clone> Sender<T, R> {
         }
     }
 
-    /// Closes the channel, and wakes all that wait, under its lock but for the last. Returns `false` if it is closed already.
+    /// Closes the channel, and wakes all that wait. Returns `false` if the channel was closed already.
     ///
-    /// No message is sent any more. Those that wait can still be received.
+    /// From here on no message is sent; messages in the channel can still be received. All waiters but the last are woken under
+    /// the lock of the channel.
     pub fn close(&self) -> bool {
         let mut hand = self.hand();
         let closed = self.close_as(&mut hand);
@@ -316,7 +338,7 @@ impl<T: Drop, R: Wait + Clock + Clone> Sender<T, R> {
         closed
     }
 
-    /// [`close`](Sender::close) as a call of this hand.
+    /// Closes the channel, like [`close`](Sender::close), as a call of this hand in the history.
     pub fn close_as(&self, hand: &mut ChannelHand<T>) -> bool
         requires { IsOf self.now.channel.table hand.old }
         ensures hand { SameTable hand.old hand.new }
@@ -326,44 +348,45 @@ impl<T: Drop, R: Wait + Clock + Clone> Sender<T, R> {
         self.link.channel.close(&self.link.rt, hand)
     }
 
-    /// Whether the channel is closed.
+    /// Returns whether the channel is closed. A closed one stays closed.
     pub fn is_closed(&self) -> bool {
         self.link.channel.is_closed(&self.link.rt)
     }
 
-    /// How many messages wait.
+    /// Returns how many messages are in the channel at some moment of this call. Another thread may change that at once.
     pub fn len(&self) -> usize {
         self.link.channel.len(&self.link.rt)
     }
 
-    /// Whether no message waits.
+    /// Returns whether no message is in the channel at some moment of this call.
     pub fn is_empty(&self) -> bool {
         self.len() == 0
     }
 
-    /// Whether as many messages wait as may.
+    /// Returns whether as many messages are in the channel as there may be, at some moment of this call.
     pub fn is_full(&self) -> bool {
         self.link.channel.is_full(&self.link.rt)
     }
 
-    /// How many messages may wait at most, if there is a limit.
+    /// Returns how many messages may be in the channel at once. `None` says that it has no limit.
     pub fn capacity(&self) -> Option<usize>
         ensures { result ≡ self.now.capacity }
     {
         self.link.channel.capacity
     }
 
-    /// How many senders of the channel there are.
+    /// Returns how many senders of the channel there are at some moment of this call.
     pub fn sender_count(&self) -> usize {
         self.link.channel.senders.count()
     }
 
-    /// How many receivers of the channel there are.
+    /// Returns how many receivers of the channel there are at some moment of this call.
     pub fn receiver_count(&self) -> usize {
         self.link.channel.receivers.count()
     }
 
-    /// A handle that does not keep the channel open. It fails if the runtime value can't be cloned.
+    /// Makes a handle that does not keep the channel open, of which [`upgrade`](WeakSender::upgrade) makes a sender again.
+    /// Fails if the runtime value can't be cloned.
     pub fn downgrade(&self) -> Result<WeakSender<T, R>, AllocError>
         ensures { IfOk result (λ weak. weak ≡ self.now) }
     {
@@ -372,7 +395,7 @@ impl<T: Drop, R: Wait + Clock + Clone> Sender<T, R> {
     }
 }
 
-/// A sender into the same channel. It fails if the runtime value can't be cloned or there are too many senders.
+/// Makes another sender of the same channel. Fails if the runtime value can't be cloned or there are too many senders.
 impl<T: Drop, R: Wait + Clock + Clone> Clone for Sender<T, R> {
     ghost is_clone = { λ sender same. same ≡ sender };
 
@@ -383,7 +406,7 @@ impl<T: Drop, R: Wait + Clock + Clone> Clone for Sender<T, R> {
     }
 }
 
-/// The last sender closes the channel.
+/// Closes the channel, if this sender is the last one.
 impl<T: Drop, R: Wait + Clock + Clone> Drop for Sender<T, R> {
     fn drop(self) {
         let Sender { link } = self;
@@ -401,8 +424,8 @@ impl<T: Drop, R: Wait + Clock + Clone> Debug for Sender<T, R> {
     }
 }
 
-/// A handle of a channel that does not keep it open for senders: [`upgrade`](WeakSender::upgrade) makes a sender of it while
-/// there is one.
+/// A handle of a channel that does not keep the channel open for senders. [`upgrade`](WeakSender::upgrade) makes a sender of
+/// it, while there is another one.
 #[derive(Drop)]
 pub struct WeakSender<T: Drop, R: Wait + Clock + Clone> {
     link: Link<T, R>,
@@ -417,8 +440,10 @@ impl<T: Drop, R: Wait + Clock + Clone> Model for WeakSender<T, R> {
 }
 
 impl<T: Drop, R: Wait + Clock + Clone> WeakSender<T, R> {
-    /// A sender, if there is one still and the channel is open. It fails if the runtime value can't be cloned, and may wait
-    /// for the lock of the channel.
+    /// Makes a sender again, if the channel is open and has a sender still. Returns `None` else. Fails if the runtime value
+    /// can't be cloned.
+    ///
+    /// The call may block for the lock of the channel.
     pub fn upgrade(&self) -> Result<Option<Sender<T, R>>, AllocError>
         ensures { IfOk result (λ sender. IfSome sender (λ sender. sender ≡ self.now)) }
     {
