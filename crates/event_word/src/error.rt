@@ -8,6 +8,6 @@ pub enum TryAcquireError {
     #[error("the semaphore is closed")]
     Closed,
     /// Fewer permits are free than were asked for, or newcomers are shut out because a waiter starves.
-    #[error("too few permits are free")]
+    #[error("too few permits are free for newcomers")]
     NoPermits,
 }
