@@ -83,6 +83,13 @@ impl<T: Drop> Mutex<T> {
         self.word.counts(rt)
     }
 
+    /// Returns whether somebody has the value at some moment of this call. Another thread may change that at once.
+    ///
+    /// The call is one load: it takes no lock and never blocks.
+    pub fn is_locked(&self) -> bool {
+        self.word.free() == 0
+    }
+
     /// Takes the value, if nobody has it and newcomers are not shut out. Returns `None` else.
     ///
     /// Newcomers are shut out while a waiter starves. The call takes no memory and never blocks.

@@ -189,6 +189,21 @@ impl<T> RwLock<T> {
         counts
     }
 
+    /// Returns whether a reader or a writer has the value at some moment of this call. Another thread may change that at once.
+    ///
+    /// The call is one load: it takes no lock and never blocks.
+    pub fn is_locked(&self) -> bool {
+        let number = self.word.number();
+        is_written(number) || readers(number) > 0
+    }
+
+    /// Returns whether a writer has the value at some moment of this call. Another thread may change that at once.
+    ///
+    /// The call is one load: it takes no lock and never blocks.
+    pub fn is_write_locked(&self) -> bool {
+        is_written(self.word.number())
+    }
+
     /// Returns a reference to the value without locking, since `&mut self` says that nobody else uses the lock.
     pub fn get_mut(&mut self) -> &mut T {
         &mut self.word.value_mut().value

@@ -28,6 +28,59 @@ fn a_mutex_that_is_over_gives_its_value(rt: HostRuntime) {
     check(&rt, "the value", mutex.into_inner(), Some(3));
 }
 
+#[test]
+fn a_mutex_shows_whether_somebody_has_its_value(rt: HostRuntime) {
+    let mutex = Arc::new(rt.alloc(), new_mutex(&rt, 7u64)).expect(&rt, "memory");
+    check(&rt, "free", mutex.is_locked(), false);
+    let guard = mutex.try_lock(&rt);
+    check(&rt, "taken", mutex.is_locked(), true);
+    drop(guard);
+    check(&rt, "given back", mutex.is_locked(), false);
+    let guard = Mutex::try_lock_arc(&mutex, rt).expect(&rt, "a share");
+    check(
+        &rt,
+        "taken by a guard that shares it",
+        mutex.is_locked(),
+        true,
+    );
+    drop(guard);
+    check(&rt, "given back by that", mutex.is_locked(), false);
+}
+
+// Whether it is locked, and whether it is for a writer.
+fn is_taken(lock: &RwLock<u64>) -> (bool, bool) {
+    (lock.is_locked(), lock.is_write_locked())
+}
+
+#[test]
+fn a_read_write_lock_shows_who_has_its_value(rt: HostRuntime) {
+    let lock = Arc::new(rt.alloc(), new_lock(&rt, 7u64)).expect(&rt, "memory");
+    check(&rt, "free", is_taken(&lock), (false, false));
+    let readers = (lock.try_read(&rt), lock.try_read(&rt));
+    check(&rt, "read", is_taken(&lock), (true, false));
+    drop(readers);
+    let writer = lock.try_write(&rt);
+    check(&rt, "written", is_taken(&lock), (true, true));
+    drop(writer);
+    let reader = RwLock::try_read_arc(&lock, rt).expect(&rt, "a share");
+    check(
+        &rt,
+        "read by a guard that shares it",
+        is_taken(&lock),
+        (true, false),
+    );
+    drop(reader);
+    let writer = RwLock::try_write_arc(&lock, rt).expect(&rt, "a share");
+    check(
+        &rt,
+        "written by a guard that shares it",
+        is_taken(&lock),
+        (true, true),
+    );
+    drop(writer);
+    check(&rt, "given back", is_taken(&lock), (false, false));
+}
+
 // Whether a task has it at its first poll. Then it lets it go at once.
 fn has_it_at_once<R: Runtime, W: Waits>(rt: &R, waits: W) -> bool {
     let mut waits = waits;
