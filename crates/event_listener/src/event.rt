@@ -26,17 +26,22 @@ use std::time::Clock;
 /// A right to call the queue of one event.
 pub(crate) type QueueHand<T> = Hand<List<T, Task>, QueueCall<T, Task>>;
 
-/// What others listen to, and are notified of.
+/// An event: a queue of listeners that wait until they are notified.
 ///
-/// Its listeners are in one queue, in order of listening. The first of them, or the first
-/// [`StackSlot`](crate::StackSlot), makes the queue. Each call that reads or changes the queue is one step under a lock
-/// that no other event has, and may wait for that lock. Tags are made inside that step: calling the same event from a
-/// tag's function or clone there deadlocks. So does calling it from what a waker runs: the tasks that a call wakes are
-/// woken there too, in queue order, but for the last, which is woken once the lock is given back. A lost tag is dropped
-/// after the step.
+/// A notification picks the first listeners that wait, gives each a *tag*, a value of type `T`, and wakes their tasks. A
+/// listener that was picked is *notified* until its tag is taken or it leaves the queue. A notification that finds no
+/// listener waiting is lost.
 ///
-/// A contract sees an event as the number of its identity. No contract can name what is in its queue, since other
-/// threads may change it at any time.
+/// The queue is made by the first call of [`listen`](Event::listen), of [`hand`](Event::hand) or of
+/// [`StackSlot::new`](crate::StackSlot::new). Each call that reads or changes the queue is one step under a lock that no
+/// other event has, and may block until that lock is free. Tags are made inside that step, so the clone of a tag, or a
+/// function that makes tags, must not call the same event: the call would wait for the lock that its own thread holds. The
+/// tasks that a call wakes are woken inside the step too, in queue order, except the last, which is woken once the lock is
+/// given back. So what a waker runs must not call the same event either. A tag that no listener gets is dropped after the
+/// step.
+///
+/// A contract sees an event as the number of its identity. No contract can name what is in its queue, because other threads
+/// may change the queue at any time.
 #[derive(Drop)]
 pub struct Event<T = ()> {
     id: EventId,
@@ -54,9 +59,10 @@ impl<T> Model for Event<T> {
 }
 
 impl<T> Event<T> {
-    /// An event whose notifications have tags of type `T`. It has no queue until somebody listens or makes a slot.
+    /// Makes an event whose notifications have tags of type `T`.
     ///
-    /// The call neither allocates nor waits.
+    /// The queue of the event is made later, by the first call that registers a listener, makes a
+    /// [`StackSlot`](crate::StackSlot) or makes an [`EventHand`]. Takes no memory and never blocks.
     pub fn with_tag(id: EventId) -> Self
         ensures { result ≡ id }
     {
@@ -64,10 +70,9 @@ impl<T> Event<T> {
         Event { id, shared }
     }
 
-    /// For tests of the greatest serial numbers: an event whose queue is made already, and gives its first listener this
-    /// serial number.
+    /// Makes an event with its queue, for tests of the greatest serial numbers: the first listener gets `first_serial`.
     ///
-    /// The call allocates the queue, and returns an error if that fails. It does not wait.
+    /// Takes memory for the queue, and returns an error if there is none. Never blocks.
     #[doc(hidden)]
     pub fn starting_at(alloc: Global, id: EventId, first_serial: u64) -> Result<Self, AllocError>
     where
@@ -79,14 +84,18 @@ impl<T> Event<T> {
         Ok(Event { id, shared })
     }
 
-    /// A new listener, which waits at the end of the queue. It starts waiting, whichever are notified already. It keeps
-    /// a share of the queue and a clone of the runtime value, for its own calls.
+    /// Registers a listener at the end of the queue, and returns the listener.
     ///
-    /// Returns [`ListenError::Memory`] if memory runs out or the share or the clone fails, and
-    /// [`ListenError::SerialsUsedUp`] if the queue has given out all serial numbers. Neither inserts a listener.
+    /// The listener waits, even if other listeners are notified already: a notification made before this call does not reach
+    /// it. The listener keeps a share of the queue, so it may outlive the event. For its own calls it also keeps `alloc` and
+    /// a clone of `rt`.
     ///
-    /// The call allocates if there is no queue yet or the queue has no spare slot. It may wait for the lock of the
-    /// event, and for a thread that is making the queue.
+    /// Returns [`ListenError::Memory`] if memory runs out, or if no share of the queue or no clone of `rt` can be made.
+    /// Returns [`ListenError::SerialsUsedUp`] if the queue has given out all its serial numbers, of which each listener gets
+    /// one. Neither error leaves a listener in the queue.
+    ///
+    /// Takes memory for the queue if there is none yet, and for the listener if no slot of an earlier listener is spare. May
+    /// block until the lock of the event is free, or until another thread has made the queue.
     #[inline(always)]
     pub fn listen<R>(&self, rt: &R, alloc: Global) -> Result<EventListener<T, R>, ListenError>
     where
@@ -120,7 +129,7 @@ impl<T> Event<T> {
         Ok(EventListener::new(shared, key, hand, runtime, alloc))
     }
 
-    /// The queue, if there is one.
+    /// Returns the queue, if it has been made.
     #[inline(always)]
     pub(crate) fn made(&self) -> Option<&Arc<Shared<T>>>
         ensures { IfSome result (λ shared. (arc_value shared.now).event_number ≡ self.now) }
@@ -128,7 +137,7 @@ impl<T> Event<T> {
         self.shared.get()
     }
 
-    /// Makes the queue. If two threads make it at once, the second drops its own and takes that of the first.
+    /// Makes the queue. If two threads make a queue at once, the second drops its own and uses that of the first.
     #[cold]
     #[inline(never)]
     pub(crate) fn make_queue<R: Wait>(
@@ -147,24 +156,25 @@ impl<T> Event<T> {
         }
     }
 
-    /// The number of the event's identity.
+    /// Returns the number of the event's identity.
     pub(crate) fn number(&self) -> u64
         ensures { result ≡ self.now }
     {
         self.id.number()
     }
 
-    /// Notifies the first of the waiting listeners, in order, each with the notification's next tag, and wakes their
-    /// tasks, the last of them once the lock is given back. Returns how many it notified.
+    /// Notifies the first listeners that wait, as many as `n` asks for, and returns how many were notified.
     ///
-    /// It notifies as many as the notification counts, less those that are notified already if it is a default one, and
-    /// no more than wait. A notification that finds no listener waiting is not kept. Before a listener was made the
-    /// call returns 0, and makes no queue.
+    /// Each of them, in queue order, gets the next tag of the notification, and its task is woken, the last one once the lock
+    /// is given back. A default notification, as `n` by itself, counts the listeners that are notified already, so it
+    /// notifies its count less those. An additional one, as `n.additional()`, notifies its whole count anew. If fewer
+    /// listeners wait, all of these are notified. A notification that finds no listener waiting is lost: a later listener
+    /// does not get it. If there is no queue yet, the call returns 0, and makes no queue.
     ///
-    /// Returns [`NotifyError`] only if the notification refused a tag: the listeners notified until then stay notified,
-    /// and none is skipped.
+    /// Returns [`NotifyError`] only if the notification refuses a tag, for example because the clone of a tag fails. The
+    /// listeners notified before that stay notified, and all others wait on in their order.
     ///
-    /// The call allocates only what the notification allocates for its tags. It may wait for the lock of the event.
+    /// Takes only the memory that the notification takes for its tags. May block until the lock of the event is free.
     #[inline(always)]
     pub fn notify<R: Wait, N: IntoNotification<Tag = T>>(
         &self,
@@ -199,9 +209,9 @@ impl<T> Event<T> {
         told
     }
 
-    /// Whether some listener is notified.
+    /// Returns whether some listener is notified: picked by a notification, with a tag that it has not taken yet.
     ///
-    /// The call does not allocate. It may wait for the lock of the event.
+    /// Another thread may change that at once. Takes no memory. May block until the lock of the event is free.
     #[inline(always)]
     pub fn is_notified<R: Wait>(&self, rt: &R) -> bool {
         let Some(shared) = self.shared.get() else {
@@ -212,9 +222,9 @@ impl<T> Event<T> {
         told > 0
     }
 
-    /// How many listeners there are, notified or waiting.
+    /// Returns how many listeners are in the queue, notified or waiting.
     ///
-    /// The call does not allocate. It may wait for the lock of the event.
+    /// Another thread may change that at once. Takes no memory. May block until the lock of the event is free.
     #[inline(always)]
     pub fn total_listeners<R: Wait>(&self, rt: &R) -> usize {
         let Some(shared) = self.shared.get() else {
@@ -227,18 +237,22 @@ impl<T> Event<T> {
 }
 
 impl Event<()> {
-    /// An event whose notifications have no tags. It has no queue until somebody listens or makes a slot.
+    /// Makes an event whose notifications have no tags.
     ///
-    /// The call neither allocates nor waits.
+    /// The queue of the event is made later, by the first call that registers a listener, makes a
+    /// [`StackSlot`](crate::StackSlot) or makes an [`EventHand`]. Takes no memory and never blocks.
     pub fn new(id: EventId) -> Event<()>
         ensures { result ≡ id }
     {
         Event::with_tag(id)
     }
 
-    /// [`notify`](Event::notify) with `n.relaxed()`, which here means what `n` means. It returns no error.
+    /// Notifies the first listeners that wait until `n` are notified or none waits, and returns how many this call notified.
     ///
-    /// The call does not allocate. It may wait for the lock of the event.
+    /// Listeners that are notified already count among the `n`. The call is [`notify`](Event::notify) with `n.relaxed()`,
+    /// which means what `n` means, because [`Relaxed`](crate::Relaxed) changes nothing in this crate. The call returns no
+    /// error, because a notification without tags refuses no tag. Takes no memory. May block until the lock of the event is
+    /// free.
     #[inline(always)]
     pub fn notify_relaxed<R: Wait>(&self, rt: &R, n: usize) -> usize
         ensures { result ≤ n }
@@ -246,10 +260,11 @@ impl Event<()> {
         self.notify_unrefused(rt, n.relaxed())
     }
 
-    /// [`notify`](Event::notify) with `n.additional()`: it notifies `n` listeners more, however many are notified
-    /// already. It returns no error.
+    /// Notifies `n` more listeners, the first that wait, and returns how many were notified.
     ///
-    /// The call does not allocate. It may wait for the lock of the event.
+    /// Listeners that are notified already do not count. If fewer than `n` wait, all of those are notified. The call is
+    /// [`notify`](Event::notify) with `n.additional()`. The call returns no error, because a notification without tags
+    /// refuses no tag. Takes no memory. May block until the lock of the event is free.
     #[inline(always)]
     pub fn notify_additional<R: Wait>(&self, rt: &R, n: usize) -> usize
         ensures { result ≤ n }
@@ -257,10 +272,10 @@ impl Event<()> {
         self.notify_unrefused(rt, n.additional())
     }
 
-    /// [`notify`](Event::notify) with `n.additional().relaxed()`, which here means what `n.additional()` means. It
-    /// returns no error.
+    /// Notifies `n` more listeners, the first that wait, and returns how many were notified.
     ///
-    /// The call does not allocate. It may wait for the lock of the event.
+    /// The call does what [`notify_additional`](Event::notify_additional) does, because [`Relaxed`](crate::Relaxed) changes
+    /// nothing in this crate. Takes no memory. May block until the lock of the event is free.
     #[inline(always)]
     pub fn notify_additional_relaxed<R: Wait>(&self, rt: &R, n: usize) -> usize
         ensures { result ≤ n }
@@ -268,7 +283,7 @@ impl Event<()> {
         self.notify_unrefused(rt, n.additional().relaxed())
     }
 
-    // The call of a notification that refuses no tag, which returns no error.
+    // Makes the call of a notification that refuses no tag, and so returns no error.
     #[inline(always)]
     fn notify_unrefused<R: Wait, N: IntoNotification<Tag = ()>>(&self, rt: &R, n: N) -> usize
     where

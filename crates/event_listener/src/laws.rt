@@ -1,4 +1,4 @@
-//! What follows for a listener of what hands saw and did.
+//! What follows for a listener from what hands saw and did.
 ghost use Rattle.std.specs.Prelude.{◌≡◌, ◌≢◌, ⊤, true, Bool, Option, Result, Ok, IfOk, IsSome};
 ghost use Rattle.futures.specs.declared.task.Poll.{Poll};
 ghost use Rattle.futures.specs.declared.task.Poll.TheVariants.{Ready};
@@ -21,8 +21,10 @@ ghost use Rattle.event_listener.specs.declared.listener.wait_error.WaitReason.{W
 use event_history::told_by_another;
 use event_wait::Task;
 
-/// That a listener listened is known to its own hand, to each hand that takes in one that knows it, and to each that is forked
-/// from one. It stays known.
+/// Proves that a hand which knows that a listener listened goes on to know it, and tells the hands that it meets.
+///
+/// A listener's own hand knows it from the insertion on. Each hand learns it that joins a hand which knows it, and each hand
+/// that is forked from such a hand. Does nothing when a program runs.
 pub fn listening_is_known<T>()
     ensures listened { (key : Key) (v w : Known T) → Calls v (Insert (Ok key)) w
         → HasListened key w.seen }
@@ -37,9 +39,12 @@ pub fn listening_is_known<T>()
         → Calls v call w → HasListened key v.seen → HasListened key w.seen }
 {}
 
-/// A hand that knows that a listener listened, and then notifies all, by the greatest count and refused no tag, knows that all
-/// were notified after that. So do those that take it in or are forked from it. A listener whose own hand knows it, and did not
-/// take it out, is notified: a removal finds it so, a poll gives its tag, and a wait gives it or fails for memory.
+/// Proves that a listener is notified if its hand knows that all listeners were notified after it had listened.
+///
+/// A hand that knows that a listener listened, and then notifies by the greatest count without a refused tag, knows that all
+/// were notified after that. Each hand learns this that joins such a hand or is forked from one. If the listener's own hand
+/// knows it, and did not remove the listener, then a removal finds the listener notified, a poll gives its tag, and a wait
+/// gives its tag or fails for memory. Does nothing when a program runs.
 pub fn notifying_all_is_known<T>()
     ensures notified { (key : Key) (v w : Known T) → NotifiesAll v w → HasListened key v.seen
         → AllNotified key w.seen }

@@ -1,11 +1,11 @@
-//! Events that others listen to. A notification picks some of the listeners, and wakes the task of each.
+//! Events that threads and tasks listen to. A notification picks the first listeners that wait, and wakes the task of each.
 //!
 //! An [`Event`] has one queue of listeners, under a lock of its own. [`Event::listen`] returns an [`EventListener`],
 //! which shares that queue. [`StackSlot`], or the macro [`listener!`], returns a [`StackListener`], which borrows the
-//! event. Both are polled or waited on until they are notified: see [`Listener`].
+//! event. A thread waits on either listener, or a task polls it, until the listener is notified: see [`Listener`].
 //!
-//! A call that may wait for the lock takes the runtime value, and a call that may allocate takes the allocator. A
-//! listener keeps a clone of the runtime value for its own calls.
+//! A call that may block for the lock takes the runtime value, and a call that may allocate takes the allocator. A
+//! listener keeps a clone of the runtime value, and the allocator, for its own calls.
 //!
 //! The queue itself is the crate `event_queue`. Its public names are exported here too. Read `event.rt` first, then
 //! `listener/queue_listener.rt`, `listener/place.rt` and `laws.rt`; of events that record `recorded/step.rt` and
@@ -101,8 +101,8 @@
 //!
 //! # An event with tags
 //!
-//! Each listener that is notified gets a tag. A default notification of one does nothing if a listener is notified
-//! already; an additional one notifies one more.
+//! Each listener that is notified gets a tag. A default notification of one listener does nothing if a listener is notified
+//! already; an additional notification of one listener notifies one more.
 //!
 //! ```rust
 //! ghost use Rattle.std.specs.Prelude.{◌≤◌};
@@ -191,29 +191,33 @@
 //!
 //! # An event that keeps a record
 //!
-//! A [`RecordedEvent`] records every step of its queue. Whoever calls it has a [`Hand`], which notes its calls and the
-//! replies that it got. Once its listeners are gone, [`RecordedEvent::close`] gives its [`Record`] if the notes are
-//! its entries: one history of the queue, in which the calls of each hand stand, each once and in order. [`replays`]
-//! says of any entries whether they are such a history. The crate `example_events` has a flag that keeps a record.
+//! A [`RecordedEvent`] records every step of its queue. Each of its callers has a [`Hand`], which notes the calls of that
+//! caller and the replies to them. Once the listeners are gone, [`RecordedEvent::close`] returns the [`Record`] if the notes of
+//! each hand are the record's entries of that hand. The record is one history of the queue, in which the calls of each hand
+//! stand, each once and in order. [`replays`] says of any entries whether they are such a history. The crate `example_events` has
+//! a flag that keeps a record.
 //!
 //! # What the contracts say
 //!
 //! A contract sees an event as the number of its identity, and a listener as its standing (the number of its event, its
-//! key in the queue, whether it has given its tag), the name of the queue's lock, and what its hand knows.
+//! key in the queue, whether it has given its tag, where its polls register), the name of the queue's lock, and what its hand
+//! knows.
 //!
-//! Behind the lock of an event there is one history of all calls on its queue, which is ghost. It runs, call by call, as
-//! the two lists of a queue do. Each listener has a hand of its own, and each of its calls is the hand's next one there.
+//! Behind the lock of an event there is one *history*: a list of all calls on its queue, each with its reply, which exists in
+//! proofs alone. The history runs, call by call, as the two lists of a queue do. A *hand* is a caller whom proofs can follow:
+//! each listener has a hand of its own, and each call of the listener is that hand's next call in the history.
 //!
-//! - [`EventIds::next`] and [`given_numbers_are_distinct`]: events of one source differ.
+//! - [`EventIds::next`] and [`given_numbers_are_distinct`]: events whose identities are of one source have different numbers.
 //! - [`Event::listen`]: which event a listener listens to, and that it joined by one call of its hand.
 //! - [`Event::notify`]: it returns no greater number than was asked for.
 //! - [`Listener`]: when a listener is finished, that only a finished one fails, and that a wait which fails for memory
 //!   returns the same listener.
-//! - [`QueueListener`]: which calls its polls and waits, a discard and a drop are, with their replies.
-//! - [`EventHand`]: calls of a caller's own hand, and what hands and listeners learn of each other. Laws say what follows, as
-//!   [`notifying_all_is_known`] for a listener whose hand knows that all were notified, and [`passes_on`].
+//! - [`QueueListener`]: which calls of its hand its polls and waits, a discard and a drop are, with their replies.
+//! - [`EventHand`]: calls of a caller's own hand, and what hands and listeners learn from each other. Laws, which are functions
+//!   that only prove something, say what follows: for example [`notifying_all_is_known`] for a listener whose hand knows that all
+//!   were notified, and [`passes_on`].
 //! - [`RecordedEvent::close`]: a record is a history of its queue, and has the notes of each hand.
-//! - [`RecordedState::apply`]: one step of a queue, and one entry more.
+//! - [`RecordedState::apply`]: one call makes one step of a queue, and adds one entry to the record.
 //!
 //! A call that takes the lock, as every wait does, promises its clauses if it returns. No clause says that it returns, or
 //! that a thread which is notified wakes.

@@ -1,10 +1,12 @@
-//! What an event shows of itself.
+//! How an event is printed for debugging.
 use super::Event;
 use event_history::steps::Counts;
 use std::fmt;
 
-/// How many listeners are notified and how many there are, or why that is not known: there is no queue yet, or the lock
-/// can't be taken at once. It neither allocates nor waits, and holds no lock while it writes.
+/// Writes how many listeners are notified and how many are in the queue.
+///
+/// Writes `<uninitialized>` in place of the numbers if there is no queue yet, and `<locked>` if the lock can't be taken at
+/// once. Takes no memory, never blocks, and holds no lock while it writes.
 impl<T> fmt::Debug for Event<T> {
     fn fmt<W: fmt::Write>(&self, f: &mut fmt::Formatter<W>) -> fmt::Result {
         let Some(shared) = self.shared.get() else {

@@ -20,15 +20,17 @@ use std::marker::Model;
 use std::sync::{Arc, Wait};
 use std::time::Clock;
 
-/// A caller of one [`Event`], which has a share of its queue. Its calls are those of the event, and more is said of them.
+/// A caller of one [`Event`] whom proofs can follow, with a share of the event's queue.
 ///
-/// There is one history of all calls on the queue: by events, listeners and hands of all threads. A hand knows a beginning
-/// of it. Each call's clause says that the history begins with all that the hand knew, runs step by step as the two lists
-/// of a queue do, ends with this call and its reply, and has of this hand just the calls that it made, each once and in
-/// order. Hands pass on what they know: [`fork`](EventHand::fork), [`observe`](EventHand::observe) and
-/// [`join`](EventHand::join). Compiled code has no trace of the history.
+/// A hand's calls do what the calls of the event do, and their clauses say more. All calls on the queue, by events, listeners
+/// and hands of all threads, stand in one *history*: a list of the calls, each with its reply, which exists in proofs alone.
+/// A hand *knows* a beginning of the history, and which of its calls are the hand's own. The clause of each call says that
+/// there is one history which begins with all that the hand knew, runs step by step as the queue does, ends with this call
+/// and its reply, and has of this hand just the calls that the hand made, each once and in order. Hands learn from each other
+/// what they know by [`fork`](EventHand::fork), [`observe`](EventHand::observe) and [`join`](EventHand::join). Compiled code
+/// has no trace of the history.
 ///
-/// A contract sees the number of its event, the name of the queue's lock, and what it knows.
+/// A contract sees a hand as the number of its event, the name of the queue's lock, and what the hand knows.
 pub struct EventHand<T = ()> {
     shared: Arc<Shared<T>>,
     hand: QueueHand<T>,
@@ -53,11 +55,14 @@ impl<T> Model for EventHand<T> {
 }
 
 impl<T> Event<T> {
-    /// A hand of this event, which made no call yet, and knows a beginning of the history. How much that is, no clause says,
-    /// nor that the hands of two such calls have one queue: they cannot meet, so [`fork`](EventHand::fork) the others from one.
+    /// Makes a hand of this event: a caller whom proofs can follow, and who has made no call yet.
     ///
-    /// The call allocates the queue, if there is none yet, and returns an error if that fails or a share of it does. It may
-    /// wait for a thread that is making the queue.
+    /// The hand knows a beginning of the history of all calls on the queue; no clause says how long a beginning. No clause
+    /// says either that the hands of two such calls have one queue, so these two cannot join: [`fork`](EventHand::fork) all
+    /// others from one.
+    ///
+    /// Returns an error if there is no memory for the queue, or no further share of the queue can be made. Takes memory for
+    /// the queue if there is none yet. May block until another thread has made the queue.
     pub fn hand<R: Wait>(&self, rt: &R, alloc: Global) -> Result<EventHand<T>, AllocError>
     where
         T: Drop,
@@ -75,7 +80,9 @@ impl<T> Event<T> {
 }
 
 impl<T> EventHand<T> {
-    /// [`Event::notify`], as a call of this hand.
+    /// Notifies the first listeners that wait, as a call of this hand, and returns how many were notified.
+    ///
+    /// What the call does, which error it returns and when it blocks is said at [`Event::notify`].
     #[inline(always)]
     pub fn notify<R: Wait, N: IntoNotification<Tag = T>>(
         &mut self,
@@ -114,9 +121,9 @@ impl<T> EventHand<T> {
         told
     }
 
-    /// How many listeners are notified, and how many there are, as a call of this hand.
+    /// Returns how many listeners are notified, and how many are in the queue, as a call of this hand.
     ///
-    /// The call does not allocate. It may wait for the lock of the event.
+    /// Another thread may change both at once. Takes no memory. May block until the lock of the event is free.
     pub fn counts<R: Wait>(&mut self, rt: &R) -> (usize, usize)
         ensures call { Calls self.old.knows (call.Counts result.0 result.1) self.new.knows }
         ensures same { (self.new.event_number ≡ self.old.event_number)
@@ -125,7 +132,10 @@ impl<T> EventHand<T> {
         perform!(self.shared.lock(), rt, self.hand, Counts, &mut ())
     }
 
-    /// [`Event::listen`]. The listener's own hand knows all that this one knows.
+    /// Registers a listener at the end of the queue, and returns the listener.
+    ///
+    /// The call that registers is one of the listener's own hand, which knows all that this hand knows. What the call takes,
+    /// which errors it returns and when it blocks is said at [`Event::listen`]; the queue has been made already.
     #[inline(always)]
     pub fn listen<R>(&mut self, rt: &R, alloc: Global) -> Result<EventListener<T, R>, ListenError>
     where
@@ -155,8 +165,11 @@ impl<T> EventHand<T> {
         Ok(EventListener::new(shared, key, hand, runtime, alloc))
     }
 
-    /// [`Listener::wait_until`](crate::Listener::wait_until), after which this hand knows what the listener's hand saw and
-    /// did, if the listener is gone.
+    /// Waits until the listener is notified or the limit has passed, and returns the tag or `None`.
+    ///
+    /// The call blocks, takes memory and fails as [`Listener::wait_until`](crate::Listener::wait_until) does. With the tag or
+    /// `None` the listener is gone, and this hand knows what the listener's hand saw and did. With an error this hand has
+    /// learned nothing.
     pub fn wait_until<H: Hold<T>, R: Wait + Clock + Clone>(
         &mut self,
         listener: QueueListener<T, H, R>,
@@ -185,7 +198,12 @@ impl<T> EventHand<T> {
         }
     }
 
-    /// [`Listener::discard`](crate::Listener::discard), after which this hand knows what the listener's hand saw and did.
+    /// Removes the listener from the queue without propagating its notification, and returns whether the listener was
+    /// notified.
+    ///
+    /// Afterwards this hand knows what the listener's hand saw and did. The call does with the queue what
+    /// [`Listener::discard`](crate::Listener::discard) does: a listener that has given its tag is not in the queue, and
+    /// returns `false`. Takes no memory. May block until the lock of the event is free.
     pub fn discard<H: Hold<T>, R: Wait + Clock + Clone>(
         &mut self,
         listener: QueueListener<T, H, R>,
@@ -205,8 +223,11 @@ impl<T> EventHand<T> {
         told
     }
 
-    /// Drops a listener, after which this hand knows what the listener's hand saw and did. Returns whether it was notified:
-    /// then its notification is propagated.
+    /// Drops the listener, which leaves the queue, and returns whether the listener was notified.
+    ///
+    /// If so, its notification is propagated: the event is notified of one, of the same kind and with the same tag.
+    /// Afterwards this hand knows what the listener's hand saw and did. A listener that has given its tag returns `false`.
+    /// Takes no memory. May block until the lock of the event is free.
     pub fn drop_listener<H: Hold<T>, R: Wait + Clock + Clone>(
         &mut self,
         listener: QueueListener<T, H, R>,
@@ -226,9 +247,10 @@ impl<T> EventHand<T> {
         told
     }
 
-    /// A new hand, which knows all that this one knows. It is one load and a share of the queue.
+    /// Makes another hand of the same queue, which knows all that this hand knows and has made no call.
     ///
-    /// Returns an error if the share fails.
+    /// So what this hand did stands in the history before what the new hand will do. Returns an error if no further share of
+    /// the queue can be made. Takes no lock, and costs one load and the share.
     pub fn fork(&mut self) -> Result<Self, AllocError>
         ensures told { IfOk result (λ told. (told.knows ≡ newcomer self.old.knows.seen)
             × (told.table ≡ self.old.table) × (told.event_number ≡ self.old.event_number)) }
@@ -239,7 +261,10 @@ impl<T> EventHand<T> {
         Ok(EventHand { shared, hand })
     }
 
-    /// Knows from here on what a listener's hand knows. Which of these calls are the listener's own, no clause says.
+    /// Learns what the listener's hand knows, and leaves the listener as it was.
+    ///
+    /// No clause says which of the calls that this hand now knows are the listener's own. The listener has to be of the same
+    /// queue. Takes no memory and no lock.
     pub fn observe<H: Hold<T>, R: Wait + Clock + Clone>(
         &mut self,
         listener: &mut QueueListener<T, H, R>,
@@ -255,7 +280,10 @@ impl<T> EventHand<T> {
         self.shared.lock().join(&mut self.hand, told);
     }
 
-    /// Knows from here on what the other hand saw and did: there is one history that has the calls of both.
+    /// Learns what the other hand saw and did, and ends that hand: one history has the calls of both.
+    ///
+    /// So what the other hand did stands in the history before what this hand does next. Both hands have to be of one queue,
+    /// as those are that [`fork`](EventHand::fork) made. Takes no memory and no lock.
     pub fn join(&mut self, other: Self)
     where
         T: Drop,
@@ -268,7 +296,7 @@ impl<T> EventHand<T> {
         self.shared.lock().join(&mut self.hand, other.into_hand());
     }
 
-    // The hand alone.
+    // Returns the hand without its share of the queue.
     pub(crate) fn into_hand(self) -> QueueHand<T>
     where
         T: Drop,
@@ -280,7 +308,8 @@ impl<T> EventHand<T> {
     }
 }
 
-/// It inserts no listener: each that it made has a hand of its own.
+/// Ends the hand and gives up its share of the queue. No listener of the queue is removed, because each listener has a hand
+/// of its own.
 impl<T: Drop> Drop for EventHand<T> {
     #[inline(always)]
     fn drop(self) {

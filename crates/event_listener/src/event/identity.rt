@@ -6,21 +6,25 @@ ghost use Rattle.event_listener.specs.Identity.{GivesNumber, IsLastNumber};
 use std::marker::Model;
 use thiserror::Error;
 
-/// A source of identities. Two that it gives are never the same; of two sources they may be. Its calls neither allocate
-/// nor wait.
+/// A source of identities of events, none of which it gives twice.
+///
+/// Two sources may give the same number, so all events of a program best get their identities from one. No call of a source
+/// takes memory or blocks.
 #[derive(Debug, Drop)]
 pub struct EventIds {
     next: u64,
 }
 
-/// The identity of one event. It cannot be cloned, and an event consumes it, so two events with identities of one source
-/// have different numbers.
+/// The identity of one event, given by [`EventIds::next`].
+///
+/// An identity cannot be cloned, and an event consumes it. So two events whose identities are of one source have different
+/// numbers.
 #[derive(Debug, Drop)]
 pub struct EventId {
     number: u64,
 }
 
-/// A source has given all its identities.
+/// The error of [`EventIds::next`]: the source has given all its identities.
 #[derive(Clone, Copy, Debug, PartialEq, Eq, Error)]
 #[error("event identities are used up")]
 pub struct IdsUsedUp;
@@ -40,24 +44,24 @@ impl Model for EventId {
 }
 
 impl EventIds {
-    /// A source whose first identity has the number 0.
+    /// Makes a source whose first identity has the number 0.
     pub fn new() -> Self
         ensures { result ≡ 0 }
     {
         EventIds { next: 0 }
     }
 
-    /// A source whose first identity has this number. It has none to give if that is `u64::MAX`.
+    /// Makes a source whose first identity has the number `first`. If that is `u64::MAX`, the source has no identity to give.
     pub fn starting_at(first: u64) -> Self
         ensures { result ≡ first }
     {
         EventIds { next: first }
     }
 
-    /// The next identity; the one after it has the next number.
+    /// Returns the next identity of the source. The numbers of identities rise by one.
     ///
-    /// Returns [`IdsUsedUp`] exactly if the next number is `u64::MAX`, which leaves the source as it was. The call
-    /// neither allocates nor waits.
+    /// Returns [`IdsUsedUp`] exactly if the next number is `u64::MAX`, and leaves the source as it was. Takes no memory and
+    /// never blocks.
     pub fn next(&mut self) -> Result<EventId, IdsUsedUp>
         ensures given { IfOk result (λ id. GivesNumber self.old id self.new) }
         ensures refused { OnErr result (IsLastNumber self.old × (self.new ≡ self.old)) }
@@ -72,7 +76,7 @@ impl EventIds {
 }
 
 impl EventId {
-    /// The number of the identity, which is below `u64::MAX`. The call neither allocates nor waits.
+    /// Returns the number of the identity, which is below `u64::MAX`. Takes no memory and never blocks.
     pub fn number(&self) -> u64
         ensures value { result ≡ self.now }
         ensures below { result + 1 < 2 ^ 64 }
@@ -81,7 +85,8 @@ impl EventId {
     }
 }
 
-/// The numbers that one source gives, one after another and however many, are distinct.
+/// Proves that the numbers which one source gives, one after another and however many, are distinct. Does nothing when a
+/// program runs.
 pub fn given_numbers_are_distinct(ids: &EventIds)
     ensures { (numbers : List ℕ) (after : ℕ) → FoldsTo GivesNumber ids.now numbers after
         → AllPairs (λ earlier later. earlier ≢ later) numbers }

@@ -8,8 +8,10 @@ use event_wait::Task;
 use std::alloc::Global;
 use std::marker::Model;
 
-/// The queue of one event, under a lock that no other event has, with one history of all calls on it, and the number of the
-/// event, which is kept here once and not by each listener.
+/// The queue of one event under its lock, with the number of the event.
+///
+/// The event, its slots, hands and listeners share or borrow this. The number is kept here once, and not by each listener.
+/// Behind the lock there is one history of all calls on the queue, which exists in proofs alone.
 ///
 /// A contract sees the number, the source at which a task registers that polls a listener, and the name of the lock.
 #[derive(Drop)]
@@ -29,7 +31,7 @@ impl<T> Model for Shared<T> {
     } };
 }
 
-/// Its event has the number that is the key.
+/// A queue fits the key that is the number of its event.
 impl<T> Fits for Shared<T> {
     type Key = u64;
 
@@ -37,9 +39,10 @@ impl<T> Fits for Shared<T> {
 }
 
 impl<T> Shared<T> {
-    /// The queue of the event with this number, with no listeners. The first of them gets this serial number.
+    /// Makes the queue of the event with this number, without listeners. The first listener gets the serial number
+    /// `first_serial`.
     ///
-    /// The call does not allocate.
+    /// Takes no memory.
     pub(super) fn new(alloc: Global, event_number: u64, first_serial: u64) -> Self
     where
         T: Drop,
@@ -51,7 +54,7 @@ impl<T> Shared<T> {
         Shared { lock, event_number }
     }
 
-    /// The queue under its lock.
+    /// Returns the queue under its lock.
     #[inline(always)]
     pub(crate) fn lock(&self) -> &Lock<List<T, Task>>
         ensures { result.now ≡ self.now.lock }
@@ -59,7 +62,7 @@ impl<T> Shared<T> {
         &self.lock
     }
 
-    /// The number of the event.
+    /// Returns the number of the event.
     #[inline(always)]
     pub(crate) fn number(&self) -> u64
         ensures { result ≡ self.now.event_number }

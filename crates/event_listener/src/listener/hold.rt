@@ -9,23 +9,24 @@ use event_queue::List;
 use event_wait::Task;
 use std::sync::Arc;
 
-/// How a listener holds the queue of its event: by a share of it, or by a borrow.
+/// How a listener holds the queue of its event: by a share of the queue, or by a borrow.
 ///
-/// A contract sees the lock of the queue as the source at which a task registers that polls a listener there, and the lock's
-/// name; and the number of the event.
+/// Callers name this trait only in bounds, as in those of [`EventHand`](crate::EventHand). A contract sees the lock of the
+/// queue, which has the source at which a task registers that polls a listener there, and the lock's name; and the number of
+/// the event.
 pub trait Hold<T> {
     ghost lock: { Self → LockId (Unit {0}) };
 
     ghost event_number: { Self → ℕ };
 
-    /// What a listener that holds its queue so is called.
+    /// The name of a listener that holds its queue so, as it is printed for debugging.
     const LISTENER: &'static str;
 
-    /// The queue.
+    /// Returns the queue under its lock.
     fn queue(&self) -> &Lock<List<T, Task>>
         ensures { result.now ≡ lock self.now };
 
-    /// The number of the event.
+    /// Returns the number of the event.
     fn event_number(&self) -> u64
         ensures { result ≡ event_number self.now };
 }

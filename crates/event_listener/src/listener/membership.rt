@@ -29,7 +29,7 @@ impl Model for Membership {
 }
 
 impl Membership {
-    /// The membership of a listener that has just been inserted by this key.
+    /// Makes the membership of a listener that has just been inserted under this key.
     #[inline(always)]
     pub(super) fn new(key: Key) -> Self
         requires given { key.serial + 1 < 2 ^ 64 }
@@ -39,7 +39,7 @@ impl Membership {
         Membership { key }
     }
 
-    /// The key of a listener that has not left the queue.
+    /// Returns the key of a listener that has not left the queue.
     #[inline(always)]
     pub(super) fn key(&self) -> Key
         ensures { result ≡ self.now.key }
@@ -47,7 +47,7 @@ impl Membership {
         self.key
     }
 
-    /// The place in the queue of a listener that has not left it.
+    /// Returns the place in the queue of a listener that has not left the queue.
     #[inline(always)]
     pub(super) fn place(&self) -> Place
         ensures { result.key ≡ self.now.key }
@@ -55,7 +55,7 @@ impl Membership {
         Place { key: self.key }
     }
 
-    /// Whether the listener has left the queue.
+    /// Returns whether the listener has left the queue.
     #[inline(always)]
     pub(super) fn is_finished(&self) -> bool
         ensures { result ≡ self.now.is_finished }
@@ -71,7 +71,7 @@ impl Membership {
         self.key.serial = u64::MAX;
     }
 
-    /// Notes what a registration found: unless that stored the task, the listener has left.
+    /// Notes what a registration found: unless the registration stored the task, the listener has left the queue.
     #[inline(always)]
     pub(super) fn note<T>(&mut self, found: &RegisterResult<T>)
         ensures stays { found.now ≡ register.Registered → self.new ≡ self.old }

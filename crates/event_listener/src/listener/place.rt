@@ -16,7 +16,7 @@ pub(super) struct Place {
     pub(super) key: Key,
 }
 
-/// It gets the tag, or finds that the listener is not in the queue. It is never refused.
+/// A request for the tag. An attempt gives the tag, or finds that the listener is not in the queue; no attempt is refused.
 impl<T: Drop> Request<List<T, Task>> for Place {
     type Output = Result<T, NeverInserted>;
 
@@ -60,7 +60,7 @@ impl<T: Drop> Request<List<T, Task>> for Place {
     }
 }
 
-/// What a wait answers whose place got this.
+/// Returns the answer of a wait in this place.
 #[inline(always)]
 pub(super) fn answer_of<T>(
     waited: Result<Option<Result<T, NeverInserted>>, Refused<Infallible>>,

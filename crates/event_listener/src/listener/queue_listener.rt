@@ -35,20 +35,23 @@ use std::time::{Clock, Duration, Instant};
 
 /// A listener that shares the queue of its event, and so can outlive the event.
 ///
-/// It keeps a clone of the runtime value that it was made with and the allocator, for its own calls and its drop. What
-/// they do, allocate and wait for is said of every [`Listener`].
+/// The listener keeps the allocator and a clone of the runtime value that it was made with, for its own calls and its drop.
+/// [`Listener`] says of every listener what these do, what they allocate and when they block.
 pub type EventListener<T, R> = QueueListener<T, Arc<Shared<T>>, R>;
 
-/// A listener that borrows the queue of its event, and so cannot outlive the event. It needs no share of the queue.
+/// A listener that borrows the queue of its event, and so cannot outlive the event. Such a listener needs no share of the
+/// queue.
 ///
-/// It may be moved and given away as long as the event lives. Its drop removes it from the queue, and not the end of the
-/// scope in which its slot was made.
-///
-/// It keeps a clone of the runtime value that it was made with and the allocator of its slot, for its own calls and its
-/// drop. What they do, allocate and wait for is said of every [`Listener`].
+/// The listener may be moved and given away as long as the event lives. The drop of the listener removes it from the queue,
+/// and not the end of the scope in which its slot was made. For its own calls and its drop the listener keeps the allocator
+/// of its slot and a clone of the runtime value. [`Listener`] says of every listener what these do, what they allocate and
+/// when they block.
 pub type StackListener<'ev, T, R> = QueueListener<T, &'ev Shared<T>, R>;
 
 /// A listener of an [`Event`]: an [`EventListener`] or a [`StackListener`], by how it holds the queue.
+///
+/// A contract sees a listener as its standing (the number of its event, its key in the queue, whether it has given its tag,
+/// where its polls register), the name of the queue's lock, and what its hand knows of the history of the queue.
 #[must_use = "a listener that is dropped waits for nothing"]
 pub struct QueueListener<T, H: Hold<T>, R: Wait + Clock + Clone> {
     held: H,
@@ -56,7 +59,7 @@ pub struct QueueListener<T, H: Hold<T>, R: Wait + Clock + Clone> {
     hand: IdleHand<List<T, Task>, QueueCall<T, Task>>,
     runtime: R,
     alloc: Global,
-    // It goes to other threads, and is shared by them, as the queue is.
+    // A listener may be sent to other threads, and shared by them, only if the queue may.
     tag: PhantomData<Shared<T>>,
 }
 
@@ -87,7 +90,7 @@ impl<T, H: Hold<T>, R: Wait + Clock + Clone> Model for QueueListener<T, H, R> {
 }
 
 impl<T, H: Hold<T>, R: Wait + Clock + Clone> QueueListener<T, H, R> {
-    /// The listener that this hand has just inserted by this key into the queue.
+    /// Makes the listener that this hand has just inserted into the queue, under this key.
     #[inline(always)]
     pub(crate) fn new(held: H, key: Key, hand: QueueHand<T>, runtime: R, alloc: Global) -> Self
         requires given { key.serial + 1 < 2 ^ 64 }
@@ -109,9 +112,10 @@ impl<T, H: Hold<T>, R: Wait + Clock + Clone> QueueListener<T, H, R> {
         }
     }
 
-    /// Has the listener's hand know from here on what this hand saw and did: there is one history that has the calls of both.
+    /// Has the listener learn what this hand saw and did, and ends the hand: one history has the calls of both.
     ///
-    /// The call neither allocates nor waits.
+    /// So what the hand did stands in the history before what the listener does next. The hand and the listener have to be of
+    /// one queue. Takes no memory and never blocks.
     pub fn join(&mut self, other: EventHand<T>)
     where
         T: Drop,
@@ -127,7 +131,7 @@ impl<T, H: Hold<T>, R: Wait + Clock + Clone> QueueListener<T, H, R> {
         self.hand.put(hand);
     }
 
-    // Waits in the queue, until the limit at most. With an answer it has left.
+    // Waits in the queue, until the limit at most. With a tag or `None` the listener has left the queue.
     #[inline(always)]
     pub(crate) fn wait_in_queue(&mut self, limit: Limit) -> Result<Option<T>, WaitReason>
     where
@@ -160,7 +164,7 @@ impl<T, H: Hold<T>, R: Wait + Clock + Clone> QueueListener<T, H, R> {
         answer
     }
 
-    // A refused wait returns the listener, unless it is in no queue.
+    // Returns the error of a wait, with the listener unless that has left the queue.
     #[inline(always)]
     pub(crate) fn refused(self, reason: WaitReason) -> WaitError<Self>
     where
@@ -175,7 +179,7 @@ impl<T, H: Hold<T>, R: Wait + Clock + Clone> QueueListener<T, H, R> {
         }
     }
 
-    // A hand that knows what the listener's hand knows.
+    // Makes a hand that knows what the listener's hand knows.
     pub(crate) fn fork(&mut self) -> QueueHand<T>
         ensures told { IsOf self.old.table result
             × (known_by result ≡ newcomer self.old.knows.seen) }
@@ -187,7 +191,7 @@ impl<T, H: Hold<T>, R: Wait + Clock + Clone> QueueListener<T, H, R> {
         told
     }
 
-    // The hand of a listener that has left the queue.
+    // Returns the hand of a listener that has left the queue.
     pub(crate) fn into_hand(self) -> QueueHand<T>
     where
         H: Drop,
@@ -206,8 +210,8 @@ impl<T, H: Hold<T>, R: Wait + Clock + Clone> QueueListener<T, H, R> {
         hand.into_hand()
     }
 
-    // Takes the listener out of the queue, if it is there, and returns whether it was notified, and the listener's hand, which
-    // has left none in the queue. With `propagate` its notification is propagated.
+    // Removes the listener from the queue, if it is there. Returns whether it was notified, and the listener's hand, all of
+    // whose listeners have left the queue. With `propagate` its notification is propagated.
     #[inline(always)]
     pub(crate) fn leave(self, propagate: bool) -> (bool, QueueHand<T>)
     where
@@ -236,7 +240,7 @@ impl<T, H: Hold<T>, R: Wait + Clock + Clone> QueueListener<T, H, R> {
             key: membership.key(),
             propagate,
         };
-        // It wakes somebody only if a notification is propagated.
+        // A removal wakes a task only if it propagates a notification.
         let mut waking = DeferredWake::new();
         let former = perform!(
             held.queue(),
@@ -258,8 +262,8 @@ impl<T, H: Hold<T>, R: Wait + Clock + Clone> QueueListener<T, H, R> {
     }
 }
 
-// Why a finished listener does not wait. It asks for what the thread would park on first, as any wait does, so that whoever
-// has no memory hears that and keeps its listener.
+// Why a finished listener does not wait. It asks for what the thread would park on first, as any wait does, so that a caller
+// without memory learns that, and keeps its listener.
 #[cold]
 fn reason_of_finished(alloc: Global) -> WaitReason {
     match Arc::new(alloc, Parker::new()) {
@@ -300,7 +304,7 @@ impl<T: Drop, H: Hold<T> + Drop, R: Wait + Clock + Clone> Listener<T> for QueueL
         poll_of(found, NeverInserted)
     }
 
-    // It makes the step itself: by `Lock::poll_in`, each poll would be some twenty instructions longer.
+    // This poll makes the step itself: by `Lock::poll_in`, each poll would be some twenty instructions longer.
     fn poll_in(&mut self, cx: &mut Context<'_>) -> Result<Poll<T>, NeverInserted>
         ensures polled { IsPolled self.old.standing result self.new.standing }
         ensures unchanged { self.old.standing.is_finished ≡ true → self.new ≡ self.old }
@@ -393,7 +397,7 @@ impl<T: Drop, H: Hold<T> + Drop, R: Wait + Clock + Clone> Listener<T> for QueueL
     }
 }
 
-/// Gives the tag once the listener is notified. A listener that has given its tag gives [`NeverInserted`].
+/// Gives the tag once the listener is notified. Gives [`NeverInserted`] if the listener has given its tag already.
 impl<T: Drop, H: Hold<T> + Drop, R: Wait + Clock + Clone> Future for QueueListener<T, H, R> {
     type Output = Result<T, NeverInserted>;
 

@@ -1,4 +1,4 @@
-//! Where a listener is made that borrows its event.
+//! What makes a listener that borrows its event.
 ghost use Rattle.std.specs.Prelude.{◌≡◌, false, IfOk};
 ghost use Rattle.event_listener.specs.Event.{ListensFirst};
 
@@ -13,12 +13,10 @@ use std::marker::Model;
 use std::sync::Wait;
 use std::time::Clock;
 
-/// What a [`StackListener`] is made of: the queue of an event that lives as long as the borrow.
+/// A right to make one [`StackListener`], which borrows the queue of an event.
 ///
-/// [`listen`](StackSlot::listen) consumes the slot, which cannot be cloned. So a slot listens once. A slot that is
-/// dropped has put no listener into the queue.
-///
-/// A contract sees a slot as the number of its event.
+/// [`listen`](StackSlot::listen) consumes the slot, which cannot be cloned, so a slot listens once. A slot that is dropped
+/// leaves no listener in the queue. A contract sees a slot as the number of its event.
 #[must_use = "no listener is in the queue before the slot listens"]
 #[derive(Drop)]
 pub struct StackSlot<'ev, T> {
@@ -36,12 +34,13 @@ impl<'ev, T> Model for StackSlot<'ev, T> {
 }
 
 impl<'ev, T> StackSlot<'ev, T> {
-    /// A slot of this event. No listener was made by it yet.
+    /// Makes a slot of this event, and the queue of the event if there is none yet. No listener is in the queue before the
+    /// slot listens.
     ///
-    /// Returns [`ListenError::Memory`] if there is no queue yet and no memory for one, which leaves the event as it
-    /// was. It returns no other error.
+    /// Returns [`ListenError::Memory`] if there is no memory for the queue, and leaves the event as it was. Returns no other
+    /// error.
     ///
-    /// The call allocates the queue, if there is none yet. It may wait for a thread that is making the queue.
+    /// Takes memory only for the queue. May block until another thread has made the queue.
     #[inline(always)]
     pub fn new<R: Wait>(rt: &R, alloc: Global, event: &'ev Event<T>) -> Result<Self, ListenError>
     where
@@ -59,13 +58,16 @@ impl<'ev, T> StackSlot<'ev, T> {
         Ok(StackSlot { shared, alloc })
     }
 
-    /// A new listener, which waits at the end of the queue. It starts waiting, whichever are notified already. It keeps
-    /// a clone of the runtime value, for its own calls.
+    /// Registers a listener at the end of the queue, and returns the listener.
     ///
-    /// Returns [`ListenError::Memory`] if memory runs out or the clone fails, and [`ListenError::SerialsUsedUp`] if
-    /// the queue has given out all serial numbers. Neither inserts a listener, and either drops the slot.
+    /// The listener waits, even if other listeners are notified already: a notification made before this call does not reach
+    /// it. For its own calls it keeps a clone of `rt` and the allocator of the slot.
     ///
-    /// The call allocates if the queue has no spare slot. It may wait for the lock of the event.
+    /// Returns [`ListenError::Memory`] if memory runs out or no clone of `rt` can be made, and [`ListenError::SerialsUsedUp`]
+    /// if the queue has given out all its serial numbers, of which each listener gets one. Neither error leaves a listener in
+    /// the queue, and either drops the slot.
+    ///
+    /// Takes memory if no slot of an earlier listener is spare in the queue. May block until the lock of the event is free.
     #[inline(always)]
     pub fn listen<R>(self, rt: &R) -> Result<StackListener<'ev, T, R>, ListenError>
     where

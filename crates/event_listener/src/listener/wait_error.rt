@@ -7,33 +7,33 @@ use std::fmt;
 use std::fmt::{Debug, Display, Formatter};
 use thiserror::Error;
 
-/// Why a wait gave no answer.
+/// Why a wait returned neither a tag nor `None`, with the listener if that may wait again.
 ///
-/// It holds the listener if that may wait again. [`reason`](WaitError::reason) says the same without the listener, for
-/// an error that is propagated.
+/// [`reason`](WaitError::reason) says the same without the listener, for an error that is propagated. A
+/// [`RecordedListener::discard`](crate::RecordedListener::discard) that fails for memory returns this error too.
 #[derive(Debug, Drop)]
 pub enum WaitError<L> {
-    /// The listener is not in the queue: it has given its tag.
+    /// The listener is not in the queue any more, because it has given its tag.
     NeverInserted,
-    /// There was no memory for what the thread parks on, or, of a listener of a
-    /// [`RecordedEvent`](crate::RecordedEvent), for an entry or a note. This is the same listener, where it was.
+    /// There was no memory for what the thread parks on, or, for a listener of a [`RecordedEvent`](crate::RecordedEvent), for
+    /// an entry or a note. The same listener is returned, at the same place in the queue, and may wait again.
     Memory(L),
 }
 
-/// Why a wait gave no answer, without the listener.
+/// Why a wait returned neither a tag nor `None`, without the listener.
 #[derive(Clone, Copy, Debug, PartialEq, Eq, Error)]
 pub enum WaitReason {
-    /// The listener is not in the queue: it has given its tag.
+    /// The listener is not in the queue any more, because it has given its tag.
     #[error("listener is not in the queue")]
     NeverInserted,
-    /// There was no memory for what the thread parks on, or, of a listener of a
-    /// [`RecordedEvent`](crate::RecordedEvent), for an entry or a note.
+    /// There was no memory for what the thread parks on, or, for a listener of a [`RecordedEvent`](crate::RecordedEvent), for
+    /// an entry or a note.
     #[error("no memory for a parker")]
     Memory,
 }
 
 impl<L> WaitError<L> {
-    /// The same without the listener, which stays where it is.
+    /// Returns the reason without the listener, which stays in the error. Takes no memory and never blocks.
     pub fn reason(&self) -> WaitReason
         ensures { result ≡ reason_of self.now }
     {
@@ -44,7 +44,7 @@ impl<L> WaitError<L> {
     }
 }
 
-/// Drops the listener, which propagates its notification if it was notified.
+/// Drops the listener, if the error has one. The drop propagates the listener's notification if the listener was notified.
 impl<L: Drop> From<WaitError<L>> for WaitReason {
     ghost from_gives = { λ error reason. reason ≡ reason_of error };
 

@@ -5,74 +5,74 @@ ghost use Rattle.event_listener.specs.recording.Step.{without_task, newcomers_of
 use event_queue::Key;
 use event_wait::Task;
 
-/// One call of a recorded queue, as [`RecordedState::apply`](crate::RecordedState::apply) makes it.
+/// A call on the queue of a recorded event, as [`RecordedState::apply`](crate::RecordedState::apply) makes it.
 #[derive(Drop)]
 pub enum StepCall<T> {
-    /// Inserts a listener.
+    /// Inserts a listener at the end of the queue.
     Listen,
-    /// Registers the task of a listener.
+    /// Registers the task of a listener: a notified listener gives its tag and leaves the queue, another one stores the task.
     Register {
-        /// The listener.
+        /// The key of the listener.
         key: Key,
         /// The task to store.
         task: Task,
     },
-    /// Removes a listener.
+    /// Removes a listener from the queue.
     Remove {
-        /// The listener.
+        /// The key of the listener.
         key: Key,
-        /// Whether the notification of a notified listener is propagated.
+        /// Whether the notification of a listener that is notified is propagated to another listener.
         propagate: bool,
     },
-    /// Notifies listeners.
+    /// Notifies the first listeners that wait.
     Notify {
         /// How many listeners the notification is for.
         count: usize,
-        /// Whether it is an additional one.
+        /// Whether the notification is an additional one, which counts no listener that is notified already.
         additional: bool,
-        /// The tag that each listener notified gets.
+        /// The tag, of which each listener that is notified gets a copy.
         tag: T,
     },
-    /// Asks how many listeners there are.
+    /// Asks how many listeners are in the queue.
     TotalListeners,
     /// Asks whether some listener is notified.
     IsNotified,
 }
 
-/// One call of a recorded queue, as a record keeps it: a [`StepCall`] without its task.
+/// A call on the queue of a recorded event, as the record keeps it: a [`StepCall`] without its task.
 #[derive(Clone, Copy, Debug, PartialEq, Eq, Drop)]
 pub enum RecordedCall<T> {
-    /// A listener was inserted.
+    /// The insertion of a listener at the end of the queue.
     Listen,
-    /// A task was registered.
+    /// The registration of a listener's task.
     Register {
-        /// The listener.
+        /// The key of the listener.
         key: Key,
     },
-    /// A listener was removed.
+    /// The removal of a listener.
     Remove {
-        /// The listener.
+        /// The key of the listener.
         key: Key,
-        /// Whether the notification of a notified listener was propagated.
+        /// Whether the notification of a listener that was notified was propagated to another listener.
         propagate: bool,
     },
-    /// Listeners were notified.
+    /// A notification of the first listeners that waited.
     Notify {
         /// How many listeners the notification was for.
         count: usize,
-        /// Whether it was an additional one.
+        /// Whether the notification was an additional one, which counts no listener that is notified already.
         additional: bool,
-        /// The tag that each listener notified got.
+        /// The tag, of which each listener that was notified got a copy.
         tag: T,
     },
-    /// It was asked how many listeners there are.
+    /// The question how many listeners are in the queue.
     TotalListeners,
-    /// It was asked whether some listener is notified.
+    /// The question whether some listener is notified.
     IsNotified,
 }
 
 impl<T: Copy> StepCall<T> {
-    /// The call without its task. It neither allocates nor waits.
+    /// Returns the call as a record keeps it, without its task. Takes no memory and never blocks.
     #[inline(always)]
     pub fn recorded(&self) -> RecordedCall<T>
         ensures { result ≡ without_task self.now }

@@ -7,19 +7,20 @@ use super::entry::Entry;
 use super::hand::{Hand, Note};
 use thiserror::Error;
 
-/// Why an event was closed without a record.
+/// Why [`RecordedEvent::close`](crate::RecordedEvent::close) returned no record.
 #[derive(Clone, Copy, Debug, PartialEq, Eq, Error)]
 pub enum CloseError {
-    /// The numbers of the hands were not all those below the event's count of hands, each once.
+    /// The hands are not those that the event was made with, each once: their numbers are not all those below the event's
+    /// count of hands.
     #[error("hands are missing")]
     HandsMissing,
-    /// The notes of some hand are not the record's entries of that hand, in order, or an entry is of a hand that the
-    /// event has not.
+    /// The notes of some hand are not the record's entries of that hand, in order, or an entry is of a hand with a number
+    /// that no hand of the event has. Only a hand of another event with the same number leads to this.
     #[error("notes differ from the record")]
     Differs,
 }
 
-// How many of the hands have that number.
+// Returns how many of the hands have that number.
 fn how_many_with<T>(hands: &[Hand<T>], number: usize) -> usize
     ensures { result ≡ how_many_with number hands.now }
 {
@@ -30,8 +31,8 @@ fn how_many_with<T>(hands: &[Hand<T>], number: usize) -> usize
     found
 }
 
-// Whether each number below the count is that of exactly one of the hands. It looks at each of them for each number,
-// and allocates nothing.
+// Returns whether each number below the count is that of exactly one of the hands. It looks at each hand for each number, and
+// takes no memory.
 pub(super) fn are_all_hands<T>(hands: &[Hand<T>], count: usize) -> bool
     ensures { IsTrue result ↔ AreAllHands count hands.now }
 {
@@ -43,7 +44,7 @@ pub(super) fn are_all_hands<T>(hands: &[Hand<T>], count: usize) -> bool
     true
 }
 
-// Whether each entry that some hand made is of one with a number below the count.
+// Returns whether each entry that some hand made is of a hand with a number below the count.
 pub(super) fn are_hands_below<T>(entries: &[Entry<T>], count: usize) -> bool
     ensures { result ≡ are_hands_below count entries.now }
 {
@@ -57,7 +58,7 @@ pub(super) fn are_hands_below<T>(entries: &[Entry<T>], count: usize) -> bool
     true
 }
 
-// Whether the note is of the same call and reply as the entry.
+// Returns whether the note has the same call and reply as the entry.
 fn is_note_of<T: Eq>(entry: &Entry<T>, note: &Note<T>) -> bool
     ensures { result ≡ (same_call T.eq entry.now.call note.now.call && same_reply T.eq
         entry.now.reply note.now.reply) }
@@ -65,14 +66,14 @@ fn is_note_of<T: Eq>(entry: &Entry<T>, note: &Note<T>) -> bool
     entry.call == note.call && entry.reply == note.reply
 }
 
-// Whether that hand made the call.
+// Returns whether that hand made the call.
 fn is_by<T>(entry: &Entry<T>, hand: usize) -> bool
     ensures { result ≡ is_by hand entry.now.hand }
 {
     entry.hand == Some(hand)
 }
 
-// Whether the notes are the entries of that hand, in order.
+// Returns whether the notes are the entries of that hand, in order.
 fn are_notes_of<T: Eq>(entries: &[Entry<T>], hand: usize, notes: &[Note<T>]) -> bool
     ensures { result ≡ are_notes T.eq (entries_of hand entries.now) notes.now }
 {
@@ -91,7 +92,7 @@ fn are_notes_of<T: Eq>(entries: &[Entry<T>], hand: usize, notes: &[Note<T>]) -> 
     left.is_empty()
 }
 
-// Whether the notes of each hand are the entries of that hand, in order.
+// Returns whether the notes of each hand are the entries of that hand, in order.
 pub(super) fn are_notes_of_all<T: Eq>(entries: &[Entry<T>], hands: &[Hand<T>]) -> bool
     ensures { result ≡ are_notes_of_all T.eq entries.now hands.now }
 {

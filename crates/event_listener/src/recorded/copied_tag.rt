@@ -1,7 +1,7 @@
 use event_queue::Notification;
 use std::alloc::AllocError;
 
-/// A notification that gives each listener notified a copy of one tag, and never fails.
+/// A notification that gives each listener that it notifies a copy of one tag, and refuses no tag.
 #[derive(Drop)]
 pub(super) struct CopiedTag<T> {
     pub(super) count: usize,

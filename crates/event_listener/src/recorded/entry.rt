@@ -4,15 +4,16 @@ ghost use Rattle.std.specs.Prelude.{◌≡◌, Some};
 use super::call::RecordedCall;
 use super::reply::RecordedReply;
 
-/// One step of a recorded queue: whose call it was, the call, and what the queue answered. Anybody may write entries,
-/// for [`replays`](crate::replays).
+/// An entry of a record: one step of the queue, with the hand that called, the call, and the queue's reply.
+///
+/// Anybody may write entries, and ask [`replays`](crate::replays) whether they are a history of some queue.
 #[derive(Clone, Copy, Debug, PartialEq, Eq, Drop)]
 pub struct Entry<T> {
-    /// The number of the hand that called, or `None` if a listener was dropped.
+    /// The number of the hand that made the call, or `None` for the removal of a listener that was dropped.
     pub hand: Option<usize>,
     /// The call.
     pub call: RecordedCall<T>,
-    /// The answer.
+    /// What the queue returned.
     pub reply: RecordedReply<T>,
 }
 

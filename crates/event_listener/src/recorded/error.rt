@@ -1,14 +1,16 @@
 use std::alloc::AllocError;
 use thiserror::Error;
 
-/// Why a recorded call failed.
+/// Why a call of a [`RecordedEvent`](crate::RecordedEvent) failed.
 #[derive(Clone, Copy, Debug, PartialEq, Eq, Error)]
 pub enum RecordError {
-    /// There was no memory for the record, the queue or the hand's note, or a clone of the runtime value failed.
-    /// Nothing is changed, recorded or noted.
+    /// There was no memory for the record, the queue or the hand's note, or no clone of the runtime value could be made.
+    /// Nothing was changed, recorded or noted, so the caller may retry. Only a failed
+    /// [`RecordedEvent::new`](crate::RecordedEvent::new) has used up its identity.
     #[error("no memory for the record")]
     Memory,
-    /// The queue has given out all serial numbers. No listener was inserted, and the call is recorded and noted.
+    /// The queue has given out all its serial numbers, of which each listener gets one. No listener was inserted. The call is
+    /// recorded and noted with this reply.
     #[error("serial numbers are used up")]
     SerialsUsedUp,
 }

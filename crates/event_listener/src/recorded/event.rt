@@ -22,21 +22,21 @@ use std::marker::Model;
 use std::sync::Wait;
 use std::time::Clock;
 
-/// An event that keeps a record of every step that its queue makes, and whose callers each note their own calls.
+/// An event that keeps a record of every step of its queue, and whose callers each note their own calls.
 ///
-/// It is made with its hands. Each call is a call of one hand, which notes the call and its reply; the drop of a
-/// listener is recorded without a hand. Each step of the queue is made under the lock of the event, and recorded before
-/// the lock is given back. So whatever threads call it, its record is one history of its queue, in the order in which
-/// the steps were made, and it replays. [`close`](RecordedEvent::close) says whether the record has the notes of each
+/// The event is made together with its *hands*, which are its callers. Each call is made by one hand, which notes the call
+/// and its reply. Only the drop of a listener is recorded without a hand. Each step of the queue is made under the lock of
+/// the event, and recorded before the lock is given back. So whatever threads call, the record is one history of the queue,
+/// in the order in which the steps were made. [`close`](RecordedEvent::close) returns the record if it has the notes of each
 /// hand, each once and in order.
 ///
-/// A contract sees a recorded event as the number of its identity and its count of hands. A call with a hand has the
-/// condition that the event [`owns`](RecordedEvent::owns) it; the clauses of each call let the caller carry that over
-/// to the next.
+/// A contract sees a recorded event as the number of its identity and its count of hands. A call with a hand requires that
+/// the event [`owns`](RecordedEvent::owns) the hand, and its clauses let the caller carry that over to the next call.
 ///
-/// Tags are copied, and compared by `close` and [`replays`](crate::replays) alone. Tasks are woken under the lock, but
-/// for the last of a call: calling the same event from what a waker runs there deadlocks. The record grows by an entry with each step, and
-/// never shrinks. No call but `close` and `replays` looks at older entries.
+/// Tags are copied, and compared by `close` and [`replays`](crate::replays) alone. Tasks are woken under the lock, except the
+/// last one of a call. So what a waker runs must not call the same event: the call would wait for the lock that its own
+/// thread holds. The record grows by an entry with each step, and never shrinks. No call except `close` and `replays` looks
+/// at older entries.
 #[derive(Drop)]
 pub struct RecordedEvent<T: Copy + Eq> {
     id: EventId,
@@ -54,11 +54,11 @@ impl<T: Copy + Eq> Model for RecordedEvent<T> {
 }
 
 impl<T: Copy + Eq> RecordedEvent<T> {
-    /// An event with that many hands, which have the numbers from 0 on, in order, and no notes. It owns each of them,
-    /// and keeps the allocator for the calls to come.
+    /// Makes an event with `hands` hands, and returns both. The hands are numbered from 0 on, in order, and have no notes.
     ///
-    /// Returns [`RecordError::Memory`] if there is no memory for the hands; the identity is used up then. It returns
-    /// no other error. The call allocates the hands, and does not wait.
+    /// The event owns each of the hands, and keeps `alloc` for all later calls. Returns [`RecordError::Memory`] if there is
+    /// no memory for the hands, and then the identity is used up. Returns no other error. Takes memory for the hands, and
+    /// never blocks.
     pub fn new(
         alloc: Global,
         id: EventId,
@@ -79,36 +79,38 @@ impl<T: Copy + Eq> RecordedEvent<T> {
         Ok((event, made))
     }
 
-    // What stands under the lock.
+    // Returns what stands under the lock.
     pub(super) fn state(&self) -> &Lock<RecordedState<T>> {
         &self.state
     }
 
-    // What its listeners allocate from.
+    // Returns the allocator for what the event's listeners need.
     pub(super) fn alloc(&self) -> Global {
         self.alloc
     }
 
-    /// Whether the hand is one of this event's: whether it has the event's number, and a number below the event's count
-    /// of hands. Each call with a hand has this as its condition, and this is the test of it.
+    /// Returns whether the hand is one of this event's: whether it has the event's number, and a number below the count of
+    /// hands.
     ///
-    /// Events of two sources may have one number, and then one owns hands of the other. The call neither allocates nor
-    /// waits.
+    /// Each call with a hand requires this, and here a program can test it. Events whose identities are of two sources may
+    /// have one number, and then one event owns hands of the other. Takes no memory and never blocks.
     pub fn owns(&self, hand: &Hand<T>) -> bool
         ensures { IsTrue result ↔ Owns self.now hand.now }
     {
         hand.event_number() == self.id.number() && hand.number() < self.hands
     }
 
-    /// A new listener, which waits at the end of the queue. It starts waiting, whichever are notified already. It keeps
-    /// a clone of the runtime value for its own calls.
+    /// Registers a listener at the end of the queue, as a call of this hand, and returns the listener.
     ///
-    /// Returns [`RecordError::Memory`] if memory runs out or the clone fails: no listener is inserted, and nothing is
-    /// recorded or noted. Returns [`RecordError::SerialsUsedUp`] if the queue has given out all serial numbers:
-    /// no listener is inserted, and the call is recorded and noted with that reply.
+    /// The listener waits, even if other listeners are notified already. The listener borrows the event, and keeps a clone of
+    /// `rt` for its own calls.
     ///
-    /// The call allocates, also what the drop of the listener needs to be recorded. It may wait for the lock of the
-    /// event.
+    /// Returns [`RecordError::Memory`] if memory runs out or no clone of `rt` can be made: no listener is inserted, and
+    /// nothing is recorded or noted. Returns [`RecordError::SerialsUsedUp`] if the queue has given out all its serial
+    /// numbers: no listener is inserted, and the call is recorded and noted with that reply.
+    ///
+    /// Takes memory for the listener, the entry and the note, and also for the entry of the listener's removal, so that the
+    /// drop of the listener needs none. May block until the lock of the event is free.
     pub fn listen<R>(
         &self,
         rt: &R,
@@ -133,14 +135,15 @@ impl<T: Copy + Eq> RecordedEvent<T> {
         }
     }
 
-    /// Notifies the first of the waiting listeners, in order, each with this tag, and wakes their tasks. Returns how
-    /// many it notified: `count`, less those that are notified already if it is not additional, and no more than wait.
-    /// A notification that finds no listener waiting is recorded, and not kept.
+    /// Notifies the first listeners that wait, as a call of this hand, and returns how many were notified.
     ///
-    /// Returns [`RecordError::Memory`] if there is no memory for the record or the note: no listener is notified, and
-    /// nothing is recorded or noted. So a caller that relies on it has to retry. It returns no other error.
+    /// Each of them, in queue order, gets a copy of `tag`, and its task is woken. If `additional`, then `count` listeners
+    /// more are notified; else `count` less those that are notified already. If fewer listeners wait, all of these are
+    /// notified. A notification that finds no listener waiting is recorded, and lost.
     ///
-    /// The call allocates. It may wait for the lock of the event.
+    /// Returns [`RecordError::Memory`] if there is no memory for the entry or the note: no listener is notified, and nothing
+    /// is recorded or noted, so a caller whose notification has to arrive retries. Returns no other error. Takes memory for
+    /// the entry and the note. May block until the lock of the event is free.
     pub fn notify<R: Wait>(
         &self,
         rt: &R,
@@ -163,10 +166,10 @@ impl<T: Copy + Eq> RecordedEvent<T> {
         }
     }
 
-    /// Whether some listener is notified. The question is recorded and noted.
+    /// Returns whether some listener is notified, as a call of this hand. The call is recorded and noted.
     ///
-    /// Returns [`RecordError::Memory`] if there is no memory for the record or the note; nothing is recorded or noted
-    /// then. It returns no other error. The call allocates. It may wait for the lock of the event.
+    /// Returns [`RecordError::Memory`] if there is no memory for the entry or the note; nothing is recorded or noted then.
+    /// Returns no other error. Takes memory for the entry and the note. May block until the lock of the event is free.
     pub fn is_notified<R: Wait>(&self, rt: &R, hand: &mut Hand<T>) -> Result<bool, RecordError>
         requires { Owns self.now hand.old }
         ensures noted { NotesIsNotified hand.old result hand.new }
@@ -177,10 +180,11 @@ impl<T: Copy + Eq> RecordedEvent<T> {
         }
     }
 
-    /// How many listeners there are, notified or waiting. The question is recorded and noted.
+    /// Returns how many listeners are in the queue, notified or waiting, as a call of this hand. The call is recorded and
+    /// noted.
     ///
-    /// Returns [`RecordError::Memory`] if there is no memory for the record or the note; nothing is recorded or noted
-    /// then. It returns no other error. The call allocates. It may wait for the lock of the event.
+    /// Returns [`RecordError::Memory`] if there is no memory for the entry or the note; nothing is recorded or noted then.
+    /// Returns no other error. Takes memory for the entry and the note. May block until the lock of the event is free.
     pub fn total_listeners<R: Wait>(&self, rt: &R, hand: &mut Hand<T>) -> Result<usize, RecordError>
         requires { Owns self.now hand.old }
         ensures noted { NotesTotal hand.old result hand.new }
@@ -191,17 +195,19 @@ impl<T: Copy + Eq> RecordedEvent<T> {
         }
     }
 
-    /// Ends the event, and gives its record, which replays. In it stand the calls of each hand, each once, in its
-    /// order, with the replies that the hand was given. Each other entry is of no hand, and a removal that propagates, as
-    /// that of a dropped listener.
+    /// Ends the event, and returns its record if each hand's notes are the record's entries of that hand.
     ///
-    /// Returns [`CloseError::HandsMissing`] exactly if the numbers of the hands are not all those below the event's
-    /// count of hands, each once. Returns [`CloseError::Differs`] if the notes of some hand are not its entries.
-    /// That takes a hand of an event of another source with the same number, given to this call or to one before.
-    /// Event and hands are given up in any case.
+    /// The record is one history of the queue. In it stand the calls of each hand, each once, in the hand's order, with the
+    /// replies that the hand was given. Each other entry has no hand, and is the removal of a listener that was dropped, with
+    /// propagation.
     ///
-    /// Listeners borrow the event, so none can be alive. The call allocates nothing and does not wait. It looks at each
-    /// hand for each number, and at each entry for each hand: its time grows with the hands times the entries.
+    /// Returns [`CloseError::HandsMissing`] exactly if the numbers of the hands are not all those below the event's count of
+    /// hands, each once. Returns [`CloseError::Differs`] if the notes of some hand are not its entries. That needs a hand of
+    /// an event with the same number whose identity is of another source, given to this call or to an earlier one. In any
+    /// case the event and the hands are gone.
+    ///
+    /// Listeners borrow the event, so none can be alive. Takes no memory and never blocks. The call looks at each hand for
+    /// each number, and at each entry for each hand, so its time grows with the number of hands times the number of entries.
     pub fn close(self, hands: Vec<Hand<T>>) -> Result<Record<T>, CloseError>
         requires { All (λ hand. Owns self hand) hands.items }
         ensures missing { ¬ AreAllHands self.hands hands.items

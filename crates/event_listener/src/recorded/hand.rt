@@ -1,4 +1,4 @@
-//! Those that call a recorded event, and what they note.
+//! The hands that call a recorded event, and what they note.
 ghost use Rattle.std.specs.Prelude.{◌≡◌, [], OnErr, IfErr, IfOk};
 ghost use Rattle.event_listener.specs.recording.Step.{IsReplyTo, without_task};
 ghost use Rattle.event_listener.specs.recording.Exchange.{StepsOfSome};
@@ -15,17 +15,17 @@ use std::alloc::{AllocError, Global};
 use std::marker::Model;
 use std::sync::Wait;
 
-/// One call of a hand, and the reply that it got.
+/// One call that a hand made, with the reply that the hand was given.
 #[derive(Clone, Copy, Debug, PartialEq, Eq, Drop)]
 pub struct Note<T> {
-    /// The call.
+    /// The call, without its task.
     pub call: RecordedCall<T>,
-    /// The reply.
+    /// The reply of the queue.
     pub reply: RecordedReply<T>,
 }
 
 impl<T: Copy> Note<T> {
-    // What a hand notes of an entry that is its own.
+    // Makes the note of an entry that is the hand's own.
     #[inline(always)]
     fn of(entry: &Entry<T>) -> Self
         ensures { result ≡ note entry.now.call entry.now.reply }
@@ -37,13 +37,14 @@ impl<T: Copy> Note<T> {
     }
 }
 
-/// One of those that call a [`RecordedEvent`](crate::RecordedEvent). It notes each of its calls with the reply that it
-/// got, in the order in which it makes them. A call that fails for memory is not noted; of a wait, the steps before
-/// that are.
+/// A caller of a [`RecordedEvent`](crate::RecordedEvent), which notes each of its calls with the reply, in order.
 ///
-/// A call takes its hand by a `&mut`, so the calls of one hand are made one after another, whatever thread makes them.
-/// A hand can't be cloned. Its notes grow by one with each step, and never shrink. A contract sees a hand as its
-/// number, the number of its event, and its notes.
+/// A call that fails for memory is not noted. Of a wait that fails for memory, the steps before the failure are noted. A call
+/// takes its hand by a `&mut`, so the calls of one hand are made one after another, whatever threads make them. A hand can't
+/// be cloned, because [`close`](crate::RecordedEvent::close) wants each once. Its notes grow by one with each step, and never
+/// shrink.
+///
+/// A contract sees a hand as its number, the number of its event, and its notes.
 #[must_use = "an event is closed with all its hands"]
 #[derive(Drop)]
 pub struct Hand<T> {
@@ -65,7 +66,7 @@ impl<T> Model for Hand<T> {
 }
 
 impl<T> Hand<T> {
-    // A hand of that event, with no notes.
+    // Makes a hand of that event, with no notes.
     pub(super) fn new(number: usize, event_number: u64, alloc: Global) -> Self
         ensures { result ≡ record { number = number; event_number = event_number; notes = [] } }
     {
@@ -76,21 +77,21 @@ impl<T> Hand<T> {
         }
     }
 
-    /// Its number among the hands of its event. The call neither allocates nor waits.
+    /// Returns the number of the hand among the hands of its event. Takes no memory and never blocks.
     pub fn number(&self) -> usize
         ensures { result ≡ self.now.number }
     {
         self.number
     }
 
-    // The number of its event.
+    // Returns the number of the hand's event.
     pub(super) fn event_number(&self) -> u64
         ensures { result ≡ self.now.event_number }
     {
         self.event_number
     }
 
-    /// Its calls and their replies, in order. The call neither allocates nor waits.
+    /// Returns the calls of the hand and their replies, in order. Takes no memory and never blocks.
     pub fn notes(&self) -> &[Note<T>]
         ensures { result.now ≡ self.now.notes }
     {
@@ -98,7 +99,7 @@ impl<T> Hand<T> {
     }
 }
 
-// This many hands of that event, which have the numbers from 0 on.
+// Makes this many hands of that event, which are numbered from 0 on.
 pub(super) fn new_hands<T>(
     count: usize,
     event_number: u64,
@@ -114,7 +115,7 @@ pub(super) fn new_hands<T>(
 }
 
 impl<T: Copy + Eq> Hand<T> {
-    // Performs one call, and notes it with its reply. Whom it wakes last is woken once the lock is given back.
+    // Performs one call, and notes the call with its reply. The task that it wakes last is woken once the lock is given back.
     #[inline(always)]
     pub(super) fn perform<R: Wait>(
         &mut self,
@@ -130,8 +131,8 @@ impl<T: Copy + Eq> Hand<T> {
         step!(lock, rt, state, waking => self.note_step(&mut *state, call, &mut waking))
     }
 
-    // Makes one step, and notes it with its reply. Room for the note is made first, so a failure leaves queue, record and
-    // notes as they were.
+    // Makes one step, and notes the step with its reply. Room for the note is made first, so a failure leaves queue, record
+    // and notes as they were.
     #[inline(always)]
     pub(super) fn note_step<C, P: MakesStep<T, C>>(
         &mut self,

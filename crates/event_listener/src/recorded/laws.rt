@@ -11,22 +11,28 @@ ghost use Rattle.event_listener.specs.declared.recorded.reply.RecordedReply.{Rec
 use super::call::RecordedCall;
 use super::reply::RecordedReply;
 
-/// Two replies are equal by `==` exactly if they are by `same_reply`: of one kind, with equal parts, and tags compared by
-/// the equality of `T`.
+/// Proves that two replies are equal by `==` exactly if they are so by `same_reply`, by which clauses compare them.
+///
+/// That means: they are of one kind and have equal parts, where tags are compared by the equality of `T`. Does nothing when a
+/// program runs.
 pub fn equal_replies<T: Eq>()
     ensures { (reply other : RecordedReply T)
         → ⟦<RecordedReply<T> as PartialEq>⟧.eq reply other ≡ same_reply T.eq reply other }
 {}
 
-/// Two calls are equal by `==` exactly if they are by `same_call`: of one kind, with equal parts, and tags compared by
-/// the equality of `T`.
+/// Proves that two calls are equal by `==` exactly if they are so by `same_call`, by which clauses compare them.
+///
+/// That means: they are of one kind and have equal parts, where tags are compared by the equality of `T`. Does nothing when a
+/// program runs.
 pub fn equal_calls<T: Eq>()
     ensures { (call other : RecordedCall T)
         → ⟦<RecordedCall<T> as PartialEq>⟧.eq call other ≡ same_call T.eq call other }
 {}
 
-/// A record replays exactly if it is a run of a queue that was empty, whatever its tasks are: then each of its entries
-/// is a step of that queue, and it replays to the queue that the run leaves.
+/// Proves that entries replay exactly if they are a run of a queue that was empty, whatever tasks the listeners stored.
+///
+/// In a run each entry is a step of the queue. The entries replay to the queue that the run leaves. Does nothing when a
+/// program runs.
 pub fn replays_exactly_the_runs<T: Eq, W>()
     ensures run_replays { (entries : List (Entry T)) (queue : Queue T W)
         → IsRun T.eq empty_queue entries queue → ReplaysTo T.eq entries queue }

@@ -19,30 +19,30 @@ use std::sync::Wait;
 use std::time::{Clock, Duration, Instant};
 use thiserror::Error;
 
-/// Why a poll of a recorded listener gave no answer.
+/// Why a poll of a [`RecordedListener`] returned neither a tag nor `Pending`.
 #[derive(Clone, Copy, Debug, PartialEq, Eq, Error)]
 pub enum RecordedPollError {
-    /// The listener is not in the queue: it has given its tag. The poll is recorded and noted.
+    /// The listener is not in the queue any more, because it has given its tag. The poll is recorded and noted.
     #[error("listener is not in the queue")]
     NeverInserted,
-    /// There was no memory for the record or the note. Nothing is changed, recorded or noted.
+    /// There was no memory for the entry or the note. Nothing was changed, recorded or noted.
     #[error("no memory for the record")]
     Memory,
 }
 
-/// What waits in the queue of a recorded event until it is notified.
+/// What waits in the queue of a [`RecordedEvent`] until it is notified.
 ///
-/// It borrows its event, and so can't outlive it. Each of its calls is made by a hand of that event, any of them, which
-/// notes it. A call on a listener that has given its tag is recorded and noted too, with the reply that no listener is
-/// there.
+/// The listener borrows its event, and so can't outlive it. Each of its calls is made by a hand of that event, any of them,
+/// which notes the call. A call on a listener that has given its tag is recorded and noted too, with the reply that no such
+/// listener is in the queue.
 ///
-/// Dropping it removes it from the queue. If it was notified, that propagates its notification: the event is notified
-/// of one, of the same kind and with the same tag. The drop is recorded without a hand, in room that was made when it
-/// listened. The drop of a listener that has left the queue records nothing. It does not allocate, and may wait for the
-/// lock of the event.
+/// Dropping the listener removes it from the queue. If it was notified, the drop propagates its notification: the event is
+/// notified of one, of the same kind and with the same tag. The drop is recorded without a hand, in room that was made when
+/// the listener was inserted, so it takes no memory. The drop of a listener that has left the queue records nothing. The drop
+/// may block until the lock of the event is free.
 ///
-/// It is no [`Listener`](crate::Listener), since each call takes a hand. A contract sees it as its event, and its key
-/// in the queue there.
+/// This type is no [`Listener`](crate::Listener), because each call takes a hand. A contract sees a recorded listener as its
+/// event, and its key in the queue there.
 #[must_use = "a listener that is dropped waits for nothing"]
 pub struct RecordedListener<'ev, T: Copy + Eq, R: Wait + Clock + Clone> {
     pub(super) event: &'ev RecordedEvent<T>,
@@ -69,15 +69,15 @@ impl<'ev, T: Copy + Eq, R: Wait + Clock + Clone> RecordedListener<'ev, T, R> {
         }
     }
 
-    /// Takes the tag if the listener was notified; else stores the waker, in place of any earlier one. The hand notes
-    /// one registration.
+    /// Takes the tag if the listener is notified; else stores the waker and returns `Pending`. The hand notes one
+    /// registration.
     ///
-    /// Returns [`RecordedPollError::NeverInserted`] if the listener has given its tag, which is recorded and noted.
-    /// Returns [`RecordedPollError::Memory`] if there is no memory for the record or the note; the listener is as it
-    /// was then, and nothing is recorded or noted.
+    /// Returns [`RecordedPollError::NeverInserted`] if the listener has given its tag, which is recorded and noted. Returns
+    /// [`RecordedPollError::Memory`] if there is no memory for the entry or the note: the listener stays as it was, and
+    /// nothing is recorded or noted.
     ///
-    /// The call allocates. It may wait for the lock of the event. A waker that is not stored is dropped, and so is one
-    /// that another one replaces, which wakes its task.
+    /// Takes memory for the entry and the note. May block until the lock of the event is free. The waker replaces the one
+    /// that an earlier poll stored. A waker that is replaced, or is not stored, is dropped, which wakes its task.
     pub fn poll(&mut self, hand: &mut Hand<T>, waker: Waker) -> Result<Poll<T>, RecordedPollError>
         requires { Owns self.old.event hand.old }
         ensures noted { Polls self.old.key hand.old result hand.new }
@@ -96,13 +96,13 @@ impl<'ev, T: Copy + Eq, R: Wait + Clock + Clone> RecordedListener<'ev, T, R> {
         }
     }
 
-    /// Removes the listener from the queue without propagating a notification, and returns whether it was notified. One
-    /// that has given its tag was not. The hand notes one removal.
+    /// Removes the listener from the queue without propagating its notification, and returns whether it was notified.
     ///
-    /// Returns [`WaitError::Memory`] with the same listener if there is no memory for the record or the note; nothing
-    /// is changed, recorded or noted then. It returns no other error.
+    /// A listener that has given its tag returns `false`. The hand notes one removal. Returns [`WaitError::Memory`] with the
+    /// same listener if there is no memory for the entry or the note: nothing is changed, recorded or noted. Returns no other
+    /// error.
     ///
-    /// The call allocates. It may wait for the lock of the event.
+    /// Takes memory for the entry and the note. May block until the lock of the event is free.
     pub fn discard(self, hand: &mut Hand<T>) -> Result<bool, WaitError<Self>>
         requires { Owns self.event hand.old }
         ensures noted { Discards self.entry hand.old result hand.new }
@@ -121,14 +121,15 @@ impl<'ev, T: Copy + Eq, R: Wait + Clock + Clone> RecordedListener<'ev, T, R> {
         }
     }
 
-    /// Waits until the listener is notified, and returns the tag. Each time that it looks for the listener in the queue
-    /// is one registration, which is recorded and noted: one at least, unless memory runs out before.
+    /// Waits until the listener is notified, and returns the tag. Each look for the listener in the queue is recorded and
+    /// noted.
     ///
-    /// Returns [`WaitError::NeverInserted`] if the listener has given its tag. Returns [`WaitError::Memory`] with
-    /// the same listener if memory runs out: for what the thread parks on, for the record or for a note. The
-    /// listener is not removed then, and the steps that were made before stay recorded and noted.
+    /// Such a look is one registration, and a wait makes at least one, unless memory runs out before. Returns
+    /// [`WaitError::NeverInserted`] if the listener has given its tag. Returns [`WaitError::Memory`] with the same listener
+    /// if memory runs out for what the thread parks on, for an entry or for a note: the listener is not removed, and the
+    /// steps made before stay recorded and noted.
     ///
-    /// The call waits and allocates as that of [any listener](crate::Listener#waiting) does, and allocates room for an
+    /// The call blocks and takes memory as the wait of [any listener](crate::Listener#waiting) does, and makes room for an
     /// entry and a note before each step.
     pub fn wait(self, hand: &mut Hand<T>) -> Result<T, WaitError<Self>>
         requires { Owns self.event hand.old }
@@ -140,11 +141,12 @@ impl<'ev, T: Copy + Eq, R: Wait + Clock + Clone> RecordedListener<'ev, T, R> {
         }
     }
 
-    /// Waits until the listener is notified or the timeout has passed, and returns the tag or `None`. The listener has
-    /// left the queue then. At its limit, which is that of [`Limit::after`], it is removed, which is recorded and noted
-    /// too; a tag that comes before that is returned, and not propagated.
+    /// Waits until the listener is notified or `timeout` has passed, and returns the tag or `None`. The listener has left the
+    /// queue then.
     ///
-    /// What it records, allocates and waits for, and its errors, are those of [`wait`](RecordedListener::wait); the
+    /// The limit is that of [`Limit::after`], by the clock of the listener. At the limit the listener is removed, which is
+    /// recorded and noted too; a tag that the listener is given before that is returned, and not propagated. What the call
+    /// records, when it blocks, what memory it takes and how it fails is said at [`wait`](RecordedListener::wait); the
     /// removal may fail for memory, too.
     pub fn wait_timeout(
         self,
@@ -158,12 +160,13 @@ impl<'ev, T: Copy + Eq, R: Wait + Clock + Clone> RecordedListener<'ev, T, R> {
         wait_until(self, hand, limit)
     }
 
-    /// Waits until the listener is notified or that moment of its own clock has come, and returns the tag or `None`.
-    /// The listener has left the queue then. At the deadline it is removed, which is recorded and noted too; a tag
-    /// that comes before that is returned, and not propagated.
+    /// Waits until the listener is notified or its clock shows `deadline`, and returns the tag or `None`. The listener has
+    /// left the queue then.
     ///
-    /// A clock that can't be read counts as one that shows the deadline. What it records, allocates and waits for, and its errors, are
-    /// those of [`wait`](RecordedListener::wait); the removal may fail for memory, too.
+    /// A clock that can't be read counts as one that shows the deadline. At the deadline the listener is removed, which is
+    /// recorded and noted too; a tag that the listener is given before that is returned, and not propagated. What the call
+    /// records, when it blocks, what memory it takes and how it fails is said at [`wait`](RecordedListener::wait); the
+    /// removal may fail for memory, too.
     pub fn wait_deadline(
         self,
         hand: &mut Hand<T>,

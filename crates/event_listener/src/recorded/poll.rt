@@ -15,11 +15,13 @@ use std::sync::Wait;
 use std::time::Clock;
 
 impl<T: Copy + Eq, R: Wait + Clock + Clone> RecordedListener<'_, T, R> {
-    /// As [`poll`](RecordedListener::poll), with the waker of the task that polls. If the listener has stored one of
-    /// that task already, it stays, and no task is woken.
+    /// Takes the tag if the listener is notified; else registers the task that polls, and returns `Pending`.
     ///
-    /// If it stored another task's waker, that task is woken. If no waker can be made, the task asks for another
-    /// poll. A poll that fails for memory leaves no waker, so a future gives that error, or polls again by itself.
+    /// The call differs from [`poll`](RecordedListener::poll) in the waker: a waker of this task that an earlier poll stored
+    /// stays, so no task is woken. If the stored waker is of another task, the task's own waker replaces it, and that other
+    /// task is woken. If no waker can be made, the task asks for another poll. A poll that fails for memory registers no
+    /// task, so a future returns that error, or polls again by itself. Errors, memory and the lock are as for
+    /// [`poll`](RecordedListener::poll).
     pub fn poll_in(
         &mut self,
         hand: &mut Hand<T>,

@@ -8,8 +8,10 @@ use super::replay;
 use std::alloc::{AllocError, Global};
 use std::marker::Model;
 
-/// The record of a [`RecordedEvent`](crate::RecordedEvent) that was closed: every step of its queue, in order. It
-/// replays, and each entry of no hand is the end of a listener that was dropped.
+/// The record of a [`RecordedEvent`](crate::RecordedEvent) that was closed: every step of its queue, in order.
+///
+/// The entries *replay*: from an empty queue each call returns its reply, one after another. Each entry without a hand is the
+/// removal of a listener that was dropped.
 #[derive(Drop)]
 pub struct Record<T: Copy + Eq> {
     entries: Vec<Entry<T>>,
@@ -39,7 +41,7 @@ impl<T: Copy + Eq> Record<T> {
         Record { entries }
     }
 
-    /// An entry for each step, in the order in which the queue made them. The call neither allocates nor waits.
+    /// Returns an entry for each step, in the order in which the queue made the steps. Takes no memory and never blocks.
     pub fn entries(&self) -> &[Entry<T>]
         ensures value { result.now ≡ self.now }
         ensures replays { IsTrue (replays T.eq self.now) }
@@ -48,9 +50,11 @@ impl<T: Copy + Eq> Record<T> {
         self.entries.as_slice()
     }
 
-    /// Whether the entries replay, as [`replays`](crate::replays) finds it: the answer is always `true`, since the type
-    /// keeps that they do. No clause says that the call looks at them once more, which is all that it is for. It
-    /// allocates, and returns an error if that fails. It does not wait.
+    /// Checks once more that the entries replay, as [`replays`](crate::replays) does, and returns the answer.
+    ///
+    /// The answer is always `true`, because the type keeps only entries that replay. So the call is for a program that wants
+    /// to see the check run; no clause says that the call makes the check. Takes memory, and returns an error if there is
+    /// none. Never blocks.
     pub fn replays(&self, alloc: Global) -> Result<bool, AllocError>
         ensures { IfOk result (λ answer. IsTrue answer) }
     {

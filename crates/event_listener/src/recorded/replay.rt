@@ -10,16 +10,16 @@ use super::reply::RecordedReply;
 use replayed_queue::ReplayedQueue;
 use std::alloc::{AllocError, Global};
 
-/// Whether these entries are a run of a queue that was empty, with next serial 0: whether each call returns its reply,
-/// one after another. Tags are compared by the equality of `T`. The slot of a new listener is read from the reply, and
-/// whose call it was is not looked at.
+/// Returns whether these entries *replay*: whether from an empty queue each call returns its reply, one after another.
 ///
-/// Any entries may be given. In no run does a listening fail for memory, and only one at the serial `u64::MAX` finds
-/// the serials used up.
+/// The first listener of that queue gets the serial number 0. Tags are compared by the equality of `T`. The slot of a new
+/// listener is read from the reply, because the queue may choose any; the hand that made the call is not looked at. Any
+/// entries may be given. In no run does a listening fail for memory, and a listening finds the serial numbers used up only at
+/// the serial number `u64::MAX`.
 ///
-/// The call allocates two vectors of the listeners, and returns an error if that fails. It does not wait. Each
-/// entry takes one pass at most over the listeners that are in the queue by then, to find a key or to move those
-/// notified.
+/// Takes memory for two vectors of the listeners, and returns an error if there is none. Never blocks. For each entry the
+/// call makes at most one pass over the listeners that are in the queue by then, to find a key or to move the notified
+/// listeners.
 pub fn replays<T: Copy + Eq>(alloc: Global, entries: &[Entry<T>]) -> Result<bool, AllocError>
     ensures { IfOk result (λ answer. answer ≡ replays T.eq entries.now) }
 {
@@ -33,7 +33,7 @@ pub fn replays<T: Copy + Eq>(alloc: Global, entries: &[Entry<T>]) -> Result<bool
     Ok(true)
 }
 
-// The slot that a newcomer got, by the reply; any number if the reply is not that of a newcomer.
+// Returns the slot that a new listener got, by the reply; 0 if the reply is not that of a new listener.
 fn slot_in<T>(reply: &RecordedReply<T>) -> u32
     ensures { result ≡ slot_in reply.now }
 {

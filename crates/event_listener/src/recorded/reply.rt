@@ -4,18 +4,19 @@ ghost use Rattle.event_listener.specs.recording.Step.{former_of};
 
 use event_queue::{Key, ListenError, RegisterResult, State};
 
-/// What a recorded queue answered to a [`StepCall`](crate::StepCall).
+/// What the queue of a recorded event returned to a [`StepCall`](crate::StepCall).
 #[derive(Clone, Copy, Debug, PartialEq, Eq, Drop)]
 pub enum RecordedReply<T> {
-    /// The answer of an insertion. In a record it is never [`ListenError::Memory`].
+    /// The new listener's key, or why no listener was inserted. In a record the error is never [`ListenError::Memory`],
+    /// because room is made before the step.
     Listened(Result<Key, ListenError>),
-    /// The answer of a registration.
+    /// What the registration found.
     Registered(RegisterResult<T>),
-    /// The answer of a removal.
+    /// What the listener was when it left the queue, or `None` if no listener has that key.
     Removed(Option<Former<T>>),
-    /// How many listeners a notification notified.
+    /// How many listeners the call notified.
     Notified(usize),
-    /// How many listeners there were.
+    /// How many listeners were in the queue.
     TotalListeners(usize),
     /// Whether some listener was notified.
     IsNotified(bool),
@@ -24,33 +25,33 @@ pub enum RecordedReply<T> {
 /// What a listener was when it left the queue, as a record keeps it: a [`State`] without its task.
 #[derive(Clone, Copy, Debug, PartialEq, Eq, Drop)]
 pub enum Former<T> {
-    /// Waiting, and no task was stored.
+    /// The listener waited, and had stored no task.
     Created,
-    /// Notified, and its notification is the answer.
+    /// The listener was notified, and its notification was not propagated, but is returned.
     Notified {
         /// Whether the notification was an additional one.
         additional: bool,
-        /// The tag that came with it.
+        /// The tag of the notification.
         tag: T,
     },
-    /// Waiting, with a task.
+    /// The listener waited, and had stored a task.
     Task,
-    /// Notified, and its notification was propagated: another listener was notified by it.
+    /// The listener was notified, and its notification was propagated: another listener was notified by it.
     Passed {
-        /// The listener that was notified.
+        /// The key of the listener that was notified.
         to: Key,
     },
-    /// Notified, and its notification was lost: no listener was notified by it.
+    /// The listener was notified, and its notification was lost: propagating it notified no listener.
     Lost {
         /// Whether the notification was an additional one.
         additional: bool,
-        /// The tag that came with it.
+        /// The tag of the notification.
         tag: T,
     },
 }
 
 impl<T> Former<T> {
-    /// What it says of a state. The call drops the state's task, and neither allocates nor waits.
+    /// Returns what a record keeps of a state. The call drops the state's task, takes no memory and never blocks.
     pub(super) fn of<W: Drop>(state: State<T, W>) -> Self
         ensures { result ≡ former_of state }
     {

@@ -18,13 +18,14 @@ use event_wait::Task;
 use std::alloc::Global;
 use std::marker::Model;
 
-/// A queue and the record of every step that it made: what stands under the lock of a recorded event.
+/// A queue and the record of every step that it made: what stands under the lock of a
+/// [`RecordedEvent`](crate::RecordedEvent).
 ///
-/// The type keeps that the record replays to the queue, that each entry of no hand is the end of a listener, and room to
-/// record the end of each listener in the queue. Only [`apply`](RecordedState::apply),
-/// [`apply_end`](RecordedState::apply_end) and the polls of this crate change it; each makes one step of the queue and
-/// records it. No call takes a lock, and none waits unless its sink does. A contract sees a state as its entries and its
-/// queue, but for how much is spare.
+/// The type keeps three things: that the record replays to the queue, that each entry without a hand is the removal of a
+/// listener that was dropped, and room to record the removal of each listener in the queue. Only
+/// [`apply`](RecordedState::apply), [`apply_end`](RecordedState::apply_end) and the polls of this crate change a state; each
+/// makes one step of the queue and records it. No call takes a lock, and none blocks unless its sink does. A contract sees a
+/// state as its entries and its queue, except how much of the queue is spare.
 #[derive(Drop)]
 pub struct RecordedState<T: Copy + Eq> {
     list: List<T, Task>,
@@ -65,7 +66,7 @@ fn make_room<T>(
 }
 
 impl<T: Copy + Eq> RecordedState<T> {
-    /// An empty queue, whose first listener gets the serial 0, and an empty record. The call allocates nothing.
+    /// Makes an empty queue, whose first listener gets the serial number 0, and an empty record. Takes no memory.
     pub fn new(alloc: Global) -> Self
         ensures empty { result ≡ record {
           entries = [];
@@ -78,12 +79,12 @@ impl<T: Copy + Eq> RecordedState<T> {
         }
     }
 
-    /// Makes one call on the queue, and records it as a call of that hand.
+    /// Makes one call on the queue, records it as a call of that hand, and returns the queue's reply.
     ///
-    /// It makes all room first: for the entry, and for a new listener and the entry of its end. If that fails
-    /// it returns [`RecordError::Memory`], makes no call, drops the task of the call, and leaves the queue, the record
-    /// and the sink as they were. It returns no other error: if the serials are used up, that is the reply, and it
-    /// is recorded.
+    /// The tasks that the call wakes are given to `sink`. All room is made first: for the entry, and for a new listener and
+    /// the entry of its removal. If there is no memory for that, the call returns [`RecordError::Memory`], makes no step,
+    /// drops the task of `call`, and leaves the queue, the record and the sink as they were. Returns no other error: used up
+    /// serial numbers are a reply, which is recorded.
     #[inline(always)]
     pub fn apply<S: WakeSink<Task>>(
         &mut self,
@@ -147,8 +148,11 @@ impl<T: Copy + Eq> RecordedState<T> {
         Ok(entry)
     }
 
-    /// Removes a listener that is dropped: its notification, if it was notified, is propagated, and the removal is
-    /// recorded without a hand. If no listener has that key, nothing changes. The call allocates nothing.
+    /// Removes a listener that is dropped, propagates its notification if it was notified, and records the removal without a
+    /// hand.
+    ///
+    /// The task that the propagation wakes is given to `sink`. If no listener has that key, nothing changes. Takes no memory,
+    /// because room for the entry was made when the listener was inserted.
     pub fn apply_end<S: WakeSink<Task>>(&mut self, key: Key, sink: &mut S)
         ensures ends { ¬ IsAbsent key self.old.queue → Ends self.old key self.new }
         ensures wakes { FoldsTo S.woke sink.old
@@ -171,7 +175,7 @@ impl<T: Copy + Eq> RecordedState<T> {
         });
     }
 
-    /// The record: an entry for each step, in the order in which the queue made them. The call allocates nothing.
+    /// Returns the record: an entry for each step, in the order in which the queue made the steps. Takes no memory.
     pub fn entries(&self) -> &[Entry<T>]
         ensures value { result.now ≡ self.now.entries }
         ensures replays { ReplaysTo T.eq self.now.entries self.now.queue }
@@ -180,7 +184,7 @@ impl<T: Copy + Eq> RecordedState<T> {
         self.entries.as_slice()
     }
 
-    /// How many listeners there are, notified or waiting. The call allocates nothing and is not recorded.
+    /// Returns how many listeners are in the queue, notified or waiting. Takes no memory, and is not recorded.
     pub fn total_listeners(&self) -> usize
         ensures value { result ≡ length self.now.queue.told + length self.now.queue.waiting }
         ensures queue { IsQueue self.now.queue }
@@ -188,8 +192,8 @@ impl<T: Copy + Eq> RecordedState<T> {
         self.list.total_listeners()
     }
 
-    /// The record alone, which replays, and of which each entry of no hand is the end of a listener. The call drops the
-    /// queue with its tasks and tags, and neither allocates nor waits.
+    /// Returns the record alone, which replays, and each of whose entries without a hand is the removal of a listener that
+    /// was dropped. The call drops the queue with its tasks and tags, takes no memory and never blocks.
     pub(crate) fn into_entries(self) -> Vec<Entry<T>>
         ensures value { result.items ≡ self.entries }
         ensures replays { IsTrue (replays T.eq result.items) }

@@ -14,7 +14,7 @@ use super::reply::{Former, RecordedReply};
 use event_queue::{Key, List, TaskExchange, WakeSink};
 use event_wait::Task;
 
-/// What makes one step of a recorded queue: a call, with the sink of the tasks that it wakes beside the queue, or a
+/// What makes one step of a recorded queue: a call, with the sink of the tasks that the call wakes beside the queue, or a
 /// [`PollStep`], with the context of the task that polls.
 pub(super) trait MakesStep<T: Copy, C>: Drop {
     ghost use Rattle.event_queue.specs.Queue.{Queue};
@@ -22,17 +22,17 @@ pub(super) trait MakesStep<T: Copy, C>: Drop {
     ghost use Rattle.event_listener.specs.declared.recorded.call.RecordedCall.{RecordedCall};
     ghost use Rattle.event_listener.specs.declared.recorded.reply.RecordedReply.{RecordedReply};
 
-    // The call that a record keeps of it.
+    // The call that a record keeps of the step.
     ghost call: { Self → RecordedCall T };
 
     // The step, from the queue and what is beside it to both afterwards, by its reply.
     ghost steps: { Self → Queue T Task × C → RecordedReply T → Queue T Task × C → Type 0 };
 
-    /// The call that a record keeps of it.
+    /// The call that a record keeps of the step.
     fn recorded(&self) -> RecordedCall<T>
         ensures { result ≡ call self.now };
 
-    /// Makes the step, and returns what the queue returned. It allocates if an insertion does.
+    /// Makes the step, and returns what the queue returned. Takes memory only for an insertion.
     fn make(self, list: &mut List<T, Task>, beside: &mut C) -> RecordedReply<T>
         ensures steps { steps self (list.old, beside.old) result (list.new, beside.new) }
         ensures is_step { StepsWithSome list.old (call self) result list.new }
@@ -79,7 +79,7 @@ impl<T: Copy, S: WakeSink<Task>> MakesStep<T, S> for StepCall<T> {
     }
 }
 
-/// Registers a listener, with a task that is made of the one that it stored.
+/// A step that registers a listener, with a task made from the task that the listener had stored.
 #[derive(Drop)]
 pub(super) struct PollStep<'x, X> {
     pub(super) key: Key,
@@ -101,7 +101,7 @@ impl<T: Copy, C, X: TaskExchange<Task, C>> MakesStep<T, C> for PollStep<'_, X> {
     }
 }
 
-/// Removes a listener, and returns what it was without its task. It neither allocates nor waits.
+/// Removes a listener, and returns what the listener was, without its task. Takes no memory and never blocks.
 #[inline(always)]
 pub(super) fn perform_removal<T: Copy, S: WakeSink<Task>>(
     list: &mut List<T, Task>,
@@ -117,9 +117,9 @@ pub(super) fn perform_removal<T: Copy, S: WakeSink<Task>>(
     Some(Former::of(list.remove_uncounted(key, propagate, sink)?))
 }
 
-// Does what `perform_removal` does, where a hand asks for it, which is rare. It stands apart, since the compiler inlines
-// no function that would grow very large, however it is marked, and a step that is not inlined where its call is known
-// has to ask which call it is.
+// Does what `perform_removal` does, where a hand asks for the removal, which is rare. This function stands apart, since the
+// compiler inlines no function that would grow very large, however it is marked, and a step that is not inlined where its
+// call is known has to ask which call it is.
 #[inline(never)]
 fn perform_removal_apart<T: Copy, S: WakeSink<Task>>(
     list: &mut List<T, Task>,

@@ -26,7 +26,7 @@ pub(super) struct RecordedPlace<T> {
 }
 
 impl<T> RecordedPlace<T> {
-    /// Takes the hand, and leaves one without notes in its place.
+    /// Takes the hand out of `hand`, and leaves there a hand without notes.
     pub(super) fn of(key: Key, hand: &mut Hand<T>, alloc: Global) -> Self
         ensures key { result.key ≡ key }
         ensures hand { result.hand ≡ hand.old }

@@ -6,14 +6,14 @@ ghost use Rattle.event_queue.specs.Key.{is_key};
 
 use event_queue::Key;
 
-// At which index that key is, if it is there.
+// Returns the index of that key, if the key is among the entries.
 fn find<X>(entries: &[(Key, X)], key: Key) -> Option<usize>
     ensures { result ≡ position (λ entry. is_key key entry.0) entries.now }
 {
     entries.iter().position(|entry| key == entry.0)
 }
 
-/// Takes out what belongs to the key, if it is there.
+/// Removes the entry of the key, and returns its value, if the key is among the entries.
 pub(super) fn take_entry<X>(entries: &mut Vec<(Key, X)>, key: Key) -> Option<X>
     ensures value { result ≡ lookup (is_key key) entries.old.items }
     ensures taken { entries.new.items ≡ remove_entry (is_key key) entries.old.items }
@@ -24,7 +24,7 @@ pub(super) fn take_entry<X>(entries: &mut Vec<(Key, X)>, key: Key) -> Option<X>
     Some(value)
 }
 
-/// Gives the key another value, if it is there, and returns the one that it had.
+/// Gives the key another value, and returns the value that it had, if the key is among the entries.
 pub(super) fn set_entry<X: Copy>(entries: &mut Vec<(Key, X)>, key: Key, value: X) -> Option<X>
     ensures value { result ≡ lookup (is_key key) entries.old.items }
     ensures set { entries.new.items ≡ set_value (is_key key) entries.old.items value }

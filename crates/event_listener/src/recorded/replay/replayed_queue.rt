@@ -13,7 +13,8 @@ use event_queue::{Key, ListenError, Notice, RegisterResult};
 use std::alloc::{AllocError, Global};
 use std::marker::Model;
 
-/// The listeners notified, the listeners waiting, each with whether it has a task, and the next serial.
+/// A queue as a record knows it: the notified listeners with their notices, the waiting listeners with whether each has a
+/// task, and the next serial number.
 #[derive(Drop)]
 pub(super) struct ReplayedQueue<T> {
     told: Vec<(Key, Notice<T>)>,
@@ -39,7 +40,7 @@ impl<T> Model for ReplayedQueue<T> {
 }
 
 impl<T: Copy> ReplayedQueue<T> {
-    /// An empty queue, whose first listener gets the serial 0. The call allocates nothing.
+    /// Makes an empty queue, whose first listener gets the serial number 0. Takes no memory.
     pub(super) fn new(alloc: Global) -> Self
         ensures { result ≡ empty_shape }
     {
@@ -50,8 +51,8 @@ impl<T: Copy> ReplayedQueue<T> {
         }
     }
 
-    /// Performs the call, and returns what it answers if a newcomer gets this slot. The error is that memory ran out,
-    /// after which the queue is of no use.
+    /// Performs the call, and returns its reply if a new listener gets this slot. The error is that memory ran out, after
+    /// which the queue is of no use.
     pub(super) fn perform_call(
         &mut self,
         call: RecordedCall<T>,
@@ -127,7 +128,7 @@ impl<T: Copy> ReplayedQueue<T> {
         })
     }
 
-    // Propagates a notification, and returns where it went.
+    // Propagates a notification, and returns which listener was notified by it, if any.
     fn pass_on(&mut self, additional: bool, tag: T) -> Result<Former<T>, AllocError>
         ensures answer { IfOk result (λ former.
             former ≡ passed (record { additional = additional; tag = tag })
@@ -143,7 +144,7 @@ impl<T: Copy> ReplayedQueue<T> {
         })
     }
 
-    // Notifies the first of the waiting, as many as the notification is for, and returns how many.
+    // Notifies the first waiting listeners, as many as the notification is for, and returns how many were notified.
     fn notify(&mut self, count: usize, additional: bool, tag: T) -> Result<usize, AllocError>
         ensures answer { IfOk result (λ told. told ≡ tells count additional self.old) }
         ensures shape { OnOk result (self.new ≡ after_notice (tells count additional self.old)
@@ -167,7 +168,7 @@ impl<T: Copy> ReplayedQueue<T> {
     }
 }
 
-// Moves the first of the waiting, as many as that, to the end of the notified, which has room for them.
+// Moves the first `count` waiting listeners to the end of the notified ones, where there is room for them.
 fn tell_first<T: Copy>(
     told: &mut Vec<(Key, Notice<T>)>,
     waiting: &mut Vec<(Key, bool)>,
