@@ -1,23 +1,26 @@
-//! Why there is no output.
+//! Why an `Until` returned no output.
 use event_listener::{ListenError, NeverInserted, WaitError, WaitReason};
 use std::alloc::AllocError;
 use thiserror::Error;
 
-/// Why [`Until`](crate::Until) gave no output. No listener is left, and it may be waited or polled again.
+/// Why an [`Until`](crate::Until) returned no output.
+///
+/// After an error no listener of the `Until` is in the queue, and the `Until` may be waited on or polled again.
 #[derive(Clone, Copy, Debug, PartialEq, Eq, Error)]
 pub enum UntilError {
-    /// Listening failed: memory ran out, or the serial numbers are used up.
+    /// No listener could be registered: memory ran out, or the queue has given out all its serial numbers, of which each
+    /// listener gets one.
     #[error("{0}")]
     Listen(#[from] ListenError),
     /// There was no memory for what the thread parks on.
     #[error("no memory for a parker")]
     Parker,
-    /// A listener was not in the queue. `Until` keeps no listener that has given its tag, so it should never return this;
-    /// no clause says so.
+    /// A listener was not in the queue. `Until` keeps no listener that has given its tag, so it should never return this; no
+    /// clause says so.
     #[error("{0}")]
     NeverInserted(#[from] NeverInserted),
-    /// There was no memory for what an attempt makes, as a guard's clone of the runtime value. `Until` itself never returns
-    /// this: an `AllocError` converts into it.
+    /// There was no memory for what an attempt makes, for example a guard's clone of the runtime value. `Until` itself never
+    /// returns this: the variant is for callers, whose `AllocError` converts into it.
     #[error("no memory for an attempt")]
     Memory,
 }
@@ -42,7 +45,7 @@ impl From<WaitReason> for UntilError {
     }
 }
 
-/// Drops the listener, which propagates its notification if it was notified.
+/// Drops the listener, if the error has one. The drop propagates the listener's notification if the listener was notified.
 impl<L: Drop> From<WaitError<L>> for UntilError {
     fn from(error: WaitError<L>) -> UntilError {
         UntilError::from(error.reason())

@@ -1,4 +1,4 @@
-//! The loop.
+//! The loop that attempts and waits.
 ghost use Rattle.std.specs.Prelude.{◌≡◌, None, IfOk, IfNone, IsSome, OnErr};
 ghost use Rattle.event_until.specs.Attempts.{SucceedsAfter, Succeeded, FailsAtLeast};
 
@@ -16,20 +16,24 @@ use std::sync::Wait;
 use std::time::{Clock, Duration, Instant};
 pub(crate) use turn::Turn;
 
-/// Attempts until one succeeds, and between attempts waits until the event is notified: as a call that blocks its thread,
-/// [`wait`](Until::wait), [`wait_timeout`](Until::wait_timeout) or [`wait_deadline`](Until::wait_deadline), or as a future.
+/// A loop that attempts until an attempt succeeds, and between attempts waits until an event is notified.
 ///
-/// It attempts, listens, and attempts again, since a notification that came before its listener was in the queue did not
-/// reach it. Then it waits until the listener is notified, and begins anew.
+/// A thread blocks on the loop by [`wait`](Until::wait), [`wait_timeout`](Until::wait_timeout) or
+/// [`wait_deadline`](Until::wait_deadline). A task awaits the loop, which is a future, or polls it by
+/// [`poll_in`](Until::poll_in).
 ///
-/// A listener that is in the queue when the second attempt succeeds is dropped, and so is one that a pending poll left
-/// when the `Until` is dropped. Either drop propagates its notification if it was notified.
+/// Each round attempts, listens, and attempts again, because a notification that was made before the listener was in the
+/// queue did not reach the listener. Then the round waits until the listener is notified, and the next round begins.
 ///
-/// Each round allocates if listening does, and a blocking wait also what the thread parks on. Each may wait for the lock of
-/// the event. `Until` holds no lock while it attempts.
+/// If the second attempt of a round succeeds, its listener is dropped. If the `Until` is dropped, so is a listener that a
+/// pending poll left in the queue. Either drop propagates the listener's notification if the listener was notified, so that
+/// another listener gets it.
 ///
-/// It may be used again after an output or an error, by any of its calls. A contract sees it as the state of its attempts,
-/// the number of its event, and the standing of the listener that a pending poll left.
+/// Each round takes memory if listening does, and a wait of a thread also takes memory for what the thread parks on. Each
+/// round may block until the lock of the event is free. No lock is held while an attempt is made.
+///
+/// An `Until` may be used again after an output or an error, by any of its calls. A contract sees an `Until` as the state of
+/// its attempts, the number of its event, and the standing of the listener that a pending poll left.
 #[must_use = "nothing is attempted before it is waited or polled"]
 #[derive(Drop)]
 pub struct Until<'a, A, R: Wait + Clock + Clone> {
@@ -37,7 +41,7 @@ pub struct Until<'a, A, R: Wait + Clock + Clone> {
     alloc: Global,
     event: &'a Event<()>,
     attempt: A,
-    // What a pending poll left in the queue.
+    // The listener that a pending poll left in the queue.
     listener: Option<StackListener<'a, (), R>>,
 }
 
@@ -58,9 +62,10 @@ impl<'a, A, R: Wait + Clock + Clone> Model for Until<'a, A, R> {
 }
 
 impl<'a, A: Attempt, R: Wait + Clock + Clone> Until<'a, A, R> {
-    /// Attempts with this state, which wait for this event. None has been made yet.
+    /// Makes a loop over this state of attempts, which waits for this event. No attempt is made before the loop is waited on
+    /// or polled.
     ///
-    /// The call neither allocates nor waits.
+    /// Takes no memory and never blocks.
     pub fn new(rt: &'a R, alloc: Global, event: &'a Event<()>, attempt: A) -> Self
         ensures { result ≡ record { attempt = attempt; event_number = event.now; listener = None } }
     {
@@ -75,7 +80,8 @@ impl<'a, A: Attempt, R: Wait + Clock + Clone> Until<'a, A, R> {
 
     /// Blocks the calling thread until an attempt succeeds, and returns its output.
     ///
-    /// A listener that a poll left is dropped first. [`UntilError`] says which errors there are and what they leave.
+    /// A listener that a pending poll left is dropped first. Takes no memory if the first attempt succeeds; else the thread
+    /// listens, as [`Until`] says. [`UntilError`] says which errors there are and what they leave.
     #[inline(always)]
     pub fn wait(&mut self) -> Result<A::Output, UntilError>
         ensures succeeded { IfOk result (λ output.
@@ -90,11 +96,11 @@ impl<'a, A: Attempt, R: Wait + Clock + Clone> Until<'a, A, R> {
         }
     }
 
-    /// Blocks the calling thread until an attempt succeeds or the timeout has passed. Then it attempts once more, and
-    /// returns `None` if that fails: it makes three attempts at least.
+    /// Blocks the calling thread until an attempt succeeds, and returns its output, or `None` if `timeout` has passed.
     ///
-    /// The time begins with the call, as [`Limit::after`] says. A listener that a poll left is dropped first.
-    /// [`UntilError`] says which errors there are and what they leave.
+    /// At the limit one more attempt is made, because what it attempts may have become possible meanwhile, so `None` is
+    /// returned only after three failed attempts at least. The time begins with the call, as [`Limit::after`] says. A
+    /// listener that a pending poll left is dropped first. [`UntilError`] says which errors there are and what they leave.
     pub fn wait_timeout(&mut self, timeout: Duration) -> Result<Option<A::Output>, UntilError>
         ensures succeeded { Succeeded A.fails A.succeeds self.old.attempt result self.new.attempt }
         ensures timed_out { IfOk result (λ answer.
@@ -107,11 +113,12 @@ impl<'a, A: Attempt, R: Wait + Clock + Clone> Until<'a, A, R> {
         self.wait_until(limit)
     }
 
-    /// Blocks the calling thread until an attempt succeeds or that moment of the runtime's clock has come. Then it attempts
-    /// once more, and returns `None` if that fails: it makes three attempts at least.
+    /// Blocks the calling thread until an attempt succeeds, and returns its output, or `None` if the runtime's clock shows
+    /// `deadline`.
     ///
-    /// A clock that can't be read counts as one that shows the deadline. A listener that a poll left is dropped first.
-    /// [`UntilError`] says which errors there are and what they leave.
+    /// At the deadline one more attempt is made, because what it attempts may have become possible meanwhile, so `None` is
+    /// returned only after three failed attempts at least. A clock that can't be read counts as one that shows the deadline.
+    /// A listener that a pending poll left is dropped first. [`UntilError`] says which errors there are and what they leave.
     pub fn wait_deadline(&mut self, deadline: Instant) -> Result<Option<A::Output>, UntilError>
         ensures succeeded { Succeeded A.fails A.succeeds self.old.attempt result self.new.attempt }
         ensures timed_out { IfOk result (λ answer.
@@ -123,9 +130,9 @@ impl<'a, A: Attempt, R: Wait + Clock + Clone> Until<'a, A, R> {
         self.wait_until(Limit::At(deadline))
     }
 
-    /// Ends the attempts, and returns their state. A listener that a poll left is dropped.
+    /// Ends the loop, and returns the state of its attempts. A listener that a pending poll left is dropped.
     ///
-    /// The call does not allocate. It may wait for the lock of the event.
+    /// Takes no memory. May block until the lock of the event is free, if there is such a listener.
     pub fn into_attempt(self) -> A
         ensures { result ≡ self.entry.attempt }
     {
@@ -140,8 +147,8 @@ impl<'a, A: Attempt, R: Wait + Clock + Clone> Until<'a, A, R> {
         attempt
     }
 
-    // Attempts until one succeeds, and waits after each two that failed, until the limit at most. Then it attempts once
-    // more.
+    // Attempts until an attempt succeeds, and after each two failed attempts waits, until the limit at most. Then it makes
+    // one more attempt.
     #[inline(always)]
     fn wait_until(&mut self, limit: Limit) -> Result<Option<A::Output>, UntilError>
         ensures succeeded { Succeeded A.fails A.succeeds self.old.attempt result self.new.attempt }

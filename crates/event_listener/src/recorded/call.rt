@@ -100,7 +100,7 @@ impl<T: Copy> StepCall<T> {
 }
 
 impl<T> RecordedCall<T> {
-    // How many listeners the call may insert.
+    // Returns how many listeners the call may insert.
     #[inline(always)]
     pub(super) fn newcomers(&self) -> usize
         ensures value { result ≡ newcomers_of self.now }

@@ -18,7 +18,7 @@ pub struct Entry<T> {
 }
 
 impl<T> Entry<T> {
-    // The entry of a call that this hand made.
+    // Makes the entry of a call that this hand made.
     #[inline(always)]
     pub(super) fn by_hand(hand: usize, call: RecordedCall<T>, reply: RecordedReply<T>) -> Self
         ensures { result ≡ record { hand = Some hand; call = call; reply = reply } }

@@ -32,7 +32,7 @@ impl<T: Copy + Eq> Model for Record<T> {
 }
 
 impl<T: Copy + Eq> Record<T> {
-    // The record of these entries, which replay, and of which each of no hand is the end of a listener.
+    // Makes the record of these entries, which replay, and each of which without a hand is the end of a listener.
     pub(super) fn new(entries: Vec<Entry<T>>) -> Self
         requires replays { IsTrue (replays T.eq entries.items) }
         requires ends { HandlessAreEnds entries.items }

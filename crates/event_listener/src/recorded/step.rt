@@ -28,7 +28,7 @@ pub(super) trait MakesStep<T: Copy, C>: Drop {
     // The step, from the queue and what is beside it to both afterwards, by its reply.
     ghost steps: { Self → Queue T Task × C → RecordedReply T → Queue T Task × C → Type 0 };
 
-    /// The call that a record keeps of the step.
+    /// Returns the call that a record keeps of the step.
     fn recorded(&self) -> RecordedCall<T>
         ensures { result ≡ call self.now };
 

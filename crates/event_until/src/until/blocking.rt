@@ -10,10 +10,10 @@ use std::alloc::Global;
 use std::sync::Wait;
 use std::time::Clock;
 
-/// Goes on after an attempt that failed: listens and attempts, waits, attempts, and begins anew. All waits have the one
-/// limit. After that it attempts once more.
+/// Goes on after an attempt that failed: listens and attempts, waits, attempts, and begins anew.
 ///
-/// It is never inlined, so that an attempt that succeeds at once pays for no listener.
+/// All waits have the same limit. Once that has passed, one last attempt is made. The function is never inlined, so that an
+/// attempt that succeeds at once pays for no listener.
 #[inline(never)]
 pub(super) fn attempt_again<A: Attempt, R: Wait + Clock + Clone>(
     attempt: &mut A,
@@ -43,7 +43,7 @@ pub(super) fn attempt_again<A: Attempt, R: Wait + Clock + Clone>(
     unreachable!()
 }
 
-// The last attempt. It is made once the listener has left the queue: a notification after that does not reach it.
+// Makes the last attempt, once the listener has left the queue: a later notification does not reach the listener.
 fn attempt_at_limit<A: Attempt>(attempt: &mut A) -> Option<A::Output>
     ensures succeeded { IfSome result (λ output. A.succeeds attempt.old output attempt.new) }
     ensures failed { IfNone result (A.fails attempt.old attempt.new) }

@@ -14,13 +14,14 @@ use std::sync::Wait;
 use std::time::Clock;
 
 impl<'a, A: Attempt, R: Wait + Clock + Clone> Until<'a, A, R> {
-    /// Attempts until one succeeds, or until it has to wait: then the task that polls is registered at the event.
+    /// Attempts until an attempt succeeds, and returns its output, or registers the task that polls at the event and returns
+    /// `Pending`.
     ///
-    /// A pending poll leaves a listener in the queue. The next poll attempts only if that was notified, so a task that is
-    /// polled for another reason takes nothing from those before it in the queue.
+    /// A pending poll leaves a listener in the queue. The next poll attempts only if that listener was notified, so a task
+    /// that is polled for another reason takes nothing away from the waiters before it in the queue.
     ///
-    /// With the output, or an error, no listener is left. [`UntilError`] says which errors there are. The call allocates
-    /// if listening does. It may wait for the lock of the event.
+    /// With an output or an error, no listener is left. [`UntilError`] says which errors there are. Takes memory if listening
+    /// does. May block until the lock of the event is free.
     #[must_use = "it may be the output"]
     pub fn poll_in(&mut self, cx: &mut Context<'_>) -> Poll<Result<A::Output, UntilError>>
         ensures ready { IfReady result (λ output.
@@ -65,7 +66,7 @@ impl<'a, A: Attempt, R: Wait + Clock + Clone> Until<'a, A, R> {
     }
 }
 
-/// Gives the output of the first attempt that succeeds. What each poll does is said at [`Until::poll_in`].
+/// Gives the output of the first attempt that succeeds, or the first error. [`Until::poll_in`] says what each poll does.
 impl<'a, A: Attempt + Drop, R: Wait + Clock + Clone> Future for Until<'a, A, R> {
     type Output = Result<A::Output, UntilError>;
 

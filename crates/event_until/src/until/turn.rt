@@ -14,15 +14,16 @@ use std::alloc::Global;
 use std::sync::Wait;
 use std::time::Clock;
 
-/// What came of an attempt that was made while a listener was in the queue.
+/// The outcome of an attempt that was made while a listener was in the queue.
 pub(crate) enum Turn<T, L> {
-    /// It succeeded. The listener is gone.
+    /// The attempt succeeded. The listener has been dropped.
     Succeeded(T),
-    /// It failed, and this is the listener.
+    /// The attempt failed, and this is the listener.
     Listens(L),
 }
 
-/// Listens, and attempts once the listener is in the queue: a notification that came before that did not reach it.
+/// Listens, and attempts once the listener is in the queue, because a notification made before that did not reach the
+/// listener.
 #[inline(always)]
 pub(super) fn listen_and_attempt<'a, A, R>(
     attempt: &mut A,
@@ -48,10 +49,10 @@ where
     }
 }
 
-/// Attempts, listens and attempts again until an attempt succeeds, or a listener is left that has registered the task which
-/// polls. A listener that an earlier poll left is polled first, and keeps its place in the queue.
+/// Attempts, listens and attempts again until an attempt succeeds, or until a listener has registered the task that polls.
 ///
-/// A listener is polled where it is left, since each move costs a copy. An error may leave a finished one.
+/// A listener that an earlier poll left is polled first, and keeps its place in the queue. A listener is polled where it is
+/// left, because each move costs a copy. An error may leave a finished listener.
 #[inline(always)]
 pub(super) fn poll_turns<'a, A, R>(
     attempt: &mut A,
