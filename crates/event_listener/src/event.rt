@@ -165,9 +165,9 @@ impl<T> Event<T> {
 
     /// Notifies the first listeners that wait, as many as `n` asks for, and returns how many were notified.
     ///
-    /// Each of them, in queue order, gets the next tag of the notification, and its task is woken, the last one once the lock
-    /// is given back. A default notification, as `n` by itself, counts the listeners that are notified already, so it
-    /// notifies its count less those. An additional one, as `n.additional()`, notifies its whole count anew. If fewer
+    /// Each notified listener, in queue order, gets the next tag of the notification, and its task is woken, the last one
+    /// once the lock is given back. A default notification, as `n` by itself, counts the listeners that are notified already,
+    /// so it notifies its count less those. An additional one, as `n.additional()`, notifies its whole count anew. If fewer
     /// listeners wait, all of these are notified. A notification that finds no listener waiting is lost: a later listener
     /// does not get it. If there is no queue yet, the call returns 0, and makes no queue.
     ///

@@ -1,32 +1,33 @@
 use crate::key::Key;
 use crate::reply::{ListenError, NotifyError, RegisterResult, State};
 
-/// One call of a queue, as a value that [`List::run`](crate::List::run) makes.
+/// A call of a queue, as a value that [`List::run`](crate::List::run) makes.
 #[derive(Clone, Debug, PartialEq, Eq, Drop)]
 pub enum Call<T, W> {
     /// A call of [`List::insert`](crate::List::insert).
     Insert,
     /// A call of [`List::register`](crate::List::register).
     Register {
-        /// The listener.
+        /// The key of the listener.
         key: Key,
         /// The task to store.
         task: W,
     },
     /// A call of [`List::remove`](crate::List::remove).
     Remove {
-        /// The listener.
+        /// The key of the listener.
         key: Key,
-        /// Whether the notification of a notified listener is propagated.
+        /// Whether the notification of a listener that is notified is propagated to another listener.
         propagate: bool,
     },
     /// A call of [`List::notify`](crate::List::notify).
     Notify {
         /// How many listeners the notification is for.
         count: usize,
-        /// Whether it is an additional one.
+        /// Whether the notification is an additional one, which counts no listener that is notified already.
         additional: bool,
-        /// Its tags, in order. The tag after the last is refused.
+        /// The tags, one for each listener that is notified, in order. After the last tag the notification refuses to give
+        /// one.
         tags: Vec<T>,
     },
     /// A call of [`List::total_listeners`](crate::List::total_listeners).
@@ -35,18 +36,18 @@ pub enum Call<T, W> {
     IsNotified,
 }
 
-/// What a queue answered to a [`Call`].
+/// What a queue returned to a [`Call`].
 #[derive(Clone, Copy, Debug, PartialEq, Eq, Drop)]
 pub enum Reply<T, W> {
-    /// The answer of an insertion.
+    /// The new listener's key, or why no listener was inserted.
     Inserted(Result<Key, ListenError>),
-    /// The answer of a registration.
+    /// What the registration found.
     Registered(RegisterResult<T>),
-    /// The answer of a removal.
+    /// What the listener was when it left the queue, or `None` if no listener has that key.
     Removed(Option<State<T, W>>),
-    /// The answer of a notification.
+    /// How many listeners the call notified, or that the notification refused a tag.
     Notified(Result<usize, NotifyError>),
-    /// How many listeners there were.
+    /// How many listeners were in the queue.
     TotalListeners(usize),
     /// Whether some listener was notified.
     IsNotified(bool),

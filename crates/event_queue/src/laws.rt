@@ -1,4 +1,4 @@
-//! Laws that users rely on, each as the contract of a function without a `requires`.
+//! Laws that users rely on. Each is the contract of a function without a `requires`.
 ghost use Rattle.std.specs.Prelude.{◌≡◌, ◌↔◌, ℕ, List, [], IsTrue};
 ghost use Rattle.std.specs.List.{FoldsTo};
 ghost use Rattle.event_queue.specs.Woken.{Kept, first_of};
@@ -7,14 +7,16 @@ use crate::key::Key;
 use crate::wake::WakeSink;
 use crate::woken::Woken;
 
-/// Keys are equal exactly if their slots and their serials are.
+/// Returns whether two keys are equal, and proves that this is so exactly if their slots and their serial numbers are.
 pub fn equal_keys(left: Key, right: Key) -> bool
     ensures { IsTrue result ↔ ((left.slot ≡ right.slot) × (left.serial ≡ right.serial)) }
 {
     left == right
 }
 
-/// A [`Woken`] with room for `n` that was given these tasks has kept the first `n` of them, and counts the others.
+/// Proves that a [`Woken`] with room for `n` tasks keeps the first `n` of the tasks that it is given, and counts the others.
+///
+/// Does nothing when a program runs.
 pub fn woken_keeps_the_first<W: Drop>()
     ensures { (n : ℕ) (tasks : List W) (after : Kept W)
         → FoldsTo ⟦<Woken<W> as WakeSink<W>>⟧.woke (record { tasks = []; room = n; missed = 0 })

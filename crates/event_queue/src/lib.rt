@@ -1,7 +1,9 @@
-//! The queue of an event as a value: listeners in order of listening, a front of them notified, the others waiting.
+//! The queue of an event as a value: listeners in the order in which they were inserted, of which a front is notified and the
+//! others wait.
 //!
-//! [`List`] is the queue, and a [`Notification`] what it is notified with. The other names are what their calls take
-//! and return, and laws of them.
+//! [`List`] is the queue, and a [`Notification`] is what notifies its listeners. The other names are what the calls of these
+//! take and return, and laws about them. A law is a function that does nothing when a program runs, and whose clauses are
+//! proved.
 #![tactic(auto)]
 
 mod call;

@@ -1,4 +1,4 @@
-//! The queue: listeners in order of listening, a front of them notified.
+//! The queue: listeners in the order in which they were inserted, of which a front is notified and the others wait.
 ghost use Rattle.std.specs.Prelude.{◌≡◌, ◌+◌, ◌<◌, ◌≤◌, ◌↔◌, [], ◌∷◌, length, take, IsTrue, IsFalse, IsOk, IsSome, OnOk, OnErr, IfOk, IfErr, Err};
 ghost use Rattle.std.specs.List.{FoldsTo};
 ghost use Rattle.std.specs.Map.{keys_of, lookup};
@@ -26,13 +26,16 @@ use std::alloc::{AllocError, Global};
 use std::marker::Model;
 use std::sync::ledger::Ledger;
 
-/// A queue of listeners.
+/// A queue of listeners, of which a front is *notified* (`told` in the clauses), and the others *wait*.
 ///
-/// A front of the queue is notified, each listener with a tag; the others wait, each with a task if it stored one.
-/// No call takes a lock, waits or panics.
+/// A notification picks the first listeners that wait. Each listener that is notified keeps a tag, a value of type `T`, until
+/// the tag is taken or the listener is removed. A listener that waits may store a task, a value of type `W`, which a
+/// notification wakes. Each listener is named by a [`Key`]. No call takes a lock, blocks or panics, unless a sink, an
+/// exchange or a notification of the caller does.
 ///
-/// Seven calls count in [`Steps`] how many nodes of other listeners they visit, and how often they look up a key. Each
-/// has a namesake for callers that count nothing, as [`insert_uncounted`](List::insert_uncounted).
+/// Seven calls count in [`Steps`] how many nodes of other listeners they visit, and how often they look up a key. Each of
+/// these has a namesake that counts nothing, for example [`insert_uncounted`](List::insert_uncounted), for callers who do not
+/// bound the work of a call.
 #[derive(Drop)]
 pub struct List<T, W> {
     pub(crate) chain: Chain<Notice<T>, W>,
@@ -59,7 +62,7 @@ impl<T, W> Model for List<T, W> {
     }) };
 }
 
-// What a registration answers that found this.
+// Returns the answer of a registration that found this.
 #[inline(always)]
 pub(crate) fn answer<T>(found: Option<Side<Notice<T>, ()>>) -> RegisterResult<T>
     ensures value { result ≡ answer_of found }
@@ -76,7 +79,7 @@ pub(crate) fn answer<T>(found: Option<Side<Notice<T>, ()>>) -> RegisterResult<T>
 }
 
 impl<T, W> List<T, W> {
-    /// An empty queue, whose first listener gets the serial 0. The call allocates nothing.
+    /// Makes an empty queue, whose first listener gets the serial number 0. Takes no memory.
     pub fn new(alloc: Global) -> Self
         ensures empty { result ≡ record { told = []; waiting = []; next_serial = 0; spare = 0 } }
         ensures queue { IsQueue result }
@@ -84,9 +87,10 @@ impl<T, W> List<T, W> {
         Self::starting_at(alloc, 0)
     }
 
-    /// An empty queue, whose first listener gets the serial `first`. The call allocates nothing.
+    /// Makes an empty queue, whose first listener gets the serial number `first`. Takes no memory.
     ///
-    /// Serials rise by one with each insertion, and no listener gets `u64::MAX`, so a queue that starts late has fewer.
+    /// The serial numbers rise by one with each insertion, and no listener gets `u64::MAX`. So a queue that starts at a
+    /// greater number has fewer serial numbers to give.
     pub fn starting_at(alloc: Global, first: u64) -> Self
         ensures empty { result ≡ record {
           told = [];
@@ -102,12 +106,13 @@ impl<T, W> List<T, W> {
         }
     }
 
-    /// Makes room for `n` more listeners, so that as many insertions allocate nothing. It works also if the serials
-    /// are used up.
+    /// Makes room for `n` more listeners, so that the next `n` insertions take no memory.
     ///
-    /// It allocates only if fewer than `n` slots are spare. An error leaves the listeners and the next serial as
-    /// they were, and fewer than `n` slots spare, but no fewer than before: those that were made stay. A number that no
-    /// memory has room for fails too. More than 2^32 slots, in use or spare, are refused as memory is.
+    /// Takes memory only if fewer than `n` slots are *spare*, which means made and free for a new listener. The call works
+    /// also if the serial numbers are used up. The call returns an error if there is no memory, or if the queue would have
+    /// more than 2^32 slots, because a key has 32 bits for its slot. After an error fewer than `n` slots are spare, but no
+    /// fewer than before, because slots that were made stay. An error leaves the listeners and the next serial number as they
+    /// were.
     pub fn reserve(&mut self, n: usize) -> Result<(), AllocError>
         ensures room { OnOk result (n ≤ self.new.spare) }
         ensures listeners { self.new ≡ record self.old { spare = self.new.spare } }
@@ -119,11 +124,11 @@ impl<T, W> List<T, W> {
         self.chain.reserve(n)
     }
 
-    /// Inserts a listener, which waits at the end of the queue with no task stored, and returns its key.
+    /// Inserts a listener at the end of the queue, which waits with no task stored, and returns its key.
     ///
-    /// It allocates only if [`spare`](List::spare) is 0, and returns [`ListenError::Memory`] if that fails.
-    /// If the serials are used up it returns [`ListenError::SerialsUsedUp`] and allocates nothing. Both leave the
-    /// queue as it was. It adds its visits to `steps`, three at most, and looks up no key.
+    /// Returns [`ListenError::SerialsUsedUp`] if the queue has given out all its serial numbers, and [`ListenError::Memory`]
+    /// if there is no memory. Both errors leave the queue as it was. Takes memory only if [`spare`](List::spare) is 0. Adds
+    /// its visits of other listeners' nodes to `steps`, three at most, and looks up no key.
     #[inline(always)]
     pub fn insert<L: Ledger>(&mut self, steps: &mut Steps<L>) -> Result<Key, ListenError>
         ensures law { IsInsertion self.old result self.new }
@@ -135,13 +140,12 @@ impl<T, W> List<T, W> {
         Ok(self.join(serial, None, steps))
     }
 
-    /// Inserts a listener, which waits at the end of the queue with a task that the exchange makes of none, and returns
-    /// its key.
-    ///
-    /// The task is made only if the insertion is not refused. The refusals are those of [`insert`](List::insert), and
-    /// leave the queue as it was, and `on` too. The call drops no task. It allocates as an insertion does, and if the
-    /// exchange does, and waits only if the exchange does. It adds its visits to `steps`, three at most, and looks up no
+    /// Inserts a listener at the end of the queue, which waits with a task stored that the exchange makes, and returns its
     /// key.
+    ///
+    /// The exchange is called, with no stored task, only if the insertion is not refused. The errors are those of
+    /// [`insert`](List::insert), and leave `on` as it was, too. Takes memory as `insert` does, or if the exchange does, and
+    /// blocks only if the exchange does. No task is dropped. Adds its visits to `steps`, three at most, and looks up no key.
     #[inline(always)]
     pub fn insert_with<C, X: TaskExchange<W, C>, L: Ledger>(
         &mut self,
@@ -160,8 +164,8 @@ impl<T, W> List<T, W> {
         Ok(self.join(serial, Some(task), steps))
     }
 
-    // Sees to it that one more listener can be inserted: that a serial is left and a slot spare, for which it may allocate.
-    // Returns the serial, so that it is read once.
+    // Makes sure that one more listener can be inserted: that a serial number is left and a slot spare, for which it may take
+    // memory. Returns the serial number, so that this is read once.
     #[inline(always)]
     pub(crate) fn make_room(&mut self) -> Result<u64, ListenError>
         ensures serial { IfOk result (λ serial. serial ≡ self.new.next_serial) }
@@ -182,7 +186,8 @@ impl<T, W> List<T, W> {
         }
     }
 
-    // Has a newcomer wait at the end of the queue, which has the next serial and stores this. It can't be refused.
+    // Inserts a listener at the end of the queue, which has the next serial number and stores this. The insertion can't be
+    // refused.
     #[inline(always)]
     pub(crate) fn join<K: Count>(&mut self, serial: u64, stored: Option<W>, steps: &mut K) -> Key
         requires serial { serial ≡ self.old.next_serial }
@@ -198,11 +203,12 @@ impl<T, W> List<T, W> {
         key
     }
 
-    /// Registers the task of a listener: a notified one takes its tag and leaves the queue, one that waits stores
-    /// the task, in place of any that it stored before.
+    /// Registers a listener with a task: takes the tag of a notified listener, which leaves the queue, or stores the task of
+    /// a waiting listener.
     ///
-    /// The call drops a task that it doesn't store, and one that it replaces. It allocates nothing. It adds its visits
-    /// to `steps`, three at most, and one look by key.
+    /// The task replaces any task that the listener stored before. A task that is replaced or not stored is dropped. Returns
+    /// [`RegisterResult::NeverInserted`] if no listener has that key. Takes no memory. Adds its visits to `steps`, three at
+    /// most, and one look by key.
     #[inline(always)]
     pub fn register<L: Ledger>(
         &mut self,
@@ -223,12 +229,13 @@ impl<T, W> List<T, W> {
         answer(self.chain.take_or_change(key, change, &mut None, steps))
     }
 
-    /// Registers a listener with a task that is made of the one that it stored: one that was notified takes its tag and
-    /// leaves the queue; of one that waits, the stored task, if it has one, is exchanged, and what comes back is stored.
+    /// Registers a listener with an exchange: takes the tag of a notified listener, which leaves the queue, or exchanges the
+    /// stored task of a waiting listener.
     ///
-    /// Nothing is exchanged if the listener was notified, or if no listener has that key. The call drops no task, and
-    /// allocates and waits only if the exchange does. It adds its visits to `steps`, three at most, and one look by
-    /// key.
+    /// The exchange is called only for a listener that waits. The exchange is given the task that the listener stored, if
+    /// any, and the task that the exchange returns is stored. So the call itself drops no task. Returns
+    /// [`RegisterResult::NeverInserted`] if no listener has that key. Takes memory or blocks only if the exchange does. Adds
+    /// its visits to `steps`, three at most, and one look by key.
     pub fn register_with<C, X: TaskExchange<W, C>, L: Ledger>(
         &mut self,
         key: Key,
@@ -248,13 +255,14 @@ impl<T, W> List<T, W> {
         answer(self.chain.take_or_change(key, change, on, steps))
     }
 
-    /// Removes a listener from the queue, and returns what it was, or `None` if no listener has that key.
+    /// Removes a listener from the queue, and returns what the listener was, or `None` if no listener has that key.
     ///
-    /// With `propagate`, a notified listener's notification is propagated: the queue is notified of one, of the same
-    /// kind and with the same tag. The answer says where it went: [`State::Passed`] names the listener notified by
-    /// it, and [`State::Lost`] returns the tag if none was. So a default notification is lost while another
-    /// listener stays notified, and an additional one only if none waits. The call allocates nothing, and neither
-    /// clones nor drops a tag. It adds its visits to `steps`, three at most, and one look by key.
+    /// With `propagate` the notification of a listener that was notified is *propagated*: the queue is notified of one, of
+    /// the same kind and with the same tag. The answer is then [`State::Passed`], which names the listener that was notified
+    /// by it, or [`State::Lost`], which returns the tag. So a default notification is lost while another listener stays
+    /// notified, and an additional one only if no listener waits. The task that a propagation wakes is given to `sink`.
+    ///
+    /// Takes no memory, and neither clones nor drops a tag. Adds its visits to `steps`, three at most, and one look by key.
     #[inline(always)]
     pub fn remove<S: WakeSink<W>, L: Ledger>(
         &mut self,
@@ -273,7 +281,7 @@ impl<T, W> List<T, W> {
         self.remove_by(key, propagate, sink, steps)
     }
 
-    // Removes a listener, and tells `steps` of it.
+    // Removes a listener, and counts the steps of that in `steps`.
     #[inline(always)]
     pub(crate) fn remove_by<S: WakeSink<W>, K: Count>(
         &mut self,
@@ -303,9 +311,9 @@ impl<T, W> List<T, W> {
         }
     }
 
-    // Propagates a notification: notifies one listener, with that kind and tag. Returns which one, or the kind and the
-    // tag if it notified none. It is never inlined, so that the drop of a listener, which is inlined in many places, stays
-    // short.
+    // Propagates a notification: notifies one listener, with that kind and tag. Returns which listener, or the kind and the
+    // tag if no listener was notified. The function is never inlined, so that the drop of a listener, which is inlined in
+    // many places, stays short.
     #[cold]
     #[inline(never)]
     fn pass_on<S: WakeSink<W>, K: Count>(
@@ -333,14 +341,16 @@ impl<T, W> List<T, W> {
         State::Passed { to }
     }
 
-    /// Notifies the first waiting listeners, as many as the notification is for, in order, each with the next tag
-    /// of the notification, and wakes the task of each that stored one. Returns how many it notified.
+    /// Notifies the first listeners that wait, as many as the notification is for, and returns how many were notified.
     ///
-    /// A default notification counts the listeners that are notified already; an additional one does not. The
-    /// notification is asked for a tag once for each listener notified. If it refuses one, the call returns a
-    /// [`NotifyError`]: those notified until then stay notified, and none is skipped. A notification that finds no
-    /// listener to notify is not kept. The call allocates nothing, but the notification may if it makes a tag. It adds
-    /// one visit to `steps` for each listener notified, and no other, and looks up no key.
+    /// A default notification counts the listeners that are notified already, so it notifies its count less those; an
+    /// additional one does not. If fewer listeners wait, all of these are notified. Each notified listener, in order, gets
+    /// the next tag of the notification, and the task that the listener stored, if any, is given to `sink`. A notification
+    /// that finds no listener waiting is not kept for a later listener.
+    ///
+    /// Returns a [`NotifyError`] if the notification refuses a tag: the listeners notified until then stay notified, and are
+    /// the first that waited. Takes memory only if the notification does so to make a tag. Adds one visit to `steps` for each
+    /// listener notified, and looks up no key.
     #[inline(always)]
     pub fn notify<N: Notification<Tag = T>, S: WakeSink<W>, L: Ledger>(
         &mut self,
@@ -359,7 +369,7 @@ impl<T, W> List<T, W> {
         self.notify_by(n, sink, steps)
     }
 
-    // Notifies the first waiting listeners, and tells `steps` of it.
+    // Notifies the first listeners that wait, and counts the steps of that in `steps`.
     #[inline(always)]
     pub(crate) fn notify_by<N: Notification<Tag = T>, S: WakeSink<W>, K: Count>(
         &mut self,
@@ -386,7 +396,7 @@ impl<T, W> List<T, W> {
         Ok(count)
     }
 
-    // How many listeners a notification of that count and kind notifies.
+    // Returns how many listeners a notification of that count and kind notifies.
     #[inline(always)]
     fn how_many(&self, count: usize, additional: bool) -> usize
         ensures value { result ≡ how_many count additional self.now }
@@ -400,7 +410,7 @@ impl<T, W> List<T, W> {
         wanted.min(self.chain.after_len())
     }
 
-    // Notifies the first listener that waits, and returns its key, and the task to wake if it stored one.
+    // Notifies the first listener that waits, and returns its key, and the task to wake if the listener stored one.
     #[inline(always)]
     fn tell_next<K: Count>(&mut self, notice: Notice<T>, steps: &mut K) -> (Key, Option<W>)
         requires { 0 < length self.old.waiting }
@@ -413,14 +423,14 @@ impl<T, W> List<T, W> {
         self.chain.advance(notice, steps)
     }
 
-    // Shows that this is an `IsQueue`, to a caller that reads no field.
+    // Shows to a caller that reads no field that this value fulfills `IsQueue`.
     pub(crate) fn invariant_holds(&self)
         ensures { IsQueue self.now }
     {
         let _chain = &self.chain;
     }
 
-    /// How many slots are spare: as many more insertions allocate nothing. The call allocates nothing.
+    /// Returns how many slots are spare: that many more insertions take no memory. Takes no memory.
     pub fn spare(&self) -> usize
         ensures value { result ≡ self.now.spare }
         ensures queue { IsQueue self.now }
@@ -428,7 +438,7 @@ impl<T, W> List<T, W> {
         self.chain.spare()
     }
 
-    /// How many listeners there are, notified or waiting. The call allocates nothing.
+    /// Returns how many listeners are in the queue, notified or waiting. Takes no memory.
     pub fn total_listeners(&self) -> usize
         ensures value { result ≡ length self.now.told + length self.now.waiting }
         ensures queue { IsQueue self.now }
@@ -436,7 +446,7 @@ impl<T, W> List<T, W> {
         self.chain.len()
     }
 
-    /// Whether some listener is notified. The call allocates nothing.
+    /// Returns whether some listener is notified. Takes no memory.
     pub fn is_notified(&self) -> bool
         ensures value { IsTrue result ↔ (0 < length self.now.told) }
         ensures queue { IsQueue self.now }
@@ -444,7 +454,7 @@ impl<T, W> List<T, W> {
         self.chain.before_len() > 0
     }
 
-    /// How many listeners are notified. The call allocates nothing.
+    /// Returns how many listeners are notified. Takes no memory.
     pub fn listeners_notified(&self) -> usize
         ensures value { result ≡ length self.now.told }
         ensures queue { IsQueue self.now }
@@ -452,8 +462,9 @@ impl<T, W> List<T, W> {
         self.chain.before_len()
     }
 
-    /// Whether the listener of that key is notified. The call allocates nothing. It adds no visit to `steps`, and one
-    /// look by key.
+    /// Returns whether the listener of that key is notified; `false` also if no listener has that key.
+    ///
+    /// Takes no memory. Adds no visit to `steps`, and one look by key.
     #[inline(always)]
     pub fn is_told<L: Ledger>(&self, key: Key, steps: &mut Steps<L>) -> bool
         ensures value { IsTrue result ↔ IsSome (lookup (is_key key) self.now.told) }

@@ -31,10 +31,10 @@ pub enum Side<A, B> {
     After(B),
 }
 
-/// Entries in the order in which they were pushed, each under a key that the chain gives it, and a cursor between
-/// two of them: those before it carry an `A`, those after it a `B` or nothing.
+/// Entries in the order in which they were pushed, each under a key that the chain gives it, and a cursor between two of
+/// them: the entries before the cursor carry an `A`, the entries after the cursor a `B` or nothing.
 ///
-/// An entry that leaves makes its node spare, and a push takes a spare node: it never allocates.
+/// An entry that leaves makes its node spare, and a push uses a spare node, so a push takes no memory.
 #[derive(Drop)]
 pub struct Chain<A, B> {
     // Made with the first node.
@@ -87,7 +87,7 @@ fn start<A, B>(
 }
 
 impl<A, B> Chain<A, B> {
-    /// A chain with no entry and no room, which allocates nothing.
+    /// Makes a chain with no entry and no room. Takes no memory.
     pub fn new(alloc: Global) -> Self
         ensures { result ≡ record { before = []; after = []; spare = 0 } }
     {
@@ -99,7 +99,7 @@ impl<A, B> Chain<A, B> {
         }
     }
 
-    /// How many more entries fit with no allocation.
+    /// Returns how many more entries fit without more memory.
     pub fn spare(&self) -> usize
         ensures value { result ≡ self.now.spare }
         ensures slots_fit { length self.now.before + length
@@ -108,8 +108,8 @@ impl<A, B> Chain<A, B> {
         self.table.spare()
     }
 
-    /// Makes room for `n` more entries, which allocates if fewer are spare. If that fails no room is lost. More than 2^32
-    /// nodes, with those that are spare, are refused as memory is.
+    /// Makes room for `n` more entries. Takes memory if fewer than `n` nodes are spare. A call that fails loses no room. More
+    /// than 2^32 nodes, in use or spare, are refused as memory is, because a key has 32 bits for its slot.
     #[inline(always)]
     pub fn reserve(&mut self, n: usize) -> Result<(), AllocError>
         ensures room { OnOk result (n ≤ self.new.spare) }
@@ -128,7 +128,7 @@ impl<A, B> Chain<A, B> {
         self.grow(n - spare)
     }
 
-    // Makes `n` more spare nodes. After a refusal it keeps those that it made.
+    // Makes `n` more spare nodes. A call that fails keeps the nodes that it made.
     fn grow(&mut self, n: usize) -> Result<(), AllocError>
         requires { 0 < n }
         ensures ok { OnOk result (self.new.spare ≡ self.old.spare + n) }
@@ -143,28 +143,28 @@ impl<A, B> Chain<A, B> {
         self.table.grow(n, &mut blocks)
     }
 
-    /// How many entries there are.
+    /// Returns how many entries there are.
     pub fn len(&self) -> usize
         ensures { result ≡ length self.now.before + length self.now.after }
     {
         self.before_len + self.after_len
     }
 
-    /// How many entries are before the cursor.
+    /// Returns how many entries are before the cursor.
     pub fn before_len(&self) -> usize
         ensures { result ≡ length self.now.before }
     {
         self.before_len
     }
 
-    /// How many entries are after the cursor.
+    /// Returns how many entries are after the cursor.
     pub fn after_len(&self) -> usize
         ensures { result ≡ length self.now.after }
     {
         self.after_len
     }
 
-    /// Whether the entry of that key is before the cursor.
+    /// Returns whether the entry of that key is before the cursor.
     #[inline(always)]
     pub fn is_before<K: Count>(&self, key: Key, steps: &mut K) -> bool
         ensures value { IsTrue result ↔ IsSome (lookup (is_key key) self.now.before) }
@@ -178,7 +178,7 @@ impl<A, B> Chain<A, B> {
         entries.is_before(&own)
     }
 
-    /// Appends an entry, whose serial is below `u64::MAX`, on a node that is spare.
+    /// Appends an entry, whose serial number is below `u64::MAX`, on a spare node, and returns its key.
     #[inline(always)]
     pub fn push_spare<K: Count>(&mut self, serial: u64, value: Option<B>, steps: &mut K) -> Key
         requires spare { 0 < self.old.spare }
@@ -206,7 +206,7 @@ impl<A, B> Chain<A, B> {
         key
     }
 
-    /// Takes the entry of that key out.
+    /// Takes the entry of that key out, and returns its value, if an entry has the key.
     #[inline(always)]
     pub fn take<K: Count>(&mut self, key: Key, steps: &mut K) -> Option<Side<A, Option<B>>>
         ensures step { Takes self.old key result self.new }
@@ -227,8 +227,8 @@ impl<A, B> Chain<A, B> {
         Some(Side::Before(value))
     }
 
-    /// Takes the entry of that key out, if it is before the cursor. If it is after the cursor, gives it the value that
-    /// `change` makes of the one that it has.
+    /// Takes the entry of that key out, if it is before the cursor. If it is after the cursor, gives the entry the value that
+    /// `change` makes of the value that the entry has.
     #[inline(always)]
     pub fn take_or_change<C, M: Change<Option<B>, C>, K: Count>(
         &mut self,
@@ -257,8 +257,8 @@ impl<A, B> Chain<A, B> {
         Some(Side::Before(value))
     }
 
-    /// Moves the cursor past the first entry after it, which gets this value. Returns its key and the value that it
-    /// had.
+    /// Moves the cursor past the first entry after it, which gets this value. Returns the key of that entry and the value
+    /// that it had.
     #[inline(always)]
     pub fn advance<K: Count>(&mut self, value: A, steps: &mut K) -> (Key, Option<B>)
         requires { 0 < length self.old.after }

@@ -1,8 +1,8 @@
-/// What a notified listener got: of which kind the notification was, and the tag that came with it.
+/// What a notified listener was given: the kind of the notification, and the tag.
 #[derive(Drop)]
 pub struct Notice<T> {
     /// Whether the notification was an additional one.
     pub additional: bool,
-    /// The tag that the listener gets.
+    /// The tag, which the listener keeps until the tag is taken.
     pub tag: T,
 }

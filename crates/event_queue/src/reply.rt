@@ -4,27 +4,28 @@ use thiserror::Error;
 /// What a listener was when it left the queue.
 #[derive(Clone, Copy, Debug, PartialEq, Eq, Drop)]
 pub enum State<T, W> {
-    /// Waiting, and no task was stored.
+    /// The listener waited, and had stored no task.
     Created,
-    /// Notified, by this notification.
+    /// The listener was notified, and its notification is returned, because it was not to be propagated.
     Notified {
         /// Whether the notification was an additional one.
         additional: bool,
-        /// The tag that came with it.
+        /// The tag of the notification.
         tag: T,
     },
-    /// Waiting, with the task that was stored last.
+    /// The listener waited, and this is the task that it had stored last.
     Task(W),
-    /// Notified, and its notification was propagated: another listener was notified by it.
+    /// The listener was notified, and its notification was propagated: another listener was notified by it.
     Passed {
-        /// The listener that was notified.
+        /// The key of the listener that was notified.
         to: Key,
     },
-    /// Notified, and its notification was lost: no listener was notified by it, so it is returned.
+    /// The listener was notified, and its notification was lost, because propagating it notified no listener. So the
+    /// notification is returned.
     Lost {
         /// Whether the notification was an additional one.
         additional: bool,
-        /// The tag that came with it.
+        /// The tag of the notification.
         tag: T,
     },
 }
@@ -32,29 +33,29 @@ pub enum State<T, W> {
 /// What [`List::register`](crate::List::register) found.
 #[derive(Clone, Copy, Debug, PartialEq, Eq, Drop)]
 pub enum RegisterResult<T> {
-    /// The listener was notified: it has left the queue, and this is its tag.
+    /// The listener was notified. It has left the queue, and this is its tag.
     Notified(T),
-    /// The listener waits, and the task is stored.
+    /// The listener waits, and a task is stored.
     Registered,
-    /// No listener of that key is in the queue.
+    /// No listener with that key is in the queue.
     NeverInserted,
 }
 
 /// Why a listener was not inserted.
 #[derive(Clone, Copy, Debug, PartialEq, Eq, Error)]
 pub enum ListenError {
-    /// There was no memory for the listener. The queue is unchanged.
+    /// There was no memory for the listener. No listener was inserted.
     #[error("no memory for a listener")]
     Memory,
-    /// The queue has given out all serial numbers. The queue is unchanged.
+    /// The queue has given out all its serial numbers, of which each listener gets one. No listener was inserted.
     #[error("serial numbers are used up")]
     SerialsUsedUp,
 }
 
-/// A notification refused a tag before all its listeners were notified.
+/// The error of a notification that refused a tag before all its listeners were notified.
 #[derive(Clone, Copy, Debug, PartialEq, Eq, Error)]
 #[error("a tag was refused after {told} listeners")]
 pub struct NotifyError {
-    /// How many listeners were notified in full. No other listener is changed.
+    /// How many listeners were notified before that. These listeners stay notified, and no other listener is changed.
     pub told: usize,
 }

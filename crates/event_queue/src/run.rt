@@ -12,13 +12,13 @@ use crate::wake::WakeSink;
 use std::alloc::AllocError;
 
 impl<T: Drop, W: Drop> List<T, W> {
-    /// Makes the calls one after another, and appends the reply of each. If a call fails, the error is its
+    /// Makes the calls one after another, and appends the reply of each to `replies`. If a call fails, its error is its
     /// reply, and the run goes on.
     ///
-    /// It makes room for all replies first, which allocates if `replies` has too little. If that fails, it
-    /// makes no call, drops the calls, and leaves the queue, the replies and the sink as they were. From then on it
-    /// allocates if an insertion does. A notification of the run has its tags in a list, and the tag after the last
-    /// is refused.
+    /// Room for all replies is made first, which takes memory if `replies` has too little. If there is none, the call returns
+    /// an error, makes no call, drops the calls, and leaves the queue, the replies and the sink as they were. From then on
+    /// memory is taken only by insertions, whose failure is a reply. The tasks that the calls wake are given to `sink`. A
+    /// notification of the run has its tags in a list, and after the last tag it refuses to give one.
     pub fn run<S: WakeSink<W>>(
         &mut self,
         calls: Vec<Call<T, W>>,
@@ -50,7 +50,7 @@ impl<T: Drop, W: Drop> List<T, W> {
         Ok(())
     }
 
-    // Makes one call, and gives what it answers.
+    // Makes one call, and returns its reply.
     fn perform<S: WakeSink<W>>(&mut self, call: Call<T, W>, sink: &mut S) -> Reply<T, W>
         ensures step { Step self.old call result self.new }
         ensures wakes { FoldsTo S.woke sink.old (woken_by call result self.old) sink.new }

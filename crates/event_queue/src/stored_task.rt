@@ -5,7 +5,7 @@ ghost use Rattle.event_queue.specs.StoredTask.{StoresWhat};
 use crate::exchange::TaskExchange;
 use crate::node::Change;
 
-/// Stores this task. What was stored is handed out.
+/// A change that stores this task, and hands out the task that was stored.
 #[derive(Drop)]
 pub(crate) struct Storing<W> {
     pub(crate) task: W,
@@ -23,7 +23,7 @@ impl<W: Drop> Change<Option<W>, Option<W>> for Storing<W> {
     }
 }
 
-/// Stores what the exchange makes of the stored task.
+/// A change that stores what the exchange makes of the stored task.
 #[derive(Drop)]
 pub(crate) struct Exchanging<'a, X> {
     pub(crate) exchange: &'a X,

@@ -2,12 +2,12 @@ use crate::notify::Notification;
 use std::alloc::AllocError;
 use std::vec::IntoIter;
 
-/// A notification that has its tags in a list, and refuses the tag after the last.
+/// A notification that has its tags in a list, and refuses to give a tag after the last.
 #[derive(Drop)]
 pub struct TagList<T> {
-    /// How many listeners it is for.
+    /// How many listeners the notification is for.
     pub count: usize,
-    /// Whether it is an additional one.
+    /// Whether the notification is an additional one, which counts no listener that is notified already.
     pub additional: bool,
     /// The tags that are left, in order.
     pub tags: IntoIter<T>,

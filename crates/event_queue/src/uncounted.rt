@@ -1,4 +1,5 @@
-//! The calls of a queue for callers that count no visits: each does what the counted call does, with counts for proofs alone.
+//! The calls of a queue for callers that count no visits. Each does what the counted call does, with counts that exist in
+//! proofs alone.
 ghost use Rattle.std.specs.Prelude.{◌-◌, ◌^◌, ◌↔◌, min, IsTrue, IsSome};
 ghost use Rattle.std.specs.Map.{lookup};
 ghost use Rattle.event_queue.specs.Key.{is_key};
@@ -18,7 +19,7 @@ use crate::reply::{ListenError, NotifyError, RegisterResult, State};
 use crate::stored_task::{Exchanging, Storing};
 use crate::wake::WakeSink;
 
-// Counts that only proofs read. Only the calls below make one, so what a counted call looks at is counted in its `steps`.
+// Counts that only proofs read. Only the calls below make them, so what a counted call looks at is counted in its `steps`.
 #[derive(Drop)]
 struct Uncounted {
     visits: Number,
@@ -53,7 +54,9 @@ impl Count for Uncounted {
 }
 
 impl<T, W> List<T, W> {
-    /// [`insert`](List::insert), with its refusals, for a caller that counts no visits.
+    /// Inserts a listener at the end of the queue, which waits with no task stored, and returns its key.
+    ///
+    /// The call does what [`insert`](List::insert) does, with its errors, and counts no visits.
     #[inline(always)]
     pub fn insert_uncounted(&mut self) -> Result<Key, ListenError>
         ensures { IsInsertion self.old result self.new }
@@ -62,7 +65,10 @@ impl<T, W> List<T, W> {
         Ok(self.join(serial, None, &mut Uncounted::new()))
     }
 
-    /// [`insert_with`](List::insert_with), with its refusals, for a caller that counts no visits.
+    /// Inserts a listener at the end of the queue, which waits with a task stored that the exchange makes, and returns its
+    /// key.
+    ///
+    /// The call does what [`insert_with`](List::insert_with) does, with its errors, and counts no visits.
     #[inline(always)]
     pub fn insert_with_uncounted<C, X: TaskExchange<W, C>>(
         &mut self,
@@ -77,7 +83,10 @@ impl<T, W> List<T, W> {
         Ok(self.join(serial, Some(task), &mut Uncounted::new()))
     }
 
-    /// [`register`](List::register) for a caller that counts no visits.
+    /// Registers a listener with a task: takes the tag of a notified listener, which leaves the queue, or stores the task of
+    /// a waiting listener.
+    ///
+    /// The call does what [`register`](List::register) does, and counts no visits.
     #[inline(always)]
     pub fn register_uncounted(&mut self, key: Key, task: W) -> RegisterResult<T>
     where
@@ -90,7 +99,10 @@ impl<T, W> List<T, W> {
         answer(self.chain.take_or_change(key, change, &mut None, steps))
     }
 
-    /// [`register_with`](List::register_with) for a caller that counts no visits.
+    /// Registers a listener with an exchange: takes the tag of a notified listener, which leaves the queue, or exchanges the
+    /// stored task of a waiting listener.
+    ///
+    /// The call does what [`register_with`](List::register_with) does, and counts no visits.
     pub fn register_with_uncounted<C, X: TaskExchange<W, C>>(
         &mut self,
         key: Key,
@@ -106,7 +118,9 @@ impl<T, W> List<T, W> {
         answer(self.chain.take_or_change(key, change, on, steps))
     }
 
-    /// [`remove`](List::remove) for a caller that counts no visits.
+    /// Removes a listener from the queue, and returns what the listener was, or `None` if no listener has that key.
+    ///
+    /// The call does what [`remove`](List::remove) does, also with `propagate`, and counts no visits.
     #[inline(always)]
     pub fn remove_uncounted<S: WakeSink<W>>(
         &mut self,
@@ -119,7 +133,9 @@ impl<T, W> List<T, W> {
         self.remove_by(key, propagate, sink, &mut Uncounted::new())
     }
 
-    /// [`notify`](List::notify) for a caller that counts no visits.
+    /// Notifies the first listeners that wait, as many as the notification is for, and returns how many were notified.
+    ///
+    /// The call does what [`notify`](List::notify) does, with its error, and counts no visits.
     #[inline(always)]
     pub fn notify_uncounted<N: Notification<Tag = T>, S: WakeSink<W>>(
         &mut self,
@@ -133,7 +149,9 @@ impl<T, W> List<T, W> {
         self.notify_by(n, sink, &mut Uncounted::new())
     }
 
-    /// [`is_told`](List::is_told) for a caller that counts no looks.
+    /// Returns whether the listener of that key is notified; `false` also if no listener has that key.
+    ///
+    /// The call does what [`is_told`](List::is_told) does, and counts no looks by key.
     pub fn is_told_uncounted(&self, key: Key) -> bool
         ensures value { IsTrue result ↔ IsSome (lookup (is_key key) self.now.told) }
         ensures queue { IsQueue self.now }

@@ -5,9 +5,10 @@ use crate::wake::WakeSink;
 use std::alloc::{AllocError, Global};
 use std::marker::Model;
 
-/// A sink that keeps the first tasks woken, in order, and counts those that come after.
+/// A sink that keeps the first tasks that it is given, in order, and counts the others.
 ///
-/// It allocates when it is made, and a wake allocates nothing.
+/// The sink takes memory when it is made, and no memory when it is given a task. Whoever calls the queue with such a sink
+/// still has to wake the tasks.
 #[must_use = "the tasks in it are still to be woken"]
 #[derive(Drop)]
 pub struct Woken<W> {
@@ -33,7 +34,7 @@ impl<W> Model for Woken<W> {
 }
 
 impl<W> Woken<W> {
-    /// A sink that keeps the first `n` tasks. It allocates room for them, and returns an error if that fails.
+    /// Makes a sink that keeps the first `n` tasks. Takes memory for `n` tasks, and returns an error if there is none.
     pub fn with_room(alloc: Global, n: usize) -> Result<Self, AllocError>
         ensures { IfOk result (λ woken. woken ≡ record { tasks = []; room = n; missed = 0 }) }
     {
@@ -44,14 +45,17 @@ impl<W> Woken<W> {
         })
     }
 
-    /// The first tasks woken, in order. The call allocates nothing.
+    /// Returns the tasks that the sink keeps, in the order in which it was given them. Takes no memory.
     pub fn tasks(&self) -> &[W]
         ensures { result.now ≡ self.now.tasks }
     {
         self.tasks.as_slice()
     }
 
-    /// How many tasks came after those kept. The count stays at `usize::MAX`. The call allocates nothing.
+    /// Returns how many tasks the sink was given beyond those that it keeps. The count stays at `usize::MAX`. Takes no
+    /// memory.
+    ///
+    /// A task that is not kept is dropped.
     pub fn missed(&self) -> usize
         ensures { result ≡ self.now.missed }
     {

@@ -210,8 +210,8 @@ impl<T, H: Hold<T>, R: Wait + Clock + Clone> QueueListener<T, H, R> {
         hand.into_hand()
     }
 
-    // Removes the listener from the queue, if it is there. Returns whether it was notified, and the listener's hand, all of
-    // whose listeners have left the queue. With `propagate` its notification is propagated.
+    // Removes the listener from the queue, if it is there. Returns whether the listener was notified, and the listener's
+    // hand, all of whose listeners have left the queue. With `propagate` the listener's notification is propagated.
     #[inline(always)]
     pub(crate) fn leave(self, propagate: bool) -> (bool, QueueHand<T>)
     where

@@ -137,9 +137,9 @@ impl<T: Copy + Eq> RecordedEvent<T> {
 
     /// Notifies the first listeners that wait, as a call of this hand, and returns how many were notified.
     ///
-    /// Each of them, in queue order, gets a copy of `tag`, and its task is woken. If `additional`, then `count` listeners
-    /// more are notified; else `count` less those that are notified already. If fewer listeners wait, all of these are
-    /// notified. A notification that finds no listener waiting is recorded, and lost.
+    /// Each notified listener, in queue order, gets a copy of `tag`, and its task is woken. If `additional`, then `count`
+    /// listeners more are notified; else `count` less those that are notified already. If fewer listeners wait, all of these
+    /// are notified. A notification that finds no listener waiting is recorded, and lost.
     ///
     /// Returns [`RecordError::Memory`] if there is no memory for the entry or the note: no listener is notified, and nothing
     /// is recorded or noted, so a caller whose notification has to arrive retries. Returns no other error. Takes memory for

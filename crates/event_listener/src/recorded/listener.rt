@@ -36,10 +36,10 @@ pub enum RecordedPollError {
 /// which notes the call. A call on a listener that has given its tag is recorded and noted too, with the reply that no such
 /// listener is in the queue.
 ///
-/// Dropping the listener removes it from the queue. If it was notified, the drop propagates its notification: the event is
-/// notified of one, of the same kind and with the same tag. The drop is recorded without a hand, in room that was made when
-/// the listener was inserted, so it takes no memory. The drop of a listener that has left the queue records nothing. The drop
-/// may block until the lock of the event is free.
+/// Dropping the listener removes it from the queue. If the listener was notified, the drop propagates its notification: the
+/// event is notified of one, of the same kind and with the same tag. The drop is recorded without a hand, in room that was
+/// made when the listener was inserted, so it takes no memory. The drop of a listener that has left the queue records
+/// nothing. The drop may block until the lock of the event is free.
 ///
 /// This type is no [`Listener`](crate::Listener), because each call takes a hand. A contract sees a recorded listener as its
 /// event, and its key in the queue there.

@@ -11,18 +11,19 @@ use std::alloc::{AllocError, Global};
 use std::marker::Model;
 use std_alloc::room::Vacant;
 
-/// What a node carries: the slot that it keeps, and an entry's value. The slot has the entry's serial, which is here
-/// for proofs alone.
+/// What a node carries: the slot that the node keeps, and an entry's value. The slot has the entry's serial number, which is
+/// here for proofs alone.
 #[derive(Drop)]
 pub(super) struct Entry<A, B> {
     packed: Packed<A, B>,
     serial: Number,
 }
 
-/// A slot, and a value before the cursor, or one that may be absent after it. The root and a spare node hold nothing.
+/// A slot, and a value before the cursor, or a value after the cursor, which may be absent. The root and a spare node hold no
+/// value.
 ///
-/// It is one enum, and not a value with an `Option` in it beside the slot, since a tag takes 8 bytes of every node
-/// unless something of 4 bytes stands behind it: so each variant has the slot, and has it first.
+/// This is one enum, and not a value with an `Option` in it beside the slot, because the tag of an enum takes 8 bytes of
+/// every node unless a field of 4 bytes stands behind the tag: so each variant has the slot, as its first field.
 #[derive(Drop)]
 pub(super) enum Packed<A, B> {
     Spare(u32),
@@ -44,7 +45,7 @@ impl<A, B> Model for Entry<A, B> {
 }
 
 impl<A, B> Entry<A, B> {
-    /// The payload of a spare node with that slot.
+    /// Makes the payload of a spare node with that slot.
     #[inline(always)]
     pub(super) fn spare(slot: u32) -> Self
         ensures { result ≡ spare_entry slot }
@@ -55,7 +56,7 @@ impl<A, B> Entry<A, B> {
         }
     }
 
-    // The payload of the node of that key, whose entry is before the cursor.
+    // Makes the payload of the node of that key, whose entry is before the cursor.
     #[inline(always)]
     fn before(key: Key, value: A) -> Self
         ensures { result ≡ record { slot = key.slot; serial = key.serial; held = Before value } }
@@ -66,7 +67,7 @@ impl<A, B> Entry<A, B> {
         }
     }
 
-    // The payload of the node of that key, whose entry is after the cursor.
+    // Makes the payload of the node of that key, whose entry is after the cursor.
     #[inline(always)]
     fn after(key: Key, value: Option<B>) -> Self
         ensures { result ≡ record {
@@ -85,7 +86,7 @@ impl<A, B> Entry<A, B> {
         }
     }
 
-    /// The slot that the node keeps.
+    /// Returns the slot that the node keeps.
     #[inline(always)]
     pub(super) fn slot(&self) -> u32
         ensures { result ≡ self.now.slot }
@@ -97,7 +98,7 @@ impl<A, B> Entry<A, B> {
         *slot
     }
 
-    // The slot of a spare node: with no other case to look at, it is found in fewer instructions.
+    // Returns the slot of a spare node: with no other case to look at, the slot is found in fewer instructions.
     #[inline(always)]
     fn slot_of_spare(&self) -> u32
         requires { self.now.held ≡ Nothing }
@@ -109,7 +110,7 @@ impl<A, B> Entry<A, B> {
         }
     }
 
-    // Whether it has an entry before the cursor.
+    // Returns whether the node has an entry before the cursor.
     #[inline(always)]
     fn is_before(&self) -> bool
         ensures { IsTrue result ↔ IsSome (value_before self.now.held) }
@@ -117,7 +118,7 @@ impl<A, B> Entry<A, B> {
         matches!(self.packed, Packed::Before(_, _))
     }
 
-    // Whether it has an entry after the cursor.
+    // Returns whether the node has an entry after the cursor.
     #[inline(always)]
     fn is_after(&self) -> bool
         ensures { IsTrue result ↔ IsSome (value_after self.now.held) }
@@ -125,7 +126,7 @@ impl<A, B> Entry<A, B> {
         matches!(self.packed, Packed::After(_, _) | Packed::AfterWithout(_))
     }
 
-    // The value of an entry before the cursor.
+    // Returns the value of an entry before the cursor.
     #[inline(always)]
     fn into_before(self) -> A
         requires { IsSome (value_before self.held) }
@@ -138,7 +139,7 @@ impl<A, B> Entry<A, B> {
         }
     }
 
-    // The value of an entry after the cursor.
+    // Returns the value of an entry after the cursor.
     #[inline(always)]
     fn into_after(self) -> Option<B>
         requires { IsSome (value_after self.held) }
@@ -165,7 +166,7 @@ impl<A, B> Entry<A, B> {
     }
 }
 
-/// Nodes in order, and the first of them after the cursor, or the root if none is.
+/// Nodes in order, and the first node after the cursor, or the root if no node is after the cursor.
 #[derive(Drop)]
 pub(super) struct Entries<A, B> {
     ring: Ring<Entry<A, B>>,
@@ -173,7 +174,7 @@ pub(super) struct Entries<A, B> {
 }
 
 impl<A, B> Entries<A, B> {
-    /// A ring with no entry.
+    /// Makes a ring with no entry.
     pub(super) fn new(alloc: Global) -> Result<Self, AllocError>
         ensures nodes { IfOk result (λ entries. entries.ring.nodes ≡ []) }
         ensures cursor { IfOk result (λ entries. entries.cursor.ptr ≡ entries.ring.at) }
@@ -185,7 +186,7 @@ impl<A, B> Entries<A, B> {
         Ok(Entries { ring, cursor })
     }
 
-    /// Whether the node's entry is before the cursor.
+    /// Returns whether the node's entry is before the cursor.
     #[inline(always)]
     pub(super) fn is_before(&self, own: &NodeRef<Entry<A, B>>) -> bool
         requires { IsAt self.now.ring.nodes own.now.ptr }
@@ -196,7 +197,7 @@ impl<A, B> Entries<A, B> {
         entry.is_before()
     }
 
-    /// Whether the node's entry is after the cursor.
+    /// Returns whether the node's entry is after the cursor.
     #[inline(always)]
     pub(super) fn is_after(&self, own: &NodeRef<Entry<A, B>>) -> bool
         requires { IsAt self.now.ring.nodes own.now.ptr }
@@ -209,7 +210,7 @@ impl<A, B> Entries<A, B> {
 
     /// Links a spare node in at the end, with an entry after the cursor, and returns its slot and the node.
     ///
-    /// If no other entry is after the cursor, the cursor moves to it.
+    /// If no other entry is after the cursor, the cursor moves to the new entry.
     #[inline(always)]
     pub(super) fn append<K: Count>(
         &mut self,
@@ -286,8 +287,8 @@ impl<A, B> Entries<A, B> {
         (entry.into_before(), room)
     }
 
-    /// Takes a node out whose entry is after the cursor, as [`Entries::take_before`] does. If its slot is that of the
-    /// first of these, the cursor moves behind it.
+    /// Takes a node out whose entry is after the cursor, and returns its value, if it has one, and its block. If `slot` is
+    /// that of the first node after the cursor, the cursor moves behind this node.
     #[inline(always)]
     pub(super) fn take_after<K: Count>(
         &mut self,
@@ -319,7 +320,7 @@ impl<A, B> Entries<A, B> {
         (entry.into_after(), room)
     }
 
-    /// Goes to the first node after the cursor, and returns the slot that it has, too.
+    /// Visits the first node after the cursor, and returns the node and its slot.
     #[inline(always)]
     pub(super) fn first<K: Count>(&self, steps: &mut K) -> (NodeRef<Entry<A, B>>, u32)
         requires { IsAt self.now.ring.nodes self.now.cursor.ptr }
@@ -334,8 +335,8 @@ impl<A, B> Entries<A, B> {
         (first, entry.slot())
     }
 
-    /// Moves the cursor past the first node after it, whose entry has this key and gets this value. Returns the value
-    /// that it had.
+    /// Moves the cursor past the first node after it, whose entry has this key and gets this value. Returns the value that
+    /// the entry had.
     #[inline(always)]
     pub(super) fn advance(&mut self, first: NodeRef<Entry<A, B>>, key: Key, value: A) -> Option<B>
         requires node { IsAfterAt self.old.ring.nodes self.old.cursor.ptr }

@@ -5,7 +5,8 @@ use super::ring::Room;
 use std::alloc::{AllocError, Global};
 use std_alloc::room::Vacant;
 
-/// Takes blocks for nodes, and counts those that were granted, so that a clause can say that each became a spare node.
+/// A source of blocks for nodes, which counts the blocks that were granted, so that a clause can say that each became a spare
+/// node.
 #[derive(Drop)]
 pub(super) struct Blocks {
     alloc: Global,
@@ -13,14 +14,14 @@ pub(super) struct Blocks {
 }
 
 impl Blocks {
-    /// None was granted so far.
+    /// Makes a source that has been granted no block so far.
     pub(super) fn of(alloc: Global) -> Self
         ensures { result.granted ≡ 0 }
     {
         Blocks { alloc, granted: 0 }
     }
 
-    /// Takes one more.
+    /// Takes one more block, or returns an error if there is no memory.
     pub(super) fn take<E>(&mut self) -> Result<Room<E>, AllocError>
         requires { self.old.granted + 1 < 2 ^ 64 }
         ensures granted { OnOk result (self.new.granted ≡ self.old.granted + 1) }

@@ -4,8 +4,8 @@ ghost use Rattle.std.specs.Borrow.{ftrue};
 
 use std::marker::{Model, Send, Sync};
 
-/// A number that only proofs read, so it takes no memory: the serial of an entry, which stands in the table for calls, or
-/// a count that nobody asks for.
+/// A number that only proofs read, so it takes no memory: the serial number of an entry, which the table has for calls, or a
+/// count that nobody asks for.
 #[derive(Drop)]
 pub(crate) struct Number {
     ghost number: { ℕ },
@@ -15,13 +15,13 @@ impl Model for Number {
     ghost also_owns = { λ _. ftrue };
 }
 
-// It owns nothing.
+// A number for proofs owns nothing.
 unsafe impl Send for Number {}
 
 unsafe impl Sync for Number {}
 
 impl Number {
-    /// That number, for proofs. The call does nothing at run time.
+    /// Makes that number, for proofs. Does nothing when a program runs.
     #[inline(always)]
     pub(crate) fn new(_number: &u64) -> Self
         ensures { result.number ≡ _number.now }
@@ -29,7 +29,7 @@ impl Number {
         Number {}
     }
 
-    /// The number after that one, for proofs. The call does nothing at run time.
+    /// Makes the next greater number, for proofs. Does nothing when a program runs.
     #[inline(always)]
     pub(crate) fn after(_number: &Number) -> Self
         ensures { result.number ≡ _number.now.number + 1 }

@@ -1,4 +1,5 @@
-//! The ways to a node of a ring: where a look by key led, and to another one. Each is counted.
+//! The ways to a node of a ring: a look by key, which leads to the call's own node, and a visit of another node. Each is
+//! counted.
 ghost use Rattle.std.specs.Prelude.{◌≡◌, ◌+◌, [], ◌∷◌, ◌++◌, MatchOption};
 ghost use Rattle.event_queue.specs.Ring.{placed, first_place, IsAt, AtNode};
 ghost use Rattle.event_queue.specs.Counts.{counted_on};
@@ -12,18 +13,18 @@ mod pointers;
 mod spares;
 mod steps;
 
-/// A node that a call may look at: the one that a look by key led to, once that look was counted, or another one, whose
-/// visit was.
+/// A node that a call may look at: the node that a look by key led to, once that look was counted, or another node, once its
+/// visit was counted.
 ///
-/// A [`NodePtr`] only says where a node is: the functions that follow one are reached from this module alone. So a
-/// call gets to a node by [`NodeRef::looked_up`] or by [`Ring::visit`], and keeps none for the next call.
+/// A [`NodePtr`] only says where a node is: the functions that follow a place are reached from this module alone. So a call
+/// gets to a node by [`NodeRef::looked_up`] or by [`Ring::visit`], and keeps no node for the next call.
 #[derive(Drop)]
 pub(super) struct NodeRef<E> {
     ptr: *mut Node<E>,
 }
 
 impl<E> NodeRef<E> {
-    /// The node that a look by key led to: the call's own one. The look is counted even if it led nowhere.
+    /// Returns the node that a look by key led to, which is the call's own node. The look is counted even if it led nowhere.
     #[inline(always)]
     pub(super) fn looked_up<K: Count>(place: Option<NodePtr<E>>, steps: &mut K) -> Option<Self>
         ensures node { MatchOption result (place ≡ None)
@@ -38,7 +39,7 @@ impl<E> NodeRef<E> {
         }
     }
 
-    /// Where the node is.
+    /// Returns the place of the node.
     #[inline(always)]
     pub(super) fn place(&self) -> NodePtr<E>
         ensures { result.ptr ≡ self.now.ptr }
@@ -48,7 +49,7 @@ impl<E> NodeRef<E> {
 }
 
 impl<E> Ring<E> {
-    /// Goes to another node than the call's own one, which is one visit.
+    /// Visits another node than the call's own node, and counts one visit.
     #[inline(always)]
     pub(super) fn visit<K: Count>(&self, node: NodePtr<E>, steps: &mut K) -> NodeRef<E>
         ensures place { result.ptr ≡ node.ptr }
@@ -59,7 +60,7 @@ impl<E> Ring<E> {
         NodeRef { ptr: node.ptr }
     }
 
-    /// What the node carries, and the place of the node behind it: behind the last one, that of the root.
+    /// Returns what the node carries, and the place of the node behind it: behind the last node, that of the root.
     #[inline(always)]
     pub(super) fn look(&self, node: &NodeRef<E>) -> (&E, NodePtr<E>)
         requires { IsAt self.now.nodes node.now.ptr }
@@ -81,7 +82,7 @@ impl<E> Ring<E> {
         self.replace_at(NodePtr { ptr: node.ptr }, entry)
     }
 
-    /// Links the call's own node in behind the last, which is one visit.
+    /// Links the call's own node in behind the last node, and counts one visit, of that node.
     #[inline(always)]
     pub(super) fn append<K: Count>(&mut self, node: Ring<E>, steps: &mut K) -> NodeRef<E>
         requires { node.nodes ≡ [] }
@@ -96,7 +97,8 @@ impl<E> Ring<E> {
         NodeRef { ptr: place.ptr }
     }
 
-    /// Takes the call's own node out: what it carries, and its block with nothing in it. Its two neighbors are visited.
+    /// Takes the call's own node out of the ring, and returns what the node carries, and its block with nothing in it. Counts
+    /// two visits, of its two neighbors.
     #[inline(always)]
     pub(super) fn take<K: Count>(&mut self, node: NodeRef<E>, steps: &mut K) -> (E, Room<E>)
         requires { IsAt self.old.nodes node.ptr }

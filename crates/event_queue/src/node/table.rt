@@ -13,8 +13,8 @@ use std::alloc::{AllocError, Global};
 // How many slots a table has at first, at least.
 const FIRST_SLOTS: usize = 4;
 
-/// A slot: the serial of the entry that uses it, and the place of its node. While the node is spare the serial is
-/// `u64::MAX`, which no entry gets, so no key leads to the place.
+/// A slot: the serial number of the entry that uses the slot, and the place of its node. While the node is spare the serial
+/// number is `u64::MAX`, which no entry gets, so no key leads to the place.
 #[derive(Drop)]
 pub(super) struct Slot<A, B> {
     serial: u64,
@@ -22,7 +22,7 @@ pub(super) struct Slot<A, B> {
 }
 
 impl<A, B> Slot<A, B> {
-    // The place, if the entry of that serial uses the slot.
+    // Returns the place of the node, if the entry of that serial number uses the slot.
     #[inline(always)]
     fn place_of(&self, serial: u64) -> Option<NodePtr<Entry<A, B>>>
         ensures { result ≡ option_and_then (place_of serial) (shown self.now) }
@@ -37,8 +37,8 @@ impl<A, B> Slot<A, B> {
 
 /// A slot for each node but the root, and the nodes that no entry uses.
 ///
-/// A node keeps its slot for ever. While an entry uses it, it has the entry's serial too, so that a key of no
-/// listener is recognized without a look at any node.
+/// A node keeps its slot for ever. While an entry uses the slot, the slot has the entry's serial number too, so that a key of
+/// no listener is recognized without a look at any node.
 #[derive(Drop)]
 pub(super) struct Table<A, B> {
     slots: Vec<Slot<A, B>>,
@@ -47,7 +47,7 @@ pub(super) struct Table<A, B> {
 }
 
 impl<A, B> Table<A, B> {
-    /// A table with no slot, which allocates nothing.
+    /// Makes a table with no slot. Takes no memory.
     pub(super) fn new(alloc: Global) -> Self
         ensures slots { result.slots.items ≡ [] }
         ensures spares { result.spares ≡ [] }
@@ -58,8 +58,8 @@ impl<A, B> Table<A, B> {
         }
     }
 
-    /// Makes room for the first `n` slots, and for a few more if they are few. To let a table grow that has no block costs
-    /// more.
+    /// Makes room for the first `n` slots, and for at least a few, because it costs more to let a table grow that has no
+    /// block yet.
     pub(super) fn begin(&mut self, n: usize) -> Result<(), AllocError>
         ensures slots { self.new.slots.items ≡ self.old.slots.items }
         ensures spares { self.new.spares ≡ self.old.spares }
@@ -67,12 +67,12 @@ impl<A, B> Table<A, B> {
         self.slots.reserve_exact(n.max(FIRST_SLOTS))
     }
 
-    /// The allocator that the table was made with.
+    /// Returns the allocator that the table was made with.
     pub(super) fn allocator(&self) -> Global {
         *self.slots.allocator()
     }
 
-    /// How many nodes are spare.
+    /// Returns how many nodes are spare.
     #[inline(always)]
     pub(super) fn spare(&self) -> usize
         ensures { result ≡ length self.now.spares }
@@ -80,8 +80,9 @@ impl<A, B> Table<A, B> {
         self.spares.len()
     }
 
-    /// The node of the key's entry, if there is one: that of the call's own listener. It is one look by key, even if
-    /// no entry has the key: then no node is reached, since the table has the serial too.
+    /// Returns the node of the key's entry, which is that of the call's own listener, if an entry has the key. That is one
+    /// look by key. Without such an entry no node is reached, because the table has the serial numbers too, and the look is
+    /// counted all the same.
     #[inline(always)]
     pub(super) fn find<K: Count>(&self, key: Key, steps: &mut K) -> Option<NodeRef<Entry<A, B>>>
         ensures node { MatchOption result
@@ -94,7 +95,7 @@ impl<A, B> Table<A, B> {
         NodeRef::looked_up(self.place_of(key), steps)
     }
 
-    // Where the node of the key's entry is, if there is one.
+    // Returns the place of the node of the key's entry, if an entry has the key.
     #[inline(always)]
     fn place_of(&self, key: Key) -> Option<NodePtr<Entry<A, B>>>
         ensures { result ≡ node_at (shown_in self.now.slots.items) key }
@@ -105,7 +106,7 @@ impl<A, B> Table<A, B> {
         }
     }
 
-    /// The serial in a slot.
+    /// Returns the serial number in a slot.
     #[inline(always)]
     pub(super) fn serial_in(&self, slot: u32) -> u64
         requires { slot < length (shown_in self.now.slots.items) }
@@ -141,7 +142,7 @@ impl<A, B> Table<A, B> {
         };
     }
 
-    /// Makes a spare node in that room, whose slot this is. It allocates nothing.
+    /// Makes a spare node in that room, whose slot this is. Takes no memory.
     #[inline(always)]
     pub(super) fn recycle(&mut self, slot: u32, room: Room<Entry<A, B>>)
         requires slot { slot < length (shown_in self.old.slots.items) }
@@ -155,7 +156,7 @@ impl<A, B> Table<A, B> {
         self.spares.push(room, Entry::spare(slot));
     }
 
-    /// Makes `n` more spare nodes. If it fails it keeps those that it made.
+    /// Makes `n` more spare nodes. A call that fails keeps the nodes that it made.
     pub(super) fn grow(&mut self, n: usize, blocks: &mut Blocks) -> Result<(), AllocError>
         requires { blocks.old.granted + n < 2 ^ 64 }
         ensures grows { GrowsTo (shown_in self.old.slots.items) self.old.spares
@@ -173,7 +174,8 @@ impl<A, B> Table<A, B> {
         Ok(())
     }
 
-    // Makes one more spare node, with a slot of its own at the end of the table. A table of 2^32 slots gets none.
+    // Makes one more spare node, with a slot of its own at the end of the table. A table of 2^32 slots gets no more, because
+    // a key has 32 bits for its slot.
     fn make_spare(&mut self, blocks: &mut Blocks) -> Result<(), AllocError>
         requires slots_room { vec_len self.old.slots < vec_capacity self.old.slots }
         requires count { blocks.old.granted + 1 < 2 ^ 64 }

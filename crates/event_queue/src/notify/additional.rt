@@ -5,7 +5,7 @@ use super::Notification;
 use std::alloc::AllocError;
 use std::marker::Model;
 
-/// A notification made additional: it notifies as many listeners as its count anew, however many were before.
+/// A notification that was made additional: it notifies its whole count anew, however many listeners are notified already.
 #[derive(Clone, Debug, Drop)]
 pub struct Additional<N>(N);
 

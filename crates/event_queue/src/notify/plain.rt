@@ -5,7 +5,7 @@ use super::Notification;
 use std::alloc::AllocError;
 use std::marker::Model;
 
-/// A default notification of n listeners, those notified before among them.
+/// A default notification without tags of a number of listeners, among which those count that are notified already.
 #[derive(Clone, Debug, Drop)]
 pub struct Notify(usize);
 

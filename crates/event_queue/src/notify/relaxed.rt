@@ -5,8 +5,9 @@ use super::Notification;
 use std::alloc::AllocError;
 use std::marker::Model;
 
-/// A relaxed notification. In the Rust crate it leaves out a memory fence; here it means what the notification in it
-/// means.
+/// A notification that was made relaxed, which means what the notification in it means.
+///
+/// In the Rust crate a relaxed notification leaves out a memory fence; here it changes nothing.
 #[derive(Clone, Debug, Drop)]
 pub struct Relaxed<N>(N);
 

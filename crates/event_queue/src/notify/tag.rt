@@ -5,9 +5,9 @@ use super::Notification;
 use std::alloc::AllocError;
 use std::marker::Model;
 
-/// A notification with a tag: each notified listener gets a clone of it, and a clone that fails is a refused tag.
+/// A notification of which each notified listener gets a clone of one tag. A clone that fails is a refused tag.
 ///
-/// It allocates only if the clone does.
+/// Takes memory only if the clone does.
 #[derive(Clone, Debug, Drop)]
 pub struct Tag<N, T> {
     tag: T,

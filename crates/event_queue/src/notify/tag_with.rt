@@ -6,10 +6,10 @@ use std::alloc::AllocError;
 use std::fmt::{self, Debug, Formatter, Write};
 use std::marker::Model;
 
-/// A notification with a function that makes its tags: it is called once for each notified listener, in order, and no
-/// tag is refused.
+/// A notification of which each notified listener gets a tag that a function makes.
 ///
-/// It allocates only if the function does. A tag may be asked for if the function may always be called.
+/// The function is called once for each notified listener, in order, and no tag is refused. A tag may be asked for if the
+/// function may always be called. Takes memory only if the function does.
 #[derive(Drop)]
 pub struct TagWith<N, F> {
     tag: F,

@@ -21,7 +21,7 @@ pub struct Node<E> {
 /// A node's block with nothing in it.
 pub type Room<E> = Vacant<Node<E>, Global>;
 
-/// Where a node is. It owns nothing.
+/// The place of a node, which owns nothing.
 pub struct NodePtr<E> {
     pub(super) ptr: *mut Node<E>,
 }
@@ -64,7 +64,7 @@ unsafe impl<E: Send> Send for Ring<E> {}
 unsafe impl<E: Sync> Sync for Ring<E> {}
 
 impl<E> Ring<E> {
-    /// What the node carries, and the node behind it: behind the last one, the root.
+    /// Returns what the node carries, and the place of the node behind it: behind the last node, that of the root.
     #[inline(always)]
     pub(super) fn look_at(&self, node: NodePtr<E>) -> (&E, NodePtr<E>)
         requires { IsAt self.now.nodes node.ptr }
@@ -98,7 +98,7 @@ impl<E> Ring<E> {
         }
     }
 
-    /// Links a lone node in behind the last, and returns where it is.
+    /// Links a lone node in behind the last node, and returns its place.
     #[inline(always)]
     pub(super) fn link_last(&mut self, node: Ring<E>) -> NodePtr<E>
         requires { node.nodes ≡ [] }
@@ -117,7 +117,7 @@ impl<E> Ring<E> {
         NodePtr { ptr: node }
     }
 
-    /// Takes the node out: what it carries, and its block with nothing in it.
+    /// Takes the node out of the ring, and returns what the node carries, and its block with nothing in it.
     #[inline(always)]
     pub(super) fn unlink(&mut self, node: NodePtr<E>) -> (E, Room<E>)
         requires { IsAt self.old.nodes node.ptr }
@@ -141,7 +141,7 @@ impl<E> Ring<E> {
         }
     }
 
-    /// A lone node in that room, and where it is.
+    /// Makes a lone node in that room, and returns the node and its place.
     pub fn alone(alloc: Global, room: Room<E>, entry: E) -> (Ring<E>, NodePtr<E>)
         ensures alone { (result.0.entry ≡ entry) × (result.0.nodes ≡ []) }
         ensures place { result.1.ptr ≡ result.0.at }
@@ -160,8 +160,8 @@ impl<E> Ring<E> {
         drop(entry);
     }
 
-    // Gives every node's block back, and drops what it carried. The walk ends at the last node, whose link to the
-    // root is cut first: addresses in different blocks may not be compared.
+    // Gives every node's block back, and drops what the node carried. The walk ends at the last node, whose link to the root
+    // is cut first: addresses in different blocks may not be compared.
     fn free_all(self)
     where
         E: Drop,
@@ -186,9 +186,9 @@ impl<E: Drop> Drop for Ring<E> {
     }
 }
 
-/// Nodes that are in no ring, each linked to the one that came before it.
+/// Nodes that are in no ring, each linked to the node that was put on the pile before it.
 ///
-/// The drop of a pile frees no node: its owner takes every node off first.
+/// The drop of a pile frees no node: the owner of the pile takes every node off first.
 #[derive(Drop)]
 pub struct Pile<E> {
     top: *mut Node<E>,
@@ -208,7 +208,7 @@ unsafe impl<E: Send> Send for Pile<E> {}
 unsafe impl<E: Sync> Sync for Pile<E> {}
 
 impl<E> Pile<E> {
-    /// No node.
+    /// Makes a pile without nodes.
     pub(super) fn new(alloc: Global) -> Pile<E>
         ensures { result.nodes ≡ [] }
     {
@@ -218,7 +218,7 @@ impl<E> Pile<E> {
         }
     }
 
-    /// Makes a node in the room, on top of the pile, and returns where it is.
+    /// Makes a node in the room, on top of the pile, and returns its place.
     #[inline(always)]
     pub(super) fn fill(&mut self, room: Room<E>, entry: E) -> NodePtr<E>
         ensures place { result.ptr ≡ room.ptr }
@@ -236,7 +236,7 @@ impl<E> Pile<E> {
         NodePtr { ptr: node }
     }
 
-    /// Takes the node off that is on top.
+    /// Takes off the node on top of the pile.
     #[inline(always)]
     pub(super) fn take(&mut self) -> Ring<E>
         requires { 0 < length self.old.nodes }

@@ -6,10 +6,10 @@ use super::pointers::{NodePtr, Pile, Ring, Room};
 use std::alloc::Global;
 use std::marker::Model;
 
-/// Spare nodes. The one that became spare last is taken first, as it is the likeliest to be in a cache.
+/// Spare nodes. The node that became spare last is taken first, because it is the likeliest to be in a cache.
 ///
-/// Each leads to the one before it, so a node that becomes spare needs no memory. No listener is on them, so looks at
-/// them are no visits: a call takes the last or adds one, and goes to no other.
+/// Each node leads to the node that became spare before it, so a node that becomes spare needs no memory. No listener is on a
+/// spare node, so looks at spare nodes are no visits: a call takes the last node or adds a node, and looks at no other.
 pub struct Spares<E> {
     pile: Pile<E>,
     len: usize,
@@ -27,7 +27,7 @@ impl<E> Model for Spares<E> {
 }
 
 impl<E> Spares<E> {
-    /// No node.
+    /// Makes a store without nodes.
     pub fn new(alloc: Global) -> Self
         ensures { result ≡ [] }
     {
@@ -37,7 +37,7 @@ impl<E> Spares<E> {
         }
     }
 
-    /// How many there are.
+    /// Returns how many nodes are spare.
     #[inline(always)]
     pub fn len(&self) -> usize
         ensures { result ≡ length self.now }
@@ -58,7 +58,7 @@ impl<E> Spares<E> {
         Some(self.pile.take())
     }
 
-    /// Adds a node, which it makes in that room, and returns where it is.
+    /// Makes a node in that room, adds the node, and returns its place.
     #[inline(always)]
     pub fn push(&mut self, room: Room<E>, entry: E) -> NodePtr<E>
         requires { length self.old + 1 < 2 ^ 64 }

@@ -5,29 +5,32 @@ ghost use Rattle.event_queue.specs.Counts.{counted_on};
 use std::marker::Model;
 use std::sync::ledger::{Blank, Book, Ledger, Share};
 
-/// What a call of a queue tells of its visits and its looks by key: [`Steps`], or what the `_uncounted` calls have in
-/// their place. Only the ring counts, at each way to a node that it gives.
+/// What a call of a queue tells of its visits and its looks by key: [`Steps`], or what the `_uncounted` calls use in its
+/// place.
+///
+/// Only the ring counts, wherever it gives a way to a node.
 pub trait Count {
     ghost visits: { Self → ℕ };
 
     ghost looks: { Self → ℕ };
 
-    /// Counts one visit more.
+    /// Counts one more visit.
     fn add_visit(&mut self)
         ensures visits { visits self.new ≡ visits self.old + 1 }
         ensures looks { looks self.new ≡ looks self.old };
 
-    /// Counts one look by key more.
+    /// Counts one more look by key.
     fn add_look(&mut self)
         ensures visits { visits self.new ≡ visits self.old }
         ensures looks { looks self.new ≡ counted_on (looks self.old) 1 };
 }
 
-/// Counts visits, which are looks of a call at the nodes of other listeners, and looks by key, which are lookups of a
-/// key's node.
+/// Counts of the work of a queue: *visits*, which are looks of a call at the nodes of other listeners, and *looks by key*,
+/// which find the node of a key.
 ///
-/// Only a look by key leads a call to the node of its own listener. A call of a [`List`](crate::List) that takes `steps` adds its visits and its looks, and nothing else changes the
-/// counts. Clauses see the visits as a number without a limit, and the looks as one that stays at `u64::MAX`.
+/// Only a look by key leads a call to the node of its own listener. A call of a [`List`](crate::List) that takes `steps` adds
+/// its visits and its looks, and nothing else changes the counts. Clauses see the visits as a number without a limit, and the
+/// looks as a number that stays at `u64::MAX`.
 #[derive(Drop)]
 pub struct Steps<L: Ledger> {
     book: Book<L>,
@@ -50,7 +53,7 @@ impl<L: Ledger> Model for Steps<L> {
 }
 
 impl<L: Ledger> Steps<L> {
-    /// Counts of 0, kept in a new ledger. The call allocates nothing.
+    /// Makes counts of 0, which are kept in a new ledger. Takes no memory.
     #[inline(always)]
     pub fn new(blank: Blank) -> Self
         requires name { blank.name ≡ L.name }
@@ -68,7 +71,7 @@ impl<L: Ledger> Steps<L> {
         }
     }
 
-    /// How many visits were counted. The answer stays at `u64::MAX`. The call allocates nothing.
+    /// Returns how many visits were counted. The answer stays at `u64::MAX`. Takes no memory.
     #[inline(always)]
     pub fn visits(&self) -> u64
         ensures { result ≡ min self.now.visits (2 ^ 64 - 1) }
@@ -76,7 +79,7 @@ impl<L: Ledger> Steps<L> {
         self.visits
     }
 
-    /// How many looks by key were counted. The answer stays at `u64::MAX`. The call allocates nothing.
+    /// Returns how many looks by key were counted. The answer stays at `u64::MAX`. Takes no memory.
     #[inline(always)]
     pub fn looks(&self) -> u64
         ensures { result ≡ self.now.looks }
