@@ -28,9 +28,10 @@ pub(crate) type QueueHand<T> = Hand<List<T, Task>, QueueCall<T, Task>>;
 
 /// An event: a queue of listeners that wait until they are notified.
 ///
-/// A notification picks the first listeners that wait, gives each a *tag*, a value of type `T`, and wakes their tasks. A
-/// listener that was picked is *notified* until its tag is taken or it leaves the queue. A notification that finds no
-/// listener waiting is lost.
+/// [`listen`](Event::listen) registers a listener, and [`Listener`](crate::Listener) says how a thread or a task waits by it.
+/// A notification picks the first listeners that wait, in the order in which they were registered, gives each a *tag*, a
+/// value of type `T`, and wakes their tasks. A listener that was picked is *notified* until its tag is taken or it leaves the
+/// queue. A notification that finds no listener waiting is lost.
 ///
 /// The queue is made by the first call of [`listen`](Event::listen), of [`hand`](Event::hand) or of
 /// [`StackSlot::new`](crate::StackSlot::new). Each call that reads or changes the queue is one step under a lock that no
@@ -87,8 +88,8 @@ impl<T> Event<T> {
     /// Registers a listener at the end of the queue, and returns the listener.
     ///
     /// The listener waits, even if other listeners are notified already: a notification made before this call does not reach
-    /// it. The listener keeps a share of the queue, so it may outlive the event. For its own calls it also keeps `alloc` and
-    /// a clone of `rt`.
+    /// it. The listener keeps a share of the queue, so it may outlive the event. For its own calls the listener also keeps
+    /// `alloc` and a clone of `rt`.
     ///
     /// Returns [`ListenError::Memory`] if memory runs out, or if no share of the queue or no clone of `rt` can be made.
     /// Returns [`ListenError::SerialsUsedUp`] if the queue has given out all its serial numbers, of which each listener gets

@@ -7,8 +7,8 @@
 //! A call that may block for the lock takes the runtime value, and a call that may allocate takes the allocator. A
 //! listener keeps a clone of the runtime value, and the allocator, for its own calls.
 //!
-//! The queue itself is the crate `event_queue`. Its public names are exported here too. Read `event.rt` first, then
-//! `listener/queue_listener.rt`, `listener/place.rt` and `laws.rt`; of events that record `recorded/step.rt` and
+//! The queue itself is the crate `event_queue`. The public names of that crate are exported here too. Read `event.rt` first,
+//! then `listener/queue_listener.rt`, `listener/place.rt` and `laws.rt`; of events that record `recorded/step.rt` and
 //! `recorded/event.rt`.
 //!
 //! The examples below are in the crate `example_events`, where they are proved.

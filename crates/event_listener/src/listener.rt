@@ -102,8 +102,8 @@ pub trait Listener<T>: Sized {
     /// Waits until the listener is notified or the limit has passed, and returns the tag or `None`.
     ///
     /// The listener has left the queue then. A tag that the listener is given after the limit and before it leaves is
-    /// returned too, and not propagated. [`Waiting`](Listener#waiting) says what the call allocates, when it blocks, and what
-    /// its errors leave.
+    /// returned too, and not propagated. See [Waiting](Listener#waiting) for what the call allocates, when it blocks, and
+    /// what its errors leave.
     fn wait_until(self, limit: Limit) -> Result<Option<T>, WaitError<Self>>
         ensures finished { (standing self).is_finished ≡ true → IsErr result }
         ensures memory { IfErr result (HandsBack standing self) }
@@ -146,8 +146,8 @@ pub trait Listener<T>: Sized {
 
     /// Removes the listener from the queue without propagating its notification, and returns whether it was notified.
     ///
-    /// A finished listener returns `false`, because it is not in the queue. Takes no memory. May block until the lock of the
-    /// event is free.
+    /// For a finished listener the call returns `false`, because that listener is not in the queue. Takes no memory. May
+    /// block until the lock of the event is free.
     fn discard(self) -> bool
         ensures finished { (standing self).is_finished ≡ true → result ≡ false };
 

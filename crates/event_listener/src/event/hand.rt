@@ -134,8 +134,8 @@ impl<T> EventHand<T> {
 
     /// Registers a listener at the end of the queue, and returns the listener.
     ///
-    /// The call that registers is one of the listener's own hand, which knows all that this hand knows. What the call takes,
-    /// which errors it returns and when it blocks is said at [`Event::listen`]; the queue has been made already.
+    /// The call that registers is one of the listener's own hand, which knows all that this hand knows. What memory the call
+    /// takes, which errors it returns and when it blocks is said at [`Event::listen`]; the queue has been made already.
     #[inline(always)]
     pub fn listen<R>(&mut self, rt: &R, alloc: Global) -> Result<EventListener<T, R>, ListenError>
     where
@@ -201,9 +201,9 @@ impl<T> EventHand<T> {
     /// Removes the listener from the queue without propagating its notification, and returns whether the listener was
     /// notified.
     ///
-    /// Afterwards this hand knows what the listener's hand saw and did. The call does with the queue what
-    /// [`Listener::discard`](crate::Listener::discard) does: a listener that has given its tag is not in the queue, and
-    /// returns `false`. Takes no memory. May block until the lock of the event is free.
+    /// Afterwards this hand knows what the listener's hand saw and did. For a listener that has given its tag the call
+    /// returns `false`, because that listener is not in the queue. What else holds is said at
+    /// [`Listener::discard`](crate::Listener::discard). Takes no memory. May block until the lock of the event is free.
     pub fn discard<H: Hold<T>, R: Wait + Clock + Clone>(
         &mut self,
         listener: QueueListener<T, H, R>,
@@ -225,9 +225,10 @@ impl<T> EventHand<T> {
 
     /// Drops the listener, which leaves the queue, and returns whether the listener was notified.
     ///
-    /// If so, its notification is propagated: the event is notified of one, of the same kind and with the same tag.
-    /// Afterwards this hand knows what the listener's hand saw and did. A listener that has given its tag returns `false`.
-    /// Takes no memory. May block until the lock of the event is free.
+    /// The notification of a notified listener is propagated: the event is notified of one, of the same kind and with the
+    /// same tag. Afterwards this hand knows what the listener's hand saw and did. For a listener that has given its tag the
+    /// call returns `false`, because that listener is not in the queue. Takes no memory. May block until the lock of the
+    /// event is free.
     pub fn drop_listener<H: Hold<T>, R: Wait + Clock + Clone>(
         &mut self,
         listener: QueueListener<T, H, R>,
@@ -250,7 +251,7 @@ impl<T> EventHand<T> {
     /// Makes another hand of the same queue, which knows all that this hand knows and has made no call.
     ///
     /// So what this hand did stands in the history before what the new hand will do. Returns an error if no further share of
-    /// the queue can be made. Takes no lock, and costs one load and the share.
+    /// the queue can be made. Takes no memory and no lock: the call costs one load and the share.
     pub fn fork(&mut self) -> Result<Self, AllocError>
         ensures told { IfOk result (λ told. (told.knows ≡ newcomer self.old.knows.seen)
             × (told.table ≡ self.old.table) × (told.event_number ≡ self.old.event_number)) }

@@ -8,7 +8,7 @@ use std::marker::Model;
 
 /// A listener's key in the queue of its event, and whether the listener has left the queue by a call of its own.
 ///
-/// The note is in the key itself: a finished listener has the greatest `u64` for its serial, which no queue gives. A
+/// The note is in the key itself: a finished listener has the greatest `u64` for its serial number, which no queue gives. A
 /// `bool` beside the key would be seven bytes of padding in each listener, and a listener is moved often.
 #[derive(Drop)]
 pub(super) struct Membership {

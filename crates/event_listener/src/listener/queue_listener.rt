@@ -262,8 +262,8 @@ impl<T, H: Hold<T>, R: Wait + Clock + Clone> QueueListener<T, H, R> {
     }
 }
 
-// Returns why a finished listener does not wait. It asks for what the thread would park on first, as any wait does, so that a
-// caller without memory learns that, and keeps its listener.
+// Returns why a finished listener does not wait. The function first asks for what the thread would park on, as any wait does,
+// so that a caller without memory learns that, and keeps its listener.
 #[cold]
 fn reason_of_finished(alloc: Global) -> WaitReason {
     match Arc::new(alloc, Parker::new()) {

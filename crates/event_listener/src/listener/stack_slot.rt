@@ -61,7 +61,7 @@ impl<'ev, T> StackSlot<'ev, T> {
     /// Registers a listener at the end of the queue, and returns the listener.
     ///
     /// The listener waits, even if other listeners are notified already: a notification made before this call does not reach
-    /// it. For its own calls it keeps a clone of `rt` and the allocator of the slot.
+    /// it. For its own calls the listener keeps a clone of `rt` and the allocator of the slot.
     ///
     /// Returns [`ListenError::Memory`] if memory runs out or no clone of `rt` can be made, and [`ListenError::SerialsUsedUp`]
     /// if the queue has given out all its serial numbers, of which each listener gets one. Neither error leaves a listener in

@@ -21,7 +21,7 @@ pub enum StepCall<T> {
     Remove {
         /// The key of the listener.
         key: Key,
-        /// Whether the notification of a listener that is notified is propagated to another listener.
+        /// Whether the notification of a notified listener is propagated, so that another listener may get it.
         propagate: bool,
     },
     /// Notifies the first listeners that wait.
@@ -53,7 +53,7 @@ pub enum RecordedCall<T> {
     Remove {
         /// The key of the listener.
         key: Key,
-        /// Whether the notification of a listener that was notified was propagated to another listener.
+        /// Whether the notification of a notified listener was to be propagated, so that another listener may get it.
         propagate: bool,
     },
     /// A notification of the first listeners that waited.

@@ -31,8 +31,8 @@ fn how_many_with<T>(hands: &[Hand<T>], number: usize) -> usize
     found
 }
 
-// Returns whether each number below the count is that of exactly one of the hands. It looks at each hand for each number, and
-// takes no memory.
+// Returns whether each number below the count is that of exactly one of the hands. The function looks at each hand for each
+// number, and takes no memory.
 pub(super) fn are_all_hands<T>(hands: &[Hand<T>], count: usize) -> bool
     ensures { IsTrue result ↔ AreAllHands count hands.now }
 {

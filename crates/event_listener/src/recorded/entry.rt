@@ -11,7 +11,7 @@ use super::reply::RecordedReply;
 pub struct Entry<T> {
     /// The number of the hand that made the call, or `None` for the removal of a listener that was dropped.
     pub hand: Option<usize>,
-    /// The call.
+    /// The call, without its task.
     pub call: RecordedCall<T>,
     /// What the queue returned.
     pub reply: RecordedReply<T>,

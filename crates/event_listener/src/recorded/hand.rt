@@ -41,8 +41,8 @@ impl<T: Copy> Note<T> {
 ///
 /// A call that fails for memory is not noted. Of a wait that fails for memory, the steps before the failure are noted. A call
 /// takes its hand by a `&mut`, so the calls of one hand are made one after another, whatever threads make them. A hand can't
-/// be cloned, because [`close`](crate::RecordedEvent::close) wants each once. Its notes grow by one with each step, and never
-/// shrink.
+/// be cloned, because [`close`](crate::RecordedEvent::close) wants each once. The notes of a hand grow by one with each step,
+/// and never shrink.
 ///
 /// A contract sees a hand as its number, the number of its event, and its notes.
 #[must_use = "an event is closed with all its hands"]

@@ -98,9 +98,9 @@ impl<'ev, T: Copy + Eq, R: Wait + Clock + Clone> RecordedListener<'ev, T, R> {
 
     /// Removes the listener from the queue without propagating its notification, and returns whether it was notified.
     ///
-    /// A listener that has given its tag returns `false`. The hand notes one removal. Returns [`WaitError::Memory`] with the
-    /// same listener if there is no memory for the entry or the note: nothing is changed, recorded or noted. Returns no other
-    /// error.
+    /// For a listener that has given its tag the call returns `false`, because that listener is not in the queue. The hand
+    /// notes one removal. Returns [`WaitError::Memory`] with the same listener if there is no memory for the entry or the
+    /// note: nothing is changed, recorded or noted. Returns no other error.
     ///
     /// Takes memory for the entry and the note. May block until the lock of the event is free.
     pub fn discard(self, hand: &mut Hand<T>) -> Result<bool, WaitError<Self>>

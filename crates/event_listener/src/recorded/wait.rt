@@ -38,7 +38,7 @@ impl<T> RecordedPlace<T> {
         }
     }
 
-    /// Gives the hand back.
+    /// Puts the hand back into `hand`.
     pub(super) fn give_back(self, hand: &mut Hand<T>)
     where
         T: Drop,
