@@ -27,10 +27,10 @@ pub(crate) use turn::Turn;
 ///
 /// If the second attempt of a round succeeds, its listener is dropped. If the `Until` is dropped, so is a listener that a
 /// pending poll left in the queue. Either drop propagates the listener's notification if the listener was notified, so that
-/// another listener gets it.
+/// another listener may get it.
 ///
 /// Each round takes memory if listening does, and a wait of a thread also takes memory for what the thread parks on. Each
-/// round may block until the lock of the event is free. No lock is held while an attempt is made.
+/// round may block until the lock of the event is free. An `Until` holds no lock while an attempt is made.
 ///
 /// An `Until` may be used again after an output or an error, by any of its calls. A contract sees an `Until` as the state of
 /// its attempts, the number of its event, and the standing of the listener that a pending poll left.
@@ -80,8 +80,9 @@ impl<'a, A: Attempt, R: Wait + Clock + Clone> Until<'a, A, R> {
 
     /// Blocks the calling thread until an attempt succeeds, and returns its output.
     ///
-    /// A listener that a pending poll left is dropped first. Takes no memory if the first attempt succeeds; else the thread
-    /// listens, as [`Until`] says. [`UntilError`] says which errors there are and what they leave.
+    /// A listener that a pending poll left is dropped first. If the first attempt succeeds, the call takes no memory of its
+    /// own; else the thread listens and waits, as [`Until`] says. [`UntilError`] says which errors there are and what they
+    /// leave.
     #[inline(always)]
     pub fn wait(&mut self) -> Result<A::Output, UntilError>
         ensures succeeded { IfOk result (λ output.
