@@ -4,23 +4,23 @@ use crate::reply::{ListenError, NotifyError, RegisterResult, State};
 /// A call of a queue, as a value that [`List::run`](crate::List::run) makes.
 #[derive(Clone, Debug, PartialEq, Eq, Drop)]
 pub enum Call<T, W> {
-    /// A call of [`List::insert`](crate::List::insert).
+    /// Inserts a listener at the end of the queue, as [`List::insert`](crate::List::insert) does.
     Insert,
-    /// A call of [`List::register`](crate::List::register).
+    /// Registers a listener with a task, as [`List::register`](crate::List::register) does.
     Register {
         /// The key of the listener.
         key: Key,
         /// The task to store.
         task: W,
     },
-    /// A call of [`List::remove`](crate::List::remove).
+    /// Removes a listener from the queue, as [`List::remove`](crate::List::remove) does.
     Remove {
         /// The key of the listener.
         key: Key,
-        /// Whether the notification of a listener that is notified is propagated to another listener.
+        /// Whether the notification of a notified listener is propagated, so that another listener may get it.
         propagate: bool,
     },
-    /// A call of [`List::notify`](crate::List::notify).
+    /// Notifies the first listeners that wait, as [`List::notify`](crate::List::notify) does.
     Notify {
         /// How many listeners the notification is for.
         count: usize,
@@ -30,9 +30,9 @@ pub enum Call<T, W> {
         /// one.
         tags: Vec<T>,
     },
-    /// A call of [`List::total_listeners`](crate::List::total_listeners).
+    /// Asks how many listeners are in the queue, as [`List::total_listeners`](crate::List::total_listeners) does.
     TotalListeners,
-    /// A call of [`List::is_notified`](crate::List::is_notified).
+    /// Asks whether some listener is notified, as [`List::is_notified`](crate::List::is_notified) does.
     IsNotified,
 }
 

@@ -7,8 +7,8 @@ ghost use Rattle.std.specs.Prelude.{Option};
 pub trait TaskExchange<W, C> {
     ghost exchanged: { Self → C → Option W → W → C → Type 0 };
 
-    /// Takes the task that the listener had stored, if any, and returns the task to store. What the exchange works on is
-    /// `on`.
+    /// Takes the task that the listener had stored, if any, and returns the task to store. The exchange works on `on`, for
+    /// example on the context of a task that polls.
     fn exchange(&self, on: &mut C, stored: Option<W>) -> W
         ensures { exchanged self.now on.old stored result on.new };
 }

@@ -34,8 +34,8 @@ use std::sync::ledger::Ledger;
 /// exchange or a notification of the caller does.
 ///
 /// Seven calls count in [`Steps`] how many nodes of other listeners they visit, and how often they look up a key. Each of
-/// these has a namesake that counts nothing, for example [`insert_uncounted`](List::insert_uncounted), for callers who do not
-/// bound the work of a call.
+/// these has a namesake that counts nothing, for example [`insert_uncounted`](List::insert_uncounted), for callers that need
+/// no counts.
 #[derive(Drop)]
 pub struct List<T, W> {
     pub(crate) chain: Chain<Notice<T>, W>,

@@ -119,7 +119,8 @@ impl<N: Notification> IntoNotification for N {
 
 /// A value that converts to a notification without tags, which can be given tags.
 ///
-/// Every [`IntoNotification`] whose tag is `()` is one. So a notification that has tags can't be given others.
+/// Every [`IntoNotification`] whose tag is `()` is one. So a notification that has tags can't be given other tags. Both calls
+/// require that the value [`fits`](IntoNotification::fits).
 pub trait IntoTagged: IntoNotification<Tag = ()> {
     /// Converts the value to a notification of which each notified listener gets a clone of `tag`.
     ///
@@ -134,8 +135,8 @@ pub trait IntoTagged: IntoNotification<Tag = ()> {
 
     /// Converts the value to a notification of which each notified listener gets a tag that the function makes.
     ///
-    /// The function is called once for each notified listener, in order, and no tag is refused. It has to be a function that
-    /// may always be called. The call takes no memory; the function may.
+    /// The function is called once for each notified listener, in order, and no tag is refused. The function has to be one
+    /// that may always be called. The call takes no memory; the function may.
     fn tag_with<T, F: FnMut() -> T>(self, tag: F) -> TagWith<Self::Notify, F>
         requires fits { Self.fits self }
         requires callable { F.IsAlwaysCallable tag }

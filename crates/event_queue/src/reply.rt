@@ -33,7 +33,7 @@ pub enum State<T, W> {
 /// What [`List::register`](crate::List::register) found.
 #[derive(Clone, Copy, Debug, PartialEq, Eq, Drop)]
 pub enum RegisterResult<T> {
-    /// The listener was notified. It has left the queue, and this is its tag.
+    /// The listener was notified and has left the queue. This is its tag.
     Notified(T),
     /// The listener waits, and a task is stored.
     Registered,
@@ -44,7 +44,7 @@ pub enum RegisterResult<T> {
 /// Why a listener was not inserted.
 #[derive(Clone, Copy, Debug, PartialEq, Eq, Error)]
 pub enum ListenError {
-    /// There was no memory for the listener. No listener was inserted.
+    /// There was no memory for the listener, or for what an event makes with a listener. No listener was inserted.
     #[error("no memory for a listener")]
     Memory,
     /// The queue has given out all its serial numbers, of which each listener gets one. No listener was inserted.

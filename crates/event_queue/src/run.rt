@@ -15,10 +15,10 @@ impl<T: Drop, W: Drop> List<T, W> {
     /// Makes the calls one after another, and appends the reply of each to `replies`. If a call fails, its error is its
     /// reply, and the run goes on.
     ///
-    /// Room for all replies is made first, which takes memory if `replies` has too little. If there is none, the call returns
-    /// an error, makes no call, drops the calls, and leaves the queue, the replies and the sink as they were. From then on
-    /// memory is taken only by insertions, whose failure is a reply. The tasks that the calls wake are given to `sink`. A
-    /// notification of the run has its tags in a list, and after the last tag it refuses to give one.
+    /// Room for all replies is made first, which takes memory if `replies` has too little. If there is no memory, the call
+    /// returns an error, makes no call, drops the calls, and leaves the queue, the replies and the sink as they were. From
+    /// then on memory is taken only by insertions, whose failure is a reply. The tasks that the calls wake are given to
+    /// `sink`. A notification of the run has its tags in a list, and after the last tag it refuses to give one.
     pub fn run<S: WakeSink<W>>(
         &mut self,
         calls: Vec<Call<T, W>>,
@@ -31,7 +31,7 @@ impl<T: Drop, W: Drop> List<T, W> {
         ensures one_each { OnOk result (vec_len replies.new ≡ vec_len replies.old + vec_len calls) }
         ensures queue { IsQueue self.new }
 
-        // A refusal changes nothing, and does not come where there is room for the replies.
+        // A refusal changes nothing, and there is none where the replies have room.
         ensures queue_unchanged { OnErr result (self.new ≡ self.old) }
         ensures replies_unchanged { OnErr result (replies.new.items ≡ replies.old.items) }
         ensures sink_unchanged { OnErr result (sink.new ≡ sink.old) }

@@ -246,7 +246,7 @@ impl<A, B> Entries<A, B> {
         (slot, own)
     }
 
-    /// Takes the value of an entry after the cursor off its node, which then carries what a spare one does.
+    /// Takes the value of an entry after the cursor off its node, which then carries what a spare node carries.
     #[inline(always)]
     pub(super) fn hand_out(&mut self, own: &NodeRef<Entry<A, B>>) -> Option<B>
         requires { IsAfterAt self.old.ring.nodes own.now.ptr }
@@ -258,7 +258,7 @@ impl<A, B> Entries<A, B> {
         entry.into_after()
     }
 
-    /// Gives a node that carries what a spare one does an entry after the cursor.
+    /// Gives an entry after the cursor to a node that carries what a spare node carries.
     #[inline(always)]
     pub(super) fn hand_in(&mut self, own: &NodeRef<Entry<A, B>>, key: Key, value: Option<B>)
         requires { IsSpareAt self.old.ring.nodes own.now.ptr }

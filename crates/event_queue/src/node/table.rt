@@ -127,7 +127,7 @@ impl<A, B> Table<A, B> {
         self.spares.pop()
     }
 
-    /// Writes the serial of an entry and the place of its node, which was spare, into the key's slot.
+    /// Writes the serial number of an entry and the place of its node, which was spare, into the key's slot.
     #[inline(always)]
     pub(super) fn fill(&mut self, key: Key, node: &NodeRef<Entry<A, B>>)
         requires slot { key.slot < length (shown_in self.old.slots.items) }

@@ -53,7 +53,8 @@ impl<L: Ledger> Model for Steps<L> {
 }
 
 impl<L: Ledger> Steps<L> {
-    /// Makes counts of 0, which are kept in a new ledger. Takes no memory.
+    /// Makes counts of 0, which are kept in a new ledger. The blank has to be of the ledger `L`, with at least one part.
+    /// Takes no memory.
     #[inline(always)]
     pub fn new(blank: Blank) -> Self
         requires name { blank.name ≡ L.name }
