@@ -6,17 +6,18 @@ use crate::identity::Identity;
 use event_slot::{Mark, Rest};
 use std::mem;
 
-/// A caller's right to call, of no bytes, on a state of type `S` by calls of type `C`. It belongs to one
+/// A caller's right to call, of no bytes, on a state of type `S` by calls of type `C`. A hand belongs to one
 /// [`Traced`](crate::Traced) state, whose name it has.
 ///
-/// It can't be dropped: it ends by [`Hand::end`], or another one takes it in. So what a hand owes before it ends, it does.
+/// A hand can't be dropped: it ends by [`Hand::end`], or another hand takes it in. So a hand does all that its calls ask for
+/// before it ends.
 ///
-/// In clauses `known_by` says what it knows, and `IsOf` of which lock it is. Between two calls it has no state out, and
-/// owes nobody a wake.
+/// In clauses `known_by` says what a hand knows, and `IsOf` of which lock the hand is. Between two calls a hand has no state out,
+/// and owes nobody a wake, which means that no thread sleeps whom this hand has to wake.
 pub struct Hand<S, C> {
     pub mark: Mark<View<S, C>>,
-    // No other crate names it, so none takes a hand apart, or puts another mark in the place of this one: a hand that owes
-    // something could end as one that made no call.
+    // No other crate names this field, so no crate takes a hand apart, or puts another mark in the place of this one: a hand that
+    // owes something could end as one that made no call.
     identity: Identity,
     ghost idle: { (mark.view.out ≡ []) × (mark.view.spent ≡ false) × (mark.view.owes ≡ false) },
     ghost same_mark: { (mark.slot ≡ identity.slot) × (mark.id ≡ identity.id) },
@@ -25,7 +26,7 @@ pub struct Hand<S, C> {
 impl<S, C> Hand<S, C> {
     ghost use Rattle.event_history.specs.Hands.{known_by};
 
-    /// The hand of a mark that has no state out.
+    /// Makes a hand of a mark that has no state out, is not spent and owes no wake. Does nothing at run time.
     #[doc(hidden)]
     #[inline(always)]
     pub fn of(mark: Mark<View<S, C>>) -> Hand<S, C>
@@ -36,7 +37,7 @@ impl<S, C> Hand<S, C> {
         Hand { mark, identity }
     }
 
-    // The mark alone.
+    // Returns the mark alone.
     #[inline(always)]
     pub(crate) fn into_mark(self) -> Mark<View<S, C>>
         ensures { result ≡ self.mark }
@@ -45,7 +46,7 @@ impl<S, C> Hand<S, C> {
         mark
     }
 
-    /// The hand at rest.
+    /// Puts the hand to rest, so that threads may share it or a listener may keep it. Does nothing at run time.
     #[inline(always)]
     pub fn rest(self) -> IdleHand<S, C>
         ensures { (result.rest.slot ≡ self.mark.slot) × (result.rest.views ≡ known_by self ∷ []) }
@@ -59,8 +60,10 @@ impl<S, C> Hand<S, C> {
 impl<S: Steps> Hand<S, S::Call> {
     ghost use Rattle.event_history.specs.Hands.{known_by};
 
-    /// Ends the hand, once it has done what its calls ask of it: of a queue, once each listener that one of them inserted is
-    /// taken out by another. It is nothing when a program runs.
+    /// Ends the hand, once it has made all calls that its earlier calls ask for.
+    ///
+    /// A hand of a queue may end once each listener that it inserted was taken out by another of its calls. Does nothing at run
+    /// time.
     #[inline(always)]
     pub fn end(self)
         requires { S.may_end (known_by self).mine }
@@ -69,13 +72,13 @@ impl<S: Steps> Hand<S, S::Call> {
     }
 }
 
-/// A hand while it makes no call, or the place of one that was taken out, of no bytes. A listener keeps its hand so. It can't be
-/// dropped either.
+/// A hand while it makes no call, or the empty place of a hand that was taken out, of no bytes. A listener keeps its hand so. An
+/// idle hand can't be dropped either.
 ///
-/// `rest.views` is what the hand knows, a list of one, or of none while it is out.
+/// `rest.views` is what the hand knows: a list of one, which is empty while the hand is out.
 pub struct IdleHand<S, C> {
     pub rest: Rest<View<S, C>>,
-    // No other crate names it, so none puts another hand in the place of this one.
+    // No other crate names this field, so no crate puts another hand in the place of this one.
     identity: Identity,
     ghost idle: { All (λ v. (v.out ≡ []) × (v.spent ≡ false) × (v.owes ≡ false)) rest.views },
     ghost same_hand: { (rest.slot ≡ identity.slot) × (rest.id ≡ identity.id)
@@ -85,7 +88,7 @@ pub struct IdleHand<S, C> {
 impl<S, C> IdleHand<S, C> {
     ghost use Rattle.event_history.specs.Hands.{IsOf, known_by};
 
-    /// Takes the hand out, for a call.
+    /// Takes the hand out of its place, for a call, and leaves the place empty. Requires that a hand is there.
     #[inline(always)]
     pub fn take(&mut self) -> Hand<S, C>
         requires { (v : View S C) × (self.old.rest.views ≡ v ∷ []) }
@@ -98,7 +101,7 @@ impl<S, C> IdleHand<S, C> {
         Hand::of(rest.into_mark())
     }
 
-    /// Puts a hand in, after a call. None is there.
+    /// Puts a hand into the empty place, after a call.
     #[inline(always)]
     pub fn put(&mut self, hand: Hand<S, C>)
         requires { self.old.rest.views ≡ [] }
@@ -109,7 +112,7 @@ impl<S, C> IdleHand<S, C> {
         self.identity = Identity::of_rest(&self.rest);
     }
 
-    /// The hand, which rests no more.
+    /// Returns the hand that rests here. Requires that a hand is there.
     #[inline(always)]
     pub fn into_hand(self) -> Hand<S, C>
         requires { (v : View S C) × (self.rest.views ≡ v ∷ []) }

@@ -1,4 +1,4 @@
-//! What follows of one history.
+//! What follows of one history of a queue. A listener *waits* or is *notified*; both are in the queue.
 ghost use Rattle.std.specs.Prelude.{◌≡◌, ◌≢◌, ◌<◌, ◌≤◌, ◌^◌, ◌-◌, ◌⊎◌, ◌∷◌, ◌++◌, ℕ, Bool, List, [], true, false, length, Option, Some, Ok, IsSome};
 ghost use Rattle.std.specs.Map.{keys_of, lookup};
 ghost use Rattle.event_queue.specs.declared.key.Key.{Key};
@@ -19,14 +19,18 @@ ghost use Rattle.event_history.specs.Laws.{QueueLog, IsTold, Waits, IsIn, Stays,
 
 use crate::history::Steps;
 
-/// A listener whose listening stands in a history, and which no later call took out, is in the queue that the history leads
-/// to.
+/// Proves that a listener is in the queue to which a history leads, if its insertion stands in the history and no later call took
+/// the listener out. Does nothing when a program runs.
 pub fn stays<T, W>()
     ensures { (key : Key) (log : QueueLog T W) (q : Queue T W) → LeadsTo queue_machine log q
         → Listens key log → IsIn key q }
 {}
 
-/// So a registration of it is not answered that it was never inserted, and a removal of it finds it.
+/// Proves that such a listener is found: a registration is not answered that the listener was never inserted, and a removal does
+/// not return `None`.
+///
+/// The law is about the listeners of [`stays`](crate::stays): the insertion stands in the history, and no later call took the
+/// listener out. Does nothing when a program runs.
 pub fn never_absent<T, W>()
     ensures registered { (key : Key) (log : QueueLog T W) (q next : Queue T W)
         (reply : RegisterResult T) → LeadsTo queue_machine log q → Listens key log
@@ -36,9 +40,11 @@ pub fn never_absent<T, W>()
         → calls q (Remove key propagate reply) next → IsSome reply }
 {}
 
-/// A listener that a hand joined by, and that no later call of this hand took out, is in the queue whenever the hand makes a
-/// call or looks, since no other hand takes it out. So a registration of it is not answered that it was never inserted, and a
-/// removal of it finds it.
+/// Proves that a hand's own listener is in the queue whenever the hand makes a call or looks.
+///
+/// A hand *owns* a listener that one of its calls inserted and none of its later calls took out. No other hand takes that
+/// listener out. So a registration of the listener is not answered that it was never inserted, and a removal finds it. Does
+/// nothing when a program runs.
 pub fn own_listener_stays<T, W>()
     ensures stands { (key : Key) (number : ℕ) (log : QueueLog T W) (q : Queue T W)
         → LeadsTo queue_machine log q → EachRests rests_on log
@@ -58,8 +64,10 @@ pub fn own_listener_stays<T, W>()
         → OwnsListener key v.mine → IsSome reply }
 {}
 
-/// How a hand comes to own a listener, by a call that inserts it, and that it owns it on after any call that does not take it
-/// out, such as a registration that stores a task. Such a hand may register and remove it.
+/// Proves that a hand owns a listener after a call that inserts it, and still owns it after any call that does not take it out.
+///
+/// A registration that stores a task is such a call. A hand that owns a listener may register and remove it. Does nothing when a
+/// program runs.
 pub fn owns_on<T, W>()
     ensures joined { (key : Key) (v w : View (Queue T W) (QueueCall T W)) (before after : Queue T W)
         → Leads queue_machine v (Insert (Ok key)) before after w
@@ -75,8 +83,11 @@ pub fn owns_on<T, W>()
         → AreAmong (Insert (Ok key) ∷ []) mine }
 {}
 
-/// Where a notification was refused no tag, a listener waits on only if as many as it counts are notified: in all, for a
-/// default one; for an additional one, of those that waited before that listener.
+/// Proves when a listener may wait on after a notification that was refused no tag: only if as many listeners as the notification
+/// counts are notified.
+///
+/// For a default notification these are all notified listeners, and for an additional one those that waited before that listener.
+/// Does nothing when a program runs.
 pub fn told_or_as_many_before<T, W>()
     ensures default_one { (key : Key) (old new : Queue T W) (count told : ℕ)
         → calls old (Notify count false (Ok told)) new → IsIn key old → IsTold key new
@@ -86,8 +97,10 @@ pub fn told_or_as_many_before<T, W>()
         ⊎ (Waits key new × TellsFirst count old new) }
 {}
 
-/// A notification that counts as many as there are listeners, additional or not, and that was refused no tag leaves each of
-/// them notified. The greatest count is always as many.
+/// Proves that a notification leaves each listener notified if it counts as many as there are listeners and was refused no tag.
+///
+/// That holds of a default notification and of an additional one. The greatest count is always as many. Does nothing when a
+/// program runs.
 pub fn tells_all<T, W>()
     ensures enough { (key : Key) (old new : Queue T W) (count told : ℕ) (additional : Bool)
         → calls old (Notify count additional (Ok told)) new → listeners_of old ≤ count
@@ -96,8 +109,11 @@ pub fn tells_all<T, W>()
         → calls old (Notify (2 ^ 64 - 1) additional (Ok told)) new → IsIn key old → IsTold key new }
 {}
 
-/// Whichever states one history leads to, the same listeners are notified in each, and the same wait, in the same order. So who
-/// is notified after a call is known wherever the history up to that call is.
+/// Proves that one history leads to one order: in each state to which the history leads the same listeners are notified, and the
+/// same listeners wait, in the same order.
+///
+/// So wherever the history up to a call is known, it is known which listeners are notified after that call. Does nothing when a
+/// program runs.
 pub fn one_history_one_order<T, W>()
     ensures told { (log : QueueLog T W) (q other : Queue T W) → LeadsTo queue_machine log q
         → LeadsTo queue_machine log other → keys_of q.told ≡ keys_of other.told }
@@ -105,9 +121,10 @@ pub fn one_history_one_order<T, W>()
         → LeadsTo queue_machine log other → keys_of q.waiting ≡ keys_of other.waiting }
 {}
 
-/// A notified listener stays notified until the hand that it joined by takes its tag or removes it. So one that was notified
-/// at some point of what a hand has seen, and that the hand did not take out, is notified when the hand makes its next call,
-/// and where it looks.
+/// Proves that a notified listener stays notified until the hand that inserted it takes its tag or removes it.
+///
+/// So a listener that was notified at some point of what a hand has seen, and that the hand did not take out, is notified when
+/// the hand makes its next call, and where the hand looks. Does nothing when a program runs.
 pub fn told_until_own_call<T, W>()
     ensures run { (key : Key) (later : QueueLog T W) (q r : Queue T W) → IsTold key q
         → Runs calls q later r → EachStays key later → IsTold key r }
@@ -126,7 +143,8 @@ pub fn told_until_own_call<T, W>()
         → IsTold key q → IsTold key looks.led }
 {}
 
-/// A registration of a notified listener is answered its tag, and a removal of one finds it notified.
+/// Proves that a registration of a notified listener is answered the listener's tag, and that a removal finds the listener
+/// notified. Does nothing when a program runs.
 pub fn told_is_found<T, W>()
     ensures registered { (key : Key) (log : QueueLog T W) (q next : Queue T W)
         (reply : RegisterResult T) → LeadsTo queue_machine log q → IsTold key q
@@ -136,9 +154,12 @@ pub fn told_is_found<T, W>()
         → calls q (Remove key propagate reply) next → FindsTold propagate reply }
 {}
 
-/// Where a hand owns a listener, and has seen that after it joined some hand notified all, by the greatest count and refused no
-/// tag, the listener is notified when the hand makes its next call, and where it looks. So a registration of it is answered
-/// its tag, and a removal finds it notified.
+/// Proves that a hand's own listener is notified if the hand has seen that some hand notified all listeners after the listener
+/// was inserted.
+///
+/// To notify all is to notify by the greatest count, and to be refused no tag. The listener is notified then when its own hand
+/// makes its next call, and where that hand looks: a registration is answered its tag, and a removal finds it notified. Does
+/// nothing when a program runs.
 pub fn told_by_another<T, W>()
     ensures called { (key : Key) (number by : ℕ) (additional : Bool) (told : ℕ)
         (v w : View (Queue T W) (QueueCall T W)) (call : QueueCall T W)
@@ -167,9 +188,12 @@ pub fn told_by_another<T, W>()
         → IsAmong (Insert (Ok key)) (calls_by number earlier) → FindsTold propagate reply }
 {}
 
-/// Whoever takes a tag listened and waited until a call of the history notified it with just that tag: a notification, or a
-/// removal that passed one on to it. The same holds of whoever is notified and took no tag yet, and who is in the queue
-/// listened.
+/// Proves that each tag taken was given: the listener that takes a tag waited until a call of the history notified the listener
+/// with just that tag.
+///
+/// The call was a notification, or a removal that propagated a notification to the listener. The law holds of each listener that
+/// is notified and whose tag is not taken yet, too. Each listener in the queue was inserted by a call of the history. Does
+/// nothing when a program runs.
 pub fn tag_was_told<T, W>()
     ensures taken { (key : Key) (log : QueueLog T W) (q next : Queue T W) (tag : T)
         → LeadsTo queue_machine log q → calls q (Register key (Notified tag)) next
@@ -185,7 +209,8 @@ pub fn tag_was_told<T, W>()
         → LeadsTo queue_machine log q → IsIn key q → Listens key log }
 {}
 
-/// Who listened first has the lower serial, and is notified first: nobody waits while a later one is notified.
+/// Proves that the listener that was inserted first has the lower serial number and is notified first: no listener waits while a
+/// later one is notified. Does nothing when a program runs.
 pub fn first_told_first<T, W>()
     ensures serials { (a b : Key) (x y : ℕ) (earlier between later : QueueLog T W) (q : Queue T W)
         → LeadsTo queue_machine
@@ -195,11 +220,12 @@ pub fn first_told_first<T, W>()
         → a.serial < b.serial → IsTold b q → IsIn a q → IsTold a q }
 {}
 
-/// A notified listener that is dropped passes its notification on, with its tag, to the first that waits where its kind
-/// wants one more notified once it has left. Else the notification is lost, and is the answer.
+/// Proves where the notification of a dropped listener goes: to the first listener that waits, with its tag, if the notification
+/// still wants one more notified after the drop.
 ///
-/// So where two listeners were counted as all that there are, and the one is dropped and was notified, the other one is found
-/// notified after that (`next`): no third one came before it.
+/// Else the notification is lost, and the call returns it. So where a hand has seen that two listeners are all that there are,
+/// and one of them was notified and then dropped, the other one is found notified after that (`next`), because no third listener
+/// stands before it. Does nothing when a program runs.
 pub fn passes_on<T, W>()
     ensures wanted { (key : Key) (log : QueueLog T W) (old new : Queue T W) (notice : Notice T)
         (reply : Option (State T W)) → LeadsTo queue_machine log old
@@ -223,8 +249,11 @@ pub fn passes_on<T, W>()
         → FindsTold propagate reply }
 {}
 
-/// A hand has seen, after a call, all that it had seen before, and after it took another one in, all that the other one had seen.
-/// A hand that another one made calls after all that the other one had seen by then.
+/// Proves that what a hand has seen only grows: after a call the hand has seen all that it had seen before, and after it took in
+/// another hand, all that the other hand had seen.
+///
+/// A hand that was forked from another hand calls after all that the other one had seen by then. Does nothing when a program
+/// runs.
 pub fn told_hands_call_later<S: Steps>()
     ensures seen { (start : S.Start) (v w : View S S.Call) (call : S.Call)
         → Extends (machine_of S.Steps start) v call w

@@ -1,4 +1,4 @@
-//! A state under a lock, with the queues of those that wait for something of it.
+//! A state under a lock, with the queues of its waiters.
 ghost use Rattle.std.specs.Prelude.{◌≡◌, ◌↔◌, Option, Result, [], IfOk, IfErr, OnErr};
 ghost use Rattle.event_wait.specs.declared.request.Attempted.{Attempted};
 ghost use Rattle.event_wait.specs.Attempted.{Attempts, OnDone, OnRefused, OnUndone};
@@ -20,10 +20,11 @@ use event_wait::{Attempted, DeferredWake, Task, WakerSource};
 use std::marker::{Brand, Model};
 use std::sync::Wait;
 
-/// A state under a lock, with one history of all calls on it, and the queues of those that wait for something of it.
+/// A state under a lock, with one history of all calls on it, and the queues of the threads and tasks that wait for something of
+/// it.
 ///
-/// A contract sees the number of the source at which tasks that wait are registered, the name of the lock, and what
-/// was given of its start.
+/// A contract sees the number of the source at which waiting tasks are registered, the name of the lock, and what was given of
+/// its start.
 #[derive(Drop)]
 pub struct Lock<S: Steps> {
     traced: Traced<S>,
@@ -43,8 +44,10 @@ impl<S: Steps> Model for Lock<S> {
 }
 
 impl<S: Steps> Lock<S> {
-    /// A lock round this state, and a first hand. The call does not allocate. The state starts as `start` says, which no program
-    /// sees.
+    /// Makes a lock round this state, and its first hand.
+    ///
+    /// Requires that the state starts as `start` says. No program sees `start` again: it is for contracts. The call does not
+    /// allocate.
     pub fn new(state: S, start: &S::Start) -> (Self, Hand<S, S::Call>)
         requires starts { S.starts start.now state }
         ensures start { result.0.start ≡ start.now }
@@ -55,7 +58,7 @@ impl<S: Steps> Lock<S> {
         (Lock { traced, source }, hand)
     }
 
-    /// A hand that made no call yet, and has seen the history so far. It is one load.
+    /// Makes a hand that made no call yet, and has seen the history so far. The call costs one load.
     #[inline(always)]
     pub fn hand(&self) -> Hand<S, S::Call>
         ensures { IsOf self.now.table result
@@ -64,7 +67,7 @@ impl<S: Steps> Lock<S> {
         self.traced.hand()
     }
 
-    /// Where a task registers that polls one which waits.
+    /// Returns the source at which a task registers that polls a waiting request.
     #[inline(always)]
     pub fn waker_source(&self) -> &WakerSource
         ensures { result.now ≡ self.now.source }
@@ -72,7 +75,11 @@ impl<S: Steps> Lock<S> {
         &self.source
     }
 
-    /// Makes one call at once, or none if another hand has the state.
+    /// Makes one call at once, as a call of this hand, and returns the reply; if another hand has the state, returns the step as
+    /// an error.
+    ///
+    /// Requires that the hand made the calls on which this call rests. An error leaves the hand and `beside` as they were. The
+    /// call does not wait for the lock, and allocates what the step allocates.
     pub fn try_perform<B, K: Step<S, B>>(
         &self,
         hand: &mut Hand<S, S::Call>,
@@ -99,7 +106,7 @@ impl<S: Steps> Lock<S> {
         }
     }
 
-    /// The state alone, for [`perform!`](crate::perform).
+    /// Returns the traced state alone, for [`perform!`](crate::perform).
     #[doc(hidden)]
     #[inline(always)]
     pub fn traced(&self) -> &Traced<S>
@@ -109,7 +116,7 @@ impl<S: Steps> Lock<S> {
         &self.traced
     }
 
-    /// A new hand, which has seen as much as this one. It is one load.
+    /// Makes another hand, which has seen as much as this hand and made no call. The call costs one load.
     pub fn fork(&self, hand: &mut Hand<S, S::Call>) -> Hand<S, S::Call>
         requires { IsOf self.now.table hand.old }
         ensures hand { SameTable hand.old hand.new
@@ -120,8 +127,10 @@ impl<S: Steps> Lock<S> {
         self.traced.fork(hand)
     }
 
-    /// Has a hand learn what another one saw and did, which is no more. From here on it speaks of one history that has the
-    /// calls of both. It is two loads.
+    /// Has a hand learn what another hand saw and did, and ends the other hand.
+    ///
+    /// From here on the hand speaks of one history that has the calls of both. Requires that the other hand may end. The call
+    /// costs two loads.
     pub fn join(&self, hand: &mut Hand<S, S::Call>, other: Hand<S, S::Call>)
         requires here { IsOf self.now.table hand.old }
         requires there { IsOf self.now.table other }
@@ -133,8 +142,10 @@ impl<S: Steps> Lock<S> {
         self.traced.join(hand, other);
     }
 
-    /// Makes one call, as a call of this hand, which made what the call rests on, with what stands beside the state. It may wait
-    /// for the lock, and allocates what the step allocates.
+    /// Makes one call, as a call of this hand, with what stands beside the state, and returns the reply.
+    ///
+    /// Requires that the hand made the calls on which this call rests. May block until the lock is free, and allocates what the
+    /// step allocates.
     #[inline(always)]
     pub fn perform<B, K: Step<S, B>, R: Wait>(
         &self,
@@ -155,8 +166,10 @@ impl<S: Steps> Lock<S> {
         self.traced.perform(rt, hand, step, beside)
     }
 
-    /// Makes one call that may wake others, as a call of this hand: the last of them once the lock is given back. It may wait
-    /// for the lock, and allocates what the step allocates.
+    /// Makes one call that may wake others, as a call of this hand, and returns the reply.
+    ///
+    /// The task that is woken last is woken once the lock is given back. Requires that the hand made the calls on which this call
+    /// rests. May block until the lock is free, and allocates what the step allocates.
     #[inline(always)]
     pub fn call<K: Step<S, DeferredWake>, R: Wait>(
         &self,
@@ -178,7 +191,7 @@ impl<S: Steps> Lock<S> {
         reply
     }
 
-    // Attempts, with the task that the exchange makes if it waits on.
+    // Attempts a request once; a request that waits on stores the task that the exchange makes.
     fn attempt_named<
         N: Named<Attempted<Q::Output, Q::Refusal>, S::Call>,
         Q: Request<S>,
@@ -217,7 +230,7 @@ impl<S: Steps> Lock<S> {
         answer
     }
 
-    // Leaves the queue at the limit, with what can still be had.
+    // Has a request leave its queue at the limit, with what it can still get.
     fn leave_named<
         N: Named<Result<Option<Q::Output>, Q::Refusal>, S::Call>,
         Q: Request<S>,

@@ -4,22 +4,22 @@ ghost use Rattle.event_history.specs.Queue.{NoneLeft, calls, is_empty, rests_on}
 use crate::history::Steps;
 use event_queue::{Key, List, ListenError, NotifyError, RegisterResult, State};
 
-/// A call on a queue, with its reply. No value of it is made when a program runs.
+/// A call on a queue of listeners, with its reply. No value of this type is made when a program runs.
 pub enum QueueCall<T, W> {
-    /// A listener joins at the end.
+    /// An insertion of a listener at the end, with the key of the listener or why there was none.
     Insert(Result<Key, ListenError>),
-    /// A listener takes its tag, or stores a task.
+    /// A registration of a listener: the listener takes its tag, or stores a task.
     Register(Key, RegisterResult<T>),
-    /// A listener leaves, and what it was notified of is propagated or not.
+    /// A removal of a listener, whether its notification is propagated, and what the listener was.
     Remove(Key, bool, Option<State<T, W>>),
-    /// A notification of so many, additional or not.
+    /// A notification of so many listeners, whether it is additional, and how many were notified.
     Notify(usize, bool, Result<usize, NotifyError>),
-    /// How many are notified, and how many listeners there are.
+    /// How many listeners are notified, and how many there are.
     Counts(usize, usize),
 }
 
-/// A queue starts empty, and each call is one step of its two lists. A listener takes its tag, stores its task and leaves by
-/// the hand that it joined by, which ends once it has left.
+/// A queue starts empty, and each call is one step of its two lists. A listener takes its tag, stores its task and leaves by the
+/// hand that inserted the listener, and that hand ends once the listener has left.
 impl<T, W> Steps for List<T, W> {
     type Call = QueueCall<T, W>;
 

@@ -7,9 +7,12 @@ use crate::history::{Made, Steps, View};
 use event_slot::{Joins, Ruled, Splits, Tells, Trades};
 use std::marker::{Brand, PhantomData};
 
-/// The rule of a slot whose word is a lock, and whose state is under it: there is a history that leads from the start to
-/// the state, each hand knows a beginning of it and all its own calls in it, and each call comes after those of its hand that
-/// it rests on. It is beside no value: it has no bytes.
+/// The rule of a slot whose word is a lock, and whose state is under that lock. A rule is what holds between any two steps of any
+/// threads.
+///
+/// There is a history that leads from the start to the state. Each hand knows a beginning of the history and all its own calls in
+/// it, and each call stands after the calls of its hand that it rests on. The slot has no value beside the word, so a rule has no
+/// bytes.
 #[derive(Drop)]
 pub struct Rule;
 
@@ -66,14 +69,14 @@ impl<S, C> Trades<View<S, C>, S> for Await {
     ghost then = { awaited };
 }
 
-// A hand woke one that slept.
+// A hand woke a thread that slept.
 pub(crate) struct Wake;
 
 impl<S, C> Tells<View<S, C>> for Wake {
     ghost then = { woke };
 }
 
-// What held of the state before all calls. The slot has it of its key, which no step can tell, so whoever makes the step
+// What held of the state before all calls. The slot has it of its key, which no step can tell, so the caller that makes the step
 // picks it.
 pub(crate) trait Begins<S> {
     ghost begins: { S → Type 0 };
@@ -92,7 +95,7 @@ impl<S: Steps, B: Begins<S>, K: Made<S::Call>> Trades<View<S, S::Call>, S> for P
     ghost then = { put_back (machine_from S.Steps B.begins) K.made };
 }
 
-// The same, where others may sleep.
+// A hand gives the state back, after the call that `K` picks, where others may sleep.
 pub(crate) struct PutAwaited<S, B, K> {
     of: PhantomData<(S, B, K)>,
 }
@@ -110,7 +113,7 @@ impl<S: Steps, B: Begins<S>> Tells<View<S, S::Call>> for Look<S, B> {
     ghost then = { looked (machine_from S.Steps B.begins) };
 }
 
-// A new hand has seen what another one has seen.
+// A new hand has seen what another hand has seen.
 pub(crate) struct Tell;
 
 impl<S, C> Splits<View<S, C>> for Tell {
@@ -119,7 +122,7 @@ impl<S, C> Splits<View<S, C>> for Tell {
     ghost right = { λ v. newcomer v.seen };
 }
 
-// A hand learns what another one saw and did, which is no more.
+// A hand learns what another hand saw and did, and the other hand ends.
 pub(crate) struct Absorb;
 
 impl<S, C> Joins<View<S, C>> for Absorb {

@@ -13,8 +13,10 @@ use std::marker::Brand;
 use std::snapshot::Snapshot;
 use std::sync::Wait;
 
-/// Takes the state out. After each call of a function that may wait its caller tests whether it is to end, inlined or not. So
-/// this is no function: what is at home is taken with no such test.
+/// Takes the state out of its slot, and evaluates to the claim on it; waits while another hand has the state.
+///
+/// A caller tests after each call of a function that may wait, inlined or not, whether the caller is to end. So this is a macro
+/// and no function: a state that is at home is taken with no such test.
 #[macro_export]
 macro_rules! take_out {
     ($traced:expr, $rt:expr, $mark:expr) => {
@@ -25,30 +27,31 @@ macro_rules! take_out {
     };
 }
 
-/// One call on a state of type `S`, with what stands beside it, of type `B`: a sink of those that it wakes, say.
+/// One call on a state of type `S`, with what stands beside the state, of type `B`: a sink of the tasks that it wakes, say.
 pub trait Step<S: Steps, B> {
-    /// What it returns.
+    /// What the call returns.
     type Reply;
 
-    // When it may be made. By default always.
+    // When the call may be made. By default always.
     ghost may: { Self → Type 0 } = { λ _. Unit {0} };
 
     // The call as the history has it, by its reply.
     ghost call: { Self → Self.Reply → S.Call };
 
-    // The step, from the state and what is beside it to both afterwards.
+    // What the call does, from the state and what is beside it to both afterwards.
     ghost does: { Self → S → B → Self.Reply → S → B → Type 0 };
 
-    /// Makes the call. It does not wait for the lock under which it is made.
+    /// Makes the call on the state, and returns the reply. The caller has the lock, for which this call does not wait.
     fn make(self, state: &mut S, beside: &mut B) -> Self::Reply
         requires { may self }
         ensures goes { S.goes state.old (call self result) state.new }
         ensures does { does self state.old beside.old result state.new beside.new };
 }
 
-/// Makes one call on the state that is out with this claim, gives the state back, and is what the call replied. It is no
-/// function, as `take_out!`: a step that wakes others may wait. What makes the step may stand last, as
-/// `|step, state, beside| ..`; by default it is [`Step::make`](crate::Step::make).
+/// Makes one call on the state that is out with this claim, gives the state back, and evaluates to the reply.
+///
+/// This is a macro and no function, as `take_out!` is, because a step that wakes others may wait. What makes the step may stand
+/// last, as `|step, state, beside| ..`; by default it is [`Step::make`](crate::Step::make).
 #[doc(hidden)]
 #[macro_export]
 macro_rules! make {
@@ -70,11 +73,12 @@ macro_rules! make {
     }};
 }
 
-/// Makes one call of a [`Lock`](crate::Lock) as a call of this hand, with what stands beside the state, and is what
-/// [`Lock::perform`](crate::Lock::perform) returns. It is no function, as `take_out!`.
+/// Makes one call of a [`Lock`](crate::Lock) as a call of this hand, with what stands beside the state, and evaluates to what
+/// [`Lock::perform`](crate::Lock::perform) returns. This is a macro and no function, as `take_out!` is.
 ///
-/// [`Step::make`](crate::Step::make) is a function, after which it is tested whether the caller is to end, if the step can wake
-/// others. `|step, state, beside| ..` may stand last, which is done in its place with no such test, and must do the same.
+/// [`Step::make`](crate::Step::make) is a function, after which a caller tests whether it is to end, if the step can wake others.
+/// `|step, state, beside| ..` may stand last: that expression is evaluated in the place of `Step::make`, with no such test, and
+/// must do the same.
 #[macro_export]
 macro_rules! perform {
     ($lock:expr, $rt:expr, $hand:expr, $step:expr, $beside:expr $(, |$own:ident, $state:ident, $on:ident| $made:expr)?) => {{
@@ -86,9 +90,11 @@ macro_rules! perform {
     }};
 }
 
-/// Makes one call of a [`Lock`](crate::Lock) as the first call of a new hand, with what stands beside the state, and is that
-/// hand and the reply. It is what [`Lock::hand`](crate::Lock::hand) and then `perform!` are, without the load of the first.
-/// What makes the step may stand last, as there.
+/// Makes one call of a [`Lock`](crate::Lock) as the first call of a new hand, with what stands beside the state, and evaluates to
+/// that hand and the reply.
+///
+/// The macro does what [`Lock::hand`](crate::Lock::hand) and then `perform!` do, without the load of `Lock::hand`. What makes the
+/// step may stand last, as at `perform!`.
 #[macro_export]
 macro_rules! perform_first {
     ($lock:expr, $rt:expr, $step:expr, $beside:expr $(, |$own:ident, $state:ident, $on:ident| $made:expr)?) => {{
@@ -106,7 +112,9 @@ macro_rules! perform_first {
 }
 
 impl<S: Steps> Traced<S> {
-    /// Makes one call, as a call of this hand, which made what the call rests on. It may wait for the lock, and allocates what the
+    /// Makes one call on the state, as a call of this hand, and returns the reply.
+    ///
+    /// Requires that the hand made the calls on which this call rests. May block until the lock is free, and allocates what the
     /// step allocates.
     #[inline(always)]
     pub fn perform<B, K: Step<S, B>, R: Wait>(
@@ -130,7 +138,7 @@ impl<S: Steps> Traced<S> {
         make!(self, claim, mark, step, beside)
     }
 
-    /// Ends the call of this step, which was made on the state that is out with this claim: gives the state back.
+    /// Gives the state back, which is out with this claim, and notes the call of `step` that was made on the state.
     #[doc(hidden)]
     #[inline(always)]
     pub fn end<B, K: Step<S, B>>(

@@ -13,7 +13,8 @@ use event_queue::{
     WakeSink,
 };
 
-/// A listener joins at the end. It allocates if the queue has no spare slot.
+/// Inserts a listener at the end of the queue, and replies its key or an error. Allocates if the queue has no spare slot, which
+/// is one that was made and is free.
 #[derive(Drop)]
 pub struct Insert;
 
@@ -30,7 +31,7 @@ impl<T, W, B> Step<List<T, W>, B> for Insert {
     }
 }
 
-/// A listener takes its tag, or stores this task in the place of an earlier one.
+/// Has a listener take its tag, if it is notified, or else store this task in the place of an earlier task.
 #[derive(Drop)]
 pub struct Register<W> {
     pub key: Key,
@@ -52,7 +53,7 @@ impl<T, W: Drop, B> Step<List<T, W>, B> for Register<W> {
     }
 }
 
-/// A listener takes its tag, or stores the task that the exchange makes of the one that it stored.
+/// Has a listener take its tag, if it is notified, or else store the task that the exchange makes of the stored task.
 #[derive(Drop)]
 pub struct RegisterWith<'x, X> {
     pub key: Key,
@@ -75,7 +76,8 @@ impl<T, W, C, X: TaskExchange<W, C>> Step<List<T, W>, C> for RegisterWith<'_, X>
     }
 }
 
-/// A listener leaves. With `propagate` what it was notified of is propagated.
+/// Removes a listener, and replies what the listener was. With `propagate` the notification of a notified listener is propagated,
+/// so that another listener may get it.
 #[derive(Drop)]
 pub struct Remove {
     pub key: Key,
@@ -96,7 +98,8 @@ impl<T, W, K: WakeSink<W>> Step<List<T, W>, K> for Remove {
     }
 }
 
-/// The first that wait are notified. The notification comes back, so that none is dropped under the lock.
+/// Notifies the first listeners that wait, and replies how many were notified or an error. The reply has the notification, too,
+/// so that no notification is dropped under the lock.
 #[derive(Drop)]
 pub struct Notify<N: Notification> {
     pub notification: N,
@@ -122,7 +125,7 @@ impl<T, W, N: Notification<Tag = T>, K: WakeSink<W>> Step<List<T, W>, K> for Not
     }
 }
 
-/// How many listeners are notified, and how many there are.
+/// Replies how many listeners are notified, and how many there are. Changes nothing.
 #[derive(Drop)]
 pub struct Counts;
 

@@ -15,24 +15,27 @@ use event_wait::{PAUSES, pause};
 use std::marker::Brand;
 use std::sync::Wait;
 
-// The word while the state is at home, while a thread has it, and while one has it and others may sleep.
+// The word while the state is at home, while a thread has the state, and while a thread has it and others may sleep.
 const FREE: u64 = 0;
 
 const TAKEN: u64 = 1;
 
 const AWAITED: u64 = 2;
 
-/// A state that threads share, under a lock, with one history of all calls on it. It lies in place.
+/// A state that threads share, under a lock of one word, with one history of all calls on it. The state lies in place, so no
+/// memory is allocated for it.
 ///
-/// A contract knows it by the `name` of its slot, and by the `key` of the slot what was given of its start.
+/// A contract knows a traced state by the `name` of its slot, and by the `key` of the slot what was given of the start.
 pub struct Traced<S: Steps> {
     #[doc(hidden)]
     pub slot: Slot<Rule, S>,
 }
 
 impl<S: Steps> Traced<S> {
-    /// A state under a lock, with no calls, and a first hand. The call does not allocate. The state starts as `start` says,
-    /// which no program sees.
+    /// Makes a traced state, on which no call was made, and its first hand.
+    ///
+    /// Requires that the state starts as `start` says. No program sees `start` again: it is for contracts. The call does not
+    /// allocate.
     pub fn new(state: S, start: &S::Start) -> (Self, Hand<S, S::Call>)
         requires starts { S.starts start.now state }
         ensures start { result.0.slot.key ≡ start.now }
@@ -42,7 +45,7 @@ impl<S: Steps> Traced<S> {
         (Traced { slot }, Hand::of(mark))
     }
 
-    /// A hand that made no call yet, and has seen the history so far. It is one load.
+    /// Makes a hand that made no call yet, and has seen the history so far. The call costs one load.
     #[inline(always)]
     pub fn hand(&self) -> Hand<S, S::Call>
         ensures { IsOf self.now.slot.name result
@@ -51,7 +54,9 @@ impl<S: Steps> Traced<S> {
         Hand::of(self.slot.enter::<Enter>().1)
     }
 
-    /// Takes the state out, if no other hand has it. It can't say that others may sleep, so the hand may owe none a wake.
+    /// Takes the state out, and returns the claim on it, or `None` if another hand has the state.
+    ///
+    /// The call can't say that others may sleep, so it requires that the hand owes nobody a wake.
     #[doc(hidden)]
     #[inline(always)]
     pub fn try_take(&self, mark: &mut Mark<View<S, S::Call>>) -> Option<Claim<'_, Rule, S>>
@@ -71,7 +76,7 @@ impl<S: Steps> Traced<S> {
         }
     }
 
-    /// A new hand's mark, and the state, if no other hand has it. It is one compare-exchange.
+    /// Makes the mark of a new hand, and takes the state out if no other hand has it. The call costs one compare-exchange.
     #[doc(hidden)]
     #[inline(always)]
     pub fn arrive(&self) -> (Option<Claim<'_, Rule, S>>, Mark<View<S, S::Call>>)
@@ -89,7 +94,7 @@ impl<S: Steps> Traced<S> {
         }
     }
 
-    // Takes the state out, if no other hand has it, and says that others may sleep, whom the hand may owe a wake.
+    // Takes the state out, if no other hand has it, and has the word say that others may sleep, whom the hand may owe a wake.
     #[tactic(auto, using(crate::proofs::Keeps::locks))]
     fn take_awaited(&self, mark: &mut Mark<View<S, S::Call>>) -> Option<Claim<'_, Rule, S>>
         requires { (mark.old.slot ≡ self.now.slot.name) × (mark.old.view.spent ≡ false) }
@@ -110,7 +115,8 @@ impl<S: Steps> Traced<S> {
         }
     }
 
-    // Says that one waits, and sleeps while the word says so. Whoever is woken owes others a wake: they may sleep still.
+    // Has the word say that a thread waits, and sleeps while the word says so. A thread that is woken owes others a wake: these
+    // may sleep still.
     #[tactic(auto, using(crate::proofs::Keeps::waits))]
     fn sleep<R: Wait>(&self, rt: &R, mark: &mut Mark<View<S, S::Call>>)
         requires { (mark.old.slot ≡ self.now.slot.name) × (mark.old.view.spent ≡ false)
@@ -123,7 +129,8 @@ impl<S: Steps> Traced<S> {
         self.slot.park(rt, mark, AWAITED as u32);
     }
 
-    /// Gives the state back, after the call that `K` picks of its answer and of who made it.
+    /// Gives the state back, after the call that `K` picks of `answer` and `maker`, and wakes a thread that sleeps if there may
+    /// be any.
     #[doc(hidden)]
     #[inline(always)]
     pub fn give_back<K: Made<S::Call>, A, M>(
@@ -150,7 +157,7 @@ impl<S: Steps> Traced<S> {
         }
     }
 
-    // Gives the state back, unless others may sleep.
+    // Gives the state back, unless others may sleep: then the claim is returned.
     #[inline(always)]
     fn put_back<'a, B: Begins<S>, K: Made<S::Call>>(
         &self,
@@ -180,7 +187,7 @@ impl<S: Steps> Traced<S> {
         }
     }
 
-    // Gives the state back where others may sleep, as the hand knows, which still owes one of them a wake then.
+    // Gives the state back where others may sleep, as the hand knows. The hand owes a sleeping thread a wake afterwards.
     #[cold]
     #[inline(never)]
     fn put_awaited<B: Begins<S>, K: Made<S::Call>>(
@@ -204,7 +211,7 @@ impl<S: Steps> Traced<S> {
         claim.done();
     }
 
-    // Wakes one that sleeps, to whom the hand owed that.
+    // Wakes a thread that sleeps, to which the hand owed a wake.
     #[cold]
     #[inline(never)]
     #[tactic(auto, using(crate::proofs::Keeps::turns))]
@@ -217,7 +224,7 @@ impl<S: Steps> Traced<S> {
         self.slot.wake_one::<Wake>(mark);
     }
 
-    /// A new hand, which has seen as much as this one. It is one load.
+    /// Makes another hand, which has seen as much as this hand and made no call. The call costs one load.
     pub fn fork(&self, hand: &mut Hand<S, S::Call>) -> Hand<S, S::Call>
         requires { IsOf self.now.slot.name hand.old }
         ensures hand { SameTable hand.old hand.new
@@ -228,8 +235,10 @@ impl<S: Steps> Traced<S> {
         Hand::of(self.slot.split::<Tell>(&mut hand.mark))
     }
 
-    /// Has a hand learn what another one saw and did, which is no more. From here on it speaks of one history that has the
-    /// calls of both. It is two loads.
+    /// Has a hand learn what another hand saw and did, and ends the other hand.
+    ///
+    /// From here on the hand speaks of one history that has the calls of both. Requires that the other hand may end. The call
+    /// costs two loads.
     pub fn join(&self, hand: &mut Hand<S, S::Call>, other: Hand<S, S::Call>)
         requires here { IsOf self.now.slot.name hand.old }
         requires there { IsOf self.now.slot.name other }
@@ -256,12 +265,12 @@ impl<S: Steps> Traced<S> {
     }
 }
 
-/// Takes the state out that another hand had a moment ago.
+/// Takes the state out, and waits while another hand has it: for [`take_out!`](crate::take_out), which tried once.
 ///
-/// The thread pauses and looks, ever more seldom, and at last sleeps until the state is given back. A sleep, with the wake
-/// that ends it, costs far more than a step under such a lock. The call does not allocate.
+/// The thread pauses and looks, ever more seldom, and at last sleeps until the state is given back, because a sleep, with the
+/// wake that ends it, costs far more than a step under such a lock. The call does not allocate.
 ///
-/// It is a function of its own, so that [`take_out!`](crate::take_out) is a few instructions where the state is at home.
+/// This is a function of its own, so that `take_out!` is a few instructions where the state is at home.
 #[cold]
 #[inline(never)]
 pub fn wait_to_take<'a, S: Steps, R: Wait>(
@@ -293,7 +302,7 @@ pub fn wait_to_take<'a, S: Steps, R: Wait>(
 }
 
 impl<S: Steps + Drop> Drop for Traced<S> {
-    // It is a function of its own, so that a share that is not the last is given up in a few instructions.
+    // This is a function of its own, so that a share that is not the last is given up in a few instructions.
     #[cold]
     #[inline(never)]
     fn drop(self) {

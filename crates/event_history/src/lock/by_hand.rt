@@ -20,7 +20,7 @@ pub struct ByHand<'h, 'q, S: Steps, Q> {
     pub(crate) request: &'q mut Q,
 }
 
-// A request fits whose hand is of this lock and made calls that the request follows.
+// A request fits if its hand is of this lock and made the calls that the request follows.
 impl<'h, 'q, S: Steps, Q: Request<S>> Waitable<ByHand<'h, 'q, S, Q>> for Lock<S> {
     type Output = Q::Output;
 

@@ -1,4 +1,4 @@
-//! Attempts that come before a wait.
+//! Attempts that are made before a wait.
 ghost use Rattle.std.specs.Prelude.{◌≡◌, ◌↔◌, Option, None, IfSome};
 ghost use Rattle.event_history.specs.Hands.{IsOf, SameTable, known_by};
 ghost use Rattle.event_history.specs.History.{Makes, machine_of};
@@ -14,7 +14,10 @@ use std::marker::Brand;
 use std::sync::Wait;
 
 impl<S: Steps> Lock<S> {
-    /// Attempts what is requested, and does not wait for it. One that has a place in a queue keeps it. It may wait for the lock.
+    /// Attempts once to get the output, as a call of this hand, without waiting for it, and returns the output or `None`.
+    ///
+    /// A request that has a place in a queue keeps the place. A `None` leaves the request as it was. May block until the lock is
+    /// free.
     #[inline(always)]
     pub fn attempt<Q: Attempt<S>, R: Wait>(
         &self,
@@ -67,7 +70,10 @@ impl<S: Steps> Lock<S> {
         answer
     }
 
-    /// Leaves the queue, if it is there. What it was notified of goes on, in the same step. It may wait for the lock.
+    /// Has the request leave its queue, if it has a place there, as a call of this hand.
+    ///
+    /// What the request was notified of is passed on in the same step. A request without a place makes no call. May block until
+    /// the lock is free.
     #[inline(always)]
     pub fn give_up<Q: Attempt<S>, R: Wait>(
         &self,

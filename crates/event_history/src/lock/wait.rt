@@ -20,7 +20,12 @@ use std::sync::Wait;
 use std::time::Clock;
 
 impl<S: Steps> Lock<S> {
-    /// [`event_wait::wait`], by this hand.
+    /// Blocks the thread until the request gets its output or the limit has passed, and returns the output or `None`.
+    ///
+    /// Each attempt is a call of this hand. At the limit the request leaves the queue with what it can still get, so a late
+    /// output is returned, too. An error says that memory ran out ([`Refused::Memory`](event_wait::Refused::Memory)) or that the
+    /// request can't wait ([`Refused::Request`](event_wait::Refused::Request)); the request keeps the place that its last attempt
+    /// left it. Allocates what the thread parks on, as [`event_wait::wait`] does. May block until the lock is free, too.
     #[inline(always)]
     pub fn wait<Q: Request<S>, R: Wait + Clock>(
         &self,
@@ -48,7 +53,11 @@ impl<S: Steps> Lock<S> {
         answer
     }
 
-    /// [`event_wait::obtain`], by this hand.
+    /// Tries to get the output at once, then blocks the thread until the request gets it or the limit has passed, and returns the
+    /// output or `None`.
+    ///
+    /// Each attempt is a call of this hand, as is the removal of a request that gives up. After any return the request is in no
+    /// queue. What is tried, allocated and refused is said at [`event_wait::obtain`]. May block until the lock is free, too.
     #[inline(always)]
     pub fn obtain<Q: Attempt<S>, R: Wait + Clock>(
         &self,
@@ -76,7 +85,10 @@ impl<S: Steps> Lock<S> {
         answer
     }
 
-    /// [`event_wait::poll_in`], by this hand.
+    /// Attempts the request once, as a call of this hand, and registers the task that polls if the request waits on.
+    ///
+    /// Returns the output, or the refusal if the request can't wait. After a pending poll the task is woken when another attempt
+    /// may succeed. May block until the lock is free.
     #[inline(always)]
     pub fn poll_in<Q: Request<S>, R: Wait>(
         &self,
