@@ -7,7 +7,9 @@ use event_queue::ListenError;
 use std::alloc::AllocError;
 use thiserror::Error;
 
-/// Why a wait obtained nothing. The caller that waited is in no queue any more, and the lock is as if it had not been asked.
+/// Why a wait obtained nothing.
+///
+/// The caller that waited is in no queue any more, and the lock is as if the caller had not asked.
 #[derive(Clone, Copy, Debug, PartialEq, Eq, Error)]
 pub enum LockError {
     /// The caller could not join the queue: memory was refused, or the serial numbers of the queue are used up.

@@ -1,8 +1,8 @@
-//! A fair queue of those that compete with newcomers: for the permits of a semaphore, or the value of a mutex.
+//! A fair queue of waiters that compete with newcomers: for the permits of a semaphore, or the value of a mutex.
 //!
-//! Who is notified has nothing yet: it comes, leaves the queue, and attempts again; where it finds nothing it goes to the end.
-//! Each that waits has a *turn*: no more notified ones come before it than that says. One that was notified and found nothing
-//! twice *starves*, until it has come again.
+//! A waiter that is notified has nothing yet: it *retries*, which means that it leaves the queue and attempts again; if it finds
+//! nothing it joins at the end. Each waiter has a *turn*: while it waits, no more waiters have retried in all than its turn says.
+//! A waiter that was notified and found nothing twice *starves*, until it has retried once more.
 ghost use Rattle.std.specs.Prelude.{◌≡◌, ◌+◌, ◌<◌, ◌≤◌, [], ◌∷◌, ◌++◌, length, map, true, if◌then◌else◌, vec_len, vec_capacity, IfOk, IfErr, OnOk, OnErr};
 ghost use Rattle.std.specs.List.{FoldsTo};
 ghost use Rattle.event_queue.specs.Exchange.{InsertsWith, RegistersWith};
@@ -18,14 +18,19 @@ use event_queue::{Key, List, ListenError, RegisterResult, TaskExchange, WakeSink
 use std::alloc::{AllocError, Global};
 use std::marker::Model;
 
-/// One that waits: its task, and its turn.
+/// A waiter in the queue: its task, and its turn.
 #[derive(Drop)]
 pub struct Queued<W> {
     pub(crate) task: W,
     pub(crate) turn: u64,
 }
 
-/// The queue, the keys of those in it that starve, and how many notified ones have come.
+/// A queue of waiters in which each waiter has a turn, with the keys of the waiters that starve.
+///
+/// A waiter joins at the end, and is notified once it is at the front and something is free for it. A notified waiter *retries*:
+/// it leaves the queue and attempts again. The *turn* of a waiter is the number of all that have retried, and of all that are in
+/// the queue, when it joins; while it waits, no more than that many retry. A waiter *starves* if it was notified and found
+/// nothing as often as the caller bears, who says so at [`join`](FairQueue::join).
 #[derive(Drop)]
 pub struct FairQueue<W> {
     queue: List<(), Queued<W>>,
@@ -48,7 +53,7 @@ impl<W> Model for FairQueue<W> {
 }
 
 impl<W> FairQueue<W> {
-    /// A queue in which nobody is, and from which nobody came. It takes no memory.
+    /// Makes an empty queue, in which no waiter has retried. Takes no memory.
     pub fn new(alloc: Global) -> Self
         ensures told { result.queue.told ≡ [] }
         ensures waiting { result.queue.waiting ≡ [] }
@@ -62,28 +67,30 @@ impl<W> FairQueue<W> {
         }
     }
 
-    /// How many are notified, and have not come.
+    /// Returns how many waiters are notified, and have not retried.
     pub fn told(&self) -> usize
         ensures { result ≡ length self.now.queue.told }
     {
         self.queue.listeners_notified()
     }
 
-    /// How many wait, and are not notified.
+    /// Returns how many waiters are not notified.
     pub fn waiting(&self) -> usize
         ensures { result ≡ length self.now.queue.waiting }
     {
         self.queue.total_listeners() - self.queue.listeners_notified()
     }
 
-    /// How many of those in the queue, notified or not, starve.
+    /// Returns how many waiters in the queue, notified or not, starve.
     pub fn starving(&self) -> usize
         ensures { result ≡ length self.now.starving }
     {
         self.starving.len()
     }
 
-    /// Notifies the first that wait until so many of the queue are notified, if there are as many, and wakes them in order.
+    /// Notifies the first waiters until `free` waiters of the queue are notified, if there are as many, and wakes them in order.
+    ///
+    /// The tasks go to `sink`. A queue in which as many are notified already stays as it is.
     pub fn tell<S: WakeSink<W>>(&mut self, free: usize, sink: &mut S)
         ensures step { TellsUpTo free self.old.queue self.new.queue }
         ensures kept { self.new ≡ record self.old { queue = self.new.queue } }
@@ -93,8 +100,12 @@ impl<W> FairQueue<W> {
         tell_up_to(&mut self.queue, free, sink);
     }
 
-    /// Looks whether this one was notified. Then it has come: it leaves the queue, and starves no more. One that waits keeps its
-    /// place and its turn, and stores the task that the exchange makes of the one that it stored. It takes no memory.
+    /// Looks whether this waiter was notified, and has it retry if so.
+    ///
+    /// Returns [`RegisterResult::Notified`] for a notified waiter, which has left the queue, and starves no more. Returns
+    /// [`RegisterResult::Registered`] for a waiter that waits on: it keeps its place and its turn, and stores the task that the
+    /// exchange makes of its stored task. Returns [`RegisterResult::NeverInserted`] if no waiter has this key, and changes
+    /// nothing. Takes no memory.
     pub fn look<C, X: TaskExchange<W, C>>(
         &mut self,
         key: Key,
@@ -118,9 +129,11 @@ impl<W> FairQueue<W> {
         }
     }
 
-    /// Has a newcomer wait at the end of the queue, with the task that the exchange makes: its turn is after all that came and
-    /// all that are in the queue. One that starves is counted among those that do. It may allocate. An error says that it is in
-    /// no queue: then nothing has changed.
+    /// Has a newcomer wait at the end of the queue, with the task that the exchange makes, and returns its key.
+    ///
+    /// Its turn is after all waiters that have retried and all that are in the queue. With `starves` the newcomer is counted
+    /// among the waiters that starve. Returns [`ListenError::Memory`] if memory runs out, and [`ListenError::SerialsUsedUp`] if
+    /// the queue has given out all its serial numbers, of which each waiter gets one; an error changes nothing. May allocate.
     pub fn join<C, X: TaskExchange<W, C>>(
         &mut self,
         exchange: &X,
@@ -142,8 +155,10 @@ impl<W> FairQueue<W> {
         Ok(key)
     }
 
-    /// Takes this one out of the queue, and counts it no more among those that starve. Returns whether it was notified; what it
-    /// was notified of is passed on to nobody. One that is not in the queue changes nothing.
+    /// Removes this waiter from the queue, and returns whether it was notified.
+    ///
+    /// The waiter is counted no more among those that starve. What the waiter was notified of is passed on to nobody, so the
+    /// caller does that. If no waiter has this key, the call returns `false` and changes nothing.
     pub fn leave(&mut self, key: Key) -> bool
     where
         W: Drop,
@@ -159,15 +174,16 @@ impl<W> FairQueue<W> {
         left.was_told()
     }
 
-    /// Nobody waits past its turn: all that came, those that are notified, and those that wait before it, are no more together
-    /// than its turn says.
+    /// Proves that no waiter waits past its turn: all that have retried, all that are notified, and all that wait before this
+    /// waiter are together no more than its turn says. Does nothing at run time.
     pub fn nobody_waits_past_its_turn(&self)
         ensures { NobodyWaitsPastItsTurn self.now }
     {
         let _ = &self.came;
     }
 
-    /// While one waits, no more notified ones come than were in the queue before it, notified or not.
+    /// Proves that few retry before a waiter: since it joined, and while it waits, no more waiters have retried than were in the
+    /// queue before it, notified or not. Does nothing at run time.
     pub fn few_come_before_one(&self)
         ensures { FewCame self.now }
     {
@@ -175,13 +191,14 @@ impl<W> FairQueue<W> {
     }
 }
 
-/// What keeps the turns, and then keeps them again, keeps them: so turns are kept along all calls.
+/// Proves that turns are kept along all calls: what keeps the turns, and then keeps them again, keeps them in all. Does nothing
+/// at run time.
 pub fn turns_are_kept_along<W>()
     ensures { (first between last : State W) → KeepsTurns first between → KeepsTurns between last
         → KeepsTurns first last }
 {}
 
-// The turn of one that is put at the end of the queue now.
+// Returns the turn of a waiter that joins at the end of the queue now.
 fn turn_at_end<W>(queue: &List<(), Queued<W>>, came: u64) -> u64
     requires { came + listeners_of queue.now ≤ queue.now.next_serial }
     ensures turn { result ≡ came + listeners_of queue.now }
@@ -190,14 +207,14 @@ fn turn_at_end<W>(queue: &List<(), Queued<W>>, came: u64) -> u64
     came + queue.total_listeners() as u64
 }
 
-// Takes this key out of those that starve, if it is one of them.
+// Removes this key from those that starve, if it is among them.
 fn strike_off(starving: &mut Vec<Key, Global>, key: Key)
     ensures { starving.new.items ≡ without key starving.old.items }
 {
     starving.retain(|other| key != *other);
 }
 
-// Makes room for one more among those that starve, if one is to come.
+// Makes room for one more among those that starve, if the newcomer starves.
 fn make_room(starving: &mut Vec<Key, Global>, starves: bool) -> Result<(), ListenError>
     ensures kept { starving.new.items ≡ starving.old.items }
     ensures room { OnOk result (starves ≡ true → vec_len starving.new < vec_capacity starving.new) }
@@ -212,7 +229,7 @@ fn make_room(starving: &mut Vec<Key, Global>, starves: bool) -> Result<(), Liste
     }
 }
 
-// Counts this one among those that starve, if it does.
+// Counts this key among those that starve, if the newcomer does.
 fn count_in(starving: &mut Vec<Key, Global>, starves: bool, key: Key)
     requires { starves ≡ true → vec_len starving.old < vec_capacity starving.old }
     ensures { starving.new.items
@@ -235,7 +252,7 @@ fn tell_up_to<W, S: WakeSink<W>>(queue: &mut List<(), Queued<W>>, n: usize, sink
     let Tasks { sink: _ } = tasks;
 }
 
-// Wakes the tasks of those that it is handed.
+// A sink that hands the task of each waiter to another sink.
 #[derive(Drop)]
 struct Tasks<'s, K> {
     sink: &'s mut K,
@@ -254,7 +271,7 @@ impl<'s, W, K: WakeSink<W>> WakeSink<Queued<W>> for Tasks<'s, K> {
     }
 }
 
-// Looks for one that, if it waits, stores the task that the exchange makes, and keeps its turn.
+// Looks for a waiter that, if it waits, stores the task that the exchange makes, and keeps its turn.
 fn look_in_turn<W, C, X: TaskExchange<W, C>>(
     queue: &mut List<(), Queued<W>>,
     key: Key,
@@ -290,7 +307,8 @@ fn join_in_turn<W, C, X: TaskExchange<W, C>>(
     queue.insert_with_uncounted(&in_turn, on)
 }
 
-// Makes one that waits of the task that the exchange makes: it keeps its turn, and a newcomer gets this one.
+// An exchange that makes a waiter of the task that another exchange makes: a waiter keeps its turn, and a newcomer gets this
+// turn.
 #[derive(Drop)]
 struct InTurn<'x, X> {
     turn: u64,
@@ -313,7 +331,7 @@ impl<'x, W, C, X: TaskExchange<W, C>> TaskExchange<Queued<W>, C> for InTurn<'x, 
     }
 }
 
-// The task and the turn of one that waits; of a newcomer, none and this turn.
+// Returns the task and the turn of a waiter; of a newcomer, no task and this turn.
 fn parted<W>(waiter: Option<Queued<W>>, turn: u64) -> (Option<W>, u64)
     ensures task { result.0 ≡ task_of waiter }
     ensures turn { result.1 ≡ turn_or turn waiter }

@@ -6,31 +6,31 @@ use std::alloc::Global;
 use std::sync::{Arc, Wait};
 use std::time::Clock;
 
-/// How a wait or a guard holds its lock and the runtime: by borrowing both, or by a share of the lock and a runtime of its
-/// own.
+/// How a wait or a guard holds its lock and the runtime: by borrowing both ([`Borrowed`]), or by a share of the lock and a
+/// runtime of its own ([`Shared`]).
 pub trait Hold<L> {
     // What a contract sees of the lock.
     ghost held: { Self → L };
 
-    /// The runtime.
+    /// The runtime, by which the wait parks and reads the clock.
     type Runtime: Wait + Clock;
 
-    /// The lock that it holds.
+    /// Returns the lock that is held.
     fn lock(&self) -> &L
         ensures { result.now ≡ held self.now };
 
-    /// The runtime that it holds.
+    /// Returns the runtime that is held.
     fn rt(&self) -> &Self::Runtime;
 }
 
-/// Borrows a lock and the runtime.
+/// A hold that borrows a lock and the runtime.
 #[derive(Drop)]
 pub struct Borrowed<'a, L, R> {
     pub lock: &'a L,
     pub rt: &'a R,
 }
 
-/// Shares a lock, so that it may go to another thread.
+/// A hold that shares a lock, so that the wait or the guard may outlive the caller's borrow and go to another thread.
 #[derive(Drop)]
 pub struct Shared<L, R> {
     pub lock: Arc<L, Global>,

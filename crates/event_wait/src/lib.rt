@@ -1,13 +1,14 @@
-//! What waits, at any lock. Events, the locks of `event_locks` and channels stand on it.
+//! How a thread or a task waits at any lock. Events, the locks of `event_locks` and channels stand on this crate.
 //!
-//! Who waits for something makes a *request* of a lock ([`Waitable`]): one attempt, made under the lock, which gives it, has it
-//! wait on, or is refused, and leaving the queue at a limit. Most are attempted before they wait ([`Obtainable`]). What a lock
-//! says of its requests is one record, its [`Rules`](../specs/Rounds.antt). One loop serves a thread ([`wait`], [`obtain`])
-//! and one poll a task ([`poll_in`]), at any lock. [`Obtaining`] is a wait as a value, which holds its lock by a [`Hold`].
+//! A waiter makes a *request* of a lock ([`Waitable`]): an attempt, made under the lock, gives the request its output, has the
+//! request wait on, or is refused; and at a limit the request leaves its queue. Most requests are attempted before they wait
+//! ([`Obtainable`]). What a lock says of its requests is one record, its [`Rules`](../specs/Rounds.antt). One loop serves a
+//! thread ([`wait`], [`obtain`]) and one poll a task ([`poll_in`]), at any lock. [`Obtaining`] is a wait as a value, which holds
+//! its lock by a [`Hold`].
 //!
 //! A [`Lock`] holds a state, and takes each [`Request`] of that state. [`waiters`] are the steps on a queue that states of locks
-//! are made of, and [`FairQueue`] a queue in which each that waits has a turn. [`take_lock!`] takes a free lock at once. While another thread has it, a thread looks ever more seldom, and
-//! sleeps at last ([`wait_for_lock`]).
+//! are made of, and [`FairQueue`] is a queue in which each waiter has a turn. [`take_lock!`] takes a free lock at once. While
+//! another thread has the lock, a thread looks ever more seldom, and sleeps at last ([`wait_for_lock`]).
 //!
 //! Read `waitable.rt` first, then `lock/wait.rt`, `request.rt`, `lock.rt` and `obtaining.rt`.
 #![tactic(auto)]

@@ -14,9 +14,9 @@ use event_queue::TaskExchange;
 use std::marker::Model;
 use std::sync::{Mutex, Wait};
 
-/// A state under a lock, with the queues of those that wait for something of it.
+/// A state under a lock, with the queues of the threads and tasks that wait for something of it.
 ///
-/// A contract sees the number of the source at which tasks that wait are registered.
+/// A contract sees the number of the source at which waiting tasks are registered.
 pub struct Lock<S> {
     state: Mutex<S>,
     source: WakerSource,
@@ -31,7 +31,7 @@ impl<S> Model for Lock<S> {
 }
 
 impl<S> Lock<S> {
-    /// A lock round this state. The call neither allocates nor waits.
+    /// Makes a lock round this state. The call neither allocates nor waits.
     pub fn of(state: S) -> Self {
         Lock {
             state: Mutex::new(state),
@@ -39,14 +39,14 @@ impl<S> Lock<S> {
         }
     }
 
-    /// The lock alone, for [`take_lock!`](crate::take_lock).
+    /// Returns the lock alone, for [`take_lock!`](crate::take_lock).
     #[doc(hidden)]
     #[inline(always)]
     pub fn mutex(&self) -> &Mutex<S> {
         &self.state
     }
 
-    /// The state alone.
+    /// Returns the state, and ends the lock.
     pub fn into_state(self) -> S {
         let Lock { state, source } = self;
         drop(source);
@@ -111,7 +111,7 @@ impl<S, Q: Attempt<S>> TakesAny<Q> for Lock<S> {
 }
 
 impl<S: Drop> Drop for Lock<S> {
-    // It is a function of its own, so that a share that is not the last is given up in a few instructions.
+    // This is a function of its own, so that a share that is not the last is given up in a few instructions.
     #[cold]
     #[inline(never)]
     fn drop(self) {

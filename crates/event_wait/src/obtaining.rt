@@ -16,9 +16,11 @@ use std::alloc::Global;
 use std::marker::PhantomData;
 use std::time::{Duration, Instant};
 
-/// A wait for what was asked for of a lock: what each wait for a lock is made of. It asks once it is waited on or polled,
-/// and not before. What it obtains comes with the hold, for a guard. Dropped while it waits, it leaves the queue, and what
-/// it was notified of goes to the next.
+/// A wait for what a request asks of a lock. Each wait for a lock is made of this type.
+///
+/// The wait asks the lock once it is waited on or polled, and not before. What it obtains is returned with the hold, for a guard.
+/// A wait that is dropped leaves the queue, if it is there, and what it was notified of is passed on to the next waiter. The drop
+/// may block until the lock is free.
 pub struct Obtaining<L: TakesAny<Q>, Q, H: Hold<L>> {
     pub hold: Option<H>,
     alloc: Global,
@@ -27,7 +29,7 @@ pub struct Obtaining<L: TakesAny<Q>, Q, H: Hold<L>> {
 }
 
 impl<L: TakesAny<Q>, Q, H: Hold<L>> Obtaining<L, Q, H> {
-    /// A wait for this request, of which nothing is asked yet.
+    /// Makes a wait for this request, of which the lock has not been asked yet.
     #[inline(always)]
     pub fn new(hold: H, alloc: Global, request: Q) -> Self {
         Obtaining {
@@ -40,7 +42,11 @@ impl<L: TakesAny<Q>, Q, H: Hold<L>> Obtaining<L, Q, H> {
 }
 
 impl<L: TakesAny<Q, Refusal = LockError>, Q: Default + Drop, H: Hold<L> + Drop> Obtaining<L, Q, H> {
-    /// Blocks the thread until it is granted.
+    /// Blocks the thread until the request is granted, and returns the hold and the output.
+    ///
+    /// A thread that does not get the output at once tries a few times, and then waits in the queue, for which it allocates what
+    /// it parks on. Returns an error if the request can't wait, if memory runs out, or ([`LockError::Finished`]) if a poll was
+    /// ready before; the request is in no queue then.
     #[inline(always)]
     pub fn wait(self) -> Result<(H, L::Output), LockError>
         ensures obtained { IfOk result (λ got. Obtained (L.rules (H.held got.0)) (L.trying (H.held got.0)) got.1) }
@@ -51,8 +57,10 @@ impl<L: TakesAny<Q, Refusal = LockError>, Q: Default + Drop, H: Hold<L> + Drop> 
         }
     }
 
-    /// What is granted at once. An error is the wait, for [`wait_longer`](Obtaining::wait_longer): one that waits in a queue
-    /// already attempts where its place is.
+    /// Attempts the request once, and returns the hold and the output, or else the wait itself as an error.
+    ///
+    /// The error is for [`wait_longer`](Obtaining::wait_longer). A wait that is in a queue already is not attempted here, because
+    /// its attempt is made where its place is. May block until the lock is free, but does not wait for the output.
     #[inline(always)]
     pub fn at_once(self) -> Result<(H, L::Output), Self>
         ensures obtained { IfOk result (λ got. Obtained (L.rules (H.held got.0)) (L.trying (H.held got.0)) got.1) }
@@ -84,7 +92,7 @@ impl<L: TakesAny<Q, Refusal = LockError>, Q: Default + Drop, H: Hold<L> + Drop> 
         })
     }
 
-    /// Blocks the thread until it is granted, and does not attempt it at once.
+    /// Blocks the thread until the request is granted, as [`wait`](Obtaining::wait) does, but makes no attempt at once.
     #[inline(always)]
     pub fn wait_longer(self) -> Result<(H, L::Output), LockError>
         ensures obtained { IfOk result (λ got. Obtained (L.rules (H.held got.0)) (L.trying (H.held got.0)) got.1) }
@@ -101,14 +109,17 @@ impl<L: TakesAny<Q, Refusal = LockError>, Q: Default + Drop, H: Hold<L> + Drop> 
         if hold.lock().is_waiting(&request) {
             return wait_in_queue(hold, alloc, request);
         }
-        // Whoever is in no queue has nothing to lose by a new request. One that goes by a pointer would have a thread that gets at
-        // once what it asks for clear a place.
+        // A request that is in no queue has nothing to lose by a new request. Were this request passed by a pointer, a thread that
+        // gets its output at once would clear a place for it.
         wait_anew(hold, alloc)
     }
 }
 
 impl<L: TakesAny<Q, Refusal = LockError>, Q: Drop, H: Hold<L> + Drop> Obtaining<L, Q, H> {
-    /// Blocks the thread until it is granted, or so long. With no time left it only attempts.
+    /// Blocks the thread until the request is granted or the timeout has passed, and returns the hold and the output, or `None`.
+    ///
+    /// With a timeout of zero the call only attempts: it enters no queue and allocates nothing. After `None` or an error the
+    /// request is in no queue; the errors are those of [`wait`](Obtaining::wait).
     pub fn wait_timeout(self, timeout: Duration) -> Result<Option<(H, L::Output)>, LockError>
         ensures obtained { IfOk result (λ answer.
             IfSome answer (λ got. Obtained (L.rules (H.held got.0)) (L.trying (H.held got.0)) got.1)) }
@@ -120,7 +131,10 @@ impl<L: TakesAny<Q, Refusal = LockError>, Q: Drop, H: Hold<L> + Drop> Obtaining<
         self.wait_until(limit)
     }
 
-    /// Blocks the thread until it is granted, or until this moment. At one that has passed it only attempts.
+    /// Blocks the thread until the request is granted or this moment has passed, and returns the hold and the output, or `None`.
+    ///
+    /// With a moment that has passed already the call only attempts: it enters no queue and allocates nothing. After `None` or an
+    /// error the request is in no queue; the errors are those of [`wait`](Obtaining::wait).
     pub fn wait_deadline(self, deadline: Instant) -> Result<Option<(H, L::Output)>, LockError>
         ensures obtained { IfOk result (λ answer.
             IfSome answer (λ got. Obtained (L.rules (H.held got.0)) (L.trying (H.held got.0)) got.1)) }
@@ -148,8 +162,10 @@ impl<L: TakesAny<Q, Refusal = LockError>, Q: Drop, H: Hold<L> + Drop> Obtaining<
         }
     }
 
-    /// Attempts, and registers the task that polls if it waits on. After an output or an error it is
-    /// [`LockError::Finished`].
+    /// Attempts the request, and registers the task that polls if the request waits on.
+    ///
+    /// Returns the hold and the output, or an error if the request can't wait. After an output or an error each further poll
+    /// returns [`LockError::Finished`], because the wait is over. May block until the lock is free.
     pub fn poll(&mut self, cx: &mut Context<'_>) -> Poll<Result<(H, L::Output), LockError>>
         ensures obtained { IfReady result
             (λ answer. IfOk answer (λ got. Obtained (L.rules (H.held got.0)) (L.trying (H.held got.0)) got.1)) }
@@ -173,7 +189,7 @@ impl<L: TakesAny<Q, Refusal = LockError>, Q: Drop, H: Hold<L> + Drop> Obtaining<
     }
 }
 
-// With a new request.
+// Waits with a new request.
 #[cold]
 #[inline(never)]
 fn wait_anew<L: TakesAny<Q, Refusal = LockError>, Q: Default + Drop, H: Hold<L> + Drop>(
@@ -185,7 +201,7 @@ fn wait_anew<L: TakesAny<Q, Refusal = LockError>, Q: Default + Drop, H: Hold<L> 
     wait_in_queue(hold, alloc, Q::default())
 }
 
-// A few attempts with pauses between, if it is in no queue, and then there.
+// Makes a few attempts with pauses between, if the request is in no queue, and then waits in the queue.
 #[cold]
 #[inline(never)]
 fn wait_in_queue<L: TakesAny<Q, Refusal = LockError>, Q: Drop, H: Hold<L> + Drop>(

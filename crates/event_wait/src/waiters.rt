@@ -1,7 +1,7 @@
-//! What a state does with a queue of those that wait for something of it: a queue notifies, or it hands out.
+//! What a state does with a queue of its waiters: a queue notifies, or it hands out.
 //!
-//! Who is notified has nothing yet: it attempts again, and goes to the end of the queue if another one came before. Who is
-//! handed something has it, and nobody comes between.
+//! A waiter that is *notified* has nothing yet: it attempts again, and joins at the end of the queue if another thread was
+//! faster. A waiter that is *handed* something owns it, and no other thread can be faster.
 ghost use Rattle.std.specs.Prelude.{◌≡◌, ◌+◌, ◌<◌, ◌≤◌, ◌↔◌, min, drop, length, if◌then◌else◌, Err, None, Some, IsTrue, IfOk, IfErr, OnErr};
 ghost use Rattle.std.specs.List.{FoldsTo};
 ghost use Rattle.event_queue.specs.Exchange.{InsertsWith, RegistersWith};
@@ -27,7 +27,7 @@ impl<W: Drop> WakeSink<W> for Nobody {
     fn wake(&mut self, _task: W) {}
 }
 
-// Whether somebody waits who is not notified. Where nobody does, this is all that a notification costs.
+/// Returns whether there is a waiter that is not notified. Where there is none, this is all that a notification costs.
 #[inline(always)]
 pub fn somebody_waits<W>(line: &List<(), W>) -> bool
     ensures waits { IsTrue result ↔ (0 < length line.now.waiting) }
@@ -36,7 +36,9 @@ pub fn somebody_waits<W>(line: &List<(), W>) -> bool
     line.total_listeners() > line.listeners_notified()
 }
 
-/// Notifies the first that wait until `n` of the queue are notified, if there are as many, and wakes them.
+/// Notifies the first waiters until `n` of the queue are notified, if there are as many, and wakes them.
+///
+/// A queue in which `n` are notified already stays as it is. The tasks go to `sink`. Takes no memory.
 #[inline(always)]
 pub fn tell<W, S: WakeSink<W>>(line: &mut List<(), W>, n: usize, sink: &mut S)
     ensures queue { IsQueue line.old }
@@ -48,8 +50,11 @@ pub fn tell<W, S: WakeSink<W>>(line: &mut List<(), W>, n: usize, sink: &mut S)
     }
 }
 
-/// Notifies as [`tell`] does, but `more` at least beside those that are notified already, if there are as many. So each of
-/// `more` things that have come finds one, even if one that was notified before is left alone.
+/// Notifies the first waiters until `n` of the queue are notified, or `more` beside those that are notified already, whichever
+/// are more, and wakes them.
+///
+/// So for each of `more` things that were added a waiter is notified anew. If fewer wait, all of these are notified. The tasks go
+/// to `sink`. Takes no memory.
 #[inline(always)]
 pub fn tell_more<W, S: WakeSink<W>>(line: &mut List<(), W>, n: usize, more: usize, sink: &mut S)
     ensures step { TellsUpTo (or_more n more line.old) line.old line.new }
@@ -72,7 +77,7 @@ fn tell_waiting<W, S: WakeSink<W>>(line: &mut List<(), W>, n: usize, sink: &mut 
         .unwrap();
 }
 
-/// Notifies all that wait, and wakes them.
+/// Notifies all waiters, and wakes them. The tasks go to `sink`. Takes no memory.
 #[inline(always)]
 pub fn tell_all<W, S: WakeSink<W>>(line: &mut List<(), W>, sink: &mut S)
     ensures step { TellsAll line.old line.new }
@@ -92,7 +97,7 @@ fn tell_all_waiting<W, S: WakeSink<W>>(line: &mut List<(), W>, sink: &mut S)
     tell_waiting(line, all, sink);
 }
 
-/// Takes this one, if it is one, out of the queue. What it was notified of is passed on to nobody.
+/// Removes the waiter of this key, if there is one, from the queue. What the waiter was notified of is passed on to nobody.
 #[inline(always)]
 pub fn leave<W: Drop>(line: &mut List<(), W>, key: Option<Key>)
     ensures left { Leaves key line.old line.new }
@@ -103,7 +108,7 @@ pub fn leave<W: Drop>(line: &mut List<(), W>, key: Option<Key>)
     }
 }
 
-/// Takes this one, if it is one, out of the queue, and then notifies as [`tell`] does.
+/// Removes the waiter of this key from the queue, and then notifies as [`tell`] does. Does nothing without a key.
 #[inline(always)]
 pub fn leave_then_tell<W: Drop, S: WakeSink<W>>(
     line: &mut List<(), W>,
@@ -121,8 +126,10 @@ pub fn leave_then_tell<W: Drop, S: WakeSink<W>>(
     }
 }
 
-/// Has one wait, with the task that the exchange makes of the one that it stored: at its place, or at the end of the queue
-/// if it was notified or is new. One that is new may allocate. An error says that it is in the queue no more.
+/// Has a waiter wait, with the task that the exchange makes of its stored task, and returns the key of its place.
+///
+/// A waiter that was not notified keeps its place; a notified or a new waiter joins at the end of the queue, which may allocate.
+/// An error says that the waiter is in the queue no more.
 pub fn wait_in_line<W, C, X: TaskExchange<W, C>>(
     line: &mut List<(), W>,
     key: Option<Key>,
@@ -140,7 +147,7 @@ pub fn wait_in_line<W, C, X: TaskExchange<W, C>>(
     }
 }
 
-// Has one wait that has a key: at its place, or at the end of the queue if it was notified.
+// Has a waiter wait that has a key: at its place, or at the end of the queue if it was notified.
 fn wait_on<W, C, X: TaskExchange<W, C>>(
     line: &mut List<(), W>,
     key: Key,
@@ -159,7 +166,9 @@ fn wait_on<W, C, X: TaskExchange<W, C>>(
     }
 }
 
-// Has a newcomer wait at the end of the queue, with the task that the exchange makes.
+/// Has a newcomer wait at the end of the queue, with the task that the exchange makes, and returns its key.
+///
+/// May allocate. An error leaves the queue as it was, with no memory or no serial number for the newcomer.
 pub fn join_line<W, C, X: TaskExchange<W, C>>(
     line: &mut List<(), W>,
     exchange: &X,
@@ -177,7 +186,7 @@ pub fn join_line<W, C, X: TaskExchange<W, C>>(
     line.insert_with_uncounted(exchange, on)
 }
 
-/// Whether it waits, by which key, or why not.
+/// Returns what an attempt gave that joined a queue: the key of its place, or why the request can't wait.
 pub fn waiting<G>(waits: Result<Key, ListenError>) -> Attempted<G, LockError>
     ensures { result ≡ waits_by waits }
 {
@@ -187,7 +196,8 @@ pub fn waiting<G>(waits: Result<Key, ListenError>) -> Attempted<G, LockError>
     }
 }
 
-/// Whether this one was notified, waits still, or was never there.
+/// Returns what an attempt gave that looked for its waiter: the grant if the waiter was notified, the key if it waits on, or that
+/// it was never in the queue.
 pub fn found<G>(key: Key, looked: RegisterResult<G>) -> Attempted<G, LockError>
     ensures { result ≡ found_by key looked }
 {
@@ -198,7 +208,9 @@ pub fn found<G>(key: Key, looked: RegisterResult<G>) -> Attempted<G, LockError>
     }
 }
 
-// Hands something to the first that wait, `n` at most, and wakes them. Returns to how many.
+/// Hands something to the first `n` waiters, or to all if there are fewer, wakes them, and returns to how many.
+///
+/// The tasks go to `sink`. Takes no memory.
 #[inline(always)]
 pub fn hand_out<W, S: WakeSink<W>>(line: &mut List<(), W>, n: usize, sink: &mut S) -> usize
     ensures count { result ≡ min n (length line.old.waiting) }
@@ -220,7 +232,10 @@ fn hand_to_waiting<W, S: WakeSink<W>>(line: &mut List<(), W>, n: usize, sink: &m
     line.notify_uncounted(&mut n.additional(), sink).unwrap()
 }
 
-// Whether this one was handed something: then it leaves the queue, and else stores its task.
+/// Looks whether this waiter was handed something: if so, it leaves the queue, and else it stores the task that the exchange
+/// makes.
+///
+/// Returns [`RegisterResult::NeverInserted`] if no waiter has this key. Takes no memory.
 pub fn look_for<W, C, X: TaskExchange<W, C>>(
     line: &mut List<(), W>,
     key: Key,
@@ -237,17 +252,19 @@ pub fn look_for<W, C, X: TaskExchange<W, C>>(
     line.register_with_uncounted(key, exchange, on)
 }
 
-/// What one was that left the queue.
+/// What a waiter was when it left the queue.
 #[derive(Clone, Copy)]
 pub enum Left {
-    /// It had been handed something.
+    /// The waiter had been handed something, or notified.
     Told,
+    /// The waiter had not been notified.
     Waited,
+    /// No waiter of that key was in the queue.
     Absent,
 }
 
 impl Left {
-    /// Whether it had been handed something.
+    /// Returns whether the waiter had been handed something, or notified.
     pub fn was_told(self) -> bool
         ensures { told_of self ≡ (if result then 1 else 0) }
     {
@@ -275,7 +292,7 @@ fn left_as<W: Drop>(left: Option<State<(), W>>) -> Left
     }
 }
 
-// Takes this one out of the queue, and returns what it was.
+/// Removes this waiter from the queue, and returns what it was. What it was notified of is passed on to nobody.
 pub fn leave_line<W: Drop>(line: &mut List<(), W>, key: Key) -> Left
     ensures told { length line.new.told + told_of result ≡ length line.old.told }
     ensures waiting { length line.new.waiting + waited_of result ≡ length line.old.waiting }
@@ -288,7 +305,7 @@ pub fn leave_line<W: Drop>(line: &mut List<(), W>, key: Key) -> Left
     left_as(left)
 }
 
-// Hands something to all that wait. Returns to how many.
+/// Hands something to all waiters, wakes them, and returns to how many. The tasks go to `sink`. Takes no memory.
 pub fn hand_all<W, S: WakeSink<W>>(line: &mut List<(), W>, sink: &mut S) -> usize
     ensures count { result ≡ length line.old.waiting }
     ensures told { length line.new.told ≡ length line.old.told + result }

@@ -5,23 +5,23 @@ ghost use Rattle.event_wait.specs.declared.lock.limit.Limit.TheVariants.{Never, 
 
 use std::time::{Clock, Duration, Instant};
 
-/// Until when a wait goes on if it does not get what it waits for.
+/// The moment up to which a wait goes on that does not get its output.
 #[derive(Clone, Copy, Debug, PartialEq, Eq)]
 pub enum Limit {
-    /// Without end.
+    /// The wait goes on without end.
     Never,
-    /// Until this moment. A clock that can't be read counts as one that shows it.
+    /// The wait goes on until this moment. If the clock can't be read, the moment counts as passed.
     At(Instant),
-    /// It has passed.
+    /// The limit has passed: the wait only attempts.
     Past,
 }
 
 impl Limit {
-    /// The limit of a wait that begins now and has this timeout.
+    /// Returns the limit of a wait that begins now and has this timeout.
     ///
-    /// A timeout of zero is [`Past`](Limit::Past), and the clock is not read. Else the limit is [`Never`](Limit::Never) if
-    /// the present moment and the timeout add up to one that can't be represented, and `Past` if the clock can't be read.
-    /// The call neither allocates nor waits.
+    /// A timeout of zero is [`Past`](Limit::Past), and the clock is not read. Else the limit is [`Never`](Limit::Never) if the
+    /// present moment and the timeout add up to a moment that can't be represented, and `Past` if the clock can't be read. The
+    /// call neither allocates nor waits.
     pub fn after<R: Clock>(clock: &R, timeout: Duration) -> Self
         ensures zero { as_nanos timeout ≡ 0 → result ≡ Past }
     {
@@ -37,7 +37,7 @@ impl Limit {
         }
     }
 
-    /// How long until then: zero if it has passed, and `None` if it never comes.
+    /// Returns how long the wait may still go on: zero if the limit has passed, and `None` if there is no limit.
     pub fn left<R: Clock>(self, clock: &R) -> Option<Duration>
         ensures never { self ≡ Never → result ≡ None }
     {
@@ -51,7 +51,7 @@ impl Limit {
         }
     }
 
-    /// Whether it has passed. Where it never comes the clock is not read.
+    /// Returns whether the limit has passed. Without a limit the clock is not read.
     pub fn has_passed<R: Clock>(self, clock: &R) -> bool
         ensures never { self ≡ Never → result ≡ false }
     {

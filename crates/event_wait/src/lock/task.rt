@@ -11,10 +11,10 @@ use std::mem;
 use std::sync::Arc;
 use std::thread::Parker;
 
-/// What is woken once it is handed something: a thread or a task.
+/// A thread or a task that waits, and that a sink wakes.
 ///
-/// A waker wakes its task also when it is dropped. So one that another takes the place of wakes its task, and so does one
-/// that is dropped with its place in the queue. A thread is woken only once it is handed something.
+/// A waker wakes its task also when it is dropped. So a waker that is replaced by another task wakes its task, and so does a
+/// waker that is dropped with its place in the queue. A thread is woken only by a sink.
 #[derive(Drop)]
 pub struct Task(TaskKind);
 
@@ -26,17 +26,17 @@ enum TaskKind {
 }
 
 impl Task {
-    /// The task that this waker wakes. The call neither allocates nor waits.
+    /// Makes the task that this waker wakes. The call neither allocates nor waits.
     pub fn from_waker(waker: Waker) -> Task {
         Task(TaskKind::Polled(waker))
     }
 
-    /// The thread that parks on this parker. The call neither allocates nor waits.
+    /// Makes the task of the thread that parks on this parker. The call neither allocates nor waits.
     pub fn parked(parker: Arc<Parker, Global>) -> Task {
         Task(TaskKind::Parked(parker))
     }
 
-    // Its waker, if it is one.
+    // Returns the waker of a task that polls, or `None`.
     fn into_waker(self) -> Option<Waker> {
         let Task(kind) = self;
         match kind {
@@ -46,7 +46,7 @@ impl Task {
         }
     }
 
-    // The task that this waker wakes, if one could be made.
+    // Makes the task that this waker wakes, or a task that wakes nobody if no waker could be made.
     fn from_made(waker: Option<Waker>) -> Task
         ensures { IfSome waker (λ w. result.0 ≡ Polled w) }
     {
@@ -57,8 +57,8 @@ impl Task {
     }
 }
 
-// Wakes it. A waker wakes its task as it is dropped here, in place: `Waker::wake` would be a call. It is no function, since a
-// caller tests after each call, inlined or not, whether it is to end.
+// Wakes a task. A waker wakes its task as it is dropped here, in place: `Waker::wake` would be a call. This is a macro and no
+// function, since a caller tests after each call, inlined or not, whether it is to end.
 macro_rules! wake {
     ($kind:expr) => {
         match $kind {
@@ -81,18 +81,17 @@ fn wake_apart(kind: TaskKind) {
     wake!(kind)
 }
 
-/// Wakes the tasks that it is handed. The last one is held back, so that it does not meet the lock under which it was
-/// handed something: [`finish`](DeferredWake::finish) wakes it.
+/// A sink that wakes each task it is given, but the last task only once [`finish`](DeferredWake::finish) is called.
 ///
-/// It is no `Drop`, so whoever makes one has to finish it. Its relation says nothing, since no contract can name what
-/// sleeps. Tests show that it wakes.
+/// So the last task does not meet the lock under which it was notified. The type is not `Drop`, so each sink has to be finished.
+/// Its relation says nothing, since no contract can name what sleeps; tests show that it wakes.
 pub struct DeferredWake {
-    // It is nobody at first.
+    // At first this is a task that wakes nobody.
     held_back: TaskKind,
 }
 
 impl DeferredWake {
-    /// It has woken nobody.
+    /// Makes a sink that was given no task. The call neither allocates nor waits.
     #[inline(always)]
     pub fn new() -> Self {
         DeferredWake {
@@ -100,14 +99,15 @@ impl DeferredWake {
         }
     }
 
-    /// Wakes the task that is held back. It is called with no lock held.
+    /// Wakes the task that is held back. The caller holds no lock.
     #[inline(always)]
     pub fn finish(self) {
         let DeferredWake { held_back } = self;
         wake!(held_back)
     }
 
-    /// [`finish`](DeferredWake::finish) after a step that seldom wakes anybody: where nobody is held back it is a few instructions.
+    /// Wakes the task that is held back, as [`finish`](DeferredWake::finish) does, after a step that seldom wakes a task: where
+    /// no task is held back the call is a few instructions.
     #[inline(always)]
     pub fn finish_seldom(self) {
         let DeferredWake { held_back } = self;
@@ -128,7 +128,8 @@ impl WakeSink<Task> for DeferredWake {
     }
 }
 
-/// Stores the task that it is given, in the place of any that is stored: that may be of a task that polled before.
+/// An exchange that stores the caller's task, if there is one, in the place of the stored task, which may be that of a task that
+/// polled before. Without a task of the caller the stored task stays.
 pub struct StoreParker {}
 
 impl TaskExchange<Task, Option<Task>> for StoreParker {
@@ -147,10 +148,10 @@ impl TaskExchange<Task, Option<Task>> for StoreParker {
     }
 }
 
-/// Where a task registers that polls one which waits under a [`Lock`](crate::Lock). It exchanges the stored task for that of
-/// the poll: a waker of the task that polls stays where it is, and another one wakes its task.
+/// The source at which a task registers that polls a request which waits under a [`Lock`](crate::Lock).
 ///
-/// A contract sees it as the number of its source.
+/// The source is an exchange of the stored task for that of the poll: a waker of the task that polls stays where it is, and
+/// another waker is replaced, which wakes its task. A contract sees a source as its number.
 #[derive(Drop)]
 pub struct WakerSource {
     source: Source,
@@ -165,7 +166,7 @@ impl Model for WakerSource {
 }
 
 impl WakerSource {
-    /// Where nobody has registered yet. The call neither allocates nor waits.
+    /// Makes a source at which no task has registered yet. The call neither allocates nor waits.
     pub fn new() -> Self {
         WakerSource {
             source: Source::new(),

@@ -19,19 +19,21 @@ use std::time::Clock;
 // How many pauses a thread makes before it tries again.
 const PAUSES_TO_TRY: u32 = 64;
 
-/// Why a wait of a thread ended with no answer.
+/// Why a wait of a thread ended with neither an output nor a limit that had passed.
 pub enum Refused<E> {
     /// There was no memory for what the thread parks on.
     Memory,
-    /// It can't wait.
+    /// The request can't wait, for this reason.
     Request(E),
 }
 
-/// Blocks the thread until it has what it requests or the limit has passed, which is `None`. It attempts at least once;
-/// where the limit has passed it enters no queue and allocates nothing. Else it tries a few times with pauses between, and
-/// then waits as [`wait`] does. One that has a place in the queue goes on there.
+/// Blocks the thread until the request gets its output or the limit has passed, and returns the output or `None`.
 ///
-/// With an answer, a refusal or `None` it is in no queue. It may wait for the lock.
+/// The call makes an attempt at least; where the limit has passed it enters no queue and allocates nothing. Else it tries a few
+/// times with pauses between, and then waits as [`wait`] does, which allocates what the thread parks on. A request that has a
+/// place in the queue already waits on at that place.
+///
+/// After any return the request is in no queue. May block until the lock is free, too.
 #[inline(always)]
 pub fn obtain<L: Obtainable<Q>, Q, R: Wait + Clock>(
     lock: &L,
@@ -53,7 +55,7 @@ pub fn obtain<L: Obtainable<Q>, Q, R: Wait + Clock>(
     try_then_wait(lock, rt, alloc, request, limit)
 }
 
-// Whoever has a place in the queue tries nothing: its place is where it attempts.
+// Attempts once. A request that has a place in the queue is not tried: its attempt is made where its place is.
 #[inline(always)]
 fn try_first<L: Obtainable<Q>, Q, R: Wait>(lock: &L, rt: &R, request: &mut Q) -> Option<L::Output>
     requires fits { (L.rules lock.now).fits request.old }
@@ -70,11 +72,14 @@ fn try_first<L: Obtainable<Q>, Q, R: Wait>(lock: &L, rt: &R, request: &mut Q) ->
     lock.attempt(rt, request)
 }
 
-/// Blocks the thread until it has what it requests or the limit has passed, and then leaves the queue with what it can
-/// still get, if anything.
+/// Blocks the thread until the request gets its output or the limit has passed, and returns the output or `None`.
 ///
-/// It makes what the thread parks on, attempts, stores its task if it waits on, looks at the limit, parks, and attempts
-/// again. If memory runs out, it is where it was; if it can't wait, the lock's rules say where. It may wait for the lock.
+/// At the limit the request leaves its queue with what it can still get, so a late output is returned, too. The call allocates
+/// what the thread parks on, attempts, stores the thread's task if the request waits on, looks at the limit, parks, and attempts
+/// again.
+///
+/// Returns [`Refused::Memory`] if memory runs out; the request is as its last attempt left it. Returns [`Refused::Request`] if
+/// the request can't wait; the rules of the lock say what that leaves. May block until the lock is free, too.
 #[inline(always)]
 pub fn wait<L: Waitable<Q>, Q, R: Wait + Clock>(
     lock: &L,
@@ -114,8 +119,10 @@ pub fn wait<L: Waitable<Q>, Q, R: Wait + Clock>(
     unreachable!()
 }
 
-/// Attempts what is requested, and registers the task that polls if it waits on. An error says that it can't wait: the lock's
-/// rules say what it left. It may wait for the lock.
+/// Attempts the request once, and registers the task that polls if the request waits on.
+///
+/// Returns the output, or an error if the request can't wait; the rules of the lock say what that leaves. May block until the
+/// lock is free.
 #[inline(always)]
 pub fn poll_in<L: Waitable<Q>, Q, R: Wait>(
     lock: &L,
@@ -141,7 +148,7 @@ pub fn poll_in<L: Waitable<Q>, Q, R: Wait>(
     }
 }
 
-// The task of the thread that parks on this parker.
+// Makes the task of the thread that parks on this parker.
 fn task_of(parker: &Arc<Parker, Global>) -> Result<Option<Task>, AllocError> {
     Ok(Some(Task::parked(Arc::try_clone(parker)?)))
 }
@@ -162,11 +169,11 @@ fn leave_late<L: Waitable<Q>, Q, R: Wait>(
     }
 }
 
-/// What [`obtain`] does after a first attempt that gave nothing, or where the request waits in the queue already: for a lock
-/// that makes the first attempt itself. It is a function of its own, so that what is free is taken in a few instructions.
+/// Waits as [`obtain`] does, but makes no attempt at once: for a lock that makes the first attempt itself, and for a request that
+/// waits in the queue already.
 ///
-/// It allocates what the thread parks on, if it has to wait. With an answer, a refusal or `None` it is in no queue. It may
-/// wait for the lock.
+/// This is a function of its own, so that what is free is taken in a few instructions. The call allocates what the thread parks
+/// on, if it has to wait. After any return the request is in no queue. May block until the lock is free, too.
 #[inline(never)]
 pub fn try_then_wait<L: Obtainable<Q>, Q, R: Wait + Clock>(
     lock: &L,
@@ -191,7 +198,7 @@ pub fn try_then_wait<L: Obtainable<Q>, Q, R: Wait + Clock>(
     }
 }
 
-// Where there is time left, a few tries with pauses between them, and then in the queue.
+// Where there is time left, tries a few times with pauses between, and then waits in the queue.
 #[inline(always)]
 fn try_or_wait<L: Obtainable<Q>, Q, R: Wait + Clock>(
     lock: &L,
@@ -219,7 +226,7 @@ fn try_or_wait<L: Obtainable<Q>, Q, R: Wait + Clock>(
     }
 }
 
-// The same, a few times with pauses between them.
+// Attempts a few times, as `try_first` does, with a pause before each.
 fn try_a_while<L: Obtainable<Q>, Q, R: Wait>(lock: &L, rt: &R, request: &mut Q) -> Option<L::Output>
     requires fits { (L.rules lock.now).fits request.old }
     ensures fits { (L.rules lock.now).fits request.new }
@@ -241,7 +248,7 @@ fn try_a_while<L: Obtainable<Q>, Q, R: Wait>(lock: &L, rt: &R, request: &mut Q) 
     None
 }
 
-// One that polled before may have been notified since: then it need not park. Its task stays.
+// Takes the output of a request that polled before and was notified since, so that the thread need not park. Its task stays.
 fn take_if_notified<L: Obtainable<Q>, Q, R: Wait>(
     lock: &L,
     rt: &R,
