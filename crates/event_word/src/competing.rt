@@ -1,4 +1,4 @@
-//! Those that compete for what a lock's number counts.
+//! Threads and tasks that compete for what a lock's number counts.
 ghost use Rattle.std.specs.Prelude.{◌≡◌, ◌==◌, ◌^◌, ℕ, ◌<◌, ◌≤◌, Bool, false, true, Some, None, IfOk, OnErr};
 ghost use Rattle.std.specs.List.{FoldsTo};
 ghost use Rattle.event_wait.specs.Attempted.{Stores};
@@ -19,18 +19,18 @@ use std::mem;
 /// The bit of a lock's number that shuts newcomers out.
 pub const SHUT: u64 = 0x2000_0000_0000_0000;
 
-/// The bit of a lock's number that says that it is closed, or of a mutex that its value is parked. A number below it is open to
-/// newcomers.
+/// The bit of a lock's number that says that the lock is closed, or of a mutex that its value is parked. A number below it is
+/// open to newcomers.
 pub const CLOSED: u64 = 0x1000_0000_0000_0000;
 
-/// How many of what they compete for are free.
+/// Returns how many of the permits or values that threads compete for are free by this number.
 pub fn free(number: u64) -> u64
     ensures { result ≡ free_of number }
 {
     number % CLOSED
 }
 
-/// Whether it is closed.
+/// Returns whether a lock with this number is closed.
 pub fn is_closed(number: u64) -> bool
     ensures closed { result ≡ true → IsClosed number }
     ensures open { result ≡ false → IsClosed number → ⊥ }
@@ -38,24 +38,24 @@ pub fn is_closed(number: u64) -> bool
     CLOSED <= number && number < SHUT
 }
 
-/// What they compete for: how many of it there may be, and whether one has the right to a value.
+/// What threads compete for: how many there may be, and whether a thread has the right to a value.
 pub trait Counted {
     // What holds of the number, without the bit that shuts newcomers out.
     ghost fits: { ℕ → Type 0 };
 
-    // Whether one has the right to the value, by the same number.
+    // Whether a thread has the right to the value, by the same number.
     ghost taken: { ℕ → Bool };
 
-    /// Whether more than one may be notified at a time.
+    /// Whether more than one waiter may be notified at a time.
     const ARE_MANY: bool;
 
-    /// Whether it may be closed.
+    /// Whether the lock may be closed.
     const CLOSES: bool;
 
     ghost CLOSES: { Bool };
 }
 
-/// Whether it is closed, if it is a lock that may be.
+/// Returns whether a lock with this number is closed, if it is a lock that may be.
 pub(crate) fn is_closed_for<C: Counted>(number: u64) -> bool
     ensures closed { result ≡ true → Closes C.CLOSES number }
     ensures open { result ≡ false → Closes C.CLOSES number → ⊥ }
@@ -63,7 +63,7 @@ pub(crate) fn is_closed_for<C: Counted>(number: u64) -> bool
     C::CLOSES && is_closed(number)
 }
 
-/// Any number of permits.
+/// Any number of permits, up to what the number holds.
 pub struct Permits {}
 
 impl Counted for Permits {
@@ -78,8 +78,8 @@ impl Counted for Permits {
     ghost CLOSES = { true };
 }
 
-/// One value. The number is 1 while nobody has it, 0 while one has the right to it, and [`CLOSED`] while it is parked: then one has
-/// the value, and not the right to where it lies.
+/// One value. The number is 1 while no thread has it, 0 while a thread has the right to it, and [`CLOSED`] while it is parked,
+/// which means that a thread has the value, and not the right to where it lies.
 pub struct OneValue {}
 
 impl Counted for OneValue {
@@ -94,7 +94,7 @@ impl Counted for OneValue {
     ghost CLOSES = { false };
 }
 
-/// The queue of those that compete for what `C` says.
+/// The queue of the waiters that compete for what `C` says, with room for their tasks.
 #[derive(Drop)]
 pub struct Competing<C> {
     pub line: FairQueue<Task>,
@@ -104,7 +104,7 @@ pub struct Competing<C> {
 }
 
 impl<C> Competing<C> {
-    /// A queue in which nobody is, for a lock whose word is open. It takes no memory.
+    /// Makes an empty queue, for a lock whose number is open to newcomers. Takes no memory.
     pub fn new(alloc: Global) -> Self
         ensures stands { (closes : Bool) (number : ℕ) → IsOpen number
             → StandsIf closes number result.line }
@@ -120,8 +120,10 @@ impl<C> Competing<C> {
 }
 
 impl<C> Competing<C> {
-    /// One that competes comes to attempt: one that was notified leaves the queue, and one that was not stores its task and waits
-    /// on.
+    /// Looks how a contender starts an attempt, and returns that.
+    ///
+    /// A notified contender leaves the queue; a contender that is not notified stores its task and waits on; a contender without
+    /// a place, or whose place is gone, is new. Takes no memory.
     pub fn come<O, X: TaskExchange<Task, O>>(
         &mut self,
         place: &mut Option<Key>,
@@ -150,8 +152,11 @@ impl<C> Competing<C> {
         }
     }
 
-    /// One whose attempt found nothing waits at the end of the queue: one that was notified has lost once more, and one that lost
-    /// [`PATIENCE`] times starves. It may allocate. An error says that it is in no queue.
+    /// Has a contender whose attempt found nothing wait at the end of the queue, and returns its key.
+    ///
+    /// A contender that was notified has lost once more, and starves once it has lost [`PATIENCE`] times. Returns
+    /// [`LockError::Listen`] if memory runs out or the queue has given out all its serial numbers; an error leaves the queue, the
+    /// place and the losses as they were. May allocate.
     pub fn lose<O, X: TaskExchange<Task, O>>(
         &mut self,
         place: &mut Option<Key>,
@@ -187,7 +192,8 @@ impl<C> Competing<C> {
         }
     }
 
-    /// One that competes leaves the queue, if it is there. Returns how it would have come.
+    /// Removes a contender from the queue, if it is there, and returns how it would have started an attempt: notified, or else
+    /// new.
     pub fn leave(&mut self, place: &mut Option<Key>) -> Coming
         ensures left { NobodyIsBy place.old self.new.line }
         ensures place { place.new ≡ None }
@@ -203,7 +209,7 @@ impl<C> Competing<C> {
         Coming::New
     }
 
-    /// Notifies all that wait, and leaves an empty queue: whoever was there has no place any more.
+    /// Notifies all waiters, and leaves an empty queue, so that no contender has a place any more. The tasks go to `sink`.
     pub fn close<K: WakeSink<Task>>(&mut self, sink: &mut K)
         ensures wakes { FoldsTo K.woke sink.old (all_tasks self.old.line) sink.new }
         ensures nobody { NobodyIsThere self.new.line }
@@ -214,7 +220,7 @@ impl<C> Competing<C> {
 }
 
 impl<C: Counted> Competing<C> {
-    // Makes room for the task of one more that waits.
+    // Makes room for the task of one more waiter.
     pub(crate) fn make_room(&mut self) -> Result<(), AllocError>
         ensures { self.new ≡ self.old }
     {
@@ -266,7 +272,7 @@ impl<C: Counted> Kept for Competing<C> {
     ghost promises = { λ number state stands. stands.serves };
 }
 
-/// Whoever starves and is notified finds one free, while the state is at home.
+/// Proves that a waiter that starves and is notified finds something free, while the state is at home. Does nothing at run time.
 pub fn the_starving_find_one<W>()
     ensures { (number : ℕ) (line : State W) → Stands number line → one_starving_is_told line ≡ true
         → 0 < free_of number }

@@ -1,4 +1,4 @@
-//! One that competes.
+//! A waiter that competes.
 ghost use Rattle.std.specs.Prelude.{◌≡◌, ℕ, if◌then◌else◌};
 ghost use Rattle.event_word.specs.Contender.{count_of};
 ghost use Rattle.event_word.specs.declared.contender.Coming.{Coming};
@@ -6,15 +6,15 @@ ghost use Rattle.event_word.specs.declared.contender.Coming.{Coming};
 use event_queue::Key;
 use std::marker::Model;
 
-/// How often one is notified and finds nothing before newcomers are shut out for it.
+/// How often a waiter is notified and finds nothing before newcomers are shut out for it.
 pub const PATIENCE: u32 = 2;
 
-/// One that competes. The contract of a wait sees how often it lost.
+/// A thread or a task that competes for a permit or a value. The contract of a wait sees how often the contender lost.
 #[derive(Drop)]
 pub struct Contender {
-    /// By which key it is in the queue, if it is there.
+    /// The key by which the contender is in the queue, or `None` if it is in no queue.
     pub place: Option<Key>,
-    /// How often it was notified and found nothing.
+    /// How often the contender was notified and found nothing.
     pub losses: u32,
 }
 
@@ -24,19 +24,19 @@ impl Model for Contender {
     ghost view = { λ contender. contender.losses };
 }
 
-/// How one comes to attempt.
+/// How a contender starts an attempt.
 #[derive(Clone, Copy)]
 pub enum Coming {
-    /// It has no place in the queue.
+    /// The contender has no place in the queue.
     New,
-    /// It was notified, and is in the queue no more.
+    /// The contender was notified, and is in the queue no more.
     Notified,
-    /// It is not notified, and waits on by this key.
+    /// The contender is not notified, and waits on by this key.
     Waits(Key),
 }
 
 impl Coming {
-    /// Whether it was notified.
+    /// Returns whether the contender was notified.
     #[inline(always)]
     pub fn is_notified(&self) -> bool
         ensures { count_of self.now ≡ (if result then 1 else 0) }
@@ -49,7 +49,8 @@ impl Coming {
     }
 }
 
-/// How one came to attempt, as its queue says. Nothing else makes one.
+/// How a contender started an attempt, as its queue says. Only [`Word::come`](crate::Word::come) and
+/// [`Word::leave`](crate::Word::leave) make an arrival.
 #[derive(Drop)]
 pub struct Arrival {
     coming: Coming,
@@ -69,7 +70,7 @@ impl Arrival {
         Arrival { coming }
     }
 
-    /// How it came.
+    /// Returns how the contender started its attempt.
     #[inline(always)]
     pub fn coming(&self) -> Coming
         ensures { result ≡ self.now }
@@ -79,7 +80,7 @@ impl Arrival {
 }
 
 impl Contender {
-    /// One that comes, and has lost nothing.
+    /// Makes a contender that is in no queue, and has lost nothing.
     #[inline(always)]
     pub fn new() -> Self
         ensures { result ≡ 0 }
@@ -90,7 +91,7 @@ impl Contender {
         }
     }
 
-    /// Whether it has a place in the queue.
+    /// Returns whether the contender has a place in the queue.
     #[inline(always)]
     pub fn is_waiting(&self) -> bool {
         self.place.is_some()

@@ -1,7 +1,7 @@
-//! How a lock stands for which threads compete.
+//! The counts of a lock for which threads compete.
 
-/// How many permits are free at a semaphore or a mutex, and how many waiters are notified, waiting and starving, all at one
-/// moment.
+/// The counts of a semaphore or a mutex, all at one moment: how many permits are free, and how many waiters are notified, waiting
+/// and starving.
 #[derive(Clone, Copy, Debug, PartialEq, Eq)]
 pub struct Counts {
     /// How many permits are free; of a mutex one, while nobody has the value.
@@ -10,7 +10,7 @@ pub struct Counts {
     pub notified: usize,
     /// How many waiters are not notified.
     pub waiting: usize,
-    /// How many of the notified and the waiting were notified twice before, and found nothing each time.
+    /// How many of the notified and the waiting were notified twice before, and found nothing each time: they *starve*.
     pub starving: usize,
     /// Whether newcomers are shut out, since a waiter starves.
     pub is_shut: bool,

@@ -1,19 +1,19 @@
 //! A lock on one word: what a semaphore, a mutex and a read-write lock are made of, proved between any two steps of any threads.
 //!
-//! [`Word`] keeps a *state*, the queues of those that wait, behind an atomic word. The word has a *number*, of what is free or
-//! who has the value, and a *code*, which says whether the state is there and whether somebody may wait. One compare-exchange
-//! takes what is free, and one gives it back where nobody waits. Else a thread takes the state out, notifies, and puts it back
-//! by a compare-exchange that fails where the word has changed: then it notifies again. What is out can't be dropped. Whom it notified it
-//! wakes once the state is back: a few from a list of its own, and where they are more, the next few once it has taken the state again.
-//! Their tasks lie beside the state meanwhile, in room that those that wait have made. Word, state and value lie in place, in a
-//! [`Slot`](event_slot::Slot), so making a lock takes no memory.
+//! [`Word`] keeps a *state*, the queues of the waiters, behind an atomic word. The word has a *number*, of what is free or of the
+//! threads that have the value, and a *code*, which says whether the state is there and whether there may be a waiter. One
+//! compare-exchange takes what is free, and one gives it back where no thread waits. Else a thread takes the state out, notifies,
+//! and puts the state back by a compare-exchange that fails where the word has changed: then the thread notifies again. A state
+//! that is out can't be dropped. The thread wakes the notified tasks once the state is back: a few from a list of its own, and
+//! where they are more, the next few once it has taken the state again. The tasks lie beside the state meanwhile, in room that
+//! the waiters have made. Word, state and value lie in place, in a [`Slot`](event_slot::Slot), so making a lock takes no memory.
 //!
-//! A thread that finds the state out at last sleeps, once it has marked the word. Whoever puts the state back wakes one that sleeps; the
-//! woken one marks the word as it takes the state, since others may sleep still.
+//! A thread that finds the state out again and again sleeps, once it has marked the word. The thread that puts the state back
+//! wakes one that sleeps; the woken thread marks the word as it takes the state, since others may sleep still.
 //!
-//! What a lock says of its number and its state is its [`Kept::rules`]. [`Competing`] is the state of a semaphore and a mutex,
-//! whose queue is a fair one; [`Queues`] is that of a read-write lock, to which one comes by a [`Right`]. Nobody needs this crate
-//! to use a lock: [`event_locks`](../../event_locks/README.md) has them.
+//! What a lock says of its number and its state is its [`Kept::rules`]. [`Competing`] is the state of a semaphore and of a mutex,
+//! whose queue is a fair one; [`Queues`] is that of a read-write lock, whose readers and writers each have a [`Right`]. A user of
+//! a lock does not need this crate: [`event_locks`](../../event_locks/README.md) has the locks.
 //!
 //! Read `word.rt` and `word/rule.rt` first, then `word/take.rt` and `wakes.rt`; for a semaphore and a mutex `competing.rt`,
 //! `word/competing.rt`, `word/permits.rt` and `word/value.rt`; for a read-write lock `shares/queues.rt`, `shares/right.rt`,

@@ -1,4 +1,4 @@
-//! Who reads a value and who writes it, counted in the number of a word, with those that wait to behind it.
+//! Readers and writers of a value, counted in the number of a word, with the queues of the waiters behind the word.
 pub mod counts;
 pub mod number;
 pub mod owned;

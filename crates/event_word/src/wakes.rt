@@ -7,11 +7,12 @@ use std::alloc::{AllocError, AllocFailed, Global};
 use std::collections::VecDeque;
 use std::marker::Model;
 
-/// So many tasks a thread wakes before it takes the state again to see who else is to be woken.
+/// The number of tasks that a thread wakes before it takes the state again to see which others are to be woken.
 pub(crate) const FEW: usize = 8;
 
-/// Room beside a state for the tasks of all that wait for it, once more than a few do. Whoever waits makes it, so that whoever notifies
-/// takes no memory. A contract sees nothing of it.
+/// Room beside a state for the tasks of all its waiters, once these are more than a few.
+///
+/// Each waiter makes room for its own task, so that a thread that notifies takes no memory. A contract sees nothing of the room.
 #[derive(Drop)]
 pub struct Room {
     tasks: Option<Box<VecDeque<Task, Global>, Global>>,
@@ -24,13 +25,15 @@ impl Model for Room {
 }
 
 impl Room {
-    /// For a few. It takes no memory.
+    /// Makes room for a few tasks. Takes no memory.
     #[inline(always)]
     pub fn new() -> Self {
         Room { tasks: None }
     }
 
-    /// Makes room for the tasks of so many that wait. It allocates if they are more than a few, and more than before.
+    /// Makes room for the tasks of `waiting` waiters.
+    ///
+    /// Allocates if these are more than a few, and more than there was room for before. An error leaves the room that there was.
     pub fn make(&mut self, alloc: Global, waiting: usize) -> Result<(), AllocError> {
         if waiting <= FEW {
             return Ok(());
@@ -44,7 +47,7 @@ impl Room {
         made
     }
 
-    // Stores a task behind the others. An error has it where there is no room.
+    // Stores a task behind the others, or returns the task as an error where there is no room.
     fn store(&mut self, task: Task) -> Result<(), Task> {
         let Some(tasks) = &mut self.tasks else {
             return Err(task);
@@ -55,7 +58,7 @@ impl Room {
         }
     }
 
-    // The first task.
+    // Removes the first task, and returns it.
     fn next(&mut self) -> Option<Task> {
         match &mut self.tasks {
             Some(tasks) => tasks.pop_front(),
@@ -71,22 +74,22 @@ impl Room {
     }
 }
 
-/// The tasks that one has to wake who notified with the state out: a few at hand, and the others in the room beside the state. None is
-/// woken before the state is back.
+/// The tasks that a thread has to wake which notified with the state out: a few at hand, and the others in the room beside the
+/// state. No task is woken before the state is back.
 ///
-/// It is no `Drop`, so whoever makes one wakes those tasks. Its relation counts the tasks at hand alone, since no contract can name
-/// what sleeps. Tests show that it wakes.
+/// This type is not `Drop`, so each thread that makes a value wakes those tasks. Its relation counts the tasks at hand alone,
+/// since no contract can name what sleeps; tests show that it wakes.
 pub(crate) struct Wakes {
     few: [Option<Task>; FEW],
     held: usize,
     // The room, while the state is out and this is its sink.
     pub(crate) room: Room,
-    // Tasks lie in the room that this one has to wake.
+    // Whether tasks lie in the room that this thread has to wake.
     are_more: bool,
 }
 
 impl Wakes {
-    /// None.
+    /// Makes a value with no tasks to wake.
     #[inline(always)]
     pub(crate) fn new() -> Self
         ensures { result.held ≡ 0 }
@@ -99,7 +102,7 @@ impl Wakes {
         }
     }
 
-    /// Takes a few of those tasks in the room that this one has to wake.
+    /// Moves a few of the tasks that this thread has to wake from the room to the few at hand.
     pub(crate) fn refill(&mut self) {
         if !self.are_more {
             return;
@@ -125,7 +128,8 @@ impl Wakes {
         self.held += 1;
     }
 
-    /// Wakes those at hand. Returns whether it has to wake others: then the state is to be taken again. It is called with the state back.
+    /// Wakes the tasks at hand, and returns whether there are others to wake: then the state is to be taken again. The caller has
+    /// put the state back.
     pub(crate) fn wake_few(&mut self) -> bool
         ensures { self.new.held ≡ 0 }
     {
@@ -140,7 +144,7 @@ impl Wakes {
         self.are_more
     }
 
-    /// All are woken.
+    /// Ends the value, once all its tasks are woken.
     #[inline(always)]
     pub(crate) fn end(self)
         requires { self.held ≡ 0 }
@@ -172,7 +176,7 @@ impl WakeSink<Task> for Wakes {
 }
 
 impl Wakes {
-    // There is room for each that waits, so none is woken here.
+    // Stores a task in the room. Each waiter has made room, so no task is woken here.
     #[cold]
     #[inline(never)]
     fn store(&mut self, task: Task)

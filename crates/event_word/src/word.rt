@@ -28,28 +28,31 @@ pub use self::step::Step;
 pub use self::value::{Lent, Lodging, put_in, take_out};
 use event_slot::{Mark, Slot};
 
-/// What one knows who makes steps on a lock's word. It has no bytes.
+/// What a thread knows that makes steps on a lock's word. A seat has no bytes.
 pub type Seat = Mark<View>;
 
-/// The word counts the lock's number in steps of it.
+/// What one more of the lock's number adds to the word: 4, because the low two bits are the code.
 pub const ONE: u64 = 4;
 
 /// The code while a thread has the state out.
 pub const OUT: u64 = 1;
 
-/// The code while the state is at home and somebody may wait.
+/// The code while the state is at home and there may be a waiter.
 pub const CROWDED: u64 = 2;
 
-/// The code while a thread has the state out and others may sleep until it is back.
+/// The code while a thread has the state out and others may sleep until the state is back.
 const AWAITED: u64 = 3;
 
-/// A lock on one word: its number, with a code, the state behind it, and what it lends.
+/// A lock on one word: a number with a code, the state behind the word, and the value that the lock lends.
 pub struct Word<S: Kept, V> {
     pub slot: Slot<Place<V>, S>,
 }
 
 impl<S: Kept, V> Word<S, V> {
-    /// A lock of this number, with this state, in which nobody waits, and this value. It takes no memory.
+    /// Makes a lock with this number, this state and this value. Takes no memory.
+    ///
+    /// Requires that the number fits the rules of the lock, is less than 2^62, because the code takes two bits of the word, and
+    /// that no thread waits in the state.
     pub fn new(number: u64, state: S, value: V) -> Self
         requires number { (number < 2 ^ 62) × S.rules.fits number }
         requires state { S.rules.stands number state × S.rules.quiet state }
@@ -58,12 +61,12 @@ impl<S: Kept, V> Word<S, V> {
         Word { slot }
     }
 
-    /// The value, to be changed where it lies, once nobody shares the lock.
+    /// Borrows the value mutably where it lies. No thread shares the lock, as the `&mut` says.
     pub fn value_mut(&mut self) -> &mut V {
         &mut self.slot.get_mut().value
     }
 
-    /// The value, once nobody shares the lock.
+    /// Returns the value, and drops the state. No thread shares the lock any more.
     pub fn into_inner(self) -> V
     where
         S: Drop,
@@ -74,13 +77,13 @@ impl<S: Kept, V> Word<S, V> {
         place.value
     }
 
-    /// The number, a moment ago.
+    /// Returns the number as it was a moment ago.
     #[inline(always)]
     pub fn number(&self) -> u64 {
         self.slot.peek() / ONE
     }
 
-    /// The word, and a new seat. It is one load.
+    /// Returns the word and a new seat. The call costs one load.
     #[inline(always)]
     #[tactic(auto, using(crate::proofs::WordKeeps::sits, crate::proofs::WordKeeps::due_enters))]
     pub fn look(&self) -> (u64, Seat)
@@ -90,7 +93,7 @@ impl<S: Kept, V> Word<S, V> {
         self.slot.enter::<Enter<S>>()
     }
 
-    /// Looks at the word again.
+    /// Returns the word as it is now. The call costs one load, and the seat knows as much as before.
     #[inline(always)]
     #[tactic(auto, using(crate::proofs::WordKeeps::looks, crate::proofs::WordKeeps::due_looks))]
     pub fn look_again(&self, seat: &mut Seat) -> u64
@@ -103,7 +106,7 @@ impl<S: Kept, V> Word<S, V> {
 }
 
 impl<S: Kept + Drop, V: Drop> Drop for Word<S, V> {
-    // It is a function of its own, so that a share that is not the last is given up in a few instructions.
+    // This is a function of its own, so that a share that is not the last is given up in a few instructions.
     #[cold]
     #[inline(never)]
     fn drop(self) {

@@ -1,4 +1,4 @@
-//! How a read-write lock stands.
+//! The counts of a read-write lock.
 ghost use Rattle.std.specs.Prelude.{◌≡◌, ◌+◌, ◌<◌, ◌≤◌};
 ghost use Rattle.event_word.specs.Queues.{IsExclusive, NobodyWaitsInVain};
 ghost use Rattle.event_word.specs.Held.{HasState, IsOf};
@@ -8,16 +8,16 @@ use super::share::Out;
 use crate::word::Word;
 use event_wait::Task;
 
-/// How many readers and writers have the value of a read-write lock and how many wait for it, all at one moment.
+/// The counts of a read-write lock, all at one moment: how many readers and writers have the value, and how many wait for it.
 #[derive(Clone, Copy, Debug, PartialEq, Eq)]
 pub struct RwLockCounts {
     /// How many readers have a guard.
     pub readers: u64,
     /// How many writers have a guard: one or none.
     pub writers: u64,
-    /// How many readers were let in and have not noticed yet. They have the value, too.
+    /// How many readers were let in and have not noticed yet. These readers have the value, too.
     pub readers_let_in: usize,
-    /// How many writers were let in and have not noticed yet: one or none, which has the value, too.
+    /// How many writers were let in and have not noticed yet: one or none. That writer has the value, too.
     pub writers_let_in: usize,
     /// How many readers wait, and are not let in.
     pub readers_waiting: usize,
@@ -26,7 +26,7 @@ pub struct RwLockCounts {
 }
 
 impl<V> Word<Queues<Task>, V> {
-    /// How it stands, with the queues out, which stay as they are.
+    /// Returns the counts of the lock by this number, with the queues out, which stay as they are.
     pub fn counted(&self, held: &mut Out<'_, V>, number: u64) -> RwLockCounts
         requires seat { IsOf self.now.slot.name held.old }
         requires stands { HasState (λ n q. (n ≡ number) × NobodyWaitsInVain n q) held.old }

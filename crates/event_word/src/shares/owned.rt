@@ -1,4 +1,4 @@
-//! The right to read or write of one that shares the lock, while it is not parked.
+//! The right to read or write of a holder that shares the lock, while it is not parked.
 ghost use Rattle.std.specs.Prelude.{◌≡◌, ◌<◌, None, IsSome};
 ghost use Rattle.event_word.specs.Count.{IsCount};
 ghost use Rattle.event_word.specs.Word.{number_of};
@@ -12,11 +12,12 @@ use event_wait::Task;
 use std::alloc::Global;
 use std::sync::{Arc, Wait};
 
-/// A right to the value of a lock where it lies, with a share of the lock: so it has no lifetime. Whoever has it parks, and then counts
-/// itself out.
+/// A right to the value of a lock where it lies, with a share of the lock, so that the right has no lifetime.
+///
+/// A holder of this right parks it first ([`Share::park`]), and then ends the right that is left.
 pub type OwnedRight<L, V> = Owned<L, Place<V>, Queues<Task>, Global>;
 
-// The word of a lock, and a new seat.
+// Returns the word of a lock, and a new seat.
 #[tactic(auto, using(crate::proofs::WordKeeps::sits, crate::proofs::WordKeeps::due_enters))]
 fn look<L: Inside<Place<V>, Queues<Task>>, V>(lock: &L) -> (u64, Seat)
     ensures seat { result.1.slot ≡ (L.finds lock.now).name }
@@ -26,8 +27,10 @@ fn look<L: Inside<Place<V>, Queues<Task>>, V>(lock: &L) -> (u64, Seat)
 }
 
 impl<K: Right<Task>> Share<K> {
-    /// Takes the right again of one that is parked. It waits for nobody: who has the value has been settled before. It comes with a seat,
-    /// and the word that it left.
+    /// Takes the right of a parked holder again, and returns the right with a seat and the word that the call left.
+    ///
+    /// The call blocks for no other thread, because the number counts the parked holder already. The returned seat and word are
+    /// for [`park`](Share::park).
     pub fn unpark<L: Inside<Place<V>, Queues<Task>>, V, R: Wait>(
         self,
         rt: &R,
@@ -57,8 +60,10 @@ impl<K: Right<Task>> Share<K> {
         unreachable!()
     }
 
-    /// Parks: gives up the right to where the value lies. The number counts one still. There is no `&` to the lock to look at its word
-    /// by, so it begins as if that were as it was left.
+    /// Parks: gives up the right to where the value lies, and returns the share of the lock and the parked right.
+    ///
+    /// The number still counts the holder. The call has no `&` to the lock by which to look at its word, so it first expects
+    /// `word`, as [`unpark`](Share::unpark) left it.
     pub fn park<L, V, R: Wait>(
         rt: &R,
         owned: OwnedRight<L, V>,

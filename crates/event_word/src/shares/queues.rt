@@ -16,23 +16,23 @@ use std::mem;
 // The number of one reader.
 const ONE_READER: u64 = 2;
 
-/// The queues of those that wait to read, and of those that wait to write.
+/// The queues of a read-write lock: one of the readers that wait, and one of the writers that wait.
 ///
-/// Who has the value is counted in the number of the lock's word. Who was let in, and has not come yet, is notified in its
-/// queue, and has the value as well. No reader comes in while a writer waits, and a writer that goes lets all readers in
-/// that wait.
+/// The number of the lock's word counts the readers and the writer that have the value. A waiter that was *let in* is notified in
+/// its queue, and has the value as well, though the number counts it only once it has noticed. No new reader is admitted while a
+/// writer waits, and a writer that leaves lets in all readers that wait.
 #[derive(Drop)]
 pub struct Queues<W> {
     pub(super) read_line: List<(), W>,
     pub(super) write_line: List<(), W>,
-    // Whether the readers go first where both wait: a writer has the value, or had it last.
+    // Whether the readers are let in first where both wait: a writer has the value, or had it last.
     readers_first: bool,
-    // For the tasks of all readers that wait.
+    // Room for the tasks of all readers that wait.
     room: Room,
     alloc: Global,
 }
 
-// Who is let in next.
+// Which waiters are let in next.
 #[derive(Clone, Copy)]
 pub enum Next {
     Nobody,
@@ -40,7 +40,7 @@ pub enum Next {
     Writer,
 }
 
-// How many wait in a queue, and are not notified.
+// Returns how many waiters of a queue are not notified.
 fn waiting<W>(line: &List<(), W>) -> usize
     ensures { result ≡ length line.now.waiting }
 {
@@ -48,7 +48,7 @@ fn waiting<W>(line: &List<(), W>) -> usize
 }
 
 impl<W> Queues<W> {
-    /// Nobody waits. It takes no memory.
+    /// Makes queues in which no thread waits. Takes no memory.
     pub fn new(alloc: Global) -> Self
         ensures quiet { IsQuiet result }
         ensures stands { NobodyWaitsInVain 0 result }
@@ -62,14 +62,14 @@ impl<W> Queues<W> {
         }
     }
 
-    /// Whether nobody waits, and nobody was let in who has not come yet.
+    /// Returns whether both queues are empty: no thread waits, and none was let in that has not noticed yet.
     pub fn is_quiet(&self) -> bool
         ensures { IsTrue result ↔ IsQuiet self.now }
     {
         self.read_line.total_listeners() == 0 && self.write_line.total_listeners() == 0
     }
 
-    /// How it stands by this number.
+    /// Returns the counts of the lock by this number.
     pub fn counts(&self, number: u64) -> RwLockCounts
         ensures readers { (result.readers ≡ readers_of number)
             × (result.writers ≡ writers_of number) }
@@ -88,7 +88,7 @@ impl<W> Queues<W> {
         }
     }
 
-    // Whether one reader more can be counted.
+    // Returns whether one more reader can be counted.
     pub(super) fn has_room(&self, number: u64) -> bool
         ensures room { IsTrue result
             → reading number self.now + length self.now.read_line.waiting + 2 < 2 ^ 29 }
@@ -106,7 +106,7 @@ impl<W> Queues<W> {
         self.room.make(self.alloc, waiting.saturating_add(1))
     }
 
-    // Whether a writer writes or was let in.
+    // Returns whether a writer writes or was let in.
     fn is_written(&self, number: u64) -> bool
         ensures { IsTrue result ↔ (0 < writing number self.now) }
     {
@@ -116,7 +116,7 @@ impl<W> Queues<W> {
         self.write_line.is_notified()
     }
 
-    // Whether a reader reads or was let in.
+    // Returns whether a reader reads or was let in.
     fn is_read(&self, number: u64) -> bool
         ensures { IsTrue result ↔ (0 < reading number self.now) }
     {
@@ -126,7 +126,7 @@ impl<W> Queues<W> {
         self.read_line.is_notified()
     }
 
-    // Whether a writer writes, was let in, or waits.
+    // Returns whether a writer writes, was let in, or waits.
     pub(super) fn is_wanted(&self, number: u64) -> bool
         ensures wanted { IsTrue result → IsAWriterThere number self.now }
         ensures unwanted { IsFalse result → NoWriterIsThere number self.now }
@@ -137,7 +137,8 @@ impl<W> Queues<W> {
         self.write_line.total_listeners() > 0
     }
 
-    /// Whether the reader that asks may write from here on: it is the only one, no other one was let in, and no writer waits.
+    /// Returns whether the reader that asks may write from here on: it is the only reader, no other reader was let in, and no
+    /// writer waits.
     pub fn may_upgrade(&self, number: u64) -> bool
         ensures yes { IsTrue result ↔ MayUpgrade number self.now }
         ensures counted { IsTrue result → IsExclusive number self.now → IsExclusive 1 self.now }
@@ -145,7 +146,7 @@ impl<W> Queues<W> {
         number == ONE_READER && !self.read_line.is_notified() && !somebody_waits(&self.write_line)
     }
 
-    /// Lets all readers in that wait: the writer reads from here on.
+    /// Lets in all readers that wait, because the writer reads from here on. The tasks go to `sink`.
     pub fn downgrade<S: WakeSink<W>>(&mut self, sink: &mut S)
         ensures step { LetsReadersIn S.woke self.old self.new sink.old sink.new }
         ensures nobody_waits { length self.new.read_line.waiting ≡ 0 }
@@ -157,7 +158,7 @@ impl<W> Queues<W> {
         hand_all(&mut self.read_line, sink);
     }
 
-    // Who is let in next.
+    // Returns which waiters are let in next.
     fn next(&self, number: u64) -> Next
         ensures { IsNext result number self.now }
     {
@@ -176,10 +177,10 @@ impl<W> Queues<W> {
         Next::Writer
     }
 
-    /// Lets those in who are next by this number. Returns whether somebody is in the queues still.
+    /// Lets in the waiters that are next by this number, and returns whether a queue is not empty still.
     ///
-    /// All readers that wait are let in where no writer writes or waits. Where nobody has the value, and both wait, the readers
-    /// are let in if a writer had it last, and else the first writer.
+    /// All readers that wait are let in where no writer writes or waits. Where no thread has the value, and both readers and
+    /// writers wait, the readers are let in if a writer had the value last, and else the first writer. The tasks go to `sink`.
     pub fn let_in<S: WakeSink<W>>(&mut self, number: u64, sink: &mut S) -> bool
         requires { IsExclusive number self.old }
         ensures stands { NobodyWaitsInVain number self.new }
@@ -192,7 +193,7 @@ impl<W> Queues<W> {
         !self.is_quiet()
     }
 
-    // The same, but for whose turn it is.
+    // Lets in the waiters that are next, but does not note whose turn is next.
     fn let_next_in<S: WakeSink<W>>(&mut self, number: u64, sink: &mut S)
         requires { IsExclusive number self.old }
         ensures alone { IsExclusive number self.new }

@@ -1,4 +1,4 @@
-//! How one reads, beside others.
+//! The right to read, beside other readers.
 ghost use Rattle.std.specs.Prelude.{◌≡◌, ◌+◌, ◌-◌, ◌≤◌, ◌%◌, ◌^◌, None, IfSome};
 ghost use Rattle.event_word.specs.Count.{readers_of, writers_of};
 ghost use Rattle.event_word.specs.Queues.{HasNoRoom, NoWriterIsThere, Recounts, RefusesReader, WritersStay};
@@ -12,7 +12,7 @@ use event_queue::{Key, RegisterResult, TaskExchange};
 use event_wait::LockError;
 use event_wait::waiters::{join_line, leave_line, look_for};
 
-/// To read. A newcomer may where no writer writes, was let in or waits, and one reader more can be counted.
+/// The right to read. A newcomer gets it where no writer writes, was let in or waits, and one more reader can be counted.
 pub struct Reading {}
 
 impl<W> Right<W> for Reading {

@@ -17,7 +17,7 @@ use std::alloc::AllocError;
 use std::sync::Wait;
 
 impl<V> Word<Queues<Task>, V> {
-    // Whether this one was let in; else it stores its task.
+    // Looks whether this waiter was let in; a waiter that was not stores its task.
     fn look_waiting<K: Right<Task>, C, X: TaskExchange<Task, C>>(
         &self,
         held: &mut Out<'_, V>,
@@ -38,8 +38,10 @@ impl<V> Word<Queues<Task>, V> {
         K::look(held.claim.state_mut(), key, exchange, on)
     }
 
-    /// One that waits comes: it gets its right if it was let in, and waits on if not. One that is in the queue no more comes as a
-    /// newcomer.
+    /// Attempts for a waiter, with the queues out: gives the waiter its right if it was let in, and else has it wait on.
+    ///
+    /// Returns [`Attempted::Done`] with the right, or [`Attempted::Waits`] with the key for a waiter that stores its task. A
+    /// waiter that is in the queue no more attempts as a newcomer, by [`come_newly`](Word::come_newly).
     pub fn come_waiting<K: Right<Task>, C, X: TaskExchange<Task, C>, R: Wait>(
         &self,
         rt: &R,
@@ -67,7 +69,12 @@ impl<V> Word<Queues<Task>, V> {
         }
     }
 
-    /// A newcomer gets its right if it may come, and else waits in the queue.
+    /// Attempts for a newcomer, with the queues out: gives the newcomer its right if none stands in the way, and else has it
+    /// wait.
+    ///
+    /// Returns [`Attempted::Done`] with the right, [`Attempted::Waits`] with the key of the newcomer's place, or
+    /// [`Attempted::Refused`] if the newcomer can't wait: for memory, for serial numbers, or because the lock can count no more
+    /// readers. A newcomer that waits may allocate.
     pub fn come_newly<K: Right<Task>, C, X: TaskExchange<Task, C>, R: Wait>(
         &self,
         rt: &R,
@@ -98,7 +105,7 @@ impl<V> Word<Queues<Task>, V> {
         }
     }
 
-    // One waits in its queue, if it can be counted later.
+    // Has a newcomer wait in its queue, if it can be counted later.
     fn wait_seeing<K: Right<Task>, C, X: TaskExchange<Task, C>>(
         &self,
         held: &mut Out<'_, V>,
@@ -122,7 +129,7 @@ impl<V> Word<Queues<Task>, V> {
         K::wait(queues, seen / ONE, exchange, on)
     }
 
-    /// Takes one out of its queue. Returns whether it was let in.
+    /// Removes a waiter from its queue, and returns whether it was let in.
     pub fn leave<K: Right<Task>>(&self, held: &mut Out<'_, V>, key: Key) -> bool
         requires seat { IsOf self.now.slot.name held.old }
         requires alone { HasState IsExclusive held.old }
@@ -135,7 +142,7 @@ impl<V> Word<Queues<Task>, V> {
         K::leave(held.claim.state_mut(), key)
     }
 
-    /// One that waited leaves its queue, with its right if it was let in or may come now.
+    /// Has a waiter leave its queue, and returns its right if it was let in or a newcomer would get it now, or else `None`.
     pub fn come_or_leave<K: Right<Task>, R: Wait>(
         &self,
         rt: &R,

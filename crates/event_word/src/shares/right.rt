@@ -1,4 +1,4 @@
-//! What readers and writers have in common.
+//! What the rights to read and to write have in common.
 ghost use Rattle.std.specs.Prelude.{◌≡◌, ℕ, ◌%◌, ◌+◌, ◌≤◌, length, IfErr, IfOk, IfSome, IsFalse, IsTrue, OnErr};
 ghost use Rattle.event_queue.specs.Exchange.{JoinsWithTask, RegistersWith};
 ghost use Rattle.event_queue.specs.Queue.{Queue};
@@ -16,43 +16,46 @@ use super::queues::Queues;
 use event_queue::{Key, ListenError, RegisterResult, TaskExchange};
 use event_wait::LockError;
 
-/// What one comes for: to read ([`Reading`](super::reading::Reading)) or to write ([`Writing`](super::writing::Writing)). It
-/// says how one is counted, and what one does with the queues.
+/// What a thread or task asks of the lock: to read ([`Reading`](super::reading::Reading)) or to write
+/// ([`Writing`](super::writing::Writing)).
+///
+/// An implementation says how the word counts a holder, and what a waiter does with the queues.
 pub trait Right<W> {
-    // The queue of those that wait for it.
+    // The queue of the waiters for this right.
     ghost line: { Queues W → Queue (Unit {0}) W };
 
     // The other queue and the turn are as they were.
     ghost others_stay: { Queues W → Queues W → Type 0 };
 
-    // Nobody is in the way of a newcomer.
+    // No holder or waiter stands in the way of a newcomer.
     ghost is_open: { ℕ → Queues W → Type 0 };
 
-    // One more can't be counted.
+    // One more holder can't be counted.
     ghost is_full: { ℕ → Queues W → Type 0 };
 
-    // Why one can't wait.
+    // Why a newcomer can't wait.
     ghost refuses: { LockError → ℕ → Queues W → Queues W → Type 0 };
 
-    // What the number was and is once one goes.
+    // What the number was and is once a holder leaves.
     ghost ends: { ℕ → ℕ → Type 0 };
 
-    /// What one adds to the number.
+    /// What one holder adds to the number.
     const COUNTS: u64;
 
     ghost COUNTS: { ℕ };
 
-    // What one may do then, as a slot counts it: 1 is to read, 2 to write.
+    // What a holder may do, as a slot counts it: 1 is to read, 2 to write.
     ghost RIGHT: { ℕ };
 
-    /// The word with one more, if nobody waits and a newcomer may come. So newcomers leave a word alone whose queues are out.
+    /// Returns the word with one more holder, or `None` if there may be a waiter or a newcomer is barred. So newcomers leave a
+    /// word alone whose queues are out.
     fn word_in(word: u64) -> Option<u64>
         requires { IsCount (number_of word) }
         ensures home { IfSome result (λ _. word % 4 ≡ 0) }
         ensures step { IfSome result (Recounts 0 RIGHT word) }
         ensures counts { IfSome result (λ new. number_of new ≡ number_of word + COUNTS) };
 
-    /// The word with one more, for whoever has the queues and found that one more may come.
+    /// Returns the word with one more holder, for a thread that has the queues out and found that one more may be admitted.
     fn word_with(word: u64) -> u64
         requires { IsCount (number_of word) }
         ensures code { result % 4 ≡ word % 4 }
@@ -64,7 +67,8 @@ pub trait Right<W> {
         ensures has { (k : ℕ) → Becomes 0 (counted_in word) (counted_in result) k
             → (q : Queues W) → Admits COUNTS (number_of word) q → k ≡ RIGHT };
 
-    /// The word with one less, if it counts one that is not parked. The queues are taken out where somebody may be next.
+    /// Returns the word with one holder less, or `None` if the word counts no holder that is not parked. The queues are taken out
+    /// where a waiter may be next.
     fn word_out(word: u64) -> Option<Leaving>
         requires { IsCount (number_of word) }
         ensures going { IfSome result (λ leaving. IfGoing leaving (Recounts RIGHT 0 word)) }
@@ -73,32 +77,34 @@ pub trait Right<W> {
             × (number_of new ≡ 0))) }
         ensures ends { IfSome result (λ leaving. ends (number_of word) (number_of (becomes leaving))) };
 
-    /// The word once one is parked, if it counts one that is not.
+    /// Returns the word once a holder is parked, or `None` if the word counts no holder that is not parked.
     fn word_parked(word: u64) -> Option<u64>
         requires { IsCount (number_of word) }
         ensures step { IfSome result (Recounts RIGHT 0 word) }
         ensures same { IfSome result (λ new. (readers_of (number_of new) ≡ readers_of (number_of word))
             × (writers_of (number_of new) ≡ writers_of (number_of word))) };
 
-    /// The word once one is parked no more, if it counts one that is.
+    /// Returns the word once a holder is parked no more, or `None` if the word counts no parked holder.
     fn word_unparked(word: u64) -> Option<u64>
         requires { IsCount (number_of word) }
         ensures step { IfSome result (Recounts 0 RIGHT word) }
         ensures same { IfSome result (λ new. (readers_of (number_of new) ≡ readers_of (number_of word))
             × (writers_of (number_of new) ≡ writers_of (number_of word))) };
 
-    /// Whether the number alone shows that somebody is in the way of a newcomer.
+    /// Returns whether the number alone shows that a holder stands in the way of a newcomer.
     fn is_barred(number: u64) -> bool
         ensures { IsTrue result → (q : Queues W) → is_open number q → ⊥ };
 
-    /// Whether a newcomer may come: nobody is in the way, and one more can be counted.
+    /// Returns whether a newcomer may be admitted: no holder or waiter stands in its way, and one more can be counted.
     fn may_come(queues: &Queues<W>, number: u64) -> bool
         ensures yes { IsTrue result → is_open number queues.now }
         ensures counted { IsTrue result → IsExclusive number queues.now
             → Admits COUNTS number queues.now }
         ensures no { IsFalse result → is_open number queues.now → is_full number queues.now };
 
-    /// A newcomer waits in its queue, with the task that the exchange makes. It may allocate. An error leaves all as it was.
+    /// Has a newcomer wait in its queue, with the task that the exchange makes, and returns its key.
+    ///
+    /// May allocate. An error leaves all as it was.
     fn wait<C, X: TaskExchange<W, C>>(
         queues: &mut Queues<W>,
         number: u64,
@@ -115,7 +121,8 @@ pub trait Right<W> {
         ensures alone_at { (n : ℕ) → (is_full n queues.old → ⊥) → IsExclusive n queues.old
             → IsExclusive n queues.new };
 
-    /// Whether this one was let in: then it leaves its queue, and the number is to count it. Else it stores its task.
+    /// Looks whether this waiter was let in. A waiter that was let in leaves its queue, and the number is to count it then;
+    /// another waiter stores its task.
     fn look<C, X: TaskExchange<W, C>>(
         queues: &mut Queues<W>,
         key: Key,
@@ -134,8 +141,10 @@ pub trait Right<W> {
         ensures counted { left_by result ≡ 1 → (n : ℕ) → IsExclusive n queues.old
             → Admits COUNTS n queues.new };
 
-    /// Takes this one out of its queue. Returns whether it was let in: then the number is to count it, or it goes at once. Who
-    /// is next then is let in before the queues are put back.
+    /// Removes this waiter from its queue, and returns whether it was let in.
+    ///
+    /// The number is to count a waiter that was let in, or else the waiter gives its right up at once. The waiters that are next
+    /// then are let in before the queues are put back.
     fn leave(queues: &mut Queues<W>, key: Key) -> bool
     where
         W: Drop,
@@ -152,7 +161,7 @@ pub trait Right<W> {
             → Admits COUNTS n queues.new };
 }
 
-/// Whether one waits, by which key, or why not.
+/// Returns the key of a newcomer that joined its queue, or why it can't wait.
 pub(super) fn joined(waits: Result<Key, ListenError>) -> Result<Key, LockError>
     ensures { result ≡ joined_by waits }
 {

@@ -11,15 +11,18 @@ use event_slot::{Claim, Writing as Writes};
 use event_wait::Task;
 use std::marker::{Model, PhantomData};
 
-/// A right to the value of a lock where it lies, which the number counts. It is no `Drop`: whoever has it counts itself out.
+/// A right to the value of a lock where it lies, which the number counts.
+///
+/// The type is not `Drop`: a holder ends the right by [`Word::end`](crate::Word::end).
 pub struct Grant<'a, K: Right<Task>, V> {
     pub(crate) claim: Claim<'a, Place<V>, Queues<Task>>,
     of: PhantomData<K>,
     ghost right: { (claim.right ≡ K.RIGHT) × (claim.state ≡ None) },
 }
 
-/// A right that the number counts, of one who is parked: it has the value, and no right to it where it lies. It has no lifetime, and no
-/// bytes. It is no `Drop`, and only parking makes one. A contract sees of which word it is.
+/// A right that the number counts, of a parked holder, which has the value, and no right to it where it lies.
+///
+/// The type has no lifetime and no bytes, and is not `Drop`; only parking makes one. A contract sees of which word it is.
 pub struct Share<K> {
     origin: Origin,
     of: PhantomData<K>,
@@ -33,7 +36,7 @@ impl<K> Model for Share<K> {
     ghost view = { λ share. share.origin.name };
 }
 
-/// The queues, out with one thread.
+/// The queues of a read-write lock, out with one thread.
 pub type Out<'a, V> = Held<'a, Queues<Task>, V>;
 
 impl<K> Share<K> {
@@ -76,7 +79,7 @@ impl<'a, K: Right<Task>, V> Grant<'a, K, V> {
 }
 
 impl<V> Grant<'_, Reading, V> {
-    /// The value.
+    /// Borrows the value.
     #[inline(always)]
     pub fn get(&self) -> &V
         ensures { Some result.now ≡ placed self.now.claim.value }
@@ -86,7 +89,7 @@ impl<V> Grant<'_, Reading, V> {
 }
 
 impl<'a, V> Grant<'a, Writing, V> {
-    /// The right to write, as the slot has it.
+    /// Returns the right to write as the slot knows it.
     #[inline(always)]
     pub fn write(self) -> Writes<'a, Place<V>, Queues<Task>>
         ensures { result.name ≡ self.entry.claim.name }
@@ -94,7 +97,7 @@ impl<'a, V> Grant<'a, Writing, V> {
         self.into_claim().write()
     }
 
-    /// The same back.
+    /// Makes a right of the lock of the slot's right to write, as [`write`](Grant::write) returned it.
     #[inline(always)]
     pub fn from_writing(writing: Writes<'a, Place<V>, Queues<Task>>) -> Self
         ensures { result.claim.name ≡ writing.entry.name }

@@ -1,4 +1,4 @@
-//! How rights to read and to write are got and given back: the steps on the word.
+//! How threads get and give back rights to read and to write: the steps on the word.
 ghost use Rattle.std.specs.Prelude.{◌≡◌, ◌+◌, ◌-◌, ◌*◌, ◌<◌, ◌≤◌, ◌%◌, None, Some, IfSome, IfErr, IfOk, IsTrue, IsFalse, MatchResult, length};
 ghost use Rattle.event_word.specs.Count.{IsCount, readers_of, writers_of};
 ghost use Rattle.event_wait.specs.declared.lock.task.Task.{Task};
@@ -19,8 +19,11 @@ use event_wait::Task;
 use std::sync::Wait;
 
 impl<V> Word<Queues<Task>, V> {
-    /// A right for a newcomer, if it may come. It is one load and one compare-exchange where nobody waits and no other thread
-    /// comes between, and no compare-exchange where the number shows that somebody is in the way. Else it may wait for the queues.
+    /// Attempts for a newcomer, and returns its right, or `None` if the newcomer may not be admitted now.
+    ///
+    /// The call costs one load and one compare-exchange where no thread waits and no other thread changes the word meanwhile, and
+    /// no compare-exchange where the number shows that a holder is in the way. Otherwise the call may block until the queues are
+    /// at home.
     #[inline(always)]
     pub fn attempt<K: Right<Task>, R: Wait>(&self, rt: &R) -> Option<Grant<'_, K, V>>
         ensures { IfSome result (λ grant. grant.claim.name ≡ self.now.slot.name) }
@@ -55,7 +58,7 @@ impl<V> Word<Queues<Task>, V> {
         unreachable!()
     }
 
-    // Where somebody may wait, the queues show whether a newcomer may come.
+    // Where there may be a waiter, the queues show whether a newcomer may be admitted.
     fn attempt_slowly<K: Right<Task>, R: Wait>(&self, rt: &R) -> Option<Grant<'_, K, V>>
         ensures { IfSome result (λ grant. grant.claim.name ≡ self.now.slot.name) }
     {
@@ -65,7 +68,7 @@ impl<V> Word<Queues<Task>, V> {
         grant
     }
 
-    // One comes by this step, if the word is as it was seen.
+    // Admits a newcomer by this step, if the word is as it was seen.
     #[inline(always)]
     fn admit<K: Right<Task>>(&self, seat: &mut Seat, seen: u64, new: u64) -> Option<Grant<'_, K, V>>
         requires seat { seat.old.slot ≡ self.now.slot.name }
@@ -81,8 +84,10 @@ impl<V> Word<Queues<Task>, V> {
         None
     }
 
-    /// One goes that has a right, and those are let in that are next: the first writer once the last reader goes, and once the
-    /// writer goes all readers that wait, or else the first writer.
+    /// Ends a right, and lets in the waiters that are next.
+    ///
+    /// The last reader that leaves lets in the first writer; the writer that leaves lets in all readers that wait, or else the
+    /// first writer. May block until the queues are at home only to wake more than a few tasks.
     #[inline(always)]
     pub fn end<K: Right<Task>, R: Wait>(&self, rt: &R, grant: Grant<'_, K, V>)
         requires { grant.claim.name ≡ self.now.slot.name }
@@ -97,7 +102,7 @@ impl<V> Word<Queues<Task>, V> {
         }
     }
 
-    // The word counts one as long as one has a right.
+    // The word counts a holder as long as it has its right.
     #[cold]
     #[inline(never)]
     fn end_slowly<K: Right<Task>, R: Wait>(&self, rt: &R, grant: Grant<'_, K, V>)
@@ -120,8 +125,8 @@ impl<V> Word<Queues<Task>, V> {
         unreachable!()
     }
 
-    // One goes by this step, and whoever is next is let in if that takes the queues out. An error has the right and the seat where the
-    // word is another.
+    // Ends a right by this step, and lets in the waiters that are next if the step takes the queues out. An error has the right
+    // and the seat where the word is another.
     fn go<'a, K: Right<Task>, R: Wait>(
         &self,
         rt: &R,
@@ -154,7 +159,7 @@ impl<V> Word<Queues<Task>, V> {
         }
     }
 
-    // One goes by this step, and lets nobody in. An error has the right where the word is another.
+    // Ends a right by this step, and lets in no waiter. An error has the right where the word is another.
     #[inline(always)]
     fn dismiss<'a, K: Right<Task>>(
         &self,
@@ -178,7 +183,7 @@ impl<V> Word<Queues<Task>, V> {
         Err(Grant::new(claim))
     }
 
-    /// Parks: gives up the right to where the value lies. The number counts one still.
+    /// Parks: gives up the right to where the value lies, and returns the parked right. The number still counts the holder.
     pub fn park<K: Right<Task>, R: Wait>(&self, rt: &R, grant: Grant<'_, K, V>) -> Share<K>
         requires { grant.claim.name ≡ self.now.slot.name }
         ensures { result ≡ self.now.slot.name }
@@ -197,7 +202,7 @@ impl<V> Word<Queues<Task>, V> {
         unreachable!()
     }
 
-    // The same, if the word is as it was seen. An error has the right where it is another.
+    // Parks, if the word is as it was seen. An error has the right where the word is another.
     fn park_at<'a, K: Right<Task>>(
         &self,
         grant: Grant<'a, K, V>,
@@ -222,7 +227,9 @@ impl<V> Word<Queues<Task>, V> {
         Err(Grant::new(claim))
     }
 
-    /// Takes the right again of one that is parked. It waits for nobody: who has the value has been settled before.
+    /// Takes the right of a parked holder again, and returns the right.
+    ///
+    /// The call blocks for no other thread, because the number counts the parked holder already.
     pub fn unpark<K: Right<Task>, R: Wait>(&self, rt: &R, share: Share<K>) -> Grant<'_, K, V>
         requires { share ≡ self.now.slot.name }
         ensures { result.claim.name ≡ self.now.slot.name }
@@ -231,7 +238,7 @@ impl<V> Word<Queues<Task>, V> {
         self.take_parked(rt)
     }
 
-    // The word counts one that is parked as long as there is its share.
+    // The word counts a parked holder as long as there is its share.
     fn take_parked<K: Right<Task>, R: Wait>(&self, rt: &R) -> Grant<'_, K, V>
         ensures { result.claim.name ≡ self.now.slot.name }
     {
@@ -247,7 +254,7 @@ impl<V> Word<Queues<Task>, V> {
         unreachable!()
     }
 
-    // Looks at the word with the queues out.
+    /// Returns the word with the queues out. The call costs one load.
     pub fn look_alone(&self, held: &mut Out<'_, V>) -> u64
         requires seat { IsOf self.now.slot.name held.old }
         requires alone { HasState IsExclusive held.old }
@@ -262,7 +269,7 @@ impl<V> Word<Queues<Task>, V> {
         held.look(self)
     }
 
-    // Whether a newcomer may come.
+    // Returns whether a newcomer may be admitted.
     fn may_come<K: Right<Task>>(&self, held: &mut Out<'_, V>, seen: u64) -> bool
         requires seat { IsOf self.now.slot.name held.old }
         requires alone { HasState (λ n q. (n ≡ number_of seen) × IsExclusive n q) held.old }
@@ -277,7 +284,7 @@ impl<V> Word<Queues<Task>, V> {
         K::may_come(held.claim.state_mut(), seen / ONE)
     }
 
-    // Whether the reader that asks may write from here on.
+    // Returns whether the reader that asks may write from here on.
     fn may_upgrade(&self, held: &mut Out<'_, V>, seen: u64) -> bool
         requires seat { IsOf self.now.slot.name held.old }
         requires alone { HasState (λ n q. (n ≡ number_of seen) × IsExclusive n q) held.old }
@@ -291,7 +298,7 @@ impl<V> Word<Queues<Task>, V> {
         held.claim.state_mut().may_upgrade(seen / ONE)
     }
 
-    /// A right for a newcomer, if it may come, with the queues out.
+    /// Attempts for a newcomer with the queues out, and returns its right, or `None` if the newcomer may not be admitted now.
     pub fn count_newcomer<K: Right<Task>, R: Wait>(
         &self,
         rt: &R,
@@ -314,7 +321,7 @@ impl<V> Word<Queues<Task>, V> {
         }
     }
 
-    // The same. An error is the word by which it may not.
+    // Attempts for a newcomer with the queues out. An error is the word by which it may not be admitted.
     pub(super) fn count_or_see<K: Right<Task>, R: Wait>(
         &self,
         rt: &R,
@@ -344,7 +351,7 @@ impl<V> Word<Queues<Task>, V> {
         unreachable!()
     }
 
-    // One comes with the queues out, if the word is as it was seen.
+    // Admits a newcomer with the queues out, if the word is as it was seen.
     fn admit_with<K: Right<Task>>(
         &self,
         held: &mut Out<'_, V>,
@@ -370,7 +377,7 @@ impl<V> Word<Queues<Task>, V> {
         None
     }
 
-    // Looks at the word with the queues out, of which so many were let in, and have left.
+    // Looks at the word with the queues out, of which so many waiters were let in, and have left.
     fn look_letting_in(&self, held: &mut Out<'_, V>, more: u64) -> u64
         requires seat { IsOf self.now.slot.name held.old }
         requires admits { HasState (Admits more) held.old }
@@ -386,7 +393,7 @@ impl<V> Word<Queues<Task>, V> {
         held.look(self)
     }
 
-    /// The right of one that was let in, and has left its queue.
+    /// Returns the right of a waiter that was let in, and has left its queue, and has the number count it.
     pub fn let_in<K: Right<Task>, R: Wait>(&self, rt: &R, held: &mut Out<'_, V>) -> Grant<'_, K, V>
         requires seat { IsOf self.now.slot.name held.old }
         requires admits { HasState (Admits K.COUNTS) held.old }
@@ -405,7 +412,9 @@ impl<V> Word<Queues<Task>, V> {
         unreachable!()
     }
 
-    /// The reader writes from here on, if it is the only one, nobody was let in, and no writer waits.
+    /// Makes the right of the only reader one to write, if no other reader was let in and no writer waits.
+    ///
+    /// An error has the right to read, which is unchanged. May block until the queues are at home, but not for other readers.
     pub fn try_upgrade<'a, R: Wait>(
         &self,
         rt: &R,
@@ -430,7 +439,7 @@ impl<V> Word<Queues<Task>, V> {
         upgraded
     }
 
-    // The same with the queues out.
+    // Upgrades with the queues out.
     fn upgrade<'a, R: Wait>(
         &self,
         rt: &R,
@@ -469,7 +478,9 @@ impl<V> Word<Queues<Task>, V> {
         unreachable!()
     }
 
-    /// The writer reads from here on, and all readers are let in that wait.
+    /// Makes the right of the writer one to read, lets in all readers that wait, and returns the right to read.
+    ///
+    /// May block until the queues are at home.
     pub fn downgrade<'a, R: Wait>(
         &self,
         rt: &R,
@@ -495,7 +506,7 @@ impl<V> Word<Queues<Task>, V> {
         reads
     }
 
-    // Counts the writer as a reader. The word counts it as long as it has its right.
+    // Counts the writer as a reader. The word counts the writer as long as it has its right.
     fn count_as_reader<'a, R: Wait>(
         &self,
         rt: &R,
@@ -527,7 +538,7 @@ impl<V> Word<Queues<Task>, V> {
         unreachable!()
     }
 
-    // Lets all readers in that wait, once the writer is counted as one.
+    // Lets in all readers that wait, once the writer is counted as a reader.
     fn hand_to_readers(&self, held: &mut Out<'_, V>, waking: &mut Wakes)
         requires seat { IsOf self.now.slot.name held.old }
         requires reads { HasState (λ n q. (n ≡ 2) × IsExclusive 1 q) held.old }

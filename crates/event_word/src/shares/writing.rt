@@ -1,4 +1,4 @@
-//! How one writes, alone.
+//! The right to write, alone.
 ghost use Rattle.std.specs.Prelude.{◌≡◌, ◌≢◌, None, IfSome};
 ghost use Rattle.event_wait.specs.Joining.{CannotJoin};
 ghost use Rattle.event_word.specs.Count.{readers_of, writers_of};
@@ -13,7 +13,7 @@ use event_queue::{Key, RegisterResult, TaskExchange};
 use event_wait::LockError;
 use event_wait::waiters::{join_line, leave_line, look_for};
 
-/// To write. A newcomer may where nobody has the value, was let in or waits.
+/// The right to write. A newcomer gets it where no reader or writer has the value, was let in or waits.
 pub struct Writing {}
 
 impl<W> Right<W> for Writing {

@@ -1,4 +1,4 @@
-//! What those that compete for a lock do with its state out.
+//! What contenders for a lock do with its state out.
 ghost use Rattle.std.specs.Prelude.{◌≡◌, ◌+◌, ◌<◌, ◌≤◌, true, Some, None, IfOk, OnErr};
 ghost use Rattle.event_word.specs.Contender.{Comes, Loses, NobodyIsBy, coming_of, count_of, losses_after};
 ghost use Rattle.event_word.specs.Free.{ServesTheStarving, ServesWith, StandsIf, free_of, IsClosed, IsShut};
@@ -16,13 +16,15 @@ use std::alloc::AllocError;
 use std::sync::Wait;
 
 impl<C: Counted, V> Word<Competing<C>, V> {
-    /// How many are free, a moment ago.
+    /// Returns how many permits or values were free a moment ago.
     #[inline(always)]
     pub fn free(&self) -> u64 {
         free(self.number())
     }
 
-    /// How it stands at some moment of this call.
+    /// Returns the counts of the lock, all at one moment of this call.
+    ///
+    /// The call takes the state out for that. May block until the state is at home. Allocates nothing.
     pub fn counts<R: Wait>(&self, rt: &R) -> Counts
         ensures nobody { result.notified < result.free → result.waiting ≡ 0 }
         ensures shuts { (0 < result.starving → result.is_shut ≡ true)
@@ -60,7 +62,10 @@ impl<C: Counted, V> Word<Competing<C>, V> {
         }
     }
 
-    /// One that competes comes to attempt, by its place in the queue if it has one.
+    /// Looks how a contender starts an attempt, by its place in the queue if it has one, and returns that.
+    ///
+    /// A notified contender leaves the queue; a contender that is not notified stores the task that the exchange makes and waits
+    /// on.
     pub fn come<O, X: TaskExchange<Task, O>>(
         &self,
         held: &mut Held<'_, Competing<C>, V>,
@@ -81,7 +86,10 @@ impl<C: Counted, V> Word<Competing<C>, V> {
         Arrival::new(held.claim.state_mut().come(place, exchange, on))
     }
 
-    /// One whose attempt found nothing waits at the end of the queue. It has lost so often then.
+    /// Has a contender whose attempt found nothing wait at the end of the queue, and returns its key.
+    ///
+    /// `losses` says how often the contender has lost then. Returns [`LockError::Listen`] if memory runs out or the queue has
+    /// given out all its serial numbers; an error leaves the place and the losses as they were. May allocate.
     pub fn lose<O, X: TaskExchange<Task, O>>(
         &self,
         held: &mut Held<'_, Competing<C>, V>,
@@ -112,7 +120,8 @@ impl<C: Counted, V> Word<Competing<C>, V> {
         state.lose(place, losses, arrival.coming(), exchange, on)
     }
 
-    /// One that competes leaves the queue, if it is there. Returns how it would have come.
+    /// Removes a contender from the queue, if it is there, and returns how it would have started an attempt: notified, or else
+    /// new.
     pub fn leave(&self, held: &mut Held<'_, Competing<C>, V>, place: &mut Option<Key>) -> Arrival
         requires seat { IsOf self.now.slot.name held.old }
         requires stands { HasState (λ n q. StandsIf C.CLOSES n q.line) held.old }

@@ -8,15 +8,17 @@ use super::rule::{LookAgain, Place};
 use super::{Seat, Word};
 use event_slot::Claim;
 
-/// The state, taken out from behind its word. It is no `Drop`: whoever has it puts it back.
+/// The state of a lock, taken out from behind its word. The type is not `Drop`: the thread that has the state puts it back, by
+/// [`Word::put_back`](crate::Word::put_back).
 pub struct Held<'a, S: Kept, V> {
     pub(crate) claim: Claim<'a, Place<V>, S>,
     pub(crate) seat: Seat,
 }
 
 impl<S: Kept, V> Held<'_, S, V> {
-    /// Looks at the word while the state is out, and remembers its number. What was promised of any state at the number that it
-    /// remembered is so at the number now.
+    /// Returns the word as it is while the state is out, and remembers its number.
+    ///
+    /// What was promised of any state at the number remembered before is so at the number now. The call costs one load.
     #[inline(always)]
     pub fn look(&mut self, word: &Word<S, V>) -> u64
         requires seat { IsOf word.now.slot.name self.old }

@@ -6,13 +6,13 @@ use crate::wakes::Room;
 use event_queue::WakeSink;
 use event_wait::Task;
 
-/// The state of a lock on one word: those that wait, and what belongs to them.
+/// The state of a lock on one word: the waiters, and what belongs to them.
 pub trait Kept: Sized {
     // What the lock says of its number and of this state.
     ghost rules: { Rules Self };
 
-    /// The number that the word is to have before anybody is notified: with the bit set or cleared that shows newcomers
-    /// whether they may take what is free. It neither allocates nor waits.
+    /// Returns the number that the word is to have before a waiter is notified: with the bit set or cleared that shows newcomers
+    /// whether they may take what is free. The call neither allocates nor waits.
     fn number(&self, number: u64) -> u64
         requires { (number < 2 ^ 62) × rules.fits number × rules.promised number self.now }
         ensures room { result < 2 ^ 62 }
@@ -23,7 +23,9 @@ pub trait Kept: Sized {
         ensures lowers { result ≤ number → (state : Self) → rules.promised result state
             → rules.promised number state };
 
-    /// The number by which newcomers leave it alone, if there is one. Those who give back what they have change it still.
+    /// Returns the number by which newcomers leave the word alone, if there is such a number.
+    ///
+    /// A thread that gives back what it has changes that word still. By default there is none, and the number stays.
     fn shut(number: u64) -> u64
         requires { (number < 2 ^ 62) × rules.fits number }
         ensures room { result < 2 ^ 62 }
@@ -35,7 +37,7 @@ pub trait Kept: Sized {
         number
     }
 
-    /// Notifies those that wait of what is free by this number. Returns whether somebody waits still.
+    /// Notifies waiters of what is free by this number, and returns whether there is a waiter still. The tasks go to `sink`.
     fn settle<K: WakeSink<Task>>(&mut self, number: u64, sink: &mut K) -> bool
         requires { (number < 2 ^ 62) × rules.fits number × rules.promised number self.old
             × rules.tells number self.old }
@@ -43,7 +45,7 @@ pub trait Kept: Sized {
         ensures quiet { result ≡ false → rules.quiet self.new }
         ensures crowded { result ≡ true → rules.quiet self.new → ⊥ };
 
-    /// Exchanges the room beside the state, if it has one, and changes nothing that a contract sees.
+    /// Exchanges the room beside the state, if it has one. The call changes nothing that a contract sees.
     fn swap_room(&mut self, _room: &mut Room)
         ensures { self.new ≡ self.old }
     {}

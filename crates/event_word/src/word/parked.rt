@@ -1,12 +1,13 @@
-//! A value that is out with one who has not the right to its place.
+//! A value that is out with a thread that has no right to the value's place.
 ghost use Rattle.std.specs.Prelude.{◌≡◌};
 
 use super::Seat;
 use super::origin::Origin;
 use std::marker::Model;
 
-/// That a value was moved out, and is to be put back. It has no lifetime, and no bytes. It is no `Drop`, and only parking a value makes
-/// one. A contract sees of which word.
+/// A proof that a value was moved out, and is to be put back.
+///
+/// The type has no lifetime and no bytes, and is not `Drop`; only parking a value makes one. A contract sees of which word it is.
 pub struct Parked {
     origin: Origin,
 }

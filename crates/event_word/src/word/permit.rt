@@ -7,8 +7,10 @@ use super::origin::Origin;
 use super::step::Step;
 use std::marker::Model;
 
-/// Permits that were taken at once, mostly one. It is no `Drop`, and only a step that counts so many less, of a word that is not
-/// closed, makes one. A contract sees how many there are, and of which word.
+/// Permits that were taken at once, mostly one permit.
+///
+/// The type is not `Drop`, and is made only by a step that takes as many permits from a word that is not closed. A contract sees
+/// how many permits there are, and of which word.
 pub struct Permit {
     count: u64,
     origin: Origin,
@@ -24,7 +26,7 @@ impl Model for Permit {
 }
 
 impl Permit {
-    /// So many permits, which this step takes.
+    /// Makes the permits that this step takes.
     #[inline(always)]
     pub(crate) fn taken(step: Step, count: u64) -> Self
         requires open { IsClosed (number_of step.from) → ⊥ }
@@ -38,7 +40,7 @@ impl Permit {
         }
     }
 
-    /// How many there are.
+    /// Returns how many permits there are.
     #[inline(always)]
     pub fn count(&self) -> u64
         ensures count { result ≡ self.now.count }
@@ -47,7 +49,7 @@ impl Permit {
         self.count
     }
 
-    /// They are given back by this step, of their word: as many more are free, if the number has room for them.
+    /// Ends the permits, which this step of their word gives back: as many more are free, if the number has room for them.
     #[inline(always)]
     pub(crate) fn given(self, step: Step)
         requires own { step.origin.name ≡ self.origin }
@@ -62,7 +64,7 @@ impl Permit {
         drop(step);
     }
 
-    /// Lets them go for ever. Returns how many there were.
+    /// Forgets the permits, which are never given back, and returns how many there were.
     pub fn forget(self) -> u64
         ensures { result ≡ self.count }
     {

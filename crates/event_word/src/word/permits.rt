@@ -14,10 +14,10 @@ use crate::error::TryAcquireError;
 use crate::wakes::Wakes;
 use std::sync::Wait;
 
-// As many permits may be free.
+// The most permits that may be free.
 const MOST: u64 = CLOSED - 1;
 
-// Why a newcomer gets nothing where the word is so.
+// Returns why a newcomer gets nothing by this word.
 fn refusal(seen: u64) -> TryAcquireError
     ensures closed { result ≡ Closed → IsClosed (number_of seen) }
     ensures open { result ≡ NoPermits → IsClosed (number_of seen) → ⊥ }
@@ -30,13 +30,16 @@ fn refusal(seen: u64) -> TryAcquireError
 }
 
 impl Word<Competing<Permits>, ()> {
-    /// Whether it is closed. Then it stays so.
+    /// Returns whether the semaphore is closed. A closed semaphore stays closed.
     #[inline(always)]
     pub fn is_closed(&self) -> bool {
         is_closed(self.number())
     }
 
-    /// Takes a permit, if one is free for newcomers. It is one load and one compare-exchange where no other thread comes between.
+    /// Takes a permit, if one is free for newcomers.
+    ///
+    /// Returns [`TryAcquireError::Closed`] or [`TryAcquireError::NoPermits`], and takes nothing then. The call costs one load and
+    /// one compare-exchange where no other thread changes the word meanwhile, and does not wait.
     #[inline(always)]
     pub fn try_permit(&self) -> Result<Permit, TryAcquireError>
         ensures own { IfOk result (λ permit. permit.origin ≡ self.now.slot.name) }
@@ -52,7 +55,9 @@ impl Word<Competing<Permits>, ()> {
         self.try_permits(1)
     }
 
-    /// Takes so many permits by one step, if as many are free for newcomers, and else none.
+    /// Takes `count` permits by one step, if as many are free for newcomers, and else none.
+    ///
+    /// Returns [`TryAcquireError::Closed`] or [`TryAcquireError::NoPermits`] then. Does not wait.
     #[cold]
     #[inline(never)]
     pub fn try_permits(&self, count: u64) -> Result<Permit, TryAcquireError>
@@ -72,8 +77,9 @@ impl Word<Competing<Permits>, ()> {
         Err(TryAcquireError::NoPermits)
     }
 
-    /// Takes so many permits by one step, or all that are free for newcomers if those are fewer. `None` says that newcomers are
-    /// shut out, or that it is closed.
+    /// Takes `most` permits by one step, or all that are free for newcomers if those are fewer, which may be none.
+    ///
+    /// Returns `None` if newcomers are shut out, or if the semaphore is closed. Does not wait.
     pub fn try_up_to(&self, most: u64) -> Option<Permit>
         ensures own { IfSome result (λ permit. permit.origin ≡ self.now.slot.name) }
         ensures up_to { IfSome result (λ permit. permit.count ≤ most) }
@@ -92,9 +98,10 @@ impl Word<Competing<Permits>, ()> {
         None
     }
 
-    /// Gives permits of this word back, and notifies as many of those that wait. Where a thread has the state out, that thread
-    /// notifies. This call may wait for the state only to wake more than a few. It is one load and one compare-exchange where
-    /// nobody waits.
+    /// Gives permits of this word back, and notifies as many waiters.
+    ///
+    /// Where a thread has the state out, that thread notifies. The call costs one load and one compare-exchange where no thread
+    /// waits. The call may block until the state is at home only to wake more than a few tasks.
     #[inline(always)]
     pub fn give_permit<R: Wait>(&self, rt: &R, permit: Permit)
         requires { permit.origin ≡ self.now.slot.name }
@@ -111,7 +118,10 @@ impl Word<Competing<Permits>, ()> {
         permit.given(step);
     }
 
-    /// Adds so many permits, and notifies as many of those that wait. As many as the number holds are free at most.
+    /// Adds so many permits, and notifies as many waiters.
+    ///
+    /// No more permits are free afterwards than the number holds, 2^60 - 1, because its next bit says that the semaphore is
+    /// closed; what is more is lost. May block as [`give_permit`](Word::give_permit) may.
     pub fn add<R: Wait>(&self, rt: &R, permits: u64) {
         drop(self.added(rt, permits));
     }
@@ -143,8 +153,10 @@ impl Word<Competing<Permits>, ()> {
         unreachable!()
     }
 
-    /// Takes a permit with the state at hand, if one is free: for one that was notified, and came, also where newcomers may take
-    /// none. The state stays as it is.
+    /// Takes a permit with the state at hand, if one is free, and returns the permit.
+    ///
+    /// A contender that was notified (`notified`) takes a permit also where newcomers may take none. Returns
+    /// [`TryAcquireError::Closed`] or [`TryAcquireError::NoPermits`] otherwise. The state stays as it is.
     pub fn take_permit<R: Wait>(
         &self,
         rt: &R,
@@ -177,8 +189,10 @@ impl Word<Competing<Permits>, ()> {
         unreachable!()
     }
 
-    /// Closes it: nobody gets a permit any more. All that wait are notified, in order, and then nobody is in the queue. Permits that
-    /// are out come back still. It waits for the state.
+    /// Closes the semaphore, so that no thread gets a permit any more.
+    ///
+    /// All waiters are notified, in order, and the queue is empty then. Permits that are out are given back still. May block
+    /// until the state is at home.
     pub fn close<R: Wait>(&self, rt: &R) {
         let (_, mut held) = self.take(rt);
         let mut waking = Wakes::new();
@@ -187,7 +201,7 @@ impl Word<Competing<Permits>, ()> {
         self.put_back_waking(rt, held, waking);
     }
 
-    // Notifies all that wait, and then nobody is in the queue.
+    // Notifies all waiters, and leaves an empty queue.
     fn notify_all(&self, held: &mut Held<'_, Competing<Permits>, ()>, waking: &mut Wakes)
         requires seat { IsOf self.now.slot.name held.old }
         requires closed { HasState (λ n _. IsClosed n) held.old }
@@ -200,7 +214,7 @@ impl Word<Competing<Permits>, ()> {
         state.swap_room(&mut waking.room);
     }
 
-    // Sets the bit, and clears that which shuts newcomers out.
+    // Sets the bit that says that the semaphore is closed, and clears the bit that shuts newcomers out.
     fn mark_closed<R: Wait>(&self, rt: &R, held: &mut Held<'_, Competing<Permits>, ()>)
         requires seat { IsOf self.now.slot.name held.old }
         requires serves { HasState (λ n q. ServesTheStarving n q.line) held.old }

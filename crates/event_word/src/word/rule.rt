@@ -6,14 +6,16 @@ use super::kept::Kept;
 use event_slot::{Ruled, Tells, Trades};
 use std::marker::PhantomData;
 
-/// What a seat knows: the number that it saw or left last while it has the state out, and whether it owes a wake to those that sleep,
-/// while it has not.
+/// What a seat knows.
+///
+/// While a seat has the state out, it knows the number that it saw or left last. While it has not, it knows whether it owes a
+/// wake to threads that sleep.
 pub struct View {
     pub number: Option<u64>,
     pub owes: bool,
 }
 
-/// A lock's value, where it lies.
+/// The value of a lock, where it lies.
 #[derive(Drop)]
 pub struct Place<V> {
     pub value: V,
@@ -73,7 +75,7 @@ impl<S: Kept> Tells<View> for Sleep<S> {
     ghost then = { slept S.rules };
 }
 
-// A seat woke one that slept.
+// A seat woke a thread that slept.
 pub struct Wake;
 
 impl Tells<View> for Wake {

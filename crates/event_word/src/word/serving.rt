@@ -8,7 +8,7 @@ use super::held::Held;
 use super::{ONE, Word};
 use crate::competing::{CLOSED, Competing, Counted, free};
 
-/// Whether one may take what is free: one that was notified also where newcomers may not.
+/// Returns whether a contender may take what is free: a notified contender also where newcomers may not.
 #[inline(always)]
 pub(crate) fn may_take(seen: u64, notified: bool) -> bool
     ensures some { result ≡ true → (4 ≤ seen) × 0 < free_of (number_of seen) }
@@ -20,8 +20,8 @@ pub(crate) fn may_take(seen: u64, notified: bool) -> bool
 }
 
 impl<C: Counted, V> Word<Competing<C>, V> {
-    /// Looks at the word while the state is out. What is left for those that starve and are notified, and for one more that was
-    /// notified and came, is left still.
+    /// Returns the word while the state is out. What is left for the notified waiters that starve, and for one more contender
+    /// that was notified, is left still.
     #[inline(always)]
     pub(crate) fn look_serving(&self, held: &mut Held<'_, Competing<C>, V>, notified: bool) -> u64
         requires seat { IsOf self.now.slot.name held.old }

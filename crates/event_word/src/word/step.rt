@@ -9,7 +9,7 @@ use super::origin::Origin;
 use super::rule::{Change, Move};
 use super::{Seat, Word};
 
-/// A step that was made of the word of a lock, from which word to which. Only the calls below make one.
+/// A step that changed the word of a lock, with the word before and after it. Only the calls that make such a step make one.
 #[derive(Drop)]
 pub struct Step {
     from: u64,
@@ -32,7 +32,9 @@ impl Step {
 }
 
 impl<S: Kept, V> Word<S, V> {
-    /// Changes the number where nobody has to be notified, if the word is as it was seen.
+    /// Changes the number from `seen` to `new` where no waiter has to be notified, and returns the step.
+    ///
+    /// Returns `None`, and changes nothing, if the word was not `seen` any more. The call costs one compare-exchange.
     #[inline(always)]
     #[tactic(auto, using(crate::proofs::WordKeeps::changes, crate::proofs::WordKeeps::due_changes, crate::proofs::WordKeeps::stays_may, crate::proofs::WordKeeps::stays_none))]
     pub fn change(&self, seat: &mut Seat, seen: u64, new: u64) -> Option<Step>
@@ -54,8 +56,10 @@ impl<S: Kept, V> Word<S, V> {
         })
     }
 
-    /// Takes the state out where it is at home, and changes the number by the same step. An error has the seat where the word
-    /// was another.
+    /// Takes the state out, which is at home, changes the number by the same step, and returns the step and the state.
+    ///
+    /// Returns the seat as an error, and changes nothing, if the word was not `seen` any more. The call costs one
+    /// compare-exchange.
     #[tactic(auto, using(crate::proofs::WordKeeps::due_none))]
     pub fn try_take(&self, seat: Seat, seen: u64, new: u64) -> Result<(Step, Held<'_, S, V>), Seat>
         requires seat { (seat.slot ≡ self.now.slot.name) × (seat.view ≡ nothing) }
@@ -78,7 +82,10 @@ impl<S: Kept, V> Word<S, V> {
 }
 
 impl<S: Kept, V> Held<'_, S, V> {
-    /// Changes the number while the state is out, if the word is as it was seen. Whoever has the state out notifies of it later.
+    /// Changes the number while the state is out, and returns the step.
+    ///
+    /// The thread that has the state out notifies waiters of the new number later. Returns `None`, and changes nothing, if the
+    /// word was not `seen` any more.
     #[inline(always)]
     pub fn change(&mut self, word: &Word<S, V>, seen: u64, new: u64) -> Option<Step>
         requires seat { IsOf word.now.slot.name self.old }

@@ -11,7 +11,7 @@ use crate::wakes::Wakes;
 use event_wait::{PAUSES, pause};
 use std::sync::Wait;
 
-// So often a thread tries to put the state back before it shuts newcomers out for that.
+// The number of times that a thread tries to put the state back before it shuts newcomers out for that.
 const TRIES: u32 = 16;
 
 // A thread parks on the low half of the word, where the code is.
@@ -38,8 +38,9 @@ impl<S: Kept, V> Word<S, V> {
         Err(seat)
     }
 
-    /// Takes the state out, once nobody else has it, with the number at that moment. While another thread has it, the thread looks
-    /// ever more seldom, and sleeps at last. It does not allocate.
+    /// Takes the state out, once no other thread has it, and returns the number at that moment and the state.
+    ///
+    /// While another thread has the state, the thread looks ever more seldom, and sleeps at last. Does not allocate.
     #[cold]
     #[inline(never)]
     #[tactic(auto, using(crate::proofs::WordKeeps::due_none))]
@@ -62,8 +63,8 @@ impl<S: Kept, V> Word<S, V> {
         self.sleep_to_take(rt, seat)
     }
 
-    // Whoever slept can't know whether others sleep still, so it owes them a wake: it takes the state with the word marked, and puts it
-    // back by the same seat.
+    // A thread that slept can't know whether others sleep still, so it owes them a wake: it takes the state with the word marked,
+    // and puts the state back by the same seat.
     #[tactic(auto, using(crate::proofs::WordKeeps::loud))]
     fn sleep_to_take<R: Wait>(&self, rt: &R, seat: Seat) -> (u64, Held<'_, S, V>)
         requires seat { (seat.slot ≡ self.now.slot.name) × (seat.view.number ≡ None) }
@@ -101,7 +102,7 @@ impl<S: Kept, V> Word<S, V> {
         self.slot.load::<Sleep<S>>(seat)
     }
 
-    // Marks the word, so that whoever puts the state back wakes one that sleeps.
+    // Marks the word, so that the thread that puts the state back wakes one that sleeps.
     #[tactic(auto, using(crate::proofs::WordKeeps::awaits, crate::proofs::WordKeeps::due_awaits, crate::proofs::WordKeeps::stays_put, crate::proofs::WordKeeps::stays_may, crate::proofs::WordKeeps::stays_none))]
     fn await_step(&self, seat: &mut Seat, seen: u64, awaited: u64) -> bool
         requires seat { seat.old.slot ≡ self.now.slot.name }
@@ -114,8 +115,10 @@ impl<S: Kept, V> Word<S, V> {
         found == seen
     }
 
-    /// Puts the state back, once those that wait were notified of what is free by the number then, and wakes them after that. Where they
-    /// are more than a few, it takes the state again for each few. The number may change meanwhile: then it notifies again.
+    /// Notifies the waiters of what is free by the number, puts the state back, and then wakes the notified tasks.
+    ///
+    /// The number may change before the state is back: then the call notifies again. Where more than a few tasks are to be woken,
+    /// the call takes the state again for each few, for which it may block. Takes no memory.
     #[cold]
     #[inline(never)]
     pub fn put_back<R: Wait>(&self, rt: &R, held: Held<'_, S, V>)
@@ -125,7 +128,7 @@ impl<S: Kept, V> Word<S, V> {
         self.put_back_waking(rt, held, Wakes::new());
     }
 
-    /// The same after a step that has notified already.
+    /// Puts the state back as `put_back` does, after a step that has notified already.
     pub(crate) fn put_back_waking<R: Wait>(&self, rt: &R, held: Held<'_, S, V>, waking: Wakes)
         requires seat { IsOf self.now.slot.name held }
         requires promised { HasState S.rules.promised held }
@@ -143,7 +146,7 @@ impl<S: Kept, V> Word<S, V> {
         unreachable!()
     }
 
-    // The state is back once this returns, and nobody is woken yet.
+    // Puts the state back, and wakes no task yet.
     fn put_home<R: Wait>(&self, rt: &R, held: Held<'_, S, V>, waking: &mut Wakes)
         requires seat { IsOf self.now.slot.name held }
         requires promised { HasState S.rules.promised held }
@@ -158,8 +161,9 @@ impl<S: Kept, V> Word<S, V> {
         self.put_home_shut(rt, held, waking);
     }
 
-    // The same where the number changed again and again. Newcomers are shut out first, so it fails only as often as others give back what
-    // they have. At a read-write lock they leave a word alone whose queues are out (`home` of `Right::word_in`).
+    // Puts the state back where the number changed again and again. Newcomers are shut out first, so a try fails only as often as
+    // others give back what they have. At a read-write lock newcomers leave a word alone whose queues are out (`home` of
+    // `Right::word_in`).
     #[cold]
     #[inline(never)]
     fn put_home_shut<R: Wait>(&self, rt: &R, held: Held<'_, S, V>, waking: &mut Wakes)
@@ -177,7 +181,7 @@ impl<S: Kept, V> Word<S, V> {
         unreachable!()
     }
 
-    // The word gets the number by which newcomers leave it alone, if it is as it was seen.
+    // Gives the word the number by which newcomers leave it alone, if the word is as it was seen.
     fn shut_out(&self, held: &mut Held<'_, S, V>)
         requires seat { IsOf self.now.slot.name held.old }
         requires promised { HasState S.rules.promised held.old }
@@ -192,7 +196,8 @@ impl<S: Kept, V> Word<S, V> {
         }
     }
 
-    // Returns the seat that had the state, which owes nobody a wake any more. An error has the state where the number changed meanwhile.
+    // Returns the seat that had the state, which owes no wake any more. An error has the state where the number changed
+    // meanwhile.
     #[tactic(auto, using(crate::proofs::WordKeeps::quiet))]
     fn try_to_put_back<'a>(
         &self,
@@ -228,7 +233,7 @@ impl<S: Kept, V> Word<S, V> {
         Ok(seat)
     }
 
-    // Wakes one that sleeps.
+    // Wakes a thread that sleeps.
     #[tactic(auto, using(crate::proofs::WordKeeps::wakes))]
     fn wake_one(&self, seat: &mut Seat)
         requires { (seat.old.slot ≡ self.now.slot.name) × (seat.old.view.number ≡ None) }
@@ -237,7 +242,7 @@ impl<S: Kept, V> Word<S, V> {
         self.slot.wake_one::<Wake>(seat);
     }
 
-    // Whoever has the state out looks at the word, and remembers its number.
+    // Looks at the word with the state out, and remembers its number.
     fn see(&self, held: &mut Held<'_, S, V>) -> u64
         requires seat { IsOf self.now.slot.name held.old }
         requires promised { HasState S.rules.promised held.old }
@@ -249,7 +254,7 @@ impl<S: Kept, V> Word<S, V> {
         held.look(self)
     }
 
-    // The number that the word is to have before anybody is notified.
+    // Returns the number that the word is to have before a waiter is notified.
     fn marked(&self, held: &mut Held<'_, S, V>, number: u64) -> u64
         requires seat { IsOf self.now.slot.name held.old }
         requires number { (number < 2 ^ 62) × S.rules.fits number }
@@ -266,7 +271,7 @@ impl<S: Kept, V> Word<S, V> {
         held.claim.state_mut().number(number)
     }
 
-    // The word gets this number, if it is as it was seen.
+    // Gives the word this number, if the word is as it was seen.
     fn renumber(&self, held: &mut Held<'_, S, V>, seen: u64, new: u64)
         requires seat { IsOf self.now.slot.name held.old }
         requires takes { Takes S.rules seen new × Stays S.rules seen new }
@@ -280,8 +285,8 @@ impl<S: Kept, V> Word<S, V> {
         drop(held.change(self, seen, new));
     }
 
-    // Notifies those that wait of what is free by the number that the word is to have, and whose tasks are woken later. The word may have a
-    // higher one, by which newcomers are shut out. Returns whether somebody waits still.
+    // Notifies the waiters of what is free by the number that the word is to have; their tasks are woken later. The word may have
+    // a higher number, by which newcomers are shut out. Returns whether there is a waiter still.
     fn settle(&self, held: &mut Held<'_, S, V>, number: u64, aim: u64, waking: &mut Wakes) -> bool
         requires seat { IsOf self.now.slot.name held.old }
         requires number { (aim < 2 ^ 62) × S.rules.fits aim }

@@ -1,4 +1,4 @@
-//! Steps on the number of a word by one who has, gets or gives up a right to the value.
+//! Steps on the number of a word by a thread that has, gets or gives up a right to the value.
 ghost use Rattle.std.specs.Prelude.{◌≡◌, ◌≢◌, ◌%◌, ⊤, None, Some, false, true, IfErr, IfOk};
 ghost use Rattle.event_slot.specs.Ruling.{Becomes, MayTurn};
 ghost use Rattle.event_word.specs.Held.{HasState, IsOf};
@@ -11,7 +11,8 @@ use super::{Seat, Word};
 use event_slot::Claim;
 
 impl<S: Kept, V> Word<S, V> {
-    // Makes the word another, if it is as it was seen, and nobody has to be notified. Returns whether it was, and what one has then.
+    // Changes the word, if it is as it was seen, and no waiter has to be notified. Returns whether the word was so, and the claim
+    // then.
     #[inline(always)]
     #[tactic(auto, using(crate::proofs::WordKeeps::changes, crate::proofs::WordKeeps::due_changes))]
     pub(crate) fn turn<'a>(
@@ -35,7 +36,7 @@ impl<S: Kept, V> Word<S, V> {
         (found == seen, claim)
     }
 
-    // The same by a step that makes a seat, and with the word as it was.
+    // Changes the word as `turn` does, by a step that makes a seat, and returns the word as it was.
     #[inline(always)]
     #[tactic(auto, using(crate::proofs::WordKeeps::comes, crate::proofs::WordKeeps::due_changes))]
     pub(crate) fn turn_at<'a>(
@@ -56,8 +57,8 @@ impl<S: Kept, V> Word<S, V> {
         claim.arrive::<Change>(expected, new)
     }
 
-    // The same by a step that takes the state out where it is at home, and with which the right ends. An error has the claim and the
-    // seat where the word was another.
+    // Changes the word as `turn` does, by a step that takes the state out where it is at home, and with which the right ends. An
+    // error has the claim and the seat where the word was another.
     #[tactic(auto, using(crate::proofs::WordKeeps::takes_out, crate::proofs::WordKeeps::due_takes_none))]
     pub(crate) fn turn_out<'a>(
         &self,
@@ -86,7 +87,7 @@ impl<S: Kept, V> Word<S, V> {
 }
 
 impl<S: Kept, V> Held<'_, S, V> {
-    // The same while the state is out, and stays so.
+    // Changes the word as `Word::turn` does while the state is out, and stays so.
     pub(crate) fn turn<'b>(
         &mut self,
         word: &Word<S, V>,

@@ -13,18 +13,20 @@ use crate::competing::{CLOSED, Competing, OneValue, SHUT};
 use event_slot::Writing;
 use std::sync::{Mutex, Wait};
 
-/// The right to the value of a lock, and to where it lies.
+/// The right to the value of a lock, and to where the value lies.
 pub type Lent<'a, S, V> = Writing<'a, Place<V>, S>;
 
-/// Where the value of a mutex lies while nobody has it. A `&` to it lends nothing, so a mutex may be shared whose value may not: the
-/// standard mutex in it is never locked.
+/// The place where the value of a mutex lies while no thread has it.
+///
+/// A `&` to the place lends nothing, so threads may share a mutex whose value they may not share: the standard mutex in the place
+/// is never locked.
 #[derive(Drop)]
 pub struct Lodging<V> {
     value: Mutex<Option<V>>,
 }
 
 impl<V> Lodging<V> {
-    /// With this value.
+    /// Makes a place in which this value lies.
     pub fn new(value: V) -> Self {
         Lodging {
             value: Mutex::new(Some(value)),
@@ -35,7 +37,7 @@ impl<V> Lodging<V> {
 /// The number while the value is parked.
 const PARKED: u64 = CLOSED;
 
-/// Whether one has the right to the value by this word.
+/// Returns whether a thread has the right to the value by this word.
 #[inline(always)]
 fn is_taken(seen: u64) -> bool
     ensures { result ≡ true → unshut_of (number_of seen) ≡ 0 }
@@ -44,7 +46,7 @@ fn is_taken(seen: u64) -> bool
 }
 
 impl<S: Kept, V> Word<S, V> {
-    // Changes the number where nobody has to be notified, and takes the right to the value, if the word is as it was seen.
+    // Changes the number where no waiter has to be notified, and takes the right to the value, if the word is as it was seen.
     #[inline(always)]
     fn lend(&self, seat: &mut Seat, seen: u64, new: u64) -> Option<Lent<'_, S, V>>
         requires seat { seat.old.slot ≡ self.now.slot.name }
@@ -60,7 +62,8 @@ impl<S: Kept, V> Word<S, V> {
         None
     }
 
-    // The same, and gives it back. An error has it where the word is another.
+    // Changes the number where no waiter has to be notified, and gives the right to the value back. An error has the right where
+    // the word is another.
     #[inline(always)]
     fn give_back<'a>(
         &self,
@@ -82,7 +85,8 @@ impl<S: Kept, V> Word<S, V> {
         Err(claim.write())
     }
 
-    // Takes the right to the value by one compare-exchange, where nobody has to be notified. An error is the word, where that is another.
+    // Takes the right to the value by one compare-exchange, where no waiter has to be notified. An error is the word, where that
+    // is another.
     #[inline(always)]
     fn lend_at(&self, expected: u64, new: u64) -> Result<Lent<'_, S, V>, u64>
         requires changes { Changes S.rules expected new × Passes S.rules 0 2 expected new }
@@ -96,7 +100,7 @@ impl<S: Kept, V> Word<S, V> {
         Err(found)
     }
 
-    // Gives it back likewise. An error has it, and the word with a seat.
+    // Gives the right to the value back by one compare-exchange. An error has the right, and the word with a seat.
     #[inline(always)]
     fn give_back_at<'a>(
         &self,
@@ -165,8 +169,9 @@ impl<S: Kept, V> Held<'_, S, V> {
 }
 
 impl<V> Word<Competing<OneValue>, Lodging<V>> {
-    /// Takes the right to the value, if nobody has it and newcomers may. It is one compare-exchange where no other thread comes
-    /// between.
+    /// Takes the right to the value, if no thread has it and newcomers may take it, and returns the right or `None`.
+    ///
+    /// The call costs one compare-exchange where no other thread changes the word meanwhile, and does not wait.
     #[inline(always)]
     pub fn try_value(&self) -> Option<Lent<'_, Competing<OneValue>, Lodging<V>>>
         ensures { IfSome result (λ lent. lent.name ≡ self.now.slot.name) }
@@ -196,8 +201,10 @@ impl<V> Word<Competing<OneValue>, Lodging<V>> {
         None
     }
 
-    /// Gives the right back, and notifies the first that waits, if one does. It does not wait for the state: whoever has that out
-    /// notifies. It is one compare-exchange where nobody waits.
+    /// Gives the right to the value back, and notifies the first waiter, if there is one.
+    ///
+    /// The call costs one compare-exchange where no thread waits. The call does not wait for the state: a thread that has the
+    /// state out notifies.
     #[inline(always)]
     pub fn give_value<R: Wait>(&self, rt: &R, lent: Lent<'_, Competing<OneValue>, Lodging<V>>)
         requires { lent.name ≡ self.now.slot.name }
@@ -207,7 +214,7 @@ impl<V> Word<Competing<OneValue>, Lodging<V>> {
         }
     }
 
-    // The word says that one has the right, as long as one has.
+    // The word says that a thread has the right, as long as a thread has it.
     #[cold]
     #[inline(never)]
     fn give_value_slowly<R: Wait>(
@@ -249,8 +256,10 @@ impl<V> Word<Competing<OneValue>, Lodging<V>> {
         unreachable!()
     }
 
-    /// Takes the right to the value with the state at hand, if nobody has it: for one that was notified, and came, also where
-    /// newcomers may not. The state stays as it is.
+    /// Takes the right to the value with the state at hand, and returns the right, or `None` if a thread has it.
+    ///
+    /// A contender that was notified (`notified`) takes the right also where newcomers may not; another contender gets `None`
+    /// there. The state stays as it is.
     pub fn take_value<R: Wait>(
         &self,
         rt: &R,
@@ -276,7 +285,9 @@ impl<V> Word<Competing<OneValue>, Lodging<V>> {
         unreachable!()
     }
 
-    /// Gives up the right to where the value lies, and keeps the value.
+    /// Gives up the right to where the value lies, and keeps the value, which was moved out of its place.
+    ///
+    /// The returned [`Parked`] is for [`unpark`](Word::unpark).
     pub fn park<R: Wait>(&self, rt: &R, lent: Lent<'_, Competing<OneValue>, Lodging<V>>) -> Parked
         requires { lent.name ≡ self.now.slot.name }
         ensures { result ≡ self.now.slot.name }
@@ -295,7 +306,10 @@ impl<V> Word<Competing<OneValue>, Lodging<V>> {
         unreachable!()
     }
 
-    /// Takes the right again, to put the value back.
+    /// Takes the right to where the value lies again, to put the value back, and returns the right.
+    ///
+    /// The call blocks for no other thread, because the number says that the value is parked, and no other thread takes the right
+    /// meanwhile.
     pub fn unpark<R: Wait>(
         &self,
         rt: &R,
@@ -317,18 +331,20 @@ impl<V> Word<Competing<OneValue>, Lodging<V>> {
         unreachable!()
     }
 
-    /// The value, to be changed where it lies, once nobody shares the lock. `None` says that it is with a guard that was forgotten.
+    /// Borrows the value mutably where it lies, or returns `None` if a guard that was forgotten has the value.
     pub fn get_mut(&mut self) -> Option<&mut V> {
         self.value_mut().value.get_mut().as_mut()
     }
 
-    /// The value. `None` says that it is with a guard that was forgotten.
+    /// Returns the value, or `None` if a guard that was forgotten has the value.
     pub fn into_value(self) -> Option<V> {
         self.into_inner().value.into_inner()
     }
 }
 
-/// Moves the value out of its place. Whoever had it put it back before the right, so it is there; but a slot says nothing of the
+/// Moves the value out of its place, and returns it.
+///
+/// A thread that had the value put it back before it gave up the right, so the value is there; but a slot says nothing of the
 /// value that a writer finds, so `None` is not proved to be impossible.
 #[inline(always)]
 pub fn take_out<S: Kept, V>(lent: &mut Lent<'_, S, Lodging<V>>) -> Option<V>
