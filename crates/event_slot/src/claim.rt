@@ -1,4 +1,4 @@
-//! What one has of a slot, and how that changes.
+//! What a thread has of a slot, and how that changes.
 ghost use Rattle.std.specs.Prelude.{◌≡◌, ◌≢◌, ℕ, ◌==◌, Option, None, Some};
 ghost use prog.Atomic.{either};
 ghost use Rattle.std.specs.Coded.{coded_option};
@@ -11,19 +11,20 @@ use crate::writing::Writing;
 use atomic_table::exchange;
 use std::marker::{Brand, Model, PhantomData};
 
-/// What one has of a slot: a right to the value, which is 0 for none, 1 to read it and 2 to write it; and the state, if it is out
-/// with this claim.
+/// What a thread has of a slot: a right to the value, which is 0 for none, 1 to read it and 2 to write it; and the state, if it
+/// is out with this claim.
 ///
-/// It can't be dropped. It ends by [`done`](Claim::done) once it is to nothing.
+/// A claim can't be dropped. It ends by [`done`](Claim::done) once it has nothing of the slot.
 pub struct Claim<'a, X: Ruled<S>, S> {
     pub(crate) slot: *const Slot<X, S>,
     pub(crate) marker: PhantomData<&'a X>,
     /// The name of the slot.
     pub ghost name: { ℕ },
-    /// Its key.
+    /// The key of the slot.
     pub ghost key: { X.Key } by { X.Key.code },
+    /// The right to the value: 0, 1 or 2.
     pub ghost right: { ℕ },
-    /// The value that its reader sees, or its writer finds.
+    /// The value that the claim's reader sees, or its writer finds.
     pub ghost value: { Option X } by { coded_option X.code },
     /// The state, if it is out with this claim.
     pub ghost state: { Option S } by { coded_option S.code },
@@ -36,7 +37,7 @@ impl<'a, X: Ruled<S>, S> Model for Claim<'a, X, S> {
 }
 
 impl<'a, X: Ruled<S>, S> Claim<'a, X, S> {
-    /// The value, to a reader.
+    /// Borrows the value, for a reader.
     pub fn get(&self) -> &X
         requires { self.now.right ≡ 1 }
         ensures { Some result.now ≡ self.now.value }
@@ -44,18 +45,18 @@ impl<'a, X: Ruled<S>, S> Claim<'a, X, S> {
         unsafe { &(*self.slot).value }
     }
 
-    /// Ends a claim to nothing.
+    /// Ends a claim that has nothing of the slot. Does nothing at run time.
     pub fn done(self)
         requires { (self.right ≡ 0) × (self.state ≡ None) }
     {
         let Claim { slot: _, marker: _ } = self;
     }
 
-    /// Changes the word from `old` to `new` by one compare-exchange. Returns the word as it was, and what one has then.
+    /// Changes the word from `old` to `new` by one compare-exchange, and returns the word as it was, and the claim afterwards.
     ///
-    /// `MayTurn` lists the changes that one may make who has this right, and `Becomes` says which right that leads to. If the word
-    /// was `old`, the state may be taken out, or put back if it is out. The rule has to hold afterwards, whether or not the word was
-    /// `old`. A wake that the mark owed, or that `old` announced, the mark owes then, or `new` announces it.
+    /// `MayTurn` lists the changes that a claim with this right may make, and `Becomes` says which right that leads to. If the
+    /// word was `old`, the state may be taken out, or put back if it is out. The rule has to hold afterwards, whether or not the
+    /// word was `old`. A wake that the mark owed, or that `old` announced, is owed by the mark or announced by `new` then.
     pub fn exchange<M: Trades<X::View, S>>(
         self,
         mark: &mut Mark<X::View>,
@@ -81,7 +82,8 @@ impl<'a, X: Ruled<S>, S> Claim<'a, X, S> {
         (found, Claim { slot, marker })
     }
 
-    /// The same by a compare-exchange that makes a mark.
+    /// Changes the word as [`exchange`](Claim::exchange) does, by a compare-exchange that makes a mark, and returns that mark,
+    /// too.
     pub fn arrive<M: Trades<X::View, S>>(
         self,
         old: u64,
@@ -108,7 +110,7 @@ impl<'a, X: Ruled<S>, S> Claim<'a, X, S> {
         (found, Claim { slot, marker }, mark)
     }
 
-    /// The right to write, of a claim that has it and nothing more.
+    /// Returns the right to write, of a claim that has that right and no state out.
     pub fn write(self) -> Writing<'a, X, S>
         requires { (self.right ≡ 2) × (self.state ≡ None) }
         ensures { (result.name ≡ self.entry.name) × (result.key ≡ self.entry.key)

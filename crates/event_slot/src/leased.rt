@@ -6,7 +6,7 @@ use std::alloc::Allocator;
 use std::marker::{Move, Owns};
 use std::sync::Arc;
 
-/// An `Arc` less its part of the token of the lifetime for which its value is shared. With that part it is whole again.
+/// An `Arc` less its part of the token of the lifetime for which its value is shared. With that part the `Arc` is whole again.
 pub struct Leased<T, A: Allocator> {
     pub(crate) arc: Arc<T, A>,
 }

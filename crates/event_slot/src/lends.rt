@@ -20,7 +20,7 @@ use crate::writing::Writing;
 use std::alloc::Allocator;
 
 impl<X: Ruled<S>, S> Slot<X, S> {
-    /// The value, to be changed where it is, once nobody shares the slot. The slot keeps its name and key.
+    /// Borrows the value mutably where it lies. No thread shares the slot, as the `&mut` says; the slot keeps its name and key.
     pub fn get_mut(&mut self) -> &mut X
         ensures* writes_back { sem 𝓛
             (follows (slot_row X.row S.row X.View.row X.Key.row
@@ -31,7 +31,7 @@ impl<X: Ruled<S>, S> Slot<X, S> {
 }
 
 impl<'a, X: Ruled<S>, S> Claim<'a, X, S> {
-    /// The state, to be changed where it is, if it is out with this claim.
+    /// Borrows the state mutably where it lies, if the state is out with this claim.
     pub fn state_mut(&mut self) -> &mut S
         requires { IsSome self.old.state }
         ensures* writes_back { sem 𝓛
@@ -44,14 +44,14 @@ impl<'a, X: Ruled<S>, S> Claim<'a, X, S> {
 }
 
 impl<'a, X: Ruled<S>, S> Writing<'a, X, S> {
-    /// The value as it is.
+    /// Borrows the value.
     pub fn get(&self) -> &X
         ensures { result.now ≡ self.now.value }
     {
         unsafe { &(*self.slot).value }
     }
 
-    /// The value, to be changed where it is.
+    /// Borrows the value mutably where it lies.
     pub fn get_mut(&mut self) -> &mut X
         ensures* writes_back { sem 𝓛
             (follows (the_row (record { mir = named 1; lft = [] }) X.row S.row X.View.row X.Key.row
@@ -63,14 +63,14 @@ impl<'a, X: Ruled<S>, S> Writing<'a, X, S> {
 }
 
 impl<'a, X: Ruled<S>, S, L: Ties> Tied<'a, X, S, L> {
-    /// The value as it is.
+    /// Borrows the value.
     pub fn get(&self) -> &X
         ensures { result.now ≡ self.now.value }
     {
         unsafe { &(*self.slot).value }
     }
 
-    /// The value, to be changed where it is.
+    /// Borrows the value mutably where it lies.
     pub fn get_mut(&mut self) -> &mut X
         ensures* writes_back { sem 𝓛
             (follows (tied_row (record { mir = named 1; lft = [] }) X.row S.row L.row X.View.row X.Key.row
@@ -84,7 +84,7 @@ impl<'a, X: Ruled<S>, S, L: Ties> Tied<'a, X, S, L> {
 }
 
 impl<T, X: Ruled<S>, S, A: Allocator> Owned<T, X, S, A> {
-    /// The value, to a reader.
+    /// Borrows the value, for a reader.
     pub fn get(&self) -> &X
         requires { self.now.right ≡ 1 }
         ensures { Some result.now ≡ self.now.value }
@@ -92,7 +92,7 @@ impl<T, X: Ruled<S>, S, A: Allocator> Owned<T, X, S, A> {
         unsafe { &(*self.slot).value }
     }
 
-    /// The value as it is, to its writer.
+    /// Borrows the value, for its writer.
     pub fn written(&self) -> &X
         requires { (self.now.right ≡ 2) × (self.now.state ≡ None) }
         ensures { Some result.now ≡ self.now.value }
@@ -100,7 +100,7 @@ impl<T, X: Ruled<S>, S, A: Allocator> Owned<T, X, S, A> {
         unsafe { &(*self.slot).value }
     }
 
-    /// The value, to be changed where it is by its writer.
+    /// Borrows the value mutably where it lies, for its writer.
     pub fn get_mut(&mut self) -> &mut X
         requires { (self.old.right ≡ 2) × (self.old.state ≡ None) }
         ensures* writes_back { sem 𝓛
@@ -111,7 +111,7 @@ impl<T, X: Ruled<S>, S, A: Allocator> Owned<T, X, S, A> {
         unsafe { &mut *(&raw const (*self.slot).value as *mut X) }
     }
 
-    /// The state, to be changed where it is, if it is out with this claim.
+    /// Borrows the state mutably where it lies, if the state is out with this claim.
     pub fn state_mut(&mut self) -> &mut S
         requires { IsSome self.old.state }
         ensures* writes_back { sem 𝓛

@@ -17,24 +17,25 @@ use std::sync::Arc;
 
 /// A value that a slot lies in, such as a lock.
 pub trait Inside<X: Ruled<S>, S> {
-    /// The name and the key of its slot.
+    /// The name and the key of the slot.
     ghost finds: { Self → Named X.Key };
 
-    /// The slot in it.
+    /// Returns the slot in the value.
     fn slot(&self) -> &Slot<X, S>
         ensures { result.now ≡ finds self.now };
 }
 
-// How a block that an `Arc` points to is laid out.
+// The layout of the block that an `Arc` points to.
 struct Shared<T, A> {
     count: u64,
     alloc: A,
     value: T,
 }
 
-/// An `Arc` with what one has of the slot in its value. It is to a [`Claim`] what an `Arc` is to a `&`: it has no lifetime.
+/// An `Arc` with what a thread has of the slot in its value. An owned claim is to a [`Claim`] what an `Arc` is to a `&`: it has
+/// no lifetime.
 ///
-/// It can't be dropped. It ends by [`done`](Owned::done) once it is to nothing.
+/// An owned claim can't be dropped. It ends by [`done`](Owned::done) once it has nothing of the slot.
 pub struct Owned<T, X: Ruled<S>, S, A: Allocator> {
     pub(crate) slot: *const Slot<X, S>,
     pub(crate) arc: Leased<T, A>,
@@ -42,11 +43,11 @@ pub struct Owned<T, X: Ruled<S>, S, A: Allocator> {
     pub ghost of: { T },
     /// The name of the slot.
     pub ghost name: { ℕ },
-    /// Its key.
+    /// The key of the slot.
     pub ghost key: { X.Key } by { X.Key.code },
-    /// 0 for none, 1 to read the value and 2 to write it.
+    /// The right to the value: 0 for none, 1 to read it and 2 to write it.
     pub ghost right: { ℕ },
-    /// The value that its reader sees, or its writer finds.
+    /// The value that the claim's reader sees, or its writer finds.
     pub ghost value: { Option X } by { coded_option X.code },
     /// The state, if it is out with this claim.
     pub ghost state: { Option S } by { coded_option S.code },
@@ -58,7 +59,7 @@ impl<T, X: Ruled<S>, S, A: Allocator> Model for Owned<T, X, S, A> {
     ghost also_shares = { λ h _ κ. owned_shares X.row (T.row.lives ++ (X.row.lives ++ S.row.lives)) h.arc.life h.slot h.right h.value h.state κ };
 }
 
-// A claim to nothing of the slot in a value.
+// Makes a claim that has nothing of the slot in a value.
 fn find<'a, T: Inside<X, S>, X: Ruled<S> + 'a, S: 'a>(value: &'a T) -> Claim<'a, X, S>
     ensures { (result.name ≡ (T.finds value.now).name) × (result.key ≡ (T.finds value.now).key)
         × (result.right ≡ 0) × (result.state ≡ None) }
@@ -67,7 +68,9 @@ fn find<'a, T: Inside<X, S>, X: Ruled<S> + 'a, S: 'a>(value: &'a T) -> Claim<'a,
 }
 
 impl<T, X: Ruled<S>, S, A: Allocator> Owned<T, X, S, A> {
-    /// A claim to nothing, with which a step may begin.
+    /// Makes a claim that has nothing of the slot, with which a step may begin.
+    ///
+    /// Allocates nothing: the `Arc` is kept in the claim, and returned by [`done`](Owned::done).
     // No clause of `Arc` says where its value lies, so its pointer is read: the proof compares `Shared` with what std defines.
     pub fn new(arc: Arc<T, A>) -> Owned<T, X, S, A>
     where
@@ -84,8 +87,8 @@ impl<T, X: Ruled<S>, S, A: Allocator> Owned<T, X, S, A> {
         }
     }
 
-    /// Changes the word from `old` to `new` by one compare-exchange, as [`Claim::exchange`] does. Returns the word as it was, and
-    /// what one has then. Whoever has a right has a value.
+    /// Changes the word from `old` to `new` by one compare-exchange, as [`Claim::exchange`] does, and returns the word as it was,
+    /// and the claim afterwards. A claim with a right has a value.
     pub fn exchange<M: Trades<X::View, S>>(
         self,
         mark: &mut Mark<X::View>,
@@ -111,7 +114,7 @@ impl<T, X: Ruled<S>, S, A: Allocator> Owned<T, X, S, A> {
         (found, Owned { slot, arc })
     }
 
-    /// The `Arc`, once one has nothing of its slot any more.
+    /// Returns the `Arc`, and ends a claim that has nothing of the slot.
     pub fn done(self) -> Arc<T, A>
         requires { (self.right ≡ 0) × (self.state ≡ None) }
         ensures { result.value ≡ self.of }

@@ -6,14 +6,14 @@ ghost use Rattle.event_slot.specs.Holding.{rest_owns};
 use crate::rule::Mark;
 use std::marker::{Model, PhantomData};
 
-/// A mark at rest, or the empty place of one that was taken out. It has no bytes, which an `Option` of a mark would have.
+/// A mark at rest, or the empty place of a mark that was taken out. A rest has no bytes; an `Option` of a mark would have some.
 pub struct Rest<W> {
     pub(crate) marker: PhantomData<W>,
-    /// Which slot the mark is of.
+    /// The slot that the mark is of.
     pub ghost slot: { ℕ },
-    /// Its place among the marks of that slot.
+    /// The mark's place among the marks of that slot.
     pub ghost id: { ℕ },
-    /// What it knows: a list of one, or of none while it is out.
+    /// What the mark knows: a list of one, which is empty while the mark is out.
     pub ghost views: { List W } by { coded_list W.code },
 }
 
@@ -22,7 +22,7 @@ impl<W> Model for Rest<W> {
 }
 
 impl<W> Rest<W> {
-    /// The place of a mark that is out.
+    /// Makes the empty place of a mark that is out. Does nothing at run time.
     #[inline(always)]
     pub fn empty() -> Rest<W>
         ensures { result.views ≡ [] }
@@ -32,7 +32,7 @@ impl<W> Rest<W> {
         }
     }
 
-    /// The mark, which rests no more.
+    /// Returns the mark that rests here. Requires that a mark is there. Does nothing at run time.
     #[inline(always)]
     pub fn into_mark(self) -> Mark<W>
         requires { (w : W) × (self.views ≡ w ∷ []) }

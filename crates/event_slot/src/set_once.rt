@@ -6,7 +6,7 @@ use crate::write_once::{EMPTY, Fits, SET, WriteOnce};
 use std::marker::Model;
 use std::sync::{Arc, Wait};
 
-// How long one sleeps at most before one looks again, in nanoseconds.
+// How long a thread sleeps at most before it looks again, in nanoseconds.
 const BETWEEN_LOOKS: u64 = 1_000_000;
 
 impl<T: Fits> Fits for Option<T> {
@@ -21,9 +21,10 @@ impl<T: Fits> Fits for Arc<T> {
     ghost fits = { λ key share. T.fits key (arc_value share) };
 }
 
-/// A value in place that is set at most once, and is shared from then on. A clause sees its key, and the value fits it.
+/// A value in place that is set at most once, and is shared from then on. A clause sees the key of the cell, and the value fits
+/// the key.
 ///
-/// Nothing is allocated, and nobody is woken: a thread that waits for the value looks once each millisecond.
+/// Nothing is allocated. No thread is woken when the value is set: a thread that waits for the value looks once each millisecond.
 #[derive(Drop)]
 pub struct SetOnce<T: Fits> {
     cell: WriteOnce<Option<T>>,
@@ -38,7 +39,7 @@ impl<T: Fits> Model for SetOnce<T> {
 }
 
 impl<T: Fits> SetOnce<T> {
-    /// A cell with this key, and no value yet. It allocates nothing.
+    /// Makes a cell with this key, and no value yet. Allocates nothing.
     pub fn new(key: &T::Key) -> SetOnce<T>
         ensures { result ≡ key.now }
     {
@@ -47,7 +48,7 @@ impl<T: Fits> SetOnce<T> {
         }
     }
 
-    /// A cell with this key that is set from the start.
+    /// Makes a cell with this key that is set from the start. Requires that the value fits the key. Allocates nothing.
     pub fn with(value: T, key: &T::Key) -> SetOnce<T>
         requires { T.fits key.now value }
         ensures { result ≡ key.now }
@@ -57,7 +58,7 @@ impl<T: Fits> SetOnce<T> {
         }
     }
 
-    /// The value, if it is set, by one load.
+    /// Borrows the value, or returns `None` if it is not set yet. The call costs one load, and does not wait.
     #[inline(always)]
     pub fn get(&self) -> Option<&T>
         ensures { IfSome result (λ value. T.fits self.now value.now) }
@@ -72,9 +73,10 @@ impl<T: Fits> SetOnce<T> {
         }
     }
 
-    /// Sets the value. An error has it back, where another thread has set one or is about to.
+    /// Sets the value, and borrows it from the cell.
     ///
-    /// The call does not wait.
+    /// An error has the value back, where another thread has set one or is about to. Requires that the value fits the key. The
+    /// call does not wait.
     pub fn try_set(&self, value: T) -> Result<&T, T>
         requires { T.fits self.now value }
         ensures ok { IfOk result (λ set. set.now ≡ value) }
@@ -90,7 +92,10 @@ impl<T: Fits> SetOnce<T> {
         }
     }
 
-    /// The value, once it is set. Until then it sleeps, and looks once each millisecond.
+    /// Blocks the thread until the value is set, and borrows the value.
+    ///
+    /// Until then the thread sleeps, and looks once each millisecond, because no thread is woken when the value is set. Takes no
+    /// memory.
     pub fn wait<R: Wait>(&self, rt: &R) -> &T
         ensures { T.fits self.now result.now }
     {
@@ -106,7 +111,7 @@ impl<T: Fits> SetOnce<T> {
         unreachable!()
     }
 
-    /// The value, if it is set, once nobody shares the cell any more.
+    /// Returns the value, or `None` if it was not set. No thread shares the cell any more.
     pub fn into_inner(self) -> Option<T>
         ensures { IfSome result (T.fits self) }
     {

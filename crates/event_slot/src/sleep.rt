@@ -1,8 +1,8 @@
-//! Sleeping beside a slot, and waking those who do.
+//! Sleeping beside a slot, and waking the threads that sleep there.
 //!
-//! A thread sleeps while the word announces that, and owes a wake from then on. Of each other step a clause asks that a wake which is
-//! due stays due, as `StaysDue` says. So whoever owes one pays it by [`Slot::wake_one`] or [`Slot::wake_all`], or leaves a word that
-//! announces it.
+//! A thread sleeps while the word announces that, and owes a wake from then on. Of each other step a clause asks that a wake
+//! which is due stays due, as `StaysDue` says. So a thread that owes a wake pays it by [`Slot::wake_one`] or [`Slot::wake_all`],
+//! or leaves a word that announces it.
 ghost use Rattle.std.specs.Prelude.{◌≡◌, true};
 ghost use Rattle.event_slot.specs.Ruling.{Keeps};
 
@@ -25,8 +25,11 @@ impl<X: Ruled<S>, S> Slot<X, S> {
         unsafe { raw::park::<Brand, R>(rt, &raw const self.word, expected, secs, nanos) }
     }
 
-    /// Sleeps if the state and the count are `expected`, until a wake. It may also return for no reason.
-    /// A change of the high half is not seen. `expected` announces the sleep, and whoever sleeps owes a wake.
+    /// Sleeps if the low half of the word is `expected`, until a wake.
+    ///
+    /// The call may also return for no reason, so a caller looks again. A change of the high half is not seen. Requires that
+    /// `expected` announces the sleep, and that the mark owes a wake already, because others may sleep still when this thread is
+    /// woken. Takes no memory.
     pub fn park<R: Wait>(&self, rt: &R, mark: &Mark<X::View>, expected: u32)
         requires mark { mark.now.slot ≡ self.now.name }
         requires announced { X.announces expected ≡ true }
@@ -37,7 +40,7 @@ impl<X: Ruled<S>, S> Slot<X, S> {
         self.sleep(rt, expected as u64, FOR_EVER, 0);
     }
 
-    /// The same, for no longer than `dur`.
+    /// Sleeps as [`park`](Slot::park) does, for no longer than `dur`.
     pub fn park_timeout<R: Wait>(&self, rt: &R, mark: &Mark<X::View>, expected: u32, dur: Duration)
         requires mark { mark.now.slot ≡ self.now.name }
         requires announced { X.announces expected ≡ true }
@@ -49,8 +52,9 @@ impl<X: Ruled<S>, S> Slot<X, S> {
         self.sleep(rt, expected as u64, secs, dur.subsec_nanos() as u64);
     }
 
-    /// Wakes one thread that parks beside the slot, if there is one. Returns the word, by one load after that, with what that tells,
-    /// which may be that the mark owes no wake any more.
+    /// Wakes a thread that parks beside the slot, if there is one, and returns the word, by one load after that.
+    ///
+    /// The load tells the mark as `M` says, which may be that the mark owes no wake any more.
     pub fn wake_one<M: Tells<X::View>>(&self, mark: &mut Mark<X::View>) -> u64
         requires keeps { (mark.old.slot ≡ self.now.name)
             × Keeps (X.holds self.now.key) mark.old.id mark.old.view (M.then mark.old.view) }
@@ -61,7 +65,9 @@ impl<X: Ruled<S>, S> Slot<X, S> {
         self.see::<M>(mark)
     }
 
-    /// The same, of every thread that parks beside the slot.
+    /// Wakes every thread that parks beside the slot, and returns the word, by one load after that.
+    ///
+    /// The load tells the mark as `M` says, which may be that the mark owes no wake any more.
     pub fn wake_all<M: Tells<X::View>>(&self, mark: &mut Mark<X::View>) -> u64
         requires keeps { (mark.old.slot ≡ self.now.name)
             × Keeps (X.holds self.now.key) mark.old.id mark.old.view (M.then mark.old.view) }

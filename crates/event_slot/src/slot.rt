@@ -1,4 +1,4 @@
-//! The slot, and what its owner or anybody with a `&` to it may do.
+//! The slot, and the calls of its owner and of any thread with a `&` to it.
 ghost use Rattle.std.specs.Prelude.{◌≡◌, ◌⊎◌, ℕ, [], ◌∷◌, true, None, Some};
 ghost use Rattle.event_slot.specs.Ruling.{Keeps, Enters, MaySplit, MayJoin, OwesStill};
 ghost use Rattle.event_slot.specs.Holding.{Named, named_coded, slot_owns, slot_shares};
@@ -9,7 +9,7 @@ use std::marker::{Brand, Move, Owns, PhantomData};
 use std::sync::atomic::Ordering::SeqCst;
 use std::sync::atomic::raw;
 
-/// A value in place beside one atomic word, and a state behind both. A clause sees its name, a number, and its key.
+/// A value in place beside one atomic word, and a state behind both. A clause sees the slot's name, a number, and its key.
 pub struct Slot<X: Ruled<S>, S> {
     pub(crate) word: u64,
     pub(crate) value: X,
@@ -29,7 +29,9 @@ impl<X: Ruled<S>, S> Move for Slot<X, S> {
 }
 
 impl<X: Ruled<S>, S> Slot<X, S> {
-    /// A slot with this value, this state, this word and this key, and its first mark. It allocates nothing.
+    /// Makes a slot with this value, this state, this word and this key, and its first mark.
+    ///
+    /// Requires that the rule holds at the start. The call allocates nothing.
     pub fn new(value: X, state: S, word: u64, key: &X::Key) -> (Slot<X, S>, Mark<X::View>)
         requires { X.holds key.now word (Some state) (X.first key.now ∷ []) }
         ensures { (result.0.key ≡ key.now) × (result.1.slot ≡ result.0.name) × (result.1.id ≡ 0)
@@ -43,7 +45,7 @@ impl<X: Ruled<S>, S> Slot<X, S> {
         )
     }
 
-    /// A claim to nothing, with which a step may begin.
+    /// Makes a claim that has nothing of the slot, with which a step may begin.
     pub fn claim(&self) -> Claim<'_, X, S>
         ensures { (result.name ≡ self.now.name) × (result.key ≡ self.now.key) × (result.right ≡ 0)
             × (result.state ≡ None) }
@@ -54,7 +56,7 @@ impl<X: Ruled<S>, S> Slot<X, S> {
         }
     }
 
-    // The word, by one load, with what that tells, whatever is owed.
+    // Returns the word, by one load, and tells the mark as `M` says. The call asks nothing of what is owed.
     #[inline(always)]
     pub(crate) fn see<M: Tells<X::View>>(&self, mark: &mut Mark<X::View>) -> u64
         requires { (mark.old.slot ≡ self.now.name)
@@ -65,7 +67,7 @@ impl<X: Ruled<S>, S> Slot<X, S> {
         unsafe { raw::load::<Brand>(&raw const self.word, SeqCst) }
     }
 
-    /// The word, by one load, with what that tells. Whoever owes a wake owes it still.
+    /// Returns the word, by one load, and tells the mark as `M` says. A mark that owes a wake still owes it.
     #[inline(always)]
     pub fn load<M: Tells<X::View>>(&self, mark: &mut Mark<X::View>) -> u64
         requires keeps { (mark.old.slot ≡ self.now.name)
@@ -77,7 +79,7 @@ impl<X: Ruled<S>, S> Slot<X, S> {
         self.see::<M>(mark)
     }
 
-    /// The word, by one load that makes a mark, with what that tells.
+    /// Returns the word, by one load, and a new mark, which is told as `M` says.
     pub fn enter<M: Tells<X::View>>(&self) -> (u64, Mark<X::View>)
         requires keeps { Enters (X.holds self.now.key) (M.then (X.first self.now.key)) }
         requires owes { OwesStill X.owes (X.first self.now.key) (M.then (X.first self.now.key)) }
@@ -91,7 +93,8 @@ impl<X: Ruled<S>, S> Slot<X, S> {
         (found, mark)
     }
 
-    /// Cuts in two what a mark knows, by one load, which makes the mark that knows the second part. The mark owes what it owed.
+    /// Cuts the view of a mark in two, by one load, and returns a new mark, which knows the second part. A mark that owes a wake
+    /// still owes it.
     pub fn split<M: Splits<X::View>>(&self, mark: &mut Mark<X::View>) -> Mark<X::View>
         requires keeps { (mark.old.slot ≡ self.now.name)
             × MaySplit (X.holds self.now.key) mark.old.id mark.old.view (M.left mark.old.view) (M.right mark.old.view) }
@@ -116,8 +119,9 @@ impl<X: Ruled<S>, S> Slot<X, S> {
         unsafe { raw::load::<Brand>(&raw const self.word, SeqCst) };
     }
 
-    /// Makes one what two marks know, by one load. The other mark ends, and its view stays among the views as `M.spent`. What either
-    /// owed the mark owes.
+    /// Makes the views of two marks one, by one load, and ends the other mark.
+    ///
+    /// The other mark's view stays among the views as `M.spent`. A wake that either mark owed, `mark` owes.
     pub fn join<M: Joins<X::View>>(&self, mark: &mut Mark<X::View>, mut other: Mark<X::View>)
         requires keeps { (mark.old.slot ≡ self.now.name) × (other.slot ≡ self.now.name)
             × MayJoin (X.holds self.now.key) mark.old.id mark.old.view other.id other.view
@@ -130,12 +134,12 @@ impl<X: Ruled<S>, S> Slot<X, S> {
         self.merge::<M>(mark, &mut other);
     }
 
-    /// The word, by one load that needs no mark and tells nothing.
+    /// Returns the word, by one load that needs no mark and tells nothing.
     pub fn peek(&self) -> u64 {
         unsafe { raw::load::<Brand>(&raw const self.word, SeqCst) }
     }
 
-    /// The value and the state, once nobody shares the slot any more.
+    /// Returns the value and the state. No thread shares the slot any more.
     pub fn into_inner(self) -> (X, S) {
         let Self {
             word: _,

@@ -7,21 +7,23 @@ use crate::slot::Slot;
 use crate::writing::Writing;
 use std::marker::{Model, PhantomData};
 
-/// What a guard has beside its right to write, such as its mark and where it goes back.
+/// What a guard has beside its right to write, such as its mark and the way by which it is given back.
 pub trait Ties {
-    /// That it belongs to the slot of that name.
+    /// The fact that it belongs to the slot of that name.
     ghost ties: { Self → ℕ → Type 0 };
 }
 
-/// A right to write with what belongs to it. A guard that has it lends `&mut X` with nothing to show anew, since the fact that
-/// ties the two is in here: a ghost field of the guard's own would stand in the way. It can't be dropped.
+/// A right to write with what belongs to it, which can't be dropped.
+///
+/// A guard that has a tied right lends `&mut X` without a new proof, since the fact that ties the two is kept in here: a ghost
+/// field of the guard's own would stand in the way.
 pub struct Tied<'a, X: Ruled<S>, S, L: Ties> {
     pub(crate) slot: *const Slot<X, S>,
     pub(crate) marker: PhantomData<&'a X>,
     pub(crate) beside: L,
     /// The name of the slot.
     pub ghost name: { ℕ },
-    /// Its key.
+    /// The key of the slot.
     pub ghost key: { X.Key } by { X.Key.code },
     /// The value as it is.
     pub ghost value: { X },
@@ -34,7 +36,7 @@ impl<'a, X: Ruled<S>, S, L: Ties> Model for Tied<'a, X, S, L> {
 }
 
 impl<'a, X: Ruled<S>, S> Writing<'a, X, S> {
-    /// Puts beside it what belongs to it.
+    /// Ties the right to write to what belongs to it. Does nothing at run time.
     pub fn tie<L: Ties>(self, beside: L) -> Tied<'a, X, S, L>
         requires { L.ties beside self.name }
         ensures { (result.name ≡ self.entry.name) × (result.key ≡ self.entry.key) × (result.value ≡ self.entry.value) }
@@ -49,7 +51,7 @@ impl<'a, X: Ruled<S>, S> Writing<'a, X, S> {
 }
 
 impl<'a, X: Ruled<S>, S, L: Ties> Tied<'a, X, S, L> {
-    /// Takes them apart.
+    /// Returns the right to write, and what was tied to it.
     pub fn untie(self) -> (Writing<'a, X, S>, L)
         ensures { (result.0.name ≡ self.entry.name) × (result.0.key ≡ self.entry.key)
             × (result.0.value ≡ self.entry.value)

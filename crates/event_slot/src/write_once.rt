@@ -11,23 +11,23 @@ use std::sync::atomic::raw;
 
 /// A value of which a fact is known.
 pub trait Fits {
-    /// What the fact may speak of besides. It is given when a cell is made, and nothing changes it.
+    /// What the fact may speak of besides the value. The key is given when a cell is made, and nothing changes it.
     type Key;
 
     /// The fact.
     ghost fits: { Self.Key → Self → Type 0 };
 }
 
-/// Nobody has written the value yet.
+/// No thread has written the value yet.
 pub(crate) const EMPTY: u64 = 0;
 
-/// One thread writes it.
+/// A thread writes the value.
 pub(crate) const SETTING: u64 = 1;
 
-/// It is written, and stays as it is.
+/// The value is written, and stays as it is.
 pub(crate) const SET: u64 = 2;
 
-/// A value beside one word, which one thread may write, once. A clause sees its key.
+/// A value beside one word, which one thread may write, once. A clause sees the key of the cell.
 pub(crate) struct WriteOnce<X: Fits> {
     word: u64,
     value: X,
@@ -45,13 +45,13 @@ impl<X: Fits> Move for WriteOnce<X> {
     ghost own_val = { λ key vs. cell_owns X.row (X.fits key) (λ n x. Fields.own_val (record { word = n; value = x }) vs) };
 }
 
-/// What one has of a cell: 0 is nothing, 1 to see the value for good, and 2 to write it.
+/// What a thread has of a cell: 0 is nothing, 1 to see the value for good, and 2 to write it.
 pub(crate) struct Hold<'a, X: Fits> {
     cell: *const WriteOnce<X>,
     marker: PhantomData<&'a X>,
     pub ghost key: { X.Key } by { X.Key.code },
     pub ghost right: { ℕ },
-    /// What is seen.
+    /// The value that is seen.
     pub ghost value: { Option X } by { coded_option X.code },
 }
 
@@ -60,7 +60,7 @@ impl<'a, X: Fits> Model for Hold<'a, X> {
 }
 
 impl<X: Fits> WriteOnce<X> {
-    /// A cell with this word, this value and this key.
+    /// Makes a cell with this word, this value and this key.
     pub(crate) fn new(word: u64, value: X, key: &X::Key) -> WriteOnce<X>
         requires { X.fits key.now value }
         ensures { result ≡ key.now }
@@ -68,7 +68,7 @@ impl<X: Fits> WriteOnce<X> {
         WriteOnce { word, value }
     }
 
-    /// The word, by one load, and the value if it is written.
+    /// Returns the word, by one load, and what the thread has of the cell: the value if it is written.
     pub(crate) fn look(&self) -> (u64, Hold<'_, X>)
         ensures { (result.0 ≡ 2 → result.1.right ≡ 1) × (result.1.key ≡ self.now) }
     {
@@ -82,7 +82,7 @@ impl<X: Fits> WriteOnce<X> {
         )
     }
 
-    /// The word, by one compare-exchange, and the right to write the value if nobody had that yet.
+    /// Returns the word, by one compare-exchange, and the right to write the value if no thread had that right yet.
     pub(crate) fn seize(&self) -> (u64, Hold<'_, X>)
         ensures { (result.0 ≡ 0 → result.1.right ≡ 2) × (result.1.key ≡ self.now) }
     {
@@ -96,12 +96,12 @@ impl<X: Fits> WriteOnce<X> {
         )
     }
 
-    /// Sleeps while the word is `expected`, for no longer than that.
+    /// Sleeps while the word is `expected`, for no longer than the given time.
     pub(crate) fn sleep<R: Wait>(&self, rt: &R, expected: u64, secs: u64, nanos: u64) {
         unsafe { raw::park::<Brand, R>(rt, &raw const self.word, expected, secs, nanos) }
     }
 
-    /// The value, once nobody shares the cell any more.
+    /// Returns the value. No thread shares the cell any more.
     pub(crate) fn into_inner(self) -> X
         ensures { X.fits self result }
     {
@@ -124,7 +124,7 @@ impl<'a, X: Fits> Hold<'a, X> {
         Hold { cell, marker }
     }
 
-    /// The value, for as long as the cell is shared.
+    /// Borrows the value, for as long as the cell is shared.
     pub(crate) fn get(self) -> &'a X
         requires { self.right ≡ 1 }
         ensures { (Some result.now ≡ self.entry.value) × X.fits self.entry.key result.now }

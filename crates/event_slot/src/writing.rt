@@ -7,13 +7,13 @@ use crate::rule::Ruled;
 use crate::slot::Slot;
 use std::marker::{Model, PhantomData};
 
-/// The right to write the value of a slot, which nobody else reads or writes meanwhile. It can't be dropped.
+/// The right to write the value of a slot, which no other thread reads or writes meanwhile. The right can't be dropped.
 pub struct Writing<'a, X: Ruled<S>, S> {
     pub(crate) slot: *const Slot<X, S>,
     pub(crate) marker: PhantomData<&'a X>,
     /// The name of the slot.
     pub ghost name: { ℕ },
-    /// Its key.
+    /// The key of the slot.
     pub ghost key: { X.Key } by { X.Key.code },
     /// The value as it is.
     pub ghost value: { X },
@@ -26,7 +26,7 @@ impl<'a, X: Ruled<S>, S> Model for Writing<'a, X, S> {
 }
 
 impl<'a, X: Ruled<S>, S> Writing<'a, X, S> {
-    /// The same as a claim, by which it ends.
+    /// Returns the claim with this right, by which the right ends.
     pub fn claim(self) -> Claim<'a, X, S>
         ensures { (result.name ≡ self.entry.name) × (result.key ≡ self.entry.key) × (result.right ≡ 2)
             × (result.value ≡ Some self.entry.value) × (result.state ≡ None) }
