@@ -1,78 +1,78 @@
-/// What a client of a lock is to do, or an actor of a flag.
+/// What a client of a lock or an actor of a flag is to do.
 #[derive(Clone, Copy, Debug, PartialEq, Eq)]
 pub enum Act {
-    /// It does what its place has next.
+    /// The client does what its place has next.
     Go,
-    /// It is polled though it may have no wake-up.
+    /// The client is polled, though it may have no wake-up.
     Poll,
-    /// Its deadline passes.
+    /// The client's deadline passes.
     TimeOut,
-    /// It gives up, and its listener is dropped.
+    /// The client gives up, and its listener is dropped.
     Cancel,
 }
 
-/// One step of a schedule of a lock or of a flag: which client is to do what.
+/// One step of a schedule of a lock or of a flag: the client that takes the step, and the act.
 #[derive(Clone, Copy, Debug, PartialEq, Eq)]
 pub struct Step {
     /// The number of the client. A number that no client has is allowed, and the step is then not taken.
     pub client: usize,
-    /// What it is to do.
+    /// What the client is to do.
     pub act: Act,
 }
 
 /// What a client of a semaphore is to do.
 #[derive(Clone, Copy, Debug, PartialEq, Eq)]
 pub enum SemAct {
-    /// It does what its place has next.
+    /// The client does what its place has next.
     Go,
-    /// It takes one more permit.
+    /// The client takes one more permit.
     More,
-    /// Its deadline passes.
+    /// The client's deadline passes.
     TimeOut,
-    /// It gives up, and its listener is dropped.
+    /// The client gives up, and its listener is dropped.
     Cancel,
 }
 
-/// One step of a schedule of a semaphore: which client is to do what.
+/// One step of a schedule of a semaphore: the client that takes the step, and the act.
 #[derive(Clone, Copy, Debug, PartialEq, Eq)]
 pub struct SemStep {
     /// The number of the client. A number that no client has is allowed, and the step is then not taken.
     pub client: usize,
-    /// What it is to do.
+    /// What the client is to do.
     pub act: SemAct,
 }
 
-/// Who takes a step of a channel.
+/// The sender, the receiver or the closer that takes a step of a channel.
 #[derive(Clone, Copy, Debug, PartialEq, Eq)]
 pub enum ChannelActor {
     /// The sender of this number. A number that no sender has is allowed, and the step is then not taken.
     Sender(usize),
     /// The receiver of this number. A number that no receiver has is allowed, and the step is then not taken.
     Receiver(usize),
-    /// Whoever closes the channel.
+    /// The actor that closes the channel.
     Closer,
 }
 
 /// What an actor of a channel is to do.
 #[derive(Clone, Copy, Debug, PartialEq, Eq)]
 pub enum ChannelAct {
-    /// It does what its place has next. At `Idle` a receiver begins to receive, and a sender has nothing next.
+    /// The actor does what its place has next. At `Idle` a receiver begins to receive, and a sender has nothing next.
     Go,
     /// A sender that is `Idle` begins to send this message.
     Send(usize),
-    /// It is polled though it may have no wake-up.
+    /// The sender or receiver is polled, though it may have no wake-up.
     Poll,
-    /// Its deadline passes.
+    /// The deadline of the sender or receiver passes.
     TimeOut,
-    /// It gives up, and its listener is dropped.
+    /// The sender or receiver gives up, and its listener is dropped.
     Cancel,
 }
 
-/// One step of a schedule of a channel: who is to do what.
+/// One step of a schedule of a channel: the actor that takes the step, and the act.
 #[derive(Clone, Copy, Debug, PartialEq, Eq)]
 pub struct ChannelStep {
-    /// Who takes it.
+    /// The actor that takes the step.
     pub actor: ChannelActor,
-    /// What it is to do.
+    /// What the actor is to do.
     pub act: ChannelAct,
 }

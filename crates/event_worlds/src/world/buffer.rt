@@ -30,7 +30,7 @@ impl Model for Buffer {
 }
 
 impl Buffer {
-    /// An empty buffer with room for `capacity` messages.
+    /// Makes an empty buffer with room for `capacity` messages.
     pub(super) fn new(alloc: Global, capacity: usize) -> Result<Self, AllocError>
         ensures empty { IfOk result (λ buffer. buffer ≡ record {
           capacity = capacity;
@@ -43,14 +43,14 @@ impl Buffer {
         })
     }
 
-    /// How many messages there may be.
+    /// Returns how many messages there may be.
     pub(super) fn capacity(&self) -> usize
         ensures value { result ≡ self.now.capacity }
     {
         self.capacity
     }
 
-    /// How many messages there are.
+    /// Returns how many messages there are.
     pub(super) fn len(&self) -> usize
         ensures value { result ≡ length self.now.messages }
         ensures buffer { IsBuffer self.now }
@@ -58,7 +58,7 @@ impl Buffer {
         self.messages.len()
     }
 
-    /// The message at `index`, the oldest first, or `None` past the last.
+    /// Returns the message at `index`, the oldest first, or `None` past the last.
     pub(super) fn message(&self, index: usize) -> Option<usize>
         ensures value { result ≡ slice_get self.now.messages index }
     {
@@ -79,7 +79,7 @@ impl Buffer {
         }
     }
 
-    /// Takes the first message out, if there is one and a message was received.
+    /// Removes the first message, if there is one and a message was received.
     pub(super) fn pop(&mut self, received: Option<usize>)
         ensures popped { self.new ≡ record {
           capacity = self.old.capacity;

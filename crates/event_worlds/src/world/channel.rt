@@ -26,7 +26,7 @@ pub enum CloserPlace {
     ToClose,
     /// The channel is closed, and its senders are still to be notified.
     ToNotifySenders,
-    /// The channel is closed, its senders were notified, and its receivers are still to be.
+    /// The channel is closed, its senders were notified, and its receivers are still to be notified.
     ToNotifyReceivers,
     /// The channel is closed, and both sides were notified.
     Done,
@@ -35,9 +35,9 @@ pub enum CloserPlace {
 /// A sender or a receiver of a channel.
 #[derive(Clone, Copy, Debug, PartialEq, Eq)]
 pub struct ChannelClient {
-    /// Where it is.
+    /// The place of the sender or receiver in its loop.
     pub place: Place,
-    /// How many notifications it owes the other side: one, from the look by which it sent or received until it has
+    /// How many notifications the client owes the other side: one, from the look by which it sent or received until it has
     /// notified.
     pub owed: usize,
     /// The message that a sender sends or sent last, or that a receiver received last; 0 before the first.
@@ -55,17 +55,17 @@ enum Found {
     Over,
 }
 
-/// A bounded channel with its senders and its receivers, the two lines in which they wait for room and for messages,
-/// and whoever closes it.
+/// A bounded channel with its senders and its receivers, the two lines in which they wait for room and for messages, and its
+/// closer.
 ///
-/// A sender looks for room, listens, looks again, and waits until it is notified; a receiver does the same for a
-/// message. The look that finds one sends or receives, and the client then notifies one of the other side, additional
-/// to those notified already. Clients go by [`Place::after`]: at `Holding`, and at `Ending` with its listener still to
-/// be dropped, a client has sent or received, or has found the channel closed.
+/// A sender looks for room, listens, looks again, and waits until it is notified; a receiver does so for a message. The look that
+/// finds room or a message sends or receives, and the client then notifies one client of the other side, additional to those
+/// notified already. Clients go by [`Place::after`]: at `Holding`, and at `Ending` with its listener still to be dropped, a
+/// client has sent or received, or has found the channel closed.
 ///
-/// Closing is three steps: the channel is closed, all senders are notified, all receivers are notified. What is left in
-/// the channel is still received. Each step of an actor is one call of [`step`](ChannelWorld::step). Whatever the
-/// schedule, no wake-up and no message is lost, and messages are received in the order in which they were sent.
+/// Closing is three steps: the channel is closed, all senders are notified, all receivers are notified. What is left in the
+/// channel is still received. Each step of an actor is one call of [`step`](ChannelWorld::step). Whatever the schedule, no
+/// wake-up and no message is lost, and messages are received in the order in which they were sent.
 #[derive(Drop)]
 pub struct ChannelWorld {
     buffer: Buffer,
@@ -91,11 +91,10 @@ impl Model for ChannelWorld {
 }
 
 impl ChannelWorld {
-    /// An empty channel that is open, for at most `capacity` messages, with that many senders and receivers, none of
-    /// whom wants anything.
+    /// Makes an empty channel that is open, for at most `capacity` messages, with senders and receivers, none of which wants
+    /// anything.
     ///
-    /// The call allocates room for all clients and messages, and returns an error if that fails. No later call
-    /// allocates.
+    /// The call allocates room for all clients and messages, and returns an error if that fails. No later call allocates.
     pub fn new(
         alloc: Global,
         senders: usize,
@@ -130,8 +129,9 @@ impl ChannelWorld {
         Ok(world)
     }
 
-    /// Makes a step of one actor, and returns whether it was one: an act that the tables of steps have at the place of
-    /// that actor. Any other act, and any number that nobody has, changes nothing.
+    /// Takes a step of one actor, and returns whether the tables of steps have this act at the place of that actor.
+    ///
+    /// Any other act, and any number that no actor has, changes nothing, and returns `false`.
     pub fn step(&mut self, actor: ChannelActor, act: ChannelAct) -> bool
         ensures step { self.new ≡ after actor act self.old }
         ensures answer { result ≡ is_some (next actor act self.old) }
@@ -210,7 +210,7 @@ impl ChannelWorld {
         }
     }
 
-    // The channel is closed, then all senders are notified, then all receivers.
+    // Closes the channel, then notifies all senders, then all receivers, each in one step.
     fn take_closer_step(&mut self) -> bool
         ensures takes { Takes (next_of_closer self.old.closer self.old) self.old result self.new }
     {
@@ -233,7 +233,8 @@ impl ChannelWorld {
         }
     }
 
-    /// Makes the steps of a schedule, one after another, and returns how many were steps of the tables.
+    /// Takes the steps of a schedule, one after another, and returns how many were steps of the tables. The other steps change
+    /// nothing.
     pub fn run(&mut self, steps: &[ChannelStep]) -> usize
         ensures state { self.new ≡ after_all steps.now self.old }
         ensures taken { result ≡ taken steps.now self.old }
@@ -252,7 +253,7 @@ impl ChannelWorld {
         taken
     }
 
-    // What follows from what the type keeps, which is known where a field is read.
+    // Shows what follows from what the type keeps, which is known where a field is read.
     fn reveal_invariant(&self)
         ensures safe { IsSafe self.now }
         ensures messages_fit { MessagesFit self.now }
@@ -262,56 +263,56 @@ impl ChannelWorld {
         let _line = &self.sender_line;
     }
 
-    /// How many messages there may be.
+    /// Returns how many messages there may be.
     pub fn capacity(&self) -> usize
         ensures value { result ≡ self.now.capacity }
     {
         self.buffer.capacity()
     }
 
-    /// How many messages were sent and not yet received.
+    /// Returns how many messages were sent and not yet received.
     pub fn messages(&self) -> usize
         ensures value { result ≡ length self.now.messages }
     {
         self.buffer.len()
     }
 
-    /// The message at `index`, the oldest first, or `None` past the last.
+    /// Returns the message at `index`, the oldest first, or `None` past the last.
     pub fn message(&self, index: usize) -> Option<usize>
         ensures value { result ≡ slice_get self.now.messages index }
     {
         self.buffer.message(index)
     }
 
-    /// How far the channel is closed.
+    /// Returns how far the channel is closed.
     pub fn closer(&self) -> CloserPlace
         ensures value { result ≡ self.now.closer }
     {
         self.closer
     }
 
-    /// Whether the channel is closed.
+    /// Returns whether the channel is closed.
     pub fn is_closed(&self) -> bool
         ensures value { result ≡ is_closed self.now.closer }
     {
         has_closed(self.closer)
     }
 
-    /// How many senders there are.
+    /// Returns how many senders there are.
     pub fn senders(&self) -> usize
         ensures value { result ≡ length self.now.senders.clients }
     {
         self.senders.len()
     }
 
-    /// How many receivers there are.
+    /// Returns how many receivers there are.
     pub fn receivers(&self) -> usize
         ensures value { result ≡ length self.now.receivers.clients }
     {
         self.receivers.len()
     }
 
-    /// Where a sender is, what it owes, and its message.
+    /// Returns a sender: its place, what it owes, and its message.
     pub fn sender(&self, client: usize) -> ChannelClient
         requires client { client < length self.now.senders.clients }
         ensures value { slice_get self.now.senders.clients client ≡ Some result }
@@ -319,7 +320,7 @@ impl ChannelWorld {
         self.senders[client]
     }
 
-    /// Where a receiver is, what it owes, and its message.
+    /// Returns a receiver: its place, what it owes, and its message.
     pub fn receiver(&self, client: usize) -> ChannelClient
         requires client { client < length self.now.receivers.clients }
         ensures value { slice_get self.now.receivers.clients client ≡ Some result }
@@ -327,7 +328,7 @@ impl ChannelWorld {
         self.receivers[client]
     }
 
-    /// Whether a sender is notified, and has not left the line.
+    /// Returns whether a sender is notified, and has not left the line.
     pub fn is_sender_told(&self, client: usize) -> bool
         requires client { client < length self.now.senders.clients }
         ensures value { result ≡ is_told client self.now.senders.line }
@@ -335,7 +336,7 @@ impl ChannelWorld {
         self.sender_line.is_told(client)
     }
 
-    /// Whether a receiver is notified, and has not left the line.
+    /// Returns whether a receiver is notified, and has not left the line.
     pub fn is_receiver_told(&self, client: usize) -> bool
         requires client { client < length self.now.receivers.clients }
         ensures value { result ≡ is_told client self.now.receivers.line }
@@ -343,7 +344,8 @@ impl ChannelWorld {
         self.receiver_line.is_told(client)
     }
 
-    /// Whether a sender has a wake-up. One that it has when it leaves the line stays until it listens again.
+    /// Returns whether a sender has a wake-up. A wake-up that a sender has when it leaves the line stays until the sender listens
+    /// again.
     pub fn sender_has_wake(&self, client: usize) -> bool
         requires client { client < length self.now.senders.clients }
         ensures value { result ≡ has_wake client self.now.senders.line }
@@ -351,7 +353,8 @@ impl ChannelWorld {
         self.sender_line.has_wake(client)
     }
 
-    /// Whether a receiver has a wake-up. One that it has when it leaves the line stays until it listens again.
+    /// Returns whether a receiver has a wake-up. A wake-up that a receiver has when it leaves the line stays until the receiver
+    /// listens again.
     pub fn receiver_has_wake(&self, client: usize) -> bool
         requires client { client < length self.now.receivers.clients }
         ensures value { result ≡ has_wake client self.now.receivers.line }
@@ -369,7 +372,7 @@ fn has_closed(closer: CloserPlace) -> bool
     }
 }
 
-// What a sender with this message finds.
+// Returns what a sender with this message finds.
 fn look_for_room(message: usize, closer: CloserPlace, buffer: &Buffer) -> Found
     ensures { result ≡ (if is_closed closer then Over else
         (if nat_lt (length buffer.now.messages) buffer.now.capacity then One
@@ -384,7 +387,7 @@ fn look_for_room(message: usize, closer: CloserPlace, buffer: &Buffer) -> Found
     }
 }
 
-// What a receiver finds.
+// Returns what a receiver finds.
 fn look_for_message(closer: CloserPlace, buffer: &Buffer) -> Found
     ensures { result ≡ first_found buffer.now.messages (is_closed closer) }
 {
@@ -400,7 +403,7 @@ fn look_for_message(closer: CloserPlace, buffer: &Buffer) -> Found
     }
 }
 
-// The message that this act takes, if it takes one.
+// Returns the message that this act takes, if it takes one.
 fn message_passed(place: Place, act: ChannelAct, found: Found) -> Option<usize>
     ensures { result ≡ passed act place found }
 {
@@ -410,8 +413,8 @@ fn message_passed(place: Place, act: ChannelAct, found: Found) -> Option<usize>
     }
 }
 
-// The table of steps of both sides: what this act of a client at its place makes of it, if it is a step. Its line and
-// the other side's change with it.
+// The table of steps of both sides: returns the client after this act at its place, or `None` if the act is no step. The client's
+// line and that of the other side change with the step.
 fn moves(
     sends: bool,
     own: ChannelClient,
@@ -469,7 +472,7 @@ fn go(
     }
 }
 
-// The client notifies the other side of what it owes, and goes to this place.
+// Notifies the other side of what the client owes it, and moves the client to this place.
 fn pay(own: ChannelClient, place: Place, other: &mut ClientLine) -> ChannelClient
     ensures made { result ≡ paid place own }
     ensures line { other.new ≡ notified own.owed other.old }
@@ -482,7 +485,7 @@ fn pay(own: ChannelClient, place: Place, other: &mut ClientLine) -> ChannelClien
     }
 }
 
-// A look, which takes one if there is one.
+// Looks, and takes what the look finds, if anything.
 fn look(own: ChannelClient, found: Found) -> ChannelClient
     requires may_get { IsSome (place_after own.place Got) }
     requires may_be_busy { IsSome (place_after own.place Busy) }
@@ -506,7 +509,7 @@ fn look(own: ChannelClient, found: Found) -> ChannelClient
     }
 }
 
-// A sender begins to send this message.
+// Has a sender begin to send this message.
 fn begin(sends: bool, own: ChannelClient, message: usize) -> Option<ChannelClient>
     ensures moves { (found : Found) (client : ℕ) (line other : Line)
         → Moves (from (Send message) own.place sends client own found line other) line other

@@ -1,4 +1,4 @@
-//! What a client of a lock does in its line, one permit or many, and where that takes it.
+//! What a client of a lock, of one permit or many, does in its line, and which place that leads to.
 ghost use Rattle.std.specs.Prelude.{◌≡◌, ◌<◌, true, unwrap_or, if◌then◌else◌, length, slice_get, IsFalse, IsSome};
 ghost use Rattle.event_worlds.specs.declared.world.acts.Act.TheVariants.{Go, Cancel};
 ghost use Rattle.event_worlds.specs.declared.world.place.Place.TheVariants.{Idle, First, Second, ToRegister, Parked};
@@ -13,14 +13,14 @@ use super::acts::Act;
 use super::line::ClientLine;
 use super::place::{News, Place};
 
-/// The client of this number, if there is one.
+/// Returns the client of this number, or `None` if there is none.
 pub(super) fn find<C: Copy>(clients: &[C], client: usize) -> Option<C>
     ensures { result ≡ slice_get clients.now client }
 {
     clients.get(client).copied()
 }
 
-/// The place after this event, from a place where it may come. No client of a world goes elsewhere.
+/// Returns the place after this news, which a client at this place can learn. No client of a world goes elsewhere.
 pub(super) fn next_place(place: Place, news: News) -> Place
     requires may_come { IsSome (place_after place news) }
     ensures { result ≡ unwrap_or (place_after place news) place }
@@ -31,8 +31,8 @@ pub(super) fn next_place(place: Place, news: News) -> Place
     }
 }
 
-/// A step that concerns the client's place and its line alone, and so is the same in each lock. Returns the client's
-/// place after it, or `None` where this act is no such step.
+/// Takes a step that concerns the client's place and its line alone, and so is alike in each lock. Returns the client's place
+/// after the step, or `None` where this act is no such step.
 pub(super) fn wait(place: Place, act: Act, client: usize, line: &mut ClientLine) -> Option<Place>
     requires client { client < length line.old.awake }
     requires may_be_at { MayBeAt place client line.old }
@@ -76,7 +76,7 @@ fn go(place: Place, client: usize, line: &mut ClientLine) -> Option<Place>
     }
 }
 
-// A client that is about to listen does.
+// Has a client listen that is about to.
 fn listen(client: usize, line: &mut ClientLine) -> Place
     requires client { client < length line.old.awake }
     requires absent { IsFalse (is_in_line client line.old) }
@@ -91,7 +91,7 @@ fn listen(client: usize, line: &mut ClientLine) -> Place
     }
 }
 
-// A client that is about to register does.
+// Has a client register that is about to.
 fn register(client: usize, line: &mut ClientLine) -> Place
     requires client { client < length line.old.awake }
     ensures place { result ≡ (if is_told client line.old then First true else Parked) }
@@ -105,7 +105,7 @@ fn register(client: usize, line: &mut ClientLine) -> Place
     }
 }
 
-// A parked client goes on, whether it has a wake-up or not.
+// Has a parked client go on, whether it has a wake-up or not.
 fn poll(client: usize, line: &mut ClientLine) -> Place
     requires client { client < length line.old.awake }
     ensures place { result ≡ ToRegister }
@@ -115,7 +115,7 @@ fn poll(client: usize, line: &mut ClientLine) -> Place
     next_place(Place::Parked, News::Woke)
 }
 
-// The deadline of a parked client passes.
+// Lets the deadline of a parked client pass.
 fn time_out(client: usize, line: &mut ClientLine) -> Place
     requires client { client < length line.old.awake }
     ensures place { result ≡ (if is_told client line.old then First true else Idle) }
@@ -129,7 +129,7 @@ fn time_out(client: usize, line: &mut ClientLine) -> Place
     }
 }
 
-// The listener is dropped, which propagates its notification.
+// Drops the client's listener, which propagates its notification.
 fn drop_listener(place: Place, client: usize, line: &mut ClientLine) -> Place
     requires client { client < length line.old.awake }
     requires may_drop { IsSome (place_after place Dropped) }

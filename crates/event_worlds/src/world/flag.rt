@@ -13,27 +13,27 @@ use super::place::Place;
 use std::alloc::{AllocError, Global};
 use std::marker::Model;
 
-/// Where a client that waits for a flag is.
+/// Where a client that waits for a flag is in its loop.
 #[derive(Clone, Copy, Debug, PartialEq, Eq)]
 pub enum FlagPlace {
-    /// It is about to look at the flag, with no listener.
+    /// The client is about to look at the flag, with no listener.
     Check1,
-    /// It found the flag not set, and is about to listen.
+    /// The client found the flag not set, and is about to listen.
     ToListen,
-    /// It listens, and is about to look again.
+    /// The client listens, and is about to look again.
     Check2,
-    /// Its second look found the flag set, and its listener is still to be dropped.
+    /// The client's second look found the flag set, and its listener is still to be dropped.
     Dropping,
-    /// Its second look found the flag not set, or it woke: it is about to register.
+    /// The client's second look found the flag not set, or the client woke: it is about to register.
     ToRegister,
-    /// It has registered, and waits for its wake-up.
+    /// The client has registered, and waits for its wake-up.
     Parked,
-    /// It waits no longer: the flag was set, or listening failed.
+    /// The client waits no longer: the flag was set, or listening failed.
     Done,
 }
 
 impl FlagPlace {
-    // The same place in the loop of a client of a lock.
+    // Returns the place of a client of a lock that is at this place of its loop.
     fn in_lock(self) -> Place
         ensures { result ≡ lock_place self }
     {
@@ -48,7 +48,7 @@ impl FlagPlace {
         }
     }
 
-    // And back.
+    // Returns the place of a client of a flag that is at this place of a lock's loop.
     fn at(place: Place) -> Self
         ensures { result ≡ flag_place place }
     {
@@ -64,21 +64,21 @@ impl FlagPlace {
     }
 }
 
-/// Where a setter is.
+/// Where a setter of a flag is.
 #[derive(Clone, Copy, Debug, PartialEq, Eq)]
 pub enum SetterPlace {
-    /// It is about to set the flag.
+    /// The setter is about to set the flag.
     ToSet,
-    /// It has set the flag, and is about to notify all.
+    /// The setter has set the flag, and is about to notify all clients.
     ToNotify,
-    /// It has notified.
+    /// The setter has notified.
     Done,
 }
 
-/// A flag with its clients, the line in which they wait for it, and those who set it.
+/// A flag with its clients, the line in which they wait for the flag, and its setters.
 ///
-/// A client looks at the flag, listens, looks again, and waits until it is notified; whoever sets the flag then
-/// notifies all. Each step is one call of [`step`](FlagWorld::step). Whatever the schedule, no wake-up is lost.
+/// A client looks at the flag, listens, looks again, and waits until it is notified; a setter sets the flag, and then notifies
+/// all clients. Each step is one call of [`step`](FlagWorld::step). Whatever the schedule, no wake-up is lost.
 #[derive(Drop)]
 pub struct FlagWorld {
     flag: bool,
@@ -108,7 +108,7 @@ impl Model for FlagWorld {
     }) };
 }
 
-// Where a setter goes, and whether the flag is set then.
+// The place of a setter after its step, and whether the flag is set then.
 #[derive(Clone, Copy)]
 struct SetterMove {
     place: SetterPlace,
@@ -116,10 +116,10 @@ struct SetterMove {
 }
 
 impl FlagWorld {
-    /// A flag that is not set, its clients, none of whom has looked at it, and its setters. The first client
-    /// that listens gets the serial 0.
+    /// Makes a flag that is not set, with clients that have not looked at it, and with setters. The first client that listens
+    /// gets the serial number 0.
     ///
-    /// The call allocates room for all clients, and returns an error if that fails. No later call allocates.
+    /// The call allocates room for all clients and setters, and returns an error if that fails. No later call allocates.
     pub fn new(alloc: Global, clients: usize, setters: usize) -> Result<Self, AllocError>
         ensures start { IfOk result (λ world. world ≡ start clients setters 0) }
         ensures safe { IfOk result IsSafe }
@@ -129,8 +129,10 @@ impl FlagWorld {
         Self::starting_at(alloc, clients, setters, 0)
     }
 
-    /// The same with a line whose first listener gets the serial `first`. No listener gets `u64::MAX`, so a world that
-    /// starts late has fewer listeners.
+    /// Makes a flag that is not set, with clients and setters; the first client that listens gets the serial number `first`.
+    ///
+    /// No listener gets `u64::MAX`, so a world that starts at a greater number has fewer serial numbers to give. The call
+    /// allocates room for all clients and setters, and returns an error if that fails. No later call allocates.
     pub fn starting_at(
         alloc: Global,
         clients: usize,
@@ -155,9 +157,10 @@ impl FlagWorld {
         Ok(world)
     }
 
-    /// Makes a step of one actor, and returns whether it was one: an act that the tables of steps have at the place of
-    /// that actor. The numbers below [`clients`](FlagWorld::clients) are the clients', and the next ones the setters'.
-    /// Any other act, and any number that no client has, changes nothing.
+    /// Takes a step of one actor, and returns whether the tables of steps have this act at the place of that actor.
+    ///
+    /// The numbers below [`clients`](FlagWorld::clients) are those of the clients, and the next ones those of the setters. Any
+    /// other act, and any number that no actor has, changes nothing, and returns `false`.
     pub fn step(&mut self, actor: usize, act: Act) -> bool
         ensures step { self.new ≡ after actor act self.old }
         ensures answer { result ≡ is_some (next actor act self.old) }
@@ -217,8 +220,8 @@ impl FlagWorld {
         }
     }
 
-    /// Makes the steps of a schedule, one after another, and returns how many were steps of the tables. The client of
-    /// a step is its actor.
+    /// Takes the steps of a schedule, one after another, and returns how many were steps of the tables. The client of a step is
+    /// its actor.
     pub fn run(&mut self, steps: &[Step]) -> usize
         ensures state { self.new ≡ after_all steps.now self.old }
         ensures taken { result ≡ taken steps.now self.old }
@@ -234,7 +237,7 @@ impl FlagWorld {
         taken
     }
 
-    // What follows from what the type keeps, which is known where a field is read.
+    // Shows what follows from what the type keeps, which is known where a field is read.
     fn reveal_invariant(&self)
         ensures safe { IsSafe self.now }
         ensures notifies_default { NotifiesDefault self.now }
@@ -243,28 +246,28 @@ impl FlagWorld {
         let _line = &self.line;
     }
 
-    /// Whether the flag is set.
+    /// Returns whether the flag is set.
     pub fn flag(&self) -> bool
         ensures value { result ≡ self.now.flag }
     {
         self.flag
     }
 
-    /// How many clients there are.
+    /// Returns how many clients there are.
     pub fn clients(&self) -> usize
         ensures value { result ≡ length self.now.places }
     {
         self.places.len()
     }
 
-    /// How many setters there are.
+    /// Returns how many setters there are.
     pub fn setters(&self) -> usize
         ensures value { result ≡ length self.now.setters }
     {
         self.setters.len()
     }
 
-    /// Where a client is.
+    /// Returns where a client is.
     pub fn place(&self, client: usize) -> FlagPlace
         requires client { client < length self.now.places }
         ensures value { slice_get self.now.places client ≡ Some result }
@@ -272,7 +275,7 @@ impl FlagWorld {
         self.places[client]
     }
 
-    /// Where a setter is, by its number among the setters.
+    /// Returns where a setter is, by its number among the setters.
     pub fn setter(&self, setter: usize) -> SetterPlace
         requires setter { setter < length self.now.setters }
         ensures value { slice_get self.now.setters setter ≡ Some result }
@@ -280,7 +283,7 @@ impl FlagWorld {
         self.setters[setter]
     }
 
-    /// Whether a client is notified, and has not left the line.
+    /// Returns whether a client is notified, and has not left the line.
     pub fn is_told(&self, client: usize) -> bool
         requires client { client < length self.now.places }
         ensures value { result ≡ is_told client self.now.line }
@@ -288,7 +291,8 @@ impl FlagWorld {
         self.line.is_told(client)
     }
 
-    /// Whether a client has a wake-up.
+    /// Returns whether a client has a wake-up. A wake-up that a client has when it leaves the line stays until the client listens
+    /// again.
     pub fn has_wake(&self, client: usize) -> bool
         requires client { client < length self.now.places }
         ensures value { result ≡ has_wake client self.now.line }
@@ -297,7 +301,8 @@ impl FlagWorld {
     }
 }
 
-// The table of a client: where it goes from this place, if it has a step. The line changes with it.
+// The table of a client: returns the next place of a client at this place, or `None` if the client has no step. The line changes
+// with the step.
 fn moves(place: FlagPlace, client: usize, flag: bool, line: &mut ClientLine) -> Option<FlagPlace>
     requires client { client < length line.old.awake }
     requires may_be_at { MayBeAt (lock_place place) client line.old }
@@ -326,7 +331,8 @@ fn moves(place: FlagPlace, client: usize, flag: bool, line: &mut ClientLine) -> 
     }
 }
 
-// The table of a setter: where it goes from this place, if it has a step. The line changes with it.
+// The table of a setter: returns the move of a setter at this place, or `None` if the setter has no step. The line changes with
+// the step.
 fn setter_moves(place: SetterPlace, flag: bool, line: &mut ClientLine) -> Option<SetterMove>
     ensures moves { Moves (from_setter place flag line.old) line.old result line.new }
     ensures nobody_waits { place ≡ ToNotify → (notified everybody line.old).waiting ≡ [] }

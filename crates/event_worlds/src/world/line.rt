@@ -7,8 +7,8 @@ use event_queue::{IntoNotification, Key, List, RegisterResult};
 use std::alloc::{AllocError, Global};
 use std::marker::Model;
 
-/// A line of clients, by their numbers, all of whose notifications are of one kind. After [`new`](ClientLine::new) no
-/// call allocates.
+/// A line of clients, by their numbers, whose notifications are all of one kind. After [`new`](ClientLine::new) no call
+/// allocates.
 #[derive(Drop)]
 pub(super) struct ClientLine {
     list: List<(), usize>,
@@ -29,8 +29,8 @@ impl Model for ClientLine {
 }
 
 impl ClientLine {
-    /// A line for that many clients, empty at first; the first that joins gets the serial `first`. Its
-    /// notifications are additional or default. It has room for all clients.
+    /// Makes an empty line with room for that many clients; the first client that joins gets the serial number `first`. The
+    /// notifications of the line are additional or default.
     pub(super) fn new(
         alloc: Global,
         additional: bool,
@@ -49,7 +49,7 @@ impl ClientLine {
         })
     }
 
-    /// Whether the client is notified.
+    /// Returns whether the client is notified.
     pub(super) fn is_told(&self, client: usize) -> bool
         requires client { client < length self.now.awake }
         ensures value { result ≡ is_told client self.now }
@@ -60,7 +60,7 @@ impl ClientLine {
         }
     }
 
-    /// Whether the client has a wake-up.
+    /// Returns whether the client has a wake-up.
     pub(super) fn has_wake(&self, client: usize) -> bool
         requires client { client < length self.now.awake }
         ensures value { result ≡ has_wake client self.now }
@@ -68,8 +68,8 @@ impl ClientLine {
         self.wakes.has(client)
     }
 
-    /// The client joins the end of the line, and loses its wake-up. If the serials are used up it does neither,
-    /// and the answer is `false`.
+    /// Has the client join the end of the line, and lose its wake-up, and returns `true`. If the serial numbers are used up,
+    /// changes nothing and returns `false`.
     pub(super) fn join(&mut self, client: usize) -> bool
         requires client { client < length self.old.awake }
         requires absent { IsFalse (is_in_line client self.old) }
@@ -85,7 +85,7 @@ impl ClientLine {
         true
     }
 
-    /// A client that is notified leaves the line, and one that waits is registered. Returns whether it was notified.
+    /// Has a notified client leave the line, or registers a client that waits. Returns whether the client was notified.
     pub(super) fn register(&mut self, client: usize) -> bool
         requires client { client < length self.old.awake }
         ensures leaves { Leaves (is_told client self.old)
@@ -105,7 +105,7 @@ impl ClientLine {
         }
     }
 
-    /// The client leaves the line, and propagates nothing. Returns whether it was notified.
+    /// Has the client leave the line, and propagates nothing. Returns whether the client was notified.
     pub(super) fn leave(&mut self, client: usize) -> bool
         requires client { client < length self.old.awake }
         ensures leaves { Leaves (is_told client self.old)
@@ -121,7 +121,7 @@ impl ClientLine {
         told
     }
 
-    /// The client leaves the line. If it was notified, its notification is propagated.
+    /// Has the client leave the line. If the client was notified, its notification is propagated.
     pub(super) fn drop_out(&mut self, client: usize)
         requires client { client < length self.old.awake }
         ensures changed { self.new ≡ dropped client self.old }
@@ -133,7 +133,7 @@ impl ClientLine {
         let _left = self.list.remove_uncounted(key, true, &mut self.wakes);
     }
 
-    /// The client loses its wake-up, if it has one.
+    /// Takes the client's wake-up away, if it has one.
     pub(super) fn lose_wake(&mut self, client: usize)
         requires client { client < length self.old.awake }
         ensures changed { self.new ≡ wake_lost client self.old }
@@ -141,7 +141,7 @@ impl ClientLine {
         self.wakes.clear(client);
     }
 
-    /// Notifies that many clients of the line. Those notified already are among them if its notifications are default.
+    /// Notifies that many clients of the line. If the notifications of the line are default, the clients notified already count.
     pub(super) fn notify(&mut self, count: usize)
         ensures changed { self.new ≡ notified count self.old }
     {
@@ -166,7 +166,7 @@ impl ClientLine {
         self.notify(usize::MAX);
     }
 
-    // What follows from what the type keeps, which is known where a field is read.
+    // Shows what follows from what the type keeps, which is known where a field is read.
     fn reveal_invariant(&self)
         ensures line { IsLine self.now }
     {

@@ -15,10 +15,10 @@ use super::place::{News, Place};
 use std::alloc::{AllocError, Global};
 use std::marker::Model;
 
-/// A lock with its clients, and the line in which they wait for it.
+/// A lock with its clients, and the line in which they wait for the lock.
 ///
-/// A client tries the lock, listens, tries again, and waits until it is notified; whoever frees the lock notifies one.
-/// Each step of a client is one call of [`step`](MutexWorld::step). Whatever the schedule, no wake-up is lost.
+/// A client tries the lock, listens, tries again, and waits until it is notified; a client that frees the lock notifies one
+/// client. Each step of a client is one call of [`step`](MutexWorld::step). Whatever the schedule, no wake-up is lost.
 #[derive(Drop)]
 pub struct MutexWorld {
     holder: Option<usize>,
@@ -42,7 +42,7 @@ impl Model for MutexWorld {
         (record { holder = world.holder; places = world.places.items; line = world.line }) };
 }
 
-// Who has the lock after a step, and where the client is.
+// The client that has the lock after a step, and the place of the client that took the step.
 #[derive(Clone, Copy)]
 struct Move {
     holder: Option<usize>,
@@ -50,7 +50,8 @@ struct Move {
 }
 
 impl MutexWorld {
-    /// A free lock and that many clients, none of whom wants it. The first that listens gets the serial 0.
+    /// Makes a free lock with `clients` clients, none of which wants the lock. The first client that listens gets the serial
+    /// number 0.
     ///
     /// The call allocates room for all clients, and returns an error if that fails. No later call allocates.
     pub fn new(alloc: Global, clients: usize) -> Result<Self, AllocError>
@@ -64,8 +65,10 @@ impl MutexWorld {
         Self::starting_at(alloc, clients, 0)
     }
 
-    /// The same with a line whose first listener gets the serial `first`. No listener gets `u64::MAX`, so a world that
-    /// starts late has fewer listeners.
+    /// Makes a free lock with `clients` clients, the first of which that listens gets the serial number `first`.
+    ///
+    /// No listener gets `u64::MAX`, so a world that starts at a greater number has fewer serial numbers to give. The call
+    /// allocates room for all clients, and returns an error if that fails. No later call allocates.
     pub fn starting_at(alloc: Global, clients: usize, first: u64) -> Result<Self, AllocError>
         ensures start { IfOk result (λ world. world ≡ start clients first) }
         ensures safe { IfOk result IsSafe }
@@ -85,8 +88,9 @@ impl MutexWorld {
         Ok(world)
     }
 
-    /// Makes a step of one client, and returns whether it was one: an act that the table of steps has at the place of
-    /// that client. Any other act, and any number that no client has, changes nothing.
+    /// Takes a step of one client, and returns whether the table of steps has this act at the place of that client.
+    ///
+    /// Any other act, and any number that no client has, changes nothing, and returns `false`.
     pub fn step(&mut self, client: usize, act: Act) -> bool
         ensures step { self.new ≡ after client act self.old }
         ensures answer { result ≡ is_some (next client act self.old) }
@@ -117,7 +121,8 @@ impl MutexWorld {
         }
     }
 
-    /// Makes the steps of a schedule, one after another, and returns how many were steps of the table.
+    /// Takes the steps of a schedule, one after another, and returns how many were steps of the table. The other steps change
+    /// nothing.
     pub fn run(&mut self, steps: &[Step]) -> usize
         ensures state { self.new ≡ after_all steps.now self.old }
         ensures taken { result ≡ taken steps.now self.old }
@@ -135,7 +140,7 @@ impl MutexWorld {
         taken
     }
 
-    // What follows from what the type keeps, which is known where a field is read.
+    // Shows what follows from what the type keeps, which is known where a field is read.
     fn reveal_invariant(&self)
         ensures safe { IsSafe self.now }
         ensures holder_is_the_one_inside { HolderIsInside self.now }
@@ -146,21 +151,21 @@ impl MutexWorld {
         let _line = &self.line;
     }
 
-    /// How many clients there are.
+    /// Returns how many clients there are.
     pub fn clients(&self) -> usize
         ensures value { result ≡ length self.now.places }
     {
         self.places.len()
     }
 
-    /// The client that has the lock, if one has.
+    /// Returns the client that has the lock, or `None`.
     pub fn holder(&self) -> Option<usize>
         ensures value { result ≡ self.now.holder }
     {
         self.holder
     }
 
-    /// Where a client is.
+    /// Returns where a client is.
     pub fn place(&self, client: usize) -> Place
         requires client { client < length self.now.places }
         ensures value { slice_get self.now.places client ≡ Some result }
@@ -168,7 +173,7 @@ impl MutexWorld {
         self.places[client]
     }
 
-    /// Whether a client is notified, and has not left the line.
+    /// Returns whether a client is notified, and has not left the line.
     pub fn is_told(&self, client: usize) -> bool
         requires client { client < length self.now.places }
         ensures value { result ≡ is_told client self.now.line }
@@ -176,7 +181,8 @@ impl MutexWorld {
         self.line.is_told(client)
     }
 
-    /// Whether a client has a wake-up. One that it has when it leaves the line stays until it listens again.
+    /// Returns whether a client has a wake-up. A wake-up that a client has when it leaves the line stays until the client listens
+    /// again.
     pub fn has_wake(&self, client: usize) -> bool
         requires client { client < length self.now.places }
         ensures value { result ≡ has_wake client self.now.line }
@@ -185,7 +191,8 @@ impl MutexWorld {
     }
 }
 
-// The table of steps: the move that this act of a client at this place is, if it is one. The line changes with it.
+// The table of steps: returns the move that this act of a client at this place is, or `None` if the act is no step. The line
+// changes with the move.
 fn moves(
     holder: Option<usize>,
     place: Place,
@@ -231,7 +238,7 @@ fn go(holder: Option<usize>, place: Place, client: usize, line: &mut ClientLine)
     }
 }
 
-// A try of the lock, which takes it if it is free.
+// Tries the lock, and takes it if it is free.
 fn try_lock(holder: Option<usize>, place: Place, client: usize) -> Move
     requires may_get { IsSome (place_after place Got) }
     requires may_be_busy { IsSome (place_after place Busy) }

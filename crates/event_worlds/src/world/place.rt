@@ -1,66 +1,66 @@
 ghost use Rattle.std.specs.Prelude.{◌≡◌};
 ghost use Rattle.event_worlds.specs.ClientTable.{place_after};
 
-/// Where a client of a lock is, or of a semaphore. [`Place::after`] says how it goes on.
+/// Where a client of a lock or of a semaphore is in its loop. [`Place::after`] says which place is next.
 ///
-/// A client tries to take the lock, or a permit, listens, tries again, and only then waits: whoever freed one before
-/// the client listened would not have notified it.
+/// A client tries to take the lock, or a permit, listens, tries again, and only then waits, because a client that freed the lock
+/// or a permit before this client listened would not have notified it.
 #[derive(Clone, Copy, Debug, PartialEq, Eq)]
 pub enum Place {
-    /// It doesn't want the lock, or a permit.
+    /// The client does not want the lock, or a permit.
     Idle,
-    /// It is about to try to take the lock, or a permit, with no listener.
+    /// The client is about to try to take the lock, or a permit, with no listener.
     First {
-        /// Whether a notification brought it here.
+        /// Whether a notification brought the client here.
         woken: bool,
     },
-    /// It found the lock held, or no permit free, and is about to listen.
+    /// The client found the lock held, or no permit free, and is about to listen.
     ToListen,
-    /// It listens, and is about to try again.
+    /// The client listens, and is about to try again.
     Second,
-    /// Its second try took the lock, or a permit, and its listener is still to be dropped.
+    /// The client's second try took the lock, or a permit, and its listener is still to be dropped.
     Ending,
-    /// Its second try found the lock held, or no permit free, or it woke: it is about to register.
+    /// The client's second try found the lock held, or no permit free, or the client woke: it is about to register.
     ToRegister,
-    /// It has registered, and waits for its wake-up.
+    /// The client has registered, and waits for its wake-up.
     Parked,
-    /// It has the lock, or one permit or several, and no listener.
+    /// The client has the lock, or one permit or several, and no listener.
     Holding,
-    /// It has freed the lock, or all its permits, and is about to notify.
+    /// The client has freed the lock, or all its permits, and is about to notify.
     Releasing,
 }
 
-/// What a client of a lock learns, or of a semaphore.
+/// What a client of a lock or of a semaphore learns.
 #[derive(Clone, Copy, Debug, PartialEq, Eq)]
 pub enum News {
-    /// It wants the lock, or a permit.
+    /// The client wants the lock, or a permit.
     Begin,
     /// A try took the lock, or a permit.
     Got,
     /// A try found the lock held, or no permit free.
     Busy,
-    /// It listens.
+    /// The client listens.
     Listening,
     /// Listening failed.
     Refused,
-    /// Registering, or the removal at a deadline, gave the tag of a notification.
+    /// Registering, or the removal at a deadline, returned the tag of a notification.
     Told,
-    /// Registering stored its task.
+    /// Registering stored the client's task.
     Registered,
-    /// Its wake-up came while it was parked, or it was polled without one.
+    /// The client's wake-up was there while the client was parked, or the client was polled without a wake-up.
     Woke,
-    /// The removal at a deadline gave no tag.
+    /// The removal at a deadline returned no tag.
     TimedOut,
-    /// Its listener was dropped, which propagates a notification.
+    /// The client's listener was dropped, which propagates a notification.
     Dropped,
-    /// It freed the lock, or all its permits.
+    /// The client freed the lock, or all its permits.
     Freed,
-    /// Its notification after that returned.
+    /// The client's notification after that returned.
     Notified,
 }
 
 impl Place {
-    /// The place of a client after this news, or `None` if the news can't come at this place.
+    /// Returns the place of a client after this news, or `None` if a client at this place can't learn this news.
     pub fn after(self, news: News) -> Option<Place>
         ensures { result ≡ place_after self news }
     {

@@ -15,7 +15,7 @@ use super::place::{News, Place};
 use std::alloc::{AllocError, Global};
 use std::marker::Model;
 
-// A client: where it is, how many permits it holds, and of how many that it freed it is still to notify.
+// A client: its place, how many permits it holds, and of how many permits that it freed it is still to notify.
 #[derive(Clone, Copy)]
 struct SemaphoreClient {
     place: Place,
@@ -25,10 +25,9 @@ struct SemaphoreClient {
 
 /// A semaphore with its clients, and the line in which they wait for its permits.
 ///
-/// A client tries to take a permit, listens, tries again, and waits until it is notified. While it holds one it may
-/// take more. It frees all of them at once, and then notifies of as many, additional to those notified already. Each
-/// step of a client is one call of [`step`](SemaphoreWorld::step). Whatever the schedule, no wake-up and no permit is
-/// lost.
+/// A client tries to take a permit, listens, tries again, and waits until it is notified. A client that holds a permit may take
+/// more. A client frees all its permits at once, and then notifies as many clients, additional to those notified already. Each
+/// step of a client is one call of [`step`](SemaphoreWorld::step). Whatever the schedule, no wake-up and no permit is lost.
 #[derive(Drop)]
 pub struct SemaphoreWorld {
     permits: usize,
@@ -66,7 +65,7 @@ struct SemaphoreMove {
 }
 
 impl SemaphoreWorld {
-    /// A semaphore of that many permits, all free, and that many clients, none of whom wants one.
+    /// Makes a semaphore of `permits` permits, all free, with `clients` clients, none of which wants a permit.
     ///
     /// The call allocates room for all clients, and returns an error if that fails. No later call allocates.
     pub fn new(alloc: Global, clients: usize, permits: usize) -> Result<Self, AllocError>
@@ -93,8 +92,9 @@ impl SemaphoreWorld {
         Ok(world)
     }
 
-    /// Makes a step of one client, and returns whether it was one: an act that the table of steps has at the place of
-    /// that client. Any other act, and any number that no client has, changes nothing.
+    /// Takes a step of one client, and returns whether the table of steps has this act at the place of that client.
+    ///
+    /// Any other act, and any number that no client has, changes nothing, and returns `false`.
     pub fn step(&mut self, client: usize, act: SemAct) -> bool
         ensures step { self.new ≡ after client act self.old }
         ensures answer { result ≡ is_some (next client act self.old) }
@@ -124,7 +124,8 @@ impl SemaphoreWorld {
         }
     }
 
-    /// Makes the steps of a schedule, one after another, and returns how many were steps of the table.
+    /// Takes the steps of a schedule, one after another, and returns how many were steps of the table. The other steps change
+    /// nothing.
     pub fn run(&mut self, steps: &[SemStep]) -> usize
         ensures state { self.new ≡ after_all steps.now self.old }
         ensures taken { result ≡ taken steps.now self.old }
@@ -141,7 +142,7 @@ impl SemaphoreWorld {
         taken
     }
 
-    // What follows from what the type keeps, which is known where a field is read.
+    // Shows what follows from what the type keeps, which is known where a field is read.
     fn reveal_invariant(&self)
         ensures safe { IsSafe self.now }
         ensures permits_add_up { PermitsAddUp self.now }
@@ -151,28 +152,28 @@ impl SemaphoreWorld {
         let _line = &self.line;
     }
 
-    /// How many clients there are.
+    /// Returns how many clients there are.
     pub fn clients(&self) -> usize
         ensures value { result ≡ length self.now.clients }
     {
         self.clients.len()
     }
 
-    /// How many permits there are, free or held.
+    /// Returns how many permits there are, free or held.
     pub fn permits(&self) -> usize
         ensures value { result ≡ self.now.permits }
     {
         self.permits
     }
 
-    /// How many permits are free.
+    /// Returns how many permits are free.
     pub fn free(&self) -> usize
         ensures value { result ≡ self.now.free }
     {
         self.free
     }
 
-    /// Where a client is.
+    /// Returns where a client is.
     pub fn place(&self, client: usize) -> Place
         requires client { client < length self.now.clients }
         ensures value { IsSomeAnd (slice_get self.now.clients client) (λ own. own.place ≡ result) }
@@ -180,7 +181,7 @@ impl SemaphoreWorld {
         self.clients[client].place
     }
 
-    /// How many permits a client holds.
+    /// Returns how many permits a client holds.
     pub fn held(&self, client: usize) -> usize
         requires client { client < length self.now.clients }
         ensures value { IsSomeAnd (slice_get self.now.clients client) (λ own. own.held ≡ result) }
@@ -188,7 +189,7 @@ impl SemaphoreWorld {
         self.clients[client].held
     }
 
-    /// Of how many permits that it freed a client is still to notify.
+    /// Returns of how many permits that it freed a client is still to notify.
     pub fn owed(&self, client: usize) -> usize
         requires client { client < length self.now.clients }
         ensures value { IsSomeAnd (slice_get self.now.clients client) (λ own. own.owed ≡ result) }
@@ -196,7 +197,7 @@ impl SemaphoreWorld {
         self.clients[client].owed
     }
 
-    /// Whether a client is notified, and has not left the line.
+    /// Returns whether a client is notified, and has not left the line.
     pub fn is_told(&self, client: usize) -> bool
         requires client { client < length self.now.clients }
         ensures value { result ≡ is_told client self.now.line }
@@ -204,7 +205,8 @@ impl SemaphoreWorld {
         self.line.is_told(client)
     }
 
-    /// Whether a client has a wake-up. One that it has when it leaves the line stays until it listens again.
+    /// Returns whether a client has a wake-up. A wake-up that a client has when it leaves the line stays until the client listens
+    /// again.
     pub fn has_wake(&self, client: usize) -> bool
         requires client { client < length self.now.clients }
         ensures value { result ≡ has_wake client self.now.line }
@@ -213,8 +215,8 @@ impl SemaphoreWorld {
     }
 }
 
-// The table of steps: what this act of a client at its place makes of it and of the free permits, if it is a step.
-// The line changes with it.
+// The table of steps: returns the client and the free permits after this act of a client at its place, or `None` if the act is no
+// step. The line changes with the step.
 fn moves(
     own: SemaphoreClient,
     free: usize,
@@ -264,7 +266,7 @@ fn go(
     }
 }
 
-// A try, which takes a permit if one is free.
+// Tries to take a permit, and takes one if one is free.
 fn try_acquire(own: SemaphoreClient, free: usize) -> SemaphoreMove
     requires may_get { IsSome (place_after own.place Got) }
     requires may_be_busy { IsSome (place_after own.place Busy) }
@@ -291,7 +293,7 @@ fn try_acquire(own: SemaphoreClient, free: usize) -> SemaphoreMove
     }
 }
 
-// All permits that the client holds become free, in one step. As many notifications are to come.
+// Frees all permits that the client holds, in one step. The client is to notify of as many.
 fn release(own: SemaphoreClient, free: usize) -> SemaphoreMove
     requires may_free { IsSome (place_after own.place Freed) }
     requires fits { free + own.held < 2 ^ 64 }
@@ -307,7 +309,7 @@ fn release(own: SemaphoreClient, free: usize) -> SemaphoreMove
     }
 }
 
-// The client notifies of all permits that it freed.
+// Notifies of all permits that the client freed.
 fn notify(own: SemaphoreClient, free: usize, line: &mut ClientLine) -> SemaphoreMove
     requires may_notify { IsSome (place_after own.place Notified) }
     ensures made { result ≡ paid (unwrap_or (place_after own.place Notified) own.place) own free }
@@ -324,7 +326,7 @@ fn notify(own: SemaphoreClient, free: usize, line: &mut ClientLine) -> Semaphore
     }
 }
 
-// A client that holds a permit takes one more, if one is free.
+// Takes one more permit for a client that holds one, if a permit is free.
 fn take_more(own: SemaphoreClient, free: usize) -> Option<SemaphoreMove>
     requires fits { free + own.held < 2 ^ 64 }
     ensures moves { (client : ℕ) (line : Line)

@@ -5,7 +5,7 @@ use event_queue::WakeSink;
 use std::alloc::{AllocError, Global};
 use std::marker::Model;
 
-/// For each client, whether it has a wake-up. As a sink it takes clients for tasks.
+/// Whether each client has a wake-up. As a sink this type takes the numbers of clients for tasks.
 #[derive(Drop)]
 pub(super) struct Wakes {
     awake: Vec<bool>,
