@@ -14,7 +14,7 @@ use std::marker::{Brand, Model, PhantomData};
 /// What a thread has of a slot: a right to the value, which is 0 for none, 1 to read it and 2 to write it; and the state, if it
 /// is out with this claim.
 ///
-/// A claim can't be dropped. It ends by [`done`](Claim::done) once it has nothing of the slot.
+/// A claim can't be dropped: a claim ends by [`done`](Claim::done) once it has nothing of the slot.
 pub struct Claim<'a, X: Ruled<S>, S> {
     pub(crate) slot: *const Slot<X, S>,
     pub(crate) marker: PhantomData<&'a X>,

@@ -1,5 +1,5 @@
-//! What is lent to be changed. A clause names the row of the type that lends, which the file that declares it can't import: so these
-//! have a file of their own.
+//! What is lent to be changed. A clause names the row of the type that lends, which the file that declares the type can't import:
+//! so these functions have a file of their own.
 ghost use Rattle.std.specs.Prelude.{◌≡◌, [], None, Some, IsSome};
 ghost use mir.Syntax.{named};
 ghost use types.Logic.{sem};

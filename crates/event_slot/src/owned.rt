@@ -35,7 +35,7 @@ struct Shared<T, A> {
 /// An `Arc` with what a thread has of the slot in its value. An owned claim is to a [`Claim`] what an `Arc` is to a `&`: it has
 /// no lifetime.
 ///
-/// An owned claim can't be dropped. It ends by [`done`](Owned::done) once it has nothing of the slot.
+/// An owned claim can't be dropped: it ends by [`done`](Owned::done) once it has nothing of the slot.
 pub struct Owned<T, X: Ruled<S>, S, A: Allocator> {
     pub(crate) slot: *const Slot<X, S>,
     pub(crate) arc: Leased<T, A>,

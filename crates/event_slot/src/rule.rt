@@ -16,8 +16,8 @@ pub trait Ruled<S> {
     /// How a word counts the threads that have the value: the low two bits are a state, and the next 30 count the readers.
     ghost counts: { ℕ → ℕ };
 
-    /// What holds of a slot with this key between any two steps, of the word, of the state while it is at home, and of the views of
-    /// all marks, in the order in which they were made.
+    /// What holds of a slot with this key between any two steps: of the word, of the state while it is at home, and of the views
+    /// of all marks, in the order in which the marks were made.
     ghost holds: { Self.Key → ℕ → Option S → List Self.View → Type 0 };
 
     // The view of the mark that a slot with this key is made with.

@@ -29,7 +29,7 @@ impl<X: Ruled<S>, S> Slot<X, S> {
     ///
     /// The call may also return for no reason, so a caller looks again. A change of the high half is not seen. Requires that
     /// `expected` announces the sleep, and that the mark owes a wake already, because others may sleep still when this thread is
-    /// woken. Takes no memory.
+    /// woken.
     pub fn park<R: Wait>(&self, rt: &R, mark: &Mark<X::View>, expected: u32)
         requires mark { mark.now.slot ≡ self.now.name }
         requires announced { X.announces expected ≡ true }

@@ -2,7 +2,7 @@
 //!
 //! A waiter that is notified has nothing yet: it *retries*, which means that it leaves the queue and attempts again; if it finds
 //! nothing it joins at the end. Each waiter has a *turn*: while it waits, no more waiters have retried in all than its turn says.
-//! A waiter that was notified and found nothing twice *starves*, until it has retried once more.
+//! A waiter that was notified and found nothing too often *starves*, until it has retried once more.
 ghost use Rattle.std.specs.Prelude.{◌≡◌, ◌+◌, ◌<◌, ◌≤◌, [], ◌∷◌, ◌++◌, length, map, true, if◌then◌else◌, vec_len, vec_capacity, IfOk, IfErr, OnOk, OnErr};
 ghost use Rattle.std.specs.List.{FoldsTo};
 ghost use Rattle.event_queue.specs.Exchange.{InsertsWith, RegistersWith};
@@ -30,7 +30,7 @@ pub struct Queued<W> {
 /// A waiter joins at the end, and is notified once it is at the front and something is free for it. A notified waiter *retries*:
 /// it leaves the queue and attempts again. The *turn* of a waiter is the number of all that have retried, and of all that are in
 /// the queue, when it joins; while it waits, no more than that many retry. A waiter *starves* if it was notified and found
-/// nothing as often as the caller bears, who says so at [`join`](FairQueue::join).
+/// nothing too often: the caller of [`join`](FairQueue::join) decides how often that is.
 #[derive(Drop)]
 pub struct FairQueue<W> {
     queue: List<(), Queued<W>>,
@@ -131,9 +131,10 @@ impl<W> FairQueue<W> {
 
     /// Has a newcomer wait at the end of the queue, with the task that the exchange makes, and returns its key.
     ///
-    /// Its turn is after all waiters that have retried and all that are in the queue. With `starves` the newcomer is counted
-    /// among the waiters that starve. Returns [`ListenError::Memory`] if memory runs out, and [`ListenError::SerialsUsedUp`] if
-    /// the queue has given out all its serial numbers, of which each waiter gets one; an error changes nothing. May allocate.
+    /// The newcomer's turn is after all waiters that have retried and all that are in the queue. With `starves` the newcomer is
+    /// counted among the waiters that starve. Returns [`ListenError::Memory`] if memory runs out, and
+    /// [`ListenError::SerialsUsedUp`] if the queue has given out all its serial numbers, of which each waiter gets one; an error
+    /// changes nothing. May allocate.
     pub fn join<C, X: TaskExchange<W, C>>(
         &mut self,
         exchange: &X,
@@ -157,8 +158,9 @@ impl<W> FairQueue<W> {
 
     /// Removes this waiter from the queue, and returns whether it was notified.
     ///
-    /// The waiter is counted no more among those that starve. What the waiter was notified of is passed on to nobody, so the
-    /// caller does that. If no waiter has this key, the call returns `false` and changes nothing.
+    /// The waiter is counted no more among those that starve. What the waiter was notified of is passed on to nobody, so a caller
+    /// that wants another waiter notified calls [`tell`](FairQueue::tell). If no waiter has this key, the call returns `false`
+    /// and changes nothing.
     pub fn leave(&mut self, key: Key) -> bool
     where
         W: Drop,

@@ -109,8 +109,8 @@ impl<L: TakesAny<Q, Refusal = LockError>, Q: Default + Drop, H: Hold<L> + Drop> 
         if hold.lock().is_waiting(&request) {
             return wait_in_queue(hold, alloc, request);
         }
-        // A request that is in no queue has nothing to lose by a new request. Were this request passed by a pointer, a thread that
-        // gets its output at once would clear a place for it.
+        // A request that is in no queue has nothing to lose by a new request. Were this request passed by a pointer, a thread
+        // that gets its output at once would clear a place for it.
         wait_anew(hold, alloc)
     }
 }

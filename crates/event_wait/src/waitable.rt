@@ -82,8 +82,8 @@ pub trait Obtainable<Q>: Waitable<Q> {
 
     /// Attempts once to get the output, without waiting for it, and returns the output or `None`.
     ///
-    /// The call leaves no queue, and need not look whether the request has a place there, so a caller looks before. May block
-    /// until the lock is free.
+    /// The call leaves no queue, and need not look whether the request has a place there, so a caller looks first, by
+    /// [`is_waiting`](Obtainable::is_waiting). May block until the lock is free.
     fn attempt<R: Wait>(&self, rt: &R, request: &mut Q) -> Option<Self::Output>
         requires fits { (Self.rules self.now).fits request.old }
         ensures fits { (Self.rules self.now).fits request.new }

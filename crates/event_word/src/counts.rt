@@ -4,7 +4,7 @@
 /// and starving.
 #[derive(Clone, Copy, Debug, PartialEq, Eq)]
 pub struct Counts {
-    /// How many permits are free; of a mutex one, while nobody has the value.
+    /// How many permits are free; of a mutex one, while no thread has the value.
     pub free: u64,
     /// How many waiters are notified and have not tried again yet.
     pub notified: usize,

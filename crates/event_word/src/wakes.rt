@@ -25,7 +25,7 @@ impl Model for Room {
 }
 
 impl Room {
-    /// Makes room for a few tasks. Takes no memory.
+    /// Makes the room of a state with no more than a few waiters. Takes no memory.
     #[inline(always)]
     pub fn new() -> Self {
         Room { tasks: None }
@@ -77,8 +77,8 @@ impl Room {
 /// The tasks that a thread has to wake which notified with the state out: a few at hand, and the others in the room beside the
 /// state. No task is woken before the state is back.
 ///
-/// This type is not `Drop`, so each thread that makes a value wakes those tasks. Its relation counts the tasks at hand alone,
-/// since no contract can name what sleeps; tests show that it wakes.
+/// This type is not `Drop`, so each thread that makes a value wakes those tasks. The relation of this sink counts the tasks at
+/// hand alone, since no contract can name what sleeps; tests show that the sink wakes.
 pub(crate) struct Wakes {
     few: [Option<Task>; FEW],
     held: usize,

@@ -51,8 +51,8 @@ pub struct Word<S: Kept, V> {
 impl<S: Kept, V> Word<S, V> {
     /// Makes a lock with this number, this state and this value. Takes no memory.
     ///
-    /// Requires that the number fits the rules of the lock, is less than 2^62, because the code takes two bits of the word, and
-    /// that no thread waits in the state.
+    /// Requires that the number fits the rules of the lock and is less than 2^62 (because the code takes two bits of the word),
+    /// and that no thread waits in the state.
     pub fn new(number: u64, state: S, value: V) -> Self
         requires number { (number < 2 ^ 62) × S.rules.fits number }
         requires state { S.rules.stands number state × S.rules.quiet state }

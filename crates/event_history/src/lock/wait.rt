@@ -87,8 +87,8 @@ impl<S: Steps> Lock<S> {
 
     /// Attempts the request once, as a call of this hand, and registers the task that polls if the request waits on.
     ///
-    /// Returns the output, or the refusal if the request can't wait. After a pending poll the task is woken when another attempt
-    /// may succeed. May block until the lock is free.
+    /// Returns the output, or the refusal if the request can't wait. After a pending poll the task is registered at the source of
+    /// this lock ([`waker_source`](Lock::waker_source)). May block until the lock is free.
     #[inline(always)]
     pub fn poll_in<Q: Request<S>, R: Wait>(
         &self,

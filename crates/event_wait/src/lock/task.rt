@@ -84,7 +84,7 @@ fn wake_apart(kind: TaskKind) {
 /// A sink that wakes each task it is given, but the last task only once [`finish`](DeferredWake::finish) is called.
 ///
 /// So the last task does not meet the lock under which it was notified. The type is not `Drop`, so each sink has to be finished.
-/// Its relation says nothing, since no contract can name what sleeps; tests show that it wakes.
+/// The relation of this sink says nothing, since no contract can name what sleeps; tests show that the sink wakes.
 pub struct DeferredWake {
     // At first this is a task that wakes nobody.
     held_back: TaskKind,

@@ -29,11 +29,12 @@ pub enum Refused<E> {
 
 /// Blocks the thread until the request gets its output or the limit has passed, and returns the output or `None`.
 ///
-/// The call makes an attempt at least; where the limit has passed it enters no queue and allocates nothing. Else it tries a few
+/// The call makes at least one attempt; where the limit has passed it enters no queue and allocates nothing. Else it tries a few
 /// times with pauses between, and then waits as [`wait`] does, which allocates what the thread parks on. A request that has a
 /// place in the queue already waits on at that place.
 ///
-/// After any return the request is in no queue. May block until the lock is free, too.
+/// After any return the request is in no queue: an error ([`Refused`]) has it give its place up. May block until the lock is
+/// free, too.
 #[inline(always)]
 pub fn obtain<L: Obtainable<Q>, Q, R: Wait + Clock>(
     lock: &L,
@@ -248,7 +249,8 @@ fn try_a_while<L: Obtainable<Q>, Q, R: Wait>(lock: &L, rt: &R, request: &mut Q) 
     None
 }
 
-// Takes the output of a request that polled before and was notified since, so that the thread need not park. Its task stays.
+// Takes the output of a request that polled before and was notified since, so that the thread need not park. The request's task
+// stays.
 fn take_if_notified<L: Obtainable<Q>, Q, R: Wait>(
     lock: &L,
     rt: &R,

@@ -69,8 +69,8 @@ impl<V> Word<Queues<Task>, V> {
         }
     }
 
-    /// Attempts for a newcomer, with the queues out: gives the newcomer its right if none stands in the way, and else has it
-    /// wait.
+    /// Attempts for a newcomer, with the queues out: gives the newcomer its right if no holder or waiter stands in the way and
+    /// one more can be counted, and else has the newcomer wait.
     ///
     /// Returns [`Attempted::Done`] with the right, [`Attempted::Waits`] with the key of the newcomer's place, or
     /// [`Attempted::Refused`] if the newcomer can't wait: for memory, for serial numbers, or because the lock can count no more

@@ -412,7 +412,7 @@ impl<V> Word<Queues<Task>, V> {
         unreachable!()
     }
 
-    /// Makes the right of the only reader one to write, if no other reader was let in and no writer waits.
+    /// Turns the right of the only reader into a right to write, if no other reader was let in and no writer waits.
     ///
     /// An error has the right to read, which is unchanged. May block until the queues are at home, but not for other readers.
     pub fn try_upgrade<'a, R: Wait>(
@@ -478,7 +478,7 @@ impl<V> Word<Queues<Task>, V> {
         unreachable!()
     }
 
-    /// Makes the right of the writer one to read, lets in all readers that wait, and returns the right to read.
+    /// Turns the right of the writer into a right to read, lets in all readers that wait, and returns the right to read.
     ///
     /// May block until the queues are at home.
     pub fn downgrade<'a, R: Wait>(

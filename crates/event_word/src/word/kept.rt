@@ -23,9 +23,9 @@ pub trait Kept: Sized {
         ensures lowers { result ≤ number → (state : Self) → rules.promised result state
             → rules.promised number state };
 
-    /// Returns the number by which newcomers leave the word alone, if there is such a number.
+    /// Returns the number by which newcomers leave the word alone, or the same number if there is none.
     ///
-    /// A thread that gives back what it has changes that word still. By default there is none, and the number stays.
+    /// A thread that gives back what it has changes the word still. By default the call returns the number as it is.
     fn shut(number: u64) -> u64
         requires { (number < 2 ^ 62) × rules.fits number }
         ensures room { result < 2 ^ 62 }

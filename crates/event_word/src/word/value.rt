@@ -351,7 +351,8 @@ pub fn take_out<S: Kept, V>(lent: &mut Lent<'_, S, Lodging<V>>) -> Option<V>
     ensures { lent.new.name ≡ lent.old.name }
 {
     let place = lent.get_mut().value.value.get_mut();
-    // What is written there is written over when the value comes back: but only where the compiler sees that one lay there.
+    // What `take` writes is overwritten when the value is put back. The compiler uses that only where it sees that a value lay
+    // there.
     if place.is_none() {
         return None;
     }
