@@ -26,11 +26,10 @@ pub fn stays<T, W>()
         → Listens key log → IsIn key q }
 {}
 
-/// Proves that such a listener is found: a registration is not answered that the listener was never inserted, and a removal does
-/// not return `None`.
+/// Proves that a listener is found if its insertion stands in a history and no later call took the listener out.
 ///
-/// The law is about the listeners of [`stays`](crate::stays): the insertion stands in the history, and no later call took the
-/// listener out. Does nothing when a program runs.
+/// A registration is not answered that the listener was never inserted, and a removal does not return `None`. Does nothing when a
+/// program runs.
 pub fn never_absent<T, W>()
     ensures registered { (key : Key) (log : QueueLog T W) (q next : Queue T W)
         (reply : RegisterResult T) → LeadsTo queue_machine log q → Listens key log
@@ -188,8 +187,8 @@ pub fn told_by_another<T, W>()
         → IsAmong (Insert (Ok key)) (calls_by number earlier) → FindsTold propagate reply }
 {}
 
-/// Proves that each tag taken was given: the listener that takes a tag waited until a call of the history notified the listener
-/// with just that tag.
+/// Proves that each tag that is taken was given: the listener that takes a tag waited until a call of the history notified the
+/// listener with just that tag.
 ///
 /// The call was a notification, or a removal that propagated a notification to the listener. The law holds of each listener that
 /// is notified and whose tag is not taken yet, too. Each listener in the queue was inserted by a call of the history. Does
@@ -209,8 +208,8 @@ pub fn tag_was_told<T, W>()
         → LeadsTo queue_machine log q → IsIn key q → Listens key log }
 {}
 
-/// Proves that the listener that was inserted first has the lower serial number and is notified first: no listener waits while a
-/// later one is notified. Does nothing when a program runs.
+/// Proves that of two listeners the listener inserted first has the lower serial number and is notified first: no listener waits
+/// while a later one is notified. Does nothing when a program runs.
 pub fn first_told_first<T, W>()
     ensures serials { (a b : Key) (x y : ℕ) (earlier between later : QueueLog T W) (q : Queue T W)
         → LeadsTo queue_machine

@@ -105,7 +105,7 @@ impl<W> FairQueue<W> {
     /// Returns [`RegisterResult::Notified`] for a notified waiter, which has left the queue, and starves no more. Returns
     /// [`RegisterResult::Registered`] for a waiter that waits on: it keeps its place and its turn, and stores the task that the
     /// exchange makes of its stored task. Returns [`RegisterResult::NeverInserted`] if no waiter has this key, and changes
-    /// nothing. Takes no memory.
+    /// nothing. Takes memory only if the exchange does.
     pub fn look<C, X: TaskExchange<W, C>>(
         &mut self,
         key: Key,

@@ -38,7 +38,7 @@ pub fn somebody_waits<W>(line: &List<(), W>) -> bool
 
 /// Notifies the first waiters until `n` of the queue are notified, if there are as many, and wakes them.
 ///
-/// A queue in which `n` are notified already stays as it is. The tasks go to `sink`. Takes no memory.
+/// A queue in which `n` are notified already stays as it is. The tasks go to `sink`. Takes memory only if the sink does.
 #[inline(always)]
 pub fn tell<W, S: WakeSink<W>>(line: &mut List<(), W>, n: usize, sink: &mut S)
     ensures queue { IsQueue line.old }
@@ -54,7 +54,7 @@ pub fn tell<W, S: WakeSink<W>>(line: &mut List<(), W>, n: usize, sink: &mut S)
 /// are more, and wakes them.
 ///
 /// So for each of `more` things that were added a waiter is notified anew. If fewer wait, all of these are notified. The tasks go
-/// to `sink`. Takes no memory.
+/// to `sink`. Takes memory only if the sink does.
 #[inline(always)]
 pub fn tell_more<W, S: WakeSink<W>>(line: &mut List<(), W>, n: usize, more: usize, sink: &mut S)
     ensures step { TellsUpTo (or_more n more line.old) line.old line.new }
@@ -77,7 +77,7 @@ fn tell_waiting<W, S: WakeSink<W>>(line: &mut List<(), W>, n: usize, sink: &mut 
         .unwrap();
 }
 
-/// Notifies all waiters, and wakes them. The tasks go to `sink`. Takes no memory.
+/// Notifies all waiters, and wakes them. The tasks go to `sink`. Takes memory only if the sink does.
 #[inline(always)]
 pub fn tell_all<W, S: WakeSink<W>>(line: &mut List<(), W>, sink: &mut S)
     ensures step { TellsAll line.old line.new }
@@ -210,7 +210,7 @@ pub fn found<G>(key: Key, looked: RegisterResult<G>) -> Attempted<G, LockError>
 
 /// Hands something to the first `n` waiters, or to all if there are fewer, wakes them, and returns to how many.
 ///
-/// The tasks go to `sink`. Takes no memory.
+/// The tasks go to `sink`. Takes memory only if the sink does.
 #[inline(always)]
 pub fn hand_out<W, S: WakeSink<W>>(line: &mut List<(), W>, n: usize, sink: &mut S) -> usize
     ensures count { result ≡ min n (length line.old.waiting) }
@@ -235,7 +235,7 @@ fn hand_to_waiting<W, S: WakeSink<W>>(line: &mut List<(), W>, n: usize, sink: &m
 /// Looks whether this waiter was handed something: if so, it leaves the queue, and else it stores the task that the exchange
 /// makes.
 ///
-/// Returns [`RegisterResult::NeverInserted`] if no waiter has this key. Takes no memory.
+/// Returns [`RegisterResult::NeverInserted`] if no waiter has this key. Takes memory only if the exchange does.
 pub fn look_for<W, C, X: TaskExchange<W, C>>(
     line: &mut List<(), W>,
     key: Key,
@@ -305,7 +305,8 @@ pub fn leave_line<W: Drop>(line: &mut List<(), W>, key: Key) -> Left
     left_as(left)
 }
 
-/// Hands something to all waiters, wakes them, and returns to how many. The tasks go to `sink`. Takes no memory.
+/// Hands something to all waiters, wakes them, and returns to how many. The tasks go to `sink`. Takes memory only if the sink
+/// does.
 pub fn hand_all<W, S: WakeSink<W>>(line: &mut List<(), W>, sink: &mut S) -> usize
     ensures count { result ≡ length line.old.waiting }
     ensures told { length line.new.told ≡ length line.old.told + result }

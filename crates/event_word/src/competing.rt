@@ -123,7 +123,7 @@ impl<C> Competing<C> {
     /// Looks how a contender starts an attempt, and returns that.
     ///
     /// A notified contender leaves the queue; a contender that is not notified stores its task and waits on; a contender without
-    /// a place, or that is in the queue no more, is new. Takes no memory.
+    /// a place, or that is in the queue no more, is new. Takes memory only if the exchange does.
     pub fn come<O, X: TaskExchange<Task, O>>(
         &mut self,
         place: &mut Option<Key>,

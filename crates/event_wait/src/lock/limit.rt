@@ -12,7 +12,7 @@ pub enum Limit {
     Never,
     /// The wait goes on until this moment. If the clock can't be read, the moment counts as passed.
     At(Instant),
-    /// The limit has passed: the wait only attempts.
+    /// The limit has passed already, so the wait does not park.
     Past,
 }
 
@@ -37,7 +37,8 @@ impl Limit {
         }
     }
 
-    /// Returns how long the wait may still go on: zero if the limit has passed, and `None` if there is no limit.
+    /// Returns how long the wait may still go on: zero if the limit has passed or the clock can't be read, and `None` if there is
+    /// no limit.
     pub fn left<R: Clock>(self, clock: &R) -> Option<Duration>
         ensures never { self ≡ Never → result ≡ None }
     {
