@@ -11,6 +11,7 @@
 # wrong      30 min    tries all wrong bodies, each of which must be refused by the goal that it names; CRATE=event_word tries its own
 # quoted     1 s       compares what pages quote, and the API pages, with the sources
 # api        1 s       writes the API pages
+# docs       10 s      writes the reference for a browser: out/docs/index.html has all types and calls, with a search
 # explore    1 min     shows a run of a world: RUN='mutex 2: 0:2 1:5', or its input; PROVED=1 proves the program first
 # fuzz       10 min    compares events and records with a queue on random calls, for SECONDS=60, from SEED=7
 # soak       10 min    has 8 threads call an event and a recorded event, and counts, for SECONDS=60, from SEED=7
@@ -18,7 +19,7 @@
 # fmt        1 min     formats the files
 # bench      30 min    measures events, locks and channels, beside Rust crates with ORACLE=FOLDER (scripts/bench)
 # diff       10 min    compares the queue with the Rust crate's answers in ORACLE=FOLDER (crates/replies)
-.PHONY: help run test tests gate prove vectors check refused wrong quoted api explore fuzz soak starved fmt bench diff
+.PHONY: help run test tests gate prove vectors check refused wrong quoted api docs explore fuzz soak starved fmt bench diff
 
 # So that a target fails where the first command of a pipe does.
 SHELL := bash
@@ -63,6 +64,10 @@ quoted:
 
 api:
 	@scripts/pages write
+
+# A folder is called docs.
+docs:
+	@scripts/docs
 
 explore:
 	$(needs_rt)@echo "$(if $(PROVED),Proving,Compiling) the program first, if no earlier run has kept it." >&2
