@@ -32,8 +32,8 @@ use std::{fmt, mem};
 /// ends when the channel is closed and empty. A contract sees the lock of the channel and its capacity.
 ///
 /// ```rust
-///     for job in jobs.iter() {
-///         let Job { number, answer } = job?;
+/// for job in jobs.iter() {
+///     let Job { number, answer } = job?;
 /// ```
 pub struct Receiver<T: Drop, R: Wait + Clock + Clone> {
     link: Link<T, R>,

@@ -34,12 +34,12 @@ use std::time::{Clock, Duration, Instant};
 /// its capacity.
 ///
 /// ```rust
-///     let (numbers, receiver) = bounded(&rt, alloc, 8)?;
-///     let workers = start_workers(rt, alloc, receiver)?;
-///     for number in 1..=10 {
-///         numbers.send_blocking(number)?;
-///     }
-///     numbers.close();
+/// let (numbers, receiver) = bounded(&rt, alloc, 8)?;
+/// let workers = start_workers(rt, alloc, receiver)?;
+/// for number in 1..=10 {
+///     numbers.send_blocking(number)?;
+/// }
+/// numbers.close();
 /// ```
 pub struct Sender<T: Drop, R: Wait + Clock + Clone> {
     link: Link<T, R>,

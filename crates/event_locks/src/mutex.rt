@@ -40,8 +40,8 @@ use std::time::Clock;
 /// and in again: box a large value.
 ///
 /// ```rust
-///     let balance = balance.lock(&rt, alloc).wait()?;
-///     Ok(*balance)
+/// let balance = balance.lock(&rt, alloc).wait()?;
+/// Ok(*balance)
 /// ```
 #[derive(Drop)]
 pub struct Mutex<T> {

@@ -116,11 +116,11 @@ impl<T> RwLock<T> {
     /// a place in the queue, if the caller has to wait.
     ///
     /// ```rust
-    ///     let reader = cache.read(rt, alloc).wait()?;
-    ///     if let Some(square) = reader.get(number) {
-    ///         return Ok(square);
-    ///     }
-    ///     drop(reader);
+    /// let reader = cache.read(rt, alloc).wait()?;
+    /// if let Some(square) = reader.get(number) {
+    ///     return Ok(square);
+    /// }
+    /// drop(reader);
     /// ```
     #[inline(always)]
     pub fn read<'a, R: Wait + Clock>(&'a self, rt: &'a R, alloc: Global) -> Read<'a, T, R> {

@@ -43,7 +43,7 @@ use std::time::Clock;
 /// it is forgotten.
 ///
 /// ```rust
-///     let permit = Semaphore::acquire_arc(permits, rt, alloc)?.wait()?;
+/// let permit = Semaphore::acquire_arc(permits, rt, alloc)?.wait()?;
 /// ```
 #[derive(Drop)]
 pub struct Semaphore {

@@ -63,8 +63,8 @@ impl<V: Drop, C: Condition<V> + Copy> Monitor<V, C> {
     /// `alloc` gives the memory for a place in the queue, if the caller has to wait.
     ///
     /// ```rust
-    ///     let mut withdrawal = balance.until(rt, alloc, Withdrawal { amount });
-    ///     withdrawal.wait_timeout(limit)
+    /// let mut withdrawal = balance.until(rt, alloc, Withdrawal { amount });
+    /// withdrawal.wait_timeout(limit)
     /// ```
     pub fn until<'a, R: Wait + Clock>(
         &'a self,

@@ -28,8 +28,8 @@ use std::time::{Clock, Duration, Instant};
 /// A contract sees the number of the source at which waiting tasks are registered, and a name of what is set.
 ///
 /// ```rust
-///     let port = cell.get_or_try_init(rt, alloc, || -> anyhow::Result<u16> { Ok(text.parse()?) })?;
-///     Ok(*port)
+/// let port = cell.get_or_try_init(rt, alloc, || -> anyhow::Result<u16> { Ok(text.parse()?) })?;
+/// Ok(*port)
 /// ```
 #[derive(Drop)]
 pub struct OnceCell<T> {
