@@ -4,7 +4,7 @@
 //!
 //! | Module | What it tests |
 //! |---|---|
-//! | `rows`, as text | which wakers a poll keeps; in which order tasks wake, by a notification and by drops; serial numbers that are used up; that a record is compared |
+//! | `rows`, as text | which wakers a poll keeps; in which order tasks wake, by a notification and by drops; serial numbers that are used up; that a discarded listener has left; that a record is compared |
 //! | `tags` | tags that are refused, and one that can't be cloned, which is passed on |
 //! | `locks` | what is called while the lock of an event is held, by its thread and by another; threads that race to make the queue |
 //! | `meetings` | threads that sleep for the lock of an event: each is woken, and uses no processor time until then |

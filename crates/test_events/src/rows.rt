@@ -51,7 +51,20 @@ discard 0 -> discarded true
 isnotified -> isnotified true
 discard 1 -> discarded true
 isnotified -> isnotified false
-total -> total 1";
+total -> total 1
+
+A listener that is discarded has left, told or not, and passes nothing on.
+row 6 event tags
+listen -> listener 0
+listen -> listener 1
+listen -> listener 2
+discard 0 -> discarded false
+total -> total 2
+notify 1 d 7 -> told 1
+discard 1 -> discarded true
+isnotified -> isnotified false
+total -> total 1
+poll 2 0 -> pending";
 
 // Worked row 5 on an event, whose tasks note their order; then drops of told listeners.
 const IN_ORDER: &str = "
@@ -105,7 +118,7 @@ fn hold<R: Runtime>(rt: &R, text: &str, rows: usize) {
 
 /// All rows hold.
 pub fn all_hold<R: Runtime>(rt: &R) {
-    hold(rt, ROWS, 4);
+    hold(rt, ROWS, 5);
 }
 
 #[test]
