@@ -1,6 +1,6 @@
 //! Tests of the locks of `event_locks` by their public calls: of what no clause can name, since it stands behind a lock, or is
 //! done by threads, tasks and clocks. What is said of every wait is a case, which is written once and run with each kind of
-//! wait, as `test_kinds` has them.
+//! wait, as `test_kinds` has them. More of barriers, cells and monitors is in `test_monitor`.
 //!
 //! | Module | What it has, or tests |
 //! |---|---|
@@ -12,27 +12,18 @@
 //! | `turns` | when newcomers are shut out |
 //! | `closes` | that a semaphore which closes ends each kind of wait |
 //! | `crowds` | more that wait than a thread wakes before others may have the queues |
-//! | `barrier` | that each round has one leader |
-//! | `cell` | a value that is set or made once, by threads and by tasks: one at a time, and once that one is gone the next |
-//! | `monitor` | a value that threads and tasks wait for: that a thread parks until it changes, whatever changes it, or until its limit, and until the lock is free |
 //! | `races` | one lets go while another one goes into the queue |
 //! | `stress` | threads and tasks at the locks, which give up at times |
 #![tactic(auto)]
 
 #[cfg(test)]
-mod barrier;
-#[cfg(test)]
 mod behaviours;
-#[cfg(test)]
-mod cell;
 #[cfg(test)]
 mod closes;
 #[cfg(test)]
 mod crowds;
 #[cfg(test)]
 mod limits;
-#[cfg(test)]
-mod monitor;
 #[cfg(test)]
 mod races;
 #[cfg(test)]
